@@ -1,0 +1,6 @@
+pub mod Account
+pub mod BoxName
+pub mod Lines
+pub mod Number
+pub mod Status
+pub mod Tags

@@ -1,0 +1,28 @@
+//! The small values that every layer speaks in: numbers, names, tags, the account, statuses, and lists of them.
+#![tactic(auto)]
+
+mod account;
+mod box_name;
+mod bytes;
+mod line;
+mod list;
+mod map;
+mod number;
+mod numbered;
+mod span;
+mod status;
+mod tag;
+mod words;
+
+pub use account::{Account, AccountFault};
+pub use box_name::{BoxName, MAX_NAME, NameFault};
+pub use bytes::Bytes;
+pub use line::Line;
+pub use list::List;
+pub use map::Map;
+pub use number::{NumberFault, read_modseq, read_u32};
+pub use numbered::{ActionId, ModSeq, Validity};
+pub use span::Span;
+pub use status::Status;
+pub use tag::Tag;
+pub use words::Words;
