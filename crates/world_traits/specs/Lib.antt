@@ -1,0 +1,5 @@
+pub mod Files
+pub mod Moments
+pub mod Calls
+pub mod LinkState
+pub mod Sound
