@@ -7,3 +7,5 @@ pub mod Resting
 pub mod Narrowing
 pub mod Choosing
 pub mod OneSide
+mod Putting
+mod Remembered
