@@ -1,0 +1,11 @@
+pub mod Images
+pub mod Passing
+pub mod Sides
+pub mod Calls
+pub mod Keeping
+pub mod Resting
+pub mod Narrowing
+pub mod Choosing
+pub mod OneSide
+mod Putting
+mod Remembered

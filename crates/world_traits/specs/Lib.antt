@@ -1,0 +1,10 @@
+pub mod Files
+pub mod Moments
+pub mod Calls
+pub mod LinkState
+pub mod Sound
+pub mod Counts
+pub mod Content
+pub mod Replay
+pub mod Replayed
+pub mod Memory
