@@ -1,0 +1,7 @@
+//! The top call: what the user's words ask for, carried out on a world, with one printed line and a status.
+#![tactic(auto)]
+
+mod action_body;
+mod flag_action;
+
+pub use flag_action::{FlagAction, SystemFlag};
