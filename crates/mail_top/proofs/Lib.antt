@@ -1,1 +1,3 @@
 pub mod Body
+pub mod Tally
+pub mod Wording

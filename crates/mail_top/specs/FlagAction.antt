@@ -40,6 +40,20 @@ pub record Lists (actions : List FlagAction) (bytes : List ℕ) : Type 0 where
   pub lawful : AllByRecursion IsLawful actions
   pub is : bytes ≡ records (map body_of actions)
 
+-- they are the records of so many actions
+pub record HoldsCount (bytes : List ℕ) (count : ℕ) : Type 0 where
+  pub actions : List FlagAction
+  pub lists : Lists actions bytes
+  pub many : count ≡ length actions
+
+-- the bytes begin with an action's record of this size
+pub record BeginsWithAction (bytes : List ℕ) (size : ℕ) : Type 0 where
+  pub action : FlagAction
+  pub later : List ℕ
+  pub lawful : IsLawful action
+  pub is : bytes ≡ record_of (body_of action) ++ later
+  pub long : size ≡ length (record_of (body_of action))
+
 -- The bytes are records of actions up to this place, where more bytes stand and no record of an action begins.
 pub record BrokenAt (bytes : List ℕ) (place : ℕ) : Type 0 where
   pub before : List FlagAction

@@ -1,1 +1,2 @@
 pub mod FlagAction
+pub mod Words

@@ -2,6 +2,9 @@
 #![tactic(auto)]
 
 mod action_body;
+mod counting;
 mod flag_action;
+mod words;
 
+pub use counting::count_actions;
 pub use flag_action::{FlagAction, SystemFlag};

@@ -1,0 +1,87 @@
+//! The words of a command.
+
+ghost use Rattle.std.specs.Prelude.{◌≡◌, ◌<◌, ◌^◌, [], ◌∷◌, ◌↔◌, IsTrue, IsNone, IfSome, decimal, string_bytes, map};
+ghost use Rattle.mail_top.specs.FlagAction.{sign_of};
+ghost use Rattle.mail_top.specs.Words.{Asks};
+
+use crate::{FlagAction, SystemFlag};
+use itoa::Buffer;
+use mail_base::{BoxName, read_u32};
+
+/// What the words `flag BOX ID SIGN FLAG` ask for. `None` exactly where the words aren't of this form.
+///
+/// BOX is a mailbox name, ID a UID from 1 without leading zeros, SIGN `+` or `-`, and FLAG one of the five system
+/// flags in any case.
+pub fn asked(words: &[String]) -> Option<FlagAction>
+    ensures some { IfSome result (Asks (map string_bytes words.now)) }
+    ensures none { IsNone result → (action : _) → Asks (map string_bytes words.now) action → ⊥ }
+{
+    match words {
+        [command, name, id, sign, flag] => asked_of(
+            command.as_str(),
+            name.as_str(),
+            id.as_str(),
+            sign.as_str(),
+            flag.as_str(),
+        ),
+        _ => None,
+    }
+}
+
+// What five words ask for.
+fn asked_of(command: &str, name: &str, id: &str, sign: &str, flag: &str) -> Option<FlagAction>
+    ensures some { IfSome result (Asks (command.now ∷ name.now ∷ id.now ∷ sign.now ∷ flag.now ∷ [])) }
+    ensures none { IsNone result → (action : _) → Asks (command.now ∷ name.now ∷ id.now ∷ sign.now ∷ flag.now ∷ []) action → ⊥ }
+{
+    if command != "flag" {
+        return None;
+    }
+    let name = BoxName::new(name.as_bytes()).ok()?;
+    let uid = uid_of(id)?;
+    let add = addition_of(sign)?;
+    let flag = SystemFlag::named(flag.as_bytes())?;
+    Some(FlagAction {
+        name,
+        uid,
+        add,
+        flag,
+    })
+}
+
+// The UID that a word writes, without leading zeros.
+fn uid_of(text: &str) -> Option<u32>
+    ensures some { IfSome result (λ uid. (text.now ≡ decimal uid) × (0 < uid) × (uid < 2 ^ 32)) }
+    ensures none { IsNone result → (uid : _) → 0 < uid → uid < 2 ^ 32 → text.now ≡ decimal uid → ⊥ }
+{
+    let Ok(uid) = read_u32(text.as_bytes()) else {
+        return None;
+    };
+    if uid == 0 {
+        return None;
+    }
+    if is_decimal(text, uid) {
+        Some(uid)
+    } else {
+        None
+    }
+}
+
+// Whether the text is this number, without leading zeros.
+fn is_decimal(text: &str, number: u32) -> bool
+    ensures { IsTrue result ↔ (text.now ≡ decimal number) }
+{
+    let mut buffer = Buffer::new();
+    buffer.format(number) == text
+}
+
+// Whether the sign asks for an addition.
+fn addition_of(text: &str) -> Option<bool>
+    ensures some { IfSome result (λ add. text.now ≡ sign_of add ∷ []) }
+    ensures none { IsNone result → (add : _) → text.now ≡ sign_of add ∷ [] → ⊥ }
+{
+    match text {
+        "+" => Some(true),
+        "-" => Some(false),
+        _ => None,
+    }
+}
