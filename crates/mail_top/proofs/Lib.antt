@@ -1,3 +1,4 @@
+pub mod Acceptance
 pub mod Body
 pub mod Tally
 pub mod Wording

@@ -1,6 +1,6 @@
 //! How many actions a journal holds.
 
-ghost use Rattle.std.specs.Prelude.{◌≡◌, ◌++◌, IsNone, IfSome, IfOk, IfErr};
+ghost use Rattle.std.specs.Prelude.{◌≡◌, ◌≤◌, ◌++◌, length, IsNone, IfSome, IfOk, IfErr};
 ghost use Rattle.journal_core.specs.Records.{record_of};
 ghost use Rattle.mail_top.specs.FlagAction.{body_of, IsLawful, BeginsWithAction, HoldsCount, BrokenAt};
 
@@ -13,6 +13,7 @@ use journal_core::first_body;
 pub fn count_actions(bytes: &[u8]) -> Result<u64, usize>
     ensures count { IfOk result (HoldsCount bytes.now) }
     ensures broken { IfErr result (BrokenAt bytes.now) }
+    ensures at_most { IfOk result (λ count. count ≤ length bytes.now) }
 {
     let mut at = 0;
     let mut count: u64 = 0;
