@@ -5,8 +5,10 @@ mod accepting;
 mod action_body;
 mod counting;
 mod flag_action;
+mod running;
 mod words;
 
 pub use accepting::{AcceptFault, MAX_JOURNAL};
 pub use counting::count_actions;
 pub use flag_action::{FlagAction, SystemFlag};
+pub use running::run;

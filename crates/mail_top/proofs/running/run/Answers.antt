@@ -1,0 +1,16 @@
+use Rattle.std.proofs.Common.{◌≡◌}
+use Rattle.mail_top.proofs.Endings.{said_ends, said_words, said_disk, completes}
+use Rattle.mail_top.proofs.running.run.Goals as goal
+
+pub returns-clause-ends : goal.returns-clause-ends
+returns-clause-ends g c tells = (_, said_ends _ _ _ _ _ _ _ _ c.say.ensures.status (c.carry_out-ending.ensures.ends tells), c.say.ensures.prints)
+
+pub returns-clause-words : goal.returns-clause-words
+returns-clause-words g c = said_words _ _ _ c.say.ensures.status c.carry_out-ending.ensures.words
+
+pub returns-clause-complete : goal.returns-clause-complete
+returns-clause-complete g c tells action asks count holds room no_disk no_sink =
+    let begun = c.carry_out-ending.ensures in
+    let said = c.say.ensures in
+    completes _ _ _ _ _ _ _ (said_ends _ _ _ _ _ _ _ _ said.status (begun.ends tells)) (said_words _ _ _ said.status begun.words).0
+    (λ is. no_disk (begun.disk (said_disk _ _ said.status is))) (λ is. no_sink (said.output is)) action asks count holds room
