@@ -15,6 +15,10 @@ pub record Plan : Type 0 where
   pub fails : List ℕ
   pub calls : ℕ
 
+-- a plan in which no call was counted
+abbrev pub unbegun : List ℕ → Plan
+unbegun fails = record { fails = fails; calls = 0 }
+
 -- one call more
 abbrev pub next_call : Plan → Plan
 next_call plan = record plan { calls = counted plan.calls }

@@ -21,4 +21,4 @@ faults_of faulty = faulty.faults
 
 -- what it reads as is one of the images of its moment
 pub faulty_sound : (faulty : FaultyDisk) → MayLeave (state_of (disk_of faulty)).clock.now (state_of (disk_of faulty)).files
-faulty_sound faulty = sound faulty.disk.calls.items faulty.disk.files.given
+faulty_sound faulty = sound faulty.disk.calls.items faulty.disk.files.given.left faulty.disk.files.given.right

@@ -1,7 +1,7 @@
 //! Which calls of an object in memory are to fail.
 
 ghost use Rattle.std.specs.Prelude.{◌≡◌, ◌↔◌, IsTrue};
-ghost use Rattle.world_traits.specs.Counts.{next_call, IsPlanned};
+ghost use Rattle.world_traits.specs.Counts.{unbegun, next_call, IsPlanned};
 
 use std::marker::Model;
 
@@ -23,7 +23,7 @@ impl Model for FailPlan {
 impl FailPlan {
     /// A plan that no call has counted in.
     pub fn new(fails: Vec<u64>) -> FailPlan
-        ensures { result ≡ record { fails = fails.items; calls = 0 } }
+        ensures { result ≡ unbegun fails.items }
     {
         FailPlan { fails, calls: 0 }
     }

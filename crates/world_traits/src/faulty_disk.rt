@@ -7,8 +7,9 @@ use crate::{Clocked, Disk, DiskFailed, MemDisk, Side, World};
 
 /// A `MemDisk` whose calls are numbered from 1, and fail where their number is planned to.
 ///
-/// Each call of the traits counts, and no other. A call fails exactly where its number is planned or it is refused
-/// room. A planned failure changes nothing else. A number stands still at 2^64 - 1.
+/// Each call of the traits counts, and no other. A call fails exactly where its number is planned
+/// or it is refused room. A planned failure changes nothing else. A number stands still at 2^64 -
+/// 1.
 #[derive(Drop)]
 pub struct FaultyDisk {
     disk: MemDisk,
@@ -20,15 +21,16 @@ impl FaultyDisk {
     ghost use Rattle.std.specs.Prelude.{◌≡◌, ◌≤◌};
     ghost use Rattle.world_traits.specs.Files.{file_of};
     ghost use Rattle.world_traits.specs.Replay.{start};
-    ghost use Rattle.world_traits.specs.Counts.{counted};
+    ghost use Rattle.world_traits.specs.Counts.{counted, unbegun};
     ghost use Rattle.world_traits.specs.Memory.{state_of, refused_of};
     ghost use Rattle.world_traits.specs.Faulty.{disk_of, plan_of, faults_of};
 
-    /// A disk with these files, which count as synced. The calls with these numbers fail. It takes no memory.
+    /// A disk with these files, which count as synced. The calls with these numbers fail. It takes
+    /// no memory.
     pub fn new(left: Vec<u8>, right: Vec<u8>, fails: Vec<u64>) -> FaultyDisk
-        ensures state { state_of (disk_of result) ≡ start (record { left = left.items; right = right.items }) }
+        ensures state { state_of (disk_of result) ≡ start left.items right.items }
         ensures refused { refused_of (disk_of result) ≡ 0 }
-        ensures plan { plan_of result ≡ record { fails = fails.items; calls = 0 } }
+        ensures plan { plan_of result ≡ unbegun fails.items }
         ensures faults { faults_of result ≡ 0 }
     {
         FaultyDisk {
@@ -45,8 +47,8 @@ impl FaultyDisk {
         self.disk.bytes(side)
     }
 
-    /// How many growths it was refused. The count never falls, and stays at 2^64 - 1, its last value. A planned
-    /// failure isn't counted.
+    /// How many growths it was refused. The count never falls, and stays at 2^64 - 1, its last
+    /// value. A planned failure isn't counted.
     pub fn refused(&self) -> u64
         ensures { result ≡ refused_of (disk_of self.now) }
     {
@@ -87,7 +89,8 @@ impl Disk for FaultyDisk {
     ghost use Rattle.std.specs.Prelude.{◌≡◌, ◌≤◌, ◌↔◌, OnErr, IfOk, IsErr};
     ghost use Rattle.world_traits.specs.Files.{file_of};
     ghost use Rattle.world_traits.specs.Calls.{Rose, Wrote, Synced};
-    ghost use Rattle.world_traits.specs.Counts.{CountsFailure, FailsAsPlanned, IsPlanned, next_call};
+    ghost use Rattle.world_traits.specs.Counts.{CountsFailure, FailsAsPlanned};
+    ghost use Rattle.world_traits.specs.Counts.{IsPlanned, next_call};
     ghost use Rattle.world_traits.specs.Memory.{state_of, refused_of};
     ghost use Rattle.world_traits.specs.Faulty.{disk_of, plan_of, faults_of, faulty_sound};
 
@@ -97,7 +100,8 @@ impl Disk for FaultyDisk {
 
     /// The file's length in bytes. It fails exactly where it is planned to.
     fn length(&mut self, side: Side) -> Result<u64, DiskFailed>
-        ensures value { IfOk result (λ n. n ≡ length (file_of side (state_of (disk_of self.old)).files)) }
+        ensures value { IfOk result (λ n.
+            n ≡ length (file_of side (state_of (disk_of self.old)).files)) }
         ensures same { disk_of self.new ≡ disk_of self.old }
         ensures next { plan_of self.new ≡ next_call (plan_of self.old) }
         ensures exact { IsErr result ↔ IsPlanned (plan_of self.new) }
@@ -111,8 +115,8 @@ impl Disk for FaultyDisk {
         self.disk.length(side)
     }
 
-    /// Reads from a place into the buffer's front, as many bytes as there are and fit. It fails exactly where it is
-    /// planned to.
+    /// Reads from a place into the buffer's front, as many bytes as there are and fit. It fails
+    /// exactly where it is planned to.
     fn read(&mut self, side: Side, at: u64, into: &mut [u8]) -> Result<usize, DiskFailed>
         ensures value { IfOk result (λ n. n ≡ min (length into.old)
             (length (file_of side (state_of (disk_of self.old)).files) - at)) }
@@ -131,15 +135,17 @@ impl Disk for FaultyDisk {
         self.disk.read(side, at, into)
     }
 
-    /// Writes the bytes at a place. It fails exactly where it is planned to or is refused room, and then nothing was
-    /// written.
+    /// Writes the bytes at a place. It fails exactly where it is planned to or is refused room, and
+    /// then nothing was written.
     fn write_at(&mut self, side: Side, at: u64, bytes: &[u8]) -> Result<(), DiskFailed>
         requires { at + length bytes.now ≤ 2 ^ 32 }
-        ensures told { Wrote side at bytes.now (state_of (disk_of self.old)).clock (state_of (disk_of self.new)).clock
+        ensures told { Wrote side at bytes.now
+            (state_of (disk_of self.old)).clock (state_of (disk_of self.new)).clock
             (state_of (disk_of self.old)).files (state_of (disk_of self.new)).files result }
         ensures failed { OnErr result (state_of (disk_of self.new) ≡ state_of (disk_of self.old)) }
         ensures next { plan_of self.new ≡ next_call (plan_of self.old) }
-        ensures exact { FailsAsPlanned (plan_of self.new) result refused_of (disk_of self.old) (disk_of self.new) }
+        ensures exact { FailsAsPlanned (plan_of self.new) result
+            refused_of (disk_of self.old) (disk_of self.new) }
         ensures faults { CountsFailure result (faults_of self.old) (faults_of self.new) }
         ensures count { faults_of self.old ≤ faults_of self.new }
         ensures cause { OnErr result (Rose (faults_of self.old) (faults_of self.new)) }
@@ -153,14 +159,16 @@ impl Disk for FaultyDisk {
         Ok(())
     }
 
-    /// Makes what a read gives the synced bytes. It fails exactly where it is planned to or is refused room, and then
-    /// nothing changed.
+    /// Makes what a read gives the synced bytes. It fails exactly where it is planned to or is
+    /// refused room, and then nothing changed.
     fn sync(&mut self, side: Side) -> Result<(), DiskFailed>
-        ensures told { Synced side (state_of (disk_of self.old)).clock (state_of (disk_of self.new)).clock
+        ensures told { Synced side
+            (state_of (disk_of self.old)).clock (state_of (disk_of self.new)).clock
             (state_of (disk_of self.old)).files (state_of (disk_of self.new)).files result }
         ensures failed { OnErr result (state_of (disk_of self.new) ≡ state_of (disk_of self.old)) }
         ensures next { plan_of self.new ≡ next_call (plan_of self.old) }
-        ensures exact { FailsAsPlanned (plan_of self.new) result refused_of (disk_of self.old) (disk_of self.new) }
+        ensures exact { FailsAsPlanned (plan_of self.new) result
+            refused_of (disk_of self.old) (disk_of self.new) }
         ensures faults { CountsFailure result (faults_of self.old) (faults_of self.new) }
         ensures count { faults_of self.old ≤ faults_of self.new }
         ensures cause { OnErr result (Rose (faults_of self.old) (faults_of self.new)) }

@@ -1,4 +1,5 @@
-//! The outside as the client sees it: a disk of two files, input, output, and the moments of a world.
+//! The outside as the client sees it: a disk of two files, input, output, and the moments of a
+//! world.
 #![tactic(auto)]
 
 mod call;

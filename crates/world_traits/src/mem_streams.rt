@@ -1,6 +1,7 @@
 //! A source and a sink in memory, which fail no call of their own accord.
 
-ghost use Rattle.std.specs.Prelude.{◌≡◌, ◌≤◌, ◌++◌, ◌-◌, length, vec_len, take, drop, min, OnOk, OnErr, IfOk, []};
+ghost use Rattle.std.specs.Prelude.{◌≡◌, ◌≤◌, ◌++◌, ◌-◌, []};
+ghost use Rattle.std.specs.Prelude.{length, vec_len, take, drop, min, OnOk, OnErr, IfOk};
 ghost use Rattle.world_traits.specs.Calls.{Rose};
 ghost use Rattle.world_traits.specs.Counts.{CountsFailure};
 
@@ -91,7 +92,8 @@ impl MemSink {
         &self.content
     }
 
-    /// How many growths it was refused. The count never falls, and stays at 2^64 - 1, its last value.
+    /// How many growths it was refused. The count never falls, and stays at 2^64 - 1, its last
+    /// value.
     pub fn refused(&self) -> u64
         ensures { result ≡ self.now.refused }
     {
@@ -106,7 +108,8 @@ impl Sink for MemSink {
 
     ghost sink_faults = { λ sink. sink.refused };
 
-    /// Writes all the bytes. It fails exactly where it is refused room, and then nothing was written.
+    /// Writes all the bytes. It fails exactly where it is refused room, and then nothing was
+    /// written.
     fn write(&mut self, bytes: &[u8]) -> Result<(), WriteFailed>
         ensures done { OnOk result (self.new.bytes ≡ self.old.bytes ++ bytes.now) }
         ensures failed { OnErr result (self.new.bytes ≡ self.old.bytes) }

@@ -49,60 +49,74 @@ fn write_both<W: World>(world: &mut W) -> Result<(), DiskFailed> {
     world.sync(Side::Right)
 }
 
+// A disk whose left file holds 1, 2, 3 and whose right one holds nothing.
+fn small_disk(alloc: Global) -> Result<MemDisk, AllocError> {
+    Ok(MemDisk::new([1, 2, 3].to_vec(alloc)?, Vec::new(alloc)))
+}
+
 #[test]
-fn a_disk_in_memory_reads_what_was_written(rt: HostRuntime) -> Result<(), Fail> {
-    let alloc = rt.alloc();
-    let mut disk = MemDisk::new([1, 2, 3].to_vec(alloc)?, Vec::new(alloc));
+fn a_disk_in_memory_reads_what_it_was_given(rt: HostRuntime) -> Result<(), Fail> {
+    let mut disk = small_disk(rt.alloc())?;
     let mut buffer = [0; 4];
-    assert_eq!(rt; disk.length(Side::Left), Ok(3));
-    assert_eq!(rt; disk.length(Side::Right), Ok(0));
+    let lengths = (disk.length(Side::Left), disk.length(Side::Right));
+    assert_eq!(rt; lengths, (Ok(3), Ok(0)));
     assert_eq!(rt; disk.read(Side::Left, 1, &mut buffer), Ok(2));
     assert_eq!(rt; buffer, [2, 3, 0, 0]);
+    assert_eq!(rt; disk.read(Side::Left, u64::MAX, &mut buffer), Ok(0));
+    Ok(())
+}
 
+#[test]
+fn a_disk_in_memory_reads_what_was_written(rt: HostRuntime) -> Result<(), Fail> {
+    let mut disk = small_disk(rt.alloc())?;
+    let mut buffer = [0; 4];
     assert_eq!(rt; write_both(&mut disk), Ok(()));
     assert_eq!(rt; disk.bytes(Side::Left), [1, 9, 5, 6, 7].as_slice());
     assert_eq!(rt; disk.bytes(Side::Right), [0, 0, 8].as_slice());
     assert_eq!(rt; disk.read(Side::Left, 0, &mut buffer), Ok(4));
     assert_eq!(rt; buffer, [1, 9, 5, 6]);
-    assert_eq!(rt; disk.read(Side::Left, 5, &mut buffer), Ok(0));
-    assert_eq!(rt; disk.read(Side::Left, u64::MAX, &mut buffer), Ok(0));
     assert_eq!(rt; disk.refused(), 0);
     Ok(())
 }
 
+// A disk whose left file holds 1, 2, and these calls of which fail.
+fn faulty_disk(alloc: Global, fails: &[u64]) -> Result<FaultyDisk, AllocError> {
+    let left = [1, 2].to_vec(alloc)?;
+    Ok(FaultyDisk::new(left, Vec::new(alloc), fails.to_vec(alloc)?))
+}
+
 #[test]
-fn a_faulty_disk_fails_where_it_is_planned_to(rt: HostRuntime) -> Result<(), Fail> {
-    let alloc = rt.alloc();
-    let fails = [2, 4, 6, 8].to_vec(alloc)?;
-    let mut disk = FaultyDisk::new([1, 2].to_vec(alloc)?, [3].to_vec(alloc)?, fails);
-    let mut buffer = [0; 2];
-    assert_eq!(rt; disk.length(Side::Left), Ok(2));
-    assert_eq!(rt; disk.length(Side::Left), Err(DiskFailed));
-    assert_eq!(rt; disk.read(Side::Right, 0, &mut buffer), Ok(1));
+fn a_faulty_disk_fails_to_look_where_it_is_planned_to(rt: HostRuntime) -> Result<(), Fail> {
+    let mut disk = faulty_disk(rt.alloc(), &[2, 4])?;
+    let mut buffer = [0; 3];
+    let lengths = (disk.length(Side::Left), disk.length(Side::Left));
+    assert_eq!(rt; lengths, (Ok(2), Err(DiskFailed)));
+    assert_eq!(rt; disk.read(Side::Left, 1, &mut buffer), Ok(1));
     assert_eq!(rt; disk.read(Side::Left, 0, &mut buffer), Err(DiskFailed));
-    assert_eq!(rt; buffer, [3, 0]);
+    assert_eq!(rt; buffer, [2, 0, 0]);
+    Ok(())
+}
+
+#[test]
+fn a_faulty_disk_fails_to_write_where_it_is_planned_to(rt: HostRuntime) -> Result<(), Fail> {
+    let mut disk = faulty_disk(rt.alloc(), &[2, 4])?;
     assert_eq!(rt; disk.write_at(Side::Left, 1, &[7]), Ok(()));
     assert_eq!(rt; disk.write_at(Side::Left, 0, &[8]), Err(DiskFailed));
     assert_eq!(rt; disk.bytes(Side::Left), [1, 7].as_slice());
-    assert_eq!(rt; disk.sync(Side::Left), Ok(()));
-    assert_eq!(rt; disk.sync(Side::Left), Err(DiskFailed));
-    assert_eq!(rt; write_both(&mut disk), Ok(()));
-    assert_eq!(rt; disk.bytes(Side::Left), [1, 9, 5, 6, 7].as_slice());
-    assert_eq!(rt; disk.bytes(Side::Right), [3, 0, 8].as_slice());
+    let syncs = (disk.sync(Side::Left), disk.sync(Side::Left));
+    assert_eq!(rt; syncs, (Ok(()), Err(DiskFailed)));
     assert_eq!(rt; disk.refused(), 0);
     Ok(())
 }
 
 #[test]
-fn a_plan_of_the_first_call_or_twice_the_same_one(rt: HostRuntime) -> Result<(), Fail> {
-    let alloc = rt.alloc();
-    let fails = [0, 3, 1, 3].to_vec(alloc)?;
-    let mut disk = FaultyDisk::new(Vec::new(alloc), Vec::new(alloc), fails);
+fn a_plan_may_be_in_any_order(rt: HostRuntime) -> Result<(), Fail> {
+    let mut disk = faulty_disk(rt.alloc(), &[0, 3, 1, 3])?;
     assert_eq!(rt; write_both(&mut disk), Err(DiskFailed));
-    assert_eq!(rt; disk.bytes(Side::Left).len(), 0);
     assert_eq!(rt; disk.write_at(Side::Right, 0, &[4]), Ok(()));
     assert_eq!(rt; disk.sync(Side::Right), Err(DiskFailed));
     assert_eq!(rt; write_both(&mut disk), Ok(()));
+    assert_eq!(rt; disk.bytes(Side::Right), [4, 0, 8].as_slice());
     Ok(())
 }
 

@@ -33,7 +33,7 @@ impl Clocked for SilentDisk {
 
     ghost server_with_files = { λ tells. tells };
 
-    ghost clock = { λ disk. (start (record { left = []; right = [] })).clock };
+    ghost clock = { λ disk. (start [] []).clock };
 
     ghost disk_faults = { λ disk. disk.faults };
 
