@@ -15,6 +15,10 @@ pub record Plan : Type 0 where
   pub fails : List ℕ
   pub calls : ℕ
 
+-- a plan in which no call was counted
+abbrev pub unbegun : List ℕ → Plan
+unbegun fails = record { fails = fails; calls = 0 }
+
 -- one call more
 abbrev pub next_call : Plan → Plan
 next_call plan = record plan { calls = counted plan.calls }
@@ -23,8 +27,7 @@ next_call plan = record plan { calls = counted plan.calls }
 abbrev pub IsPlanned : Plan → Type 0
 IsPlanned plan = Contains plan.fails plan.calls
 
--- The last call failed exactly where it was to fail, or was refused room; and only the second is counted as refused.
-pub record FailsAsPlanned {T E : Type 0} (plan : Plan) (result : Result T E) (refused refused_after : ℕ) : Type 0 where
-  pub planned : IsPlanned plan → IsErr result
-  pub planned_alone : IsPlanned plan → refused_after ≡ refused
-  pub others : (IsPlanned plan → ⊥) → CountsFailure result refused refused_after
+-- The last call failed exactly where it was to fail, or was refused room. Where it was to fail, nothing else happened.
+pub record FailsAsPlanned {T E A : Type 0} (plan : Plan) (result : Result T E) (refused : A → ℕ) (old new : A) : Type 0 where
+  pub planned : IsPlanned plan → IsErr result × (new ≡ old)
+  pub others : (IsPlanned plan → ⊥) → CountsFailure result (refused old) (refused new)

@@ -8,3 +8,5 @@ pub mod Content
 pub mod Replay
 pub mod Replayed
 pub mod Memory
+pub mod Printed
+pub mod Faulty

@@ -5,7 +5,7 @@ use Rattle.world_traits.specs.declared.memory.MemDisk.{MemDisk}
 
 -- the disk as its calls left it: the moments so far, and what the files read as
 abbrev pub state_of : MemDisk → State
-state_of disk = replay disk.calls.items (start disk.files.given)
+state_of disk = replay disk.calls.items (start disk.files.given.left disk.files.given.right)
 
 -- how often it was refused room
 abbrev pub refused_of : MemDisk → ℕ

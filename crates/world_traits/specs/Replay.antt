@@ -1,5 +1,5 @@
 -- What a disk in memory has become by its calls.
-use Rattle.std.specs.Prelude.{List, [], ◌∷◌}
+use Rattle.std.specs.Prelude.{ℕ, List, [], ◌∷◌}
 use Rattle.world_traits.specs.Files.{Files, clean, put, file_of, with_file}
 use Rattle.world_traits.specs.Moments.{Clock, tick}
 use Rattle.world_traits.specs.Calls.{written, settled}
@@ -12,10 +12,10 @@ pub record State : Type 0 where
   pub files : Files
 
 -- at first both files are on the disk, and nothing came before
-abbrev pub start : Files → State
-start given = record {
-  clock = record { now = record { left = clean given.left; right = clean given.right; outside = record {} }; past = [] };
-  files = given;
+abbrev pub start : List ℕ → List ℕ → State
+start left right = record {
+  clock = record { now = record { left = clean left; right = clean right; outside = record {} }; past = [] };
+  files = record { left = left; right = right };
 }
 
 -- one call on

@@ -1,7 +1,6 @@
 -- What the files of a disk in memory read as is always one of the images of its moment.
 -- These lemmas stand beside the definitions, since the law of an impl cites them.
-use Rattle.std.proofs.Common.{◌≡◌, List, [], ◌∷◌, ◌++◌, refl}
-use Rattle.world_traits.specs.Files.{Files}
+use Rattle.std.proofs.Common.{◌≡◌, ℕ, List, [], ◌∷◌, ◌++◌, refl}
 use Rattle.world_traits.specs.Moments.{MayLeave}
 use Rattle.world_traits.specs.Replay.{State, start, step, replay}
 use Rattle.world_traits.specs.Sound.{holds_put, holds_clean}
@@ -22,8 +21,8 @@ pub replay_sound : (calls : List Did) (s : State) → MayLeave s.clock.now s.fil
 replay_sound [] s h = h
 replay_sound (call ∷ calls) s h = replay_sound calls (step call s) (step_sound call s h)
 
-pub sound : (calls : List Did) (given : Files) → MayLeave (replay calls (start given)).clock.now (replay calls (start given)).files
-sound calls given = replay_sound calls (start given) (record { left = holds_clean given.left; right = holds_clean given.right })
+pub sound : (calls : List Did) (left right : List ℕ) → MayLeave (replay calls (start left right)).clock.now (replay calls (start left right)).files
+sound calls left right = replay_sound calls (start left right) (record { left = holds_clean left; right = holds_clean right })
 
 -- one call more
 pub replay_more : (calls : List Did) (call : Did) (s : State) → replay (calls ++ call ∷ []) s ≡ step call (replay calls s)

@@ -1,18 +1,27 @@
-//! The outside as the client sees it: a disk of two files, input, output, and the moments of a world.
+//! The outside as the client sees it: a disk of two files, input, output, and the moments of a
+//! world.
 #![tactic(auto)]
 
 mod call;
 mod clocked;
 mod disk;
+mod fail_plan;
+mod faulty_disk;
+mod faulty_streams;
 mod mem_file;
 mod mem_files;
+mod mem_streams;
 mod memory;
 mod streams;
+#[cfg(test)]
+mod tests;
 mod world;
 
-pub use call::Did;
 pub use clocked::Clocked;
 pub use disk::{Disk, DiskFailed, Side};
+pub use faulty_disk::FaultyDisk;
+pub use faulty_streams::{FaultySink, FaultySource};
+pub use mem_streams::{MemSink, MemSource};
 pub use memory::MemDisk;
 pub use streams::{ReadFailed, Sink, Source, WriteFailed};
 pub use world::World;

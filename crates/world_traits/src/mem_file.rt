@@ -1,12 +1,14 @@
 //! The bytes of a file in memory: what it was given and what it holds now.
 
-ghost use Rattle.std.specs.Prelude.{◌≡◌, ◌≤◌, ◌+◌, ◌-◌, ◌^◌, ◌++◌, length, take, drop, min, replicate, OnOk, OnErr};
+ghost use Rattle.std.specs.Prelude.{◌≡◌, ◌≤◌, ◌+◌, ◌-◌, ◌^◌, ◌++◌};
+ghost use Rattle.std.specs.Prelude.{length, take, drop, replicate, OnOk, OnErr};
 ghost use Rattle.world_traits.specs.Files.{put};
 
-use std::alloc::{AllocError, Global};
+use std::alloc::AllocError;
 use std::marker::Model;
 
-/// The bytes of one file. The bytes that it was given are kept beside those that it holds now, from the first write on.
+/// The bytes of one file. The bytes that it was given are kept beside those that it holds now, from
+/// the first write on.
 #[derive(Drop)]
 pub struct MemFile {
     given: Vec<u8>,
@@ -18,7 +20,10 @@ impl Model for MemFile {
 
     ghost Value = { Content };
 
-    ghost view = { λ file. record { given = file.given.items; now = content file.given.items file.later } };
+    ghost view = { λ file. record {
+      given = file.given.items;
+      now = content file.given.items file.later;
+    } };
 }
 
 impl MemFile {
@@ -27,11 +32,6 @@ impl MemFile {
         ensures { result ≡ record { given = given.items; now = given.items } }
     {
         MemFile { given, later: None }
-    }
-
-    /// The allocator of its bytes.
-    pub fn allocator(&self) -> Global {
-        *self.given.allocator()
     }
 
     /// What it holds.
@@ -44,11 +44,12 @@ impl MemFile {
         }
     }
 
-    /// Puts bytes at a place. A gap before it reads as zeros. The first call copies the file; each further one costs
-    /// the bytes and the gap. After an error it holds what it held.
+    /// Puts bytes at a place. A gap before it reads as zeros. The first call copies the file; each
+    /// further one costs the bytes and the gap. After an error it holds what it held.
     pub fn put(&mut self, at: usize, bytes: &[u8]) -> Result<(), AllocError>
         requires { at + length bytes.now ≤ 2 ^ 32 }
-        ensures done { OnOk result (self.new ≡ record self.old { now = put at bytes.now self.old.now }) }
+        ensures done { OnOk result
+            (self.new ≡ record self.old { now = put at bytes.now self.old.now }) }
         ensures failed { OnErr result (self.new ≡ self.old) }
     {
         let mut next = match self.later.take() {
@@ -87,7 +88,8 @@ fn reach(content: &mut Vec<u8>, end: usize) -> Result<(), AllocError>
 // Writes bytes over those from a place on.
 fn write_over(content: &mut [u8], at: usize, bytes: &[u8])
     requires { at + length bytes.now ≤ length content.old }
-    ensures { content.new ≡ take at content.old ++ bytes.now ++ drop (at + length bytes.now) content.old }
+    ensures { content.new
+        ≡ take at content.old ++ bytes.now ++ drop (at + length bytes.now) content.old }
 {
     content[at..at + bytes.len()].copy_from_slice(bytes);
 }

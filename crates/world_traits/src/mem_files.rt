@@ -5,7 +5,7 @@ ghost use Rattle.world_traits.specs.Files.{put, file_of, with_file};
 
 use crate::Side;
 use crate::mem_file::MemFile;
-use std::alloc::{AllocError, Global};
+use std::alloc::AllocError;
 use std::marker::Model;
 
 /// What the two files were given and what they hold now.
@@ -38,11 +38,6 @@ impl MemFiles {
         }
     }
 
-    /// The allocator of their bytes.
-    pub fn allocator(&self) -> Global {
-        self.left.allocator()
-    }
-
     /// What a file holds.
     pub fn bytes(&self, side: Side) -> &[u8]
         ensures { result.now ≡ file_of side self.now.now }
@@ -53,7 +48,8 @@ impl MemFiles {
         }
     }
 
-    /// Puts bytes at a place of a file. A gap before it reads as zeros. After an error both hold what they held.
+    /// Puts bytes at a place of a file. A gap before it reads as zeros. After an error both hold
+    /// what they held.
     pub fn put(&mut self, side: Side, at: usize, bytes: &[u8]) -> Result<(), AllocError>
         requires { at + length bytes.now ≤ 2 ^ 32 }
         ensures done { OnOk result (self.new ≡ record self.old {

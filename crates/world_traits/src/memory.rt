@@ -1,5 +1,5 @@
-//! A disk in memory that tells its moments: it keeps what its files were given, what they hold now, and what each call
-//! did.
+//! A disk in memory that tells its moments: it keeps what its files were given, what they hold now,
+//! and what each call did.
 
 ghost use Rattle.std.specs.Prelude.{◌≡◌, ◌≤◌, ◌+◌, ◌-◌, ◌^◌, min, length, take, drop};
 ghost use Rattle.world_traits.specs.Replay.{replay, start};
@@ -11,14 +11,15 @@ use std::alloc::{AllocError, Global};
 
 /// Two files in memory. It fails only where it is refused room.
 ///
-/// The first write to a file copies it; each further one costs the bytes that it is given and the gap before them.
-/// It remembers each write and each sync, so it grows by each.
+/// The first write to a file copies it; each further one costs the bytes that it is given and the
+/// gap before them. It remembers each write and each sync, so it grows by each.
 #[derive(Drop)]
 pub struct MemDisk {
     files: MemFiles,
     calls: Vec<Did>,
     refused: u64,
-    ghost files_are: { files.now ≡ (replay calls.items (start files.given)).files },
+    ghost files_are: { files.now
+        ≡ (replay calls.items (start files.given.left files.given.right)).files },
 }
 
 impl MemDisk {
@@ -29,7 +30,7 @@ impl MemDisk {
 
     /// A disk with these files, which count as synced. It takes no memory.
     pub fn new(left: Vec<u8>, right: Vec<u8>) -> MemDisk
-        ensures state { state_of result ≡ start (record { left = left.items; right = right.items }) }
+        ensures state { state_of result ≡ start left.items right.items }
         ensures refused { refused_of result ≡ 0 }
     {
         let alloc: Global = *left.allocator();
@@ -47,7 +48,8 @@ impl MemDisk {
         self.files.bytes(side)
     }
 
-    /// How many growths it was refused. The count never falls, and stays at 2^64 - 1, its last value.
+    /// How many growths it was refused. The count never falls, and stays at 2^64 - 1, its last
+    /// value.
     pub fn refused(&self) -> u64
         ensures { result ≡ refused_of self.now }
     {
@@ -75,7 +77,8 @@ impl MemDisk {
 
     // Remembers that a file was synced, or leaves all as it was.
     fn settle(&mut self, side: Side) -> Result<(), AllocError>
-        ensures done { OnOk result (state_of self.new ≡ step (Did.Synced side) (state_of self.old)) }
+        ensures done { OnOk result
+            (state_of self.new ≡ step (Did.Synced side) (state_of self.old)) }
         ensures failed { OnErr result (state_of self.new ≡ state_of self.old) }
         ensures refused { refused_of self.new ≡ refused_of self.old }
     {
@@ -112,7 +115,8 @@ impl Disk for MemDisk {
 
     ghost seen = { λ disk. (state_of disk).files };
 
-    ghost seen_is = { λ disk tells. sound disk.calls.items disk.files.given };
+    ghost seen_is = { λ disk tells.
+        sound disk.calls.items disk.files.given.left disk.files.given.right };
 
     /// The file's length in bytes. It never fails, and changes nothing.
     fn length(&mut self, side: Side) -> Result<u64, DiskFailed>
@@ -122,8 +126,8 @@ impl Disk for MemDisk {
         Ok(self.bytes(side).len() as u64)
     }
 
-    /// Reads from a place into the buffer's front, as many bytes as there are and fit. It never fails, and changes
-    /// nothing of the disk.
+    /// Reads from a place into the buffer's front, as many bytes as there are and fit. It never
+    /// fails, and changes nothing of the disk.
     fn read(&mut self, side: Side, at: u64, into: &mut [u8]) -> Result<usize, DiskFailed>
         ensures value { result ≡ Ok (min (length into.old)
             (length (file_of side (state_of self.old).files) - at)) }
@@ -141,7 +145,8 @@ impl Disk for MemDisk {
         Ok(count)
     }
 
-    /// Writes the bytes at a place. It fails exactly where it is refused room, and then nothing was written.
+    /// Writes the bytes at a place. It fails exactly where it is refused room, and then nothing was
+    /// written.
     fn write_at(&mut self, side: Side, at: u64, bytes: &[u8]) -> Result<(), DiskFailed>
         requires { at + length bytes.now ≤ 2 ^ 32 }
         ensures told { Wrote side at bytes.now (state_of self.old).clock (state_of self.new).clock
@@ -158,7 +163,8 @@ impl Disk for MemDisk {
         Ok(())
     }
 
-    /// Makes what a read gives the synced bytes. It fails exactly where it is refused room, and then nothing changed.
+    /// Makes what a read gives the synced bytes. It fails exactly where it is refused room, and
+    /// then nothing changed.
     fn sync(&mut self, side: Side) -> Result<(), DiskFailed>
         ensures told { Synced side (state_of self.old).clock (state_of self.new).clock
             (state_of self.old).files (state_of self.new).files result }

@@ -16,7 +16,8 @@ pub struct WriteFailed;
 ///
 /// The count of faults is one of a `u64` that stays at 2^64 - 1, its last value.
 pub trait Source {
-    ghost use Rattle.std.specs.Prelude.{◌≡◌, ◌≤◌, ◌<◌, ◌++◌, ℕ, List, [], length, take, OnErr, IfOk};
+    ghost use Rattle.std.specs.Prelude.{◌≡◌, ◌≤◌, ◌<◌, ◌++◌, ℕ, List, []};
+    ghost use Rattle.std.specs.Prelude.{length, take, OnErr, IfOk};
     ghost use Rattle.world_traits.specs.Calls.{Rose};
 
     /// Whether sources of this type tell what is still to be read.
@@ -28,12 +29,13 @@ pub trait Source {
     /// How often the source has failed, up to the last value of the count.
     ghost source_faults: { Self → ℕ };
 
-    /// Takes bytes off the front of what is still to be read, into the buffer's front, and answers how many. It may
-    /// take fewer than fit; none into a buffer that isn't empty is the end of input. After an error all that was still
-    /// to be read is still to be read.
+    /// Takes bytes off the front of what is still to be read, into the buffer's front, and answers
+    /// how many. It may take fewer than fit; none into a buffer that isn't empty is the end of
+    /// input. After an error all that was still to be read is still to be read.
     fn read(&mut self, into: &mut [u8]) -> Result<usize, ReadFailed>
         ensures fits { IfOk result (λ n. n ≤ length into.old) }
-        ensures bytes { tells → IfOk result (λ n. rest self.old ≡ take n into.new ++ rest self.new) }
+        ensures bytes { tells → IfOk result (λ n.
+            rest self.old ≡ take n into.new ++ rest self.new) }
         ensures end { tells → IfOk result (λ n. n ≡ 0 → 0 < length into.old → rest self.old ≡ []) }
         ensures kept { tells → OnErr result (rest self.new ≡ rest self.old) }
         ensures count { source_faults self.old ≤ source_faults self.new }
@@ -56,10 +58,12 @@ pub trait Sink {
     /// How often the sink has failed, up to the last value of the count.
     ghost sink_faults: { Self → ℕ };
 
-    /// Writes all the bytes behind what was written. After an error some front of them was written, or none.
+    /// Writes all the bytes behind what was written. After an error some front of them was written,
+    /// or none.
     fn write(&mut self, bytes: &[u8]) -> Result<(), WriteFailed>
         ensures done { tells → OnOk result (written self.new ≡ written self.old ++ bytes.now) }
-        ensures part { tells → OnErr result ((n : ℕ) × (written self.new ≡ written self.old ++ take n bytes.now)) }
+        ensures part { tells → OnErr result ((n : ℕ)
+            × (written self.new ≡ written self.old ++ take n bytes.now)) }
         ensures count { sink_faults self.old ≤ sink_faults self.new }
         ensures cause { OnErr result (Rose (sink_faults self.old) (sink_faults self.new)) };
 }

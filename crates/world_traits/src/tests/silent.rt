@@ -1,0 +1,85 @@
+//! A world that tells nothing of content, and counts its faults: the form of the real edge.
+
+use crate::{Clocked, Disk, DiskFailed, Side, World};
+use std::test::Fail;
+
+// A disk whose lengths and writes fail, and of whose reads and syncs nothing is known.
+#[derive(Drop)]
+struct SilentDisk {
+    faults: u64,
+}
+
+impl SilentDisk {
+    ghost use Rattle.std.specs.Prelude.{◌≤◌};
+    ghost use Rattle.world_traits.specs.Calls.{Rose};
+
+    // Counts a fault, up to the last value of the count.
+    fn fail(&mut self)
+        ensures grows { self.old.faults ≤ self.new.faults }
+        ensures rose { Rose self.old.faults self.new.faults }
+    {
+        self.faults = self.faults.saturating_add(1);
+    }
+}
+
+impl Clocked for SilentDisk {
+    ghost use Rattle.std.specs.Prelude.{[]};
+    ghost use Rattle.world_traits.specs.LinkState.{unused};
+    ghost use Rattle.world_traits.specs.Replay.{start};
+
+    ghost tells_files = { ⊥ };
+
+    ghost tells_server = { ⊥ };
+
+    ghost server_with_files = { λ tells. tells };
+
+    ghost clock = { λ disk. (start [] []).clock };
+
+    ghost disk_faults = { λ disk. disk.faults };
+
+    ghost link = { λ disk. unused };
+}
+
+impl Disk for SilentDisk {
+    ghost use Rattle.std.specs.Prelude.{[]};
+
+    ghost seen = { λ disk. record { left = []; right = [] } };
+
+    ghost seen_is = { λ disk tells. absurd tells };
+
+    fn length(&mut self, _side: Side) -> Result<u64, DiskFailed> {
+        self.fail();
+        Err(DiskFailed)
+    }
+
+    fn read(&mut self, _side: Side, _at: u64, into: &mut [u8]) -> Result<usize, DiskFailed> {
+        Ok(into.len())
+    }
+
+    fn write_at(&mut self, _side: Side, _at: u64, _bytes: &[u8]) -> Result<(), DiskFailed> {
+        self.fail();
+        Err(DiskFailed)
+    }
+
+    fn sync(&mut self, _side: Side) -> Result<(), DiskFailed> {
+        Ok(())
+    }
+}
+
+impl World for SilentDisk {}
+
+// Asks for everything once.
+fn ask_all<W: World>(world: &mut W) -> (bool, bool, bool, bool) {
+    let length = world.length(Side::Left).is_ok();
+    let read = world.read(Side::Left, 0, &mut [0]).is_ok();
+    let write = world.write_at(Side::Left, 0, &[1]).is_ok();
+    (length, read, write, world.sync(Side::Left).is_ok())
+}
+
+#[test]
+fn the_traits_can_be_met_at_the_edge(rt: HostRuntime) -> Result<(), Fail> {
+    let mut disk = SilentDisk { faults: 0 };
+    assert_eq!(rt; ask_all(&mut disk), (false, true, false, true));
+    assert_eq!(rt; disk.faults, 2);
+    Ok(())
+}
