@@ -4,8 +4,10 @@ use Rattle.world_traits.specs.Files.{Stored, MayHold, Files, clean}
 use Rattle.world_traits.specs.declared.disk.Side.{Side}
 use Rattle.world_traits.specs.declared.disk.Side.TheVariants.{Left, Right}
 
--- what isn't on the disk (nothing, before there is a server)
-pub record Outside : Type 0 where
+-- What isn't on the disk: nothing, before there is a server. (A data type and not an empty record, all of whose values
+-- are one by computing: a proof could rest on that, and it would fail once there is a server.)
+pub data Outside : Type 0 where
+  nothing : Outside
 
 -- what a stop would find: the two files, each between two syncs, and what isn't on the disk
 pub record Moment : Type 0 where
