@@ -1,0 +1,74 @@
+//! The program `mowerbean`: arguments, environment, files and streams go to the top call, and its status to the caller.
+#![tactic(auto)]
+
+mod mail_folder;
+mod notices;
+mod open_files;
+mod settings;
+mod streams;
+
+use mail_base::{Line, Status};
+use mail_folder::MailFolder;
+use mail_top::run;
+use notices::notice_for;
+use settings::WordsFault;
+use std::alloc::AllocError;
+use std::fs::{File, Files};
+use std::io;
+use std::process::ExitCode;
+use std::rt::Env;
+use streams::{InputSource, OutputSink};
+use world_traits::Sink;
+
+fn main(rt: HostRuntime) -> ExitCode {
+    ExitCode::from(answer(&rt).code())
+}
+
+// The status of what the arguments ask for.
+fn answer<R: Files<File = File> + Env + Input + Print + AllocGlobal>(rt: &R) -> Status {
+    let words = match settings::words(rt) {
+        Ok(words) => words,
+        Err(WordsFault::NotText) => return refused(rt, Status::Words, &Line::error_words()),
+        Err(WordsFault::Memory) => return refused(rt, Status::Memory, &Line::error_memory()),
+    };
+    if let Some(notice) = notice_for(&words) {
+        return told(rt, notice);
+    }
+    match carried_out(rt, &words) {
+        Ok(status) => status,
+        Err(AllocError) => refused(rt, Status::Memory, &Line::error_memory()),
+    }
+}
+
+// Hands the words to the top call, with the user's settings.
+fn carried_out<R: Files<File = File> + Env + Input + Print + AllocGlobal>(
+    rt: &R,
+    words: &[String],
+) -> Result<Status, AllocError> {
+    let account = settings::account(rt)?;
+    let folder = settings::folder(rt)?;
+    let path = match &folder {
+        Some(path) => Some(path.as_str()),
+        None => None,
+    };
+    let mut input = InputSource::new(rt.reader());
+    let mut world = MailFolder::new(rt, path);
+    let mut out = OutputSink::new(io::writer(rt));
+    Ok(run(rt.alloc(), words, &account, &mut input, &mut world, &mut out))
+}
+
+// Prints the line of a refusal that comes before the top call.
+fn refused<R: Print>(rt: &R, status: Status, line: &Line) -> Status {
+    let mut out = OutputSink::new(io::writer(rt));
+    let _ = out.write(line.as_bytes());
+    status
+}
+
+// Prints a notice. A failed write is told by the status, as that of any command's line.
+fn told<R: Print>(rt: &R, notice: &str) -> Status {
+    let mut out = OutputSink::new(io::writer(rt));
+    match out.write(notice.as_bytes()) {
+        Ok(()) => Status::Done,
+        Err(_) => Status::Output,
+    }
+}

@@ -1,0 +1,26 @@
+//! What `--help` and `--version` print. They are no commands: the top call doesn't know them.
+
+/// The text of `--help`.
+pub const HELP: &str = "\
+usage: mowerbean flag BOX UID + FLAG    the message is to have the flag
+       mowerbean flag BOX UID - FLAG    the message is to be without it
+       mowerbean --help | --version
+
+FLAG is \\Answered, \\Flagged, \\Deleted, \\Seen or \\Draft. The actions are kept in
+journal.0 of the folder MAIL_DIR (default: the present one).
+";
+
+/// The text of `--version`.
+pub const VERSION: &str = "mowerbean 0.1.0\n";
+
+/// The text that the words ask for, where they are one of the two alone.
+pub fn notice_for(words: &[String]) -> Option<&'static str> {
+    match words {
+        [word] => match word.as_str() {
+            "--help" => Some(HELP),
+            "--version" => Some(VERSION),
+            _ => None,
+        },
+        _ => None,
+    }
+}

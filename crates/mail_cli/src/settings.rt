@@ -1,0 +1,68 @@
+//! What the environment and the arguments say.
+
+use mail_base::{Account, AccountFault};
+use std::alloc::AllocError;
+use std::env;
+use std::env::VarError;
+use std::io::ErrorKind;
+use std::rt::Env;
+
+/// Why the words can't be handed on.
+#[derive(Clone, Copy, Debug, PartialEq, Eq, Drop)]
+pub enum WordsFault {
+    /// An argument isn't UTF-8.
+    NotText,
+    /// Memory is wanting.
+    Memory,
+}
+
+/// The arguments behind the program's name.
+pub fn words<R: Env + AllocGlobal>(rt: &R) -> Result<Vec<String>, WordsFault> {
+    let arguments = match env::args(rt) {
+        Ok(arguments) => arguments,
+        Err(error) if error.kind() == ErrorKind::InvalidData => return Err(WordsFault::NotText),
+        Err(_) => return Err(WordsFault::Memory),
+    };
+    let mut words = Vec::new(rt.alloc());
+    for word in arguments.skip(1) {
+        if words.push(word).is_err() {
+            return Err(WordsFault::Memory);
+        }
+    }
+    Ok(words)
+}
+
+/// The user and the password of MAIL_USER and MAIL_PASSWORD. One that isn't there, isn't UTF-8 or holds a NUL counts as
+/// empty.
+pub fn account<R: Env + AllocGlobal>(rt: &R) -> Result<Account, AllocError> {
+    let user = variable(rt, "MAIL_USER")?;
+    let password = variable(rt, "MAIL_PASSWORD")?;
+    match Account::new(rt.alloc(), plain(&user), plain(&password)) {
+        Ok(account) => Ok(account),
+        Err(AccountFault::HasNul | AccountFault::Memory) => Err(AllocError),
+    }
+}
+
+// The text, or nothing where it holds a NUL.
+fn plain(text: &str) -> &str {
+    if text.as_bytes().contains(&0) { "" } else { text }
+}
+
+// The text of a variable, or nothing where there is none.
+fn variable<R: Env + AllocGlobal>(rt: &R, name: &str) -> Result<String, AllocError> {
+    match env::var(rt, name) {
+        Ok(text) => Ok(text),
+        Err(VarError::NotPresent | VarError::NotUnicode) => Ok(String::new(rt.alloc())),
+        Err(VarError::OutOfMemory) => Err(AllocError),
+    }
+}
+
+/// The folder of MAIL_DIR, or `.` where there is none. `None` where its path isn't UTF-8, which no file can be opened by.
+pub fn folder<R: Env + AllocGlobal>(rt: &R) -> Result<Option<String>, AllocError> {
+    match env::var(rt, "MAIL_DIR") {
+        Ok(path) => Ok(Some(path)),
+        Err(VarError::NotPresent) => Ok(Some(String::from_str(rt.alloc(), ".")?)),
+        Err(VarError::NotUnicode) => Ok(None),
+        Err(VarError::OutOfMemory) => Err(AllocError),
+    }
+}
