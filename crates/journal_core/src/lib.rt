@@ -3,6 +3,8 @@
 
 mod opening;
 mod records;
+#[cfg(test)]
+mod tests;
 mod writing;
 
 pub use opening::{OpenFault, open};

@@ -12,6 +12,8 @@ mod numbered;
 mod span;
 mod status;
 mod tag;
+#[cfg(test)]
+mod tests;
 mod words;
 
 pub use account::{Account, AccountFault};

@@ -61,7 +61,7 @@ impl From<DiskFailed> for AcceptFault {
 }
 
 // The number of the action that comes next in a journal of these bytes, where a record of this size still fits.
-fn next_number(file: &[u8], size: usize) -> Result<u64, AcceptFault>
+pub(crate) fn next_number(file: &[u8], size: usize) -> Result<u64, AcceptFault>
     requires { size < 2 ^ 32 }
     ensures number { IfOk result (IsNextNumber file.now size) }
     ensures broken { (at : ℕ) → IsErrOf result (AcceptFault.Broken at) → BrokenAt file.now at }

@@ -6,6 +6,8 @@ mod action_body;
 mod counting;
 mod flag_action;
 mod running;
+#[cfg(test)]
+mod tests;
 mod words;
 
 pub use accepting::{AcceptFault, MAX_JOURNAL};
