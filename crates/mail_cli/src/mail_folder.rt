@@ -8,6 +8,9 @@ use std::io;
 use std::os::unix::fs::FileExt;
 use world_traits::{Clocked, Disk, DiskFailed, Side, World};
 
+#[cfg(test)]
+mod tests;
+
 /// The folder with the journal's two files. A file is opened, or made, at the first call that needs it; a failure there is
 /// a fault of that call.
 #[derive(Drop)]
