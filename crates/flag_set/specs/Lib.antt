@@ -1,2 +1,3 @@
 pub mod Flag
 pub mod FlagKey
+pub mod FlagSet

@@ -3,6 +3,8 @@
 
 mod flag_fault;
 mod flag_key;
+mod flag_set;
 
 pub use flag_fault::{FlagFault, MAX_FLAG, MAX_FLAGS};
 pub use flag_key::FlagKey;
+pub use flag_set::FlagSet;

@@ -1,0 +1,112 @@
+//! A set of flags: the keys of the flags that a message has (RFC 9051, section 2.3.2).
+
+ghost use Rattle.std.specs.Prelude.{◌≡◌, ◌↔◌, ◌⊎◌, ℕ, List, [], ◌∷◌, All, Contains, IsTrue, not, true, IfErr, OnOk, is_ok, length, if◌then◌else◌};
+ghost use Rattle.std.specs.List.{list_all};
+ghost use Rattle.flag_set.specs.FlagSet.{IsFlagSet, IsGap, has, put};
+
+use crate::flag_key::FlagKey;
+use std::alloc::{AllocError, Global};
+use std::marker::Model;
+
+/// A set of flags, seen as the list of its keys, which rises by their bytes.
+#[derive(Debug, Drop)]
+pub struct FlagSet {
+    keys: Vec<FlagKey>,
+}
+
+impl Model for FlagSet {
+    ghost Value = { List (List ℕ) };
+
+    ghost view = { λ set. set.keys.items };
+
+    ghost invariant = { λ set. IsFlagSet set.keys.items };
+}
+
+impl FlagSet {
+    /// The empty set, which takes no memory.
+    pub fn none(alloc: Global) -> FlagSet
+        ensures { result ≡ [] }
+    {
+        FlagSet {
+            keys: Vec::new(alloc),
+        }
+    }
+
+    /// The keys, rising by their bytes.
+    pub fn keys(&self) -> &[FlagKey]
+        ensures value { result.now ≡ self.now }
+        ensures set { IsFlagSet self.now }
+    {
+        &self.keys
+    }
+
+    /// How many keys the set has.
+    pub fn len(&self) -> usize
+        ensures { result ≡ length self.now }
+    {
+        self.keys.len()
+    }
+
+    /// Whether the set has no key.
+    pub fn is_empty(&self) -> bool
+        ensures { IsTrue result ↔ (self.now ≡ []) }
+    {
+        self.keys.is_empty()
+    }
+
+    /// Whether the set has the key: a binary search.
+    pub fn holds(&self, key: &FlagKey) -> bool
+        ensures value { result ≡ has self.now key.now }
+        ensures member { IsTrue result ↔ Contains self.now key.now }
+    {
+        self.place(key).is_ok()
+    }
+
+    /// Whether the set has each key of the other: a binary search for each of these.
+    pub fn holds_all(&self, other: &FlagSet) -> bool
+        ensures value { result ≡ list_all (λ key. has self.now key) other.now }
+        ensures members { IsTrue result ↔ All (λ key. Contains self.now key) other.now }
+    {
+        self.holds_each(other.keys())
+    }
+
+    fn holds_each(&self, keys: &[FlagKey]) -> bool
+        ensures { result ≡ list_all (λ key. has self.now key) keys.now }
+    {
+        keys.iter().all(|key| self.holds(key))
+    }
+
+    /// Whether the set has no key of the other: a binary search for each of these.
+    pub fn holds_none(&self, other: &FlagSet) -> bool
+        ensures value { result ≡ list_all (λ key. not (has self.now key)) other.now }
+        ensures members { IsTrue result ↔ All (λ key. ¬ Contains self.now key) other.now }
+    {
+        self.lacks_each(other.keys())
+    }
+
+    fn lacks_each(&self, keys: &[FlagKey]) -> bool
+        ensures { result ≡ list_all (λ key. not (has self.now key)) keys.now }
+    {
+        keys.iter().all(|key| !self.holds(key))
+    }
+
+    /// Adds a key: a binary search, and one insertion where it isn't there.
+    pub fn add(&mut self, key: FlagKey) -> Result<(), AllocError>
+        ensures value { self.new ≡ (if is_ok result then put key self.old else self.old) }
+        ensures members { OnOk result ((k : List ℕ) → Contains self.new k ↔ ((k ≡ key) ⊎ Contains self.old k)) }
+    {
+        if let Err(at) = self.place(&key) {
+            self.keys.insert(at, key)?;
+        }
+        Ok(())
+    }
+
+    // Where the key stands, or where it would go.
+    fn place(&self, key: &FlagKey) -> Result<usize, usize>
+        ensures found { OnOk result (has self.now key.now ≡ true) }
+        ensures gap { IfErr result (IsGap self.now key.now) }
+        ensures set { IsFlagSet self.now }
+    {
+        self.keys.binary_search(key)
+    }
+}
