@@ -1,3 +1,4 @@
 pub mod Keys
 pub mod Members
+pub mod Merge
 pub mod Order

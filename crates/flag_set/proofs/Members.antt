@@ -11,7 +11,8 @@ use Rattle.std.specs.Ordering.{match_ordering, ordering_index, ordering_reverse,
 use Rattle.std.specs.Str.{bytes_eq}
 use Rattle.std.specs.declared.cmp.Ordering.{Ordering}
 use Rattle.std.specs.declared.cmp.Ordering.TheVariants.{Less, Equal, Greater}
-use Rattle.flag_set.specs.FlagSet.{order, AllKeys, IsGap, IsRising, has, put, union, minus}
+use Rattle.flag_set.specs.FlagKey.{IsKey}
+use Rattle.flag_set.specs.FlagSet.{order, AllKeys, IsFlagSet, IsGap, IsRising, has, put, union, minus}
 use Rattle.flag_set.proofs.Order.{order_same, order_itself, order_flip, below_all}
 
 pub member_from_has : (keys : List (List ℕ)) (key : List ℕ) → has keys key ≡ true → Contains keys key
@@ -254,3 +255,6 @@ place_gap keys key (Err at) up within parts =
 -- whether a key is there, by where it is
 pub is_member : (keys : List (List ℕ)) (key : List ℕ) (r : Bool) → r ≡ has keys key → IsTrue r ↔ Contains keys key
 is_member keys key r e = (λ t. member_from_has keys key (sym e ∙ t), λ c. e ∙ has_from_member keys key c)
+
+pub set_minus : (a b : List (List ℕ)) → IsFlagSet a → IsFlagSet (minus a b)
+set_minus a b set = record { rising = rising_filter _ a set.rising; flags = all_filter IsKey _ a set.flags }

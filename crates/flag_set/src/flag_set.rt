@@ -1,10 +1,11 @@
 //! A set of flags: the keys of the flags that a message has (RFC 9051, section 2.3.2).
 
-ghost use Rattle.std.specs.Prelude.{◌≡◌, ◌↔◌, ◌⊎◌, ℕ, List, [], ◌∷◌, All, Contains, IsTrue, not, true, IfErr, OnOk, is_ok, length, if◌then◌else◌};
+ghost use Rattle.std.specs.Prelude.{◌≡◌, ◌↔◌, ◌⊎◌, ℕ, List, [], ◌∷◌, All, Contains, IsTrue, not, true, IfErr, IfOk, OnOk, is_ok, length, if◌then◌else◌};
 ghost use Rattle.std.specs.List.{list_all};
-ghost use Rattle.flag_set.specs.FlagSet.{IsFlagSet, IsGap, has, put};
+ghost use Rattle.flag_set.specs.FlagSet.{IsFlagSet, IsGap, has, put, union, minus};
 
 use crate::flag_key::FlagKey;
+use crate::key_runs::{copied, lacking, merged};
 use std::alloc::{AllocError, Global};
 use std::marker::Model;
 
@@ -99,6 +100,35 @@ impl FlagSet {
             self.keys.insert(at, key)?;
         }
         Ok(())
+    }
+
+    /// The keys of either set: one merge.
+    pub fn with(&self, other: &FlagSet) -> Result<FlagSet, AllocError>
+        ensures value { IfOk result (λ set. set ≡ union self.now other.now) }
+        ensures members { IfOk result (λ set. (k : List ℕ) → Contains set k ↔ (Contains self.now k ⊎ Contains other.now k)) }
+    {
+        Ok(FlagSet {
+            keys: merged(*self.keys.allocator(), &self.keys, &other.keys)?,
+        })
+    }
+
+    /// The keys of this set that the other doesn't have: a binary search in the other for each.
+    pub fn without(&self, other: &FlagSet) -> Result<FlagSet, AllocError>
+        ensures value { IfOk result (λ set. set ≡ minus self.now other.now) }
+        ensures members { IfOk result (λ set. (k : List ℕ) → Contains set k ↔ (Contains self.now k × (¬ Contains other.now k))) }
+    {
+        Ok(FlagSet {
+            keys: lacking(*self.keys.allocator(), &self.keys, other)?,
+        })
+    }
+
+    /// A set with the same keys.
+    pub fn copy(&self) -> Result<FlagSet, AllocError>
+        ensures { IfOk result (λ set. set ≡ self.now) }
+    {
+        Ok(FlagSet {
+            keys: copied(*self.keys.allocator(), &self.keys)?,
+        })
     }
 
     // Where the key stands, or where it would go.

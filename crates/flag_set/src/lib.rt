@@ -4,6 +4,7 @@
 mod flag_fault;
 mod flag_key;
 mod flag_set;
+mod key_runs;
 
 pub use flag_fault::{FlagFault, MAX_FLAG, MAX_FLAGS};
 pub use flag_key::FlagKey;
