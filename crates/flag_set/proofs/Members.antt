@@ -4,7 +4,8 @@ use Rattle.std.proofs.lemmas.Bool.{and_parts, both_ways, cases_lt}
 use Rattle.std.proofs.lemmas.Cmp.{nat_list_cmp_total, nat_list_eq_equiv}
 use Rattle.std.proofs.lemmas.List.Sorted.{searchable_from_sorted}
 use Rattle.std.proofs.lemmas.Map.Views.{list_any-from_Contains, Contains-from_any}
-use Rattle.std.specs.Cmp.Lexicographic.{same_text, texts_ties}
+use Rattle.std.specs.Cmp.Lexicographic.{lists_equiv, pointwise, same_text, texts_ties}
+use Rattle.std.specs.Cmp.{both_ways as both_ways_same}
 use Rattle.std.specs.List.{All, AllWithin, Contains, HoldsAt, filter, list_any, list_all, insert}
 use Rattle.std.specs.List.Sorted.{IsBinarySearchResult, IsNonDecreasingBy, IsSearchInRange, IsSortedBy}
 use Rattle.std.specs.Ordering.{match_ordering, ordering_index, ordering_reverse, is_eq, is_lt}
@@ -258,3 +259,30 @@ is_member keys key r e = (λ t. member_from_has keys key (sym e ∙ t), λ c. e 
 
 pub set_minus : (a b : List (List ℕ)) → IsFlagSet a → IsFlagSet (minus a b)
 set_minus a b set = record { rising = rising_filter _ a set.rising; flags = all_filter IsKey _ a set.flags }
+
+-- lists that are tested key by key
+lists_same : (a b : List (List ℕ)) → pointwise bytes_eq a b ≡ true → a ≡ b
+lists_same [] [] h = refl
+lists_same [] (y ∷ ys) h = cc
+lists_same (x ∷ xs) [] h = cc
+lists_same (x ∷ xs) (y ∷ ys) h =
+    let both = and_parts (bytes_eq x y) (pointwise bytes_eq xs ys) h in
+    ap (λ k. k ∷ xs) (same_text x y (sym both.0)) ∙ ap (λ l. y ∷ l) (lists_same xs ys both.1)
+
+lists_itself : (a b : List (List ℕ)) → a ≡ b → pointwise bytes_eq a b ≡ true
+lists_itself a b e = ap (pointwise bytes_eq a) (sym e) ∙ (lists_equiv nat_list_eq_equiv).refl a
+
+pub is_same : (a b : List (List ℕ)) (r : Bool) → r ≡ pointwise bytes_eq a b → IsTrue r ↔ (a ≡ b)
+is_same a b r e = (λ t. lists_same a b (sym e ∙ t), λ s. e ∙ lists_itself a b s)
+
+members_same : (a b : List (List ℕ)) → IsRising a → IsRising b → ((k : List ℕ) → Contains a k ↔ Contains b k) → a ≡ b
+members_same a b up vp each =
+    same_set a b up vp (λ q. both_ways_same (has a q) (has b q)
+      (λ h. has_from_member b q ((each q).0 (member_from_has a q h)))
+      (λ h. has_from_member a q ((each q).1 (member_from_has b q h))))
+
+pub has_same_members : (a b : List (List ℕ)) (r : Bool) → IsRising a → IsRising b → r ≡ pointwise bytes_eq a b → IsTrue r ↔ ((k : List ℕ) → Contains a k ↔ Contains b k)
+has_same_members a b r up vp e =
+    (λ t k. let s : a ≡ b = (is_same a b r e).0 t in subst (λ l. Contains a k ↔ Contains l k) s ((λ c. c), (λ c. c))
+    , λ each. (is_same a b r e).1 (members_same a b up vp each)
+    )

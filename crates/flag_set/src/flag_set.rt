@@ -1,7 +1,10 @@
 //! A set of flags: the keys of the flags that a message has (RFC 9051, section 2.3.2).
 
 ghost use Rattle.std.specs.Prelude.{◌≡◌, ◌↔◌, ◌⊎◌, ℕ, List, [], ◌∷◌, All, Contains, IsTrue, not, true, IfErr, IfOk, OnOk, is_ok, length, if◌then◌else◌};
+ghost use Rattle.std.specs.Cmp.{partial_equiv_from_equiv};
+ghost use Rattle.std.specs.Cmp.Lexicographic.{lists_equiv, nat_list_eq_equiv, pointwise};
 ghost use Rattle.std.specs.List.{list_all};
+ghost use Rattle.std.specs.Str.{bytes_eq};
 ghost use Rattle.flag_set.specs.FlagSet.{IsFlagSet, IsGap, has, put, union, minus};
 
 use crate::flag_key::FlagKey;
@@ -139,4 +142,23 @@ impl FlagSet {
     {
         self.keys.binary_search(key)
     }
+}
+
+/// Sets are equal where they have the same keys.
+impl PartialEq for FlagSet {
+    ghost eq = { pointwise bytes_eq };
+
+    ghost laws = { partial_equiv_from_equiv (lists_equiv nat_list_eq_equiv) };
+
+    fn eq(&self, other: &FlagSet) -> bool
+        ensures value { result ≡ pointwise bytes_eq self.now other.now }
+        ensures same { IsTrue result ↔ (self.now ≡ other.now) }
+        ensures members { IsTrue result ↔ ((k : List ℕ) → Contains self.now k ↔ Contains other.now k) }
+    {
+        self.keys.as_slice() == other.keys.as_slice()
+    }
+}
+
+impl Eq for FlagSet {
+    ghost laws = { lists_equiv nat_list_eq_equiv };
 }
