@@ -1,4 +1,6 @@
+pub mod Faults
 pub mod Keys
 pub mod Members
 pub mod Merge
 pub mod Order
+pub mod Pieces

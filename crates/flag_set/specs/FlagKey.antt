@@ -1,5 +1,5 @@
 -- The key of a flag: flags are compared without ASCII case (RFC 9051, section 2.3.2).
-use Rattle.std.specs.Prelude.{◌≡◌, ◌≤◌, IsTrue, List, ℕ, length}
+use Rattle.std.specs.Prelude.{◌≡◌, ◌≤◌, IsTrue, List, ℕ, length, codes}
 use Rattle.std.specs.Str.{str_to_ascii_lowercase}
 use Rattle.flag_set.specs.declared.flag_fault.TheConstants.{MAX_FLAG}
 use Rattle.flag_set.specs.Flag.{is_flag}
@@ -7,6 +7,10 @@ use Rattle.flag_set.specs.Flag.{is_flag}
 -- the key of a flag is its text in lower case
 abbrev pub key_of : List ℕ → List ℕ
 key_of text = str_to_ascii_lowercase text
+
+-- the key of the flag that the server alone sets (RFC 9051, section 2.3.2)
+abbrev pub recent : List ℕ
+recent = codes "\\recent"
 
 -- the bytes are a flag in lower case that isn't too long
 pub record IsKey (key : List ℕ) : Type 0 where

@@ -1,3 +1,4 @@
 pub mod Flag
 pub mod FlagKey
+pub mod FlagList
 pub mod FlagSet

@@ -9,7 +9,7 @@ ghost use Rattle.std.specs.List.{list_all, position};
 ghost use Rattle.std.specs.Ordering.{nat_cmp, as_partial_cmp};
 ghost use Rattle.std.specs.Str.{bytes_eq, str_eq_ignore_ascii_case};
 ghost use Rattle.flag_set.specs.Flag.{is_atom_byte, is_flag, is_keyword, is_system, misfit, name_of, refusal, asked_refusal};
-ghost use Rattle.flag_set.specs.FlagKey.{IsKey, key_of};
+ghost use Rattle.flag_set.specs.FlagKey.{IsKey, key_of, recent};
 
 use crate::flag_fault::{FlagFault, MAX_FLAG};
 use std::alloc::{AllocError, Global};
@@ -77,6 +77,13 @@ impl FlagKey {
         ensures { result ≡ is_keyword self.now }
     {
         is_keyword(&self.bytes)
+    }
+
+    /// Whether the flag is `\Recent`, which the server alone sets (RFC 9051, section 2.3.2).
+    pub(crate) fn is_recent(&self) -> bool
+        ensures { result ≡ bytes_eq self.now recent }
+    {
+        self.bytes.as_slice() == b"\\recent".as_slice()
     }
 }
 

@@ -1,13 +1,16 @@
 //! A set of flags: the keys of the flags that a message has (RFC 9051, section 2.3.2).
 
-ghost use Rattle.std.specs.Prelude.{◌≡◌, ◌↔◌, ◌⊎◌, ℕ, List, [], ◌∷◌, All, Contains, IsTrue, not, true, IfErr, IfOk, OnOk, is_ok, length, if◌then◌else◌};
+ghost use Rattle.std.specs.Prelude.{◌≡◌, ◌↔◌, ◌⊎◌, ◌≤◌, ℕ, List, [], ◌∷◌, All, Contains, IsTrue, not, true, None, Some, IfErr, IfOk, OnOk, is_ok, length, if◌then◌else◌};
 ghost use Rattle.std.specs.Cmp.{partial_equiv_from_equiv};
 ghost use Rattle.std.specs.Cmp.Lexicographic.{lists_equiv, nat_list_eq_equiv, pointwise};
 ghost use Rattle.std.specs.List.{list_all};
 ghost use Rattle.std.specs.Str.{bytes_eq};
+ghost use Rattle.flag_set.specs.FlagList.{HasNoFault, IsFirstFault, excess, flags_of, keep, set_of};
 ghost use Rattle.flag_set.specs.FlagSet.{IsFlagSet, IsGap, has, put, union, minus};
 
+use crate::flag_fault::{FlagFault, MAX_FLAGS};
 use crate::flag_key::FlagKey;
+use crate::flag_list::first_flag;
 use crate::key_runs::{copied, lacking, merged};
 use std::alloc::{AllocError, Global};
 use std::marker::Model;
@@ -34,6 +37,43 @@ impl FlagSet {
         FlagSet {
             keys: Vec::new(alloc),
         }
+    }
+
+    /// Reads the text between the parentheses of a flag list (RFC 9051, section 9, flag-list): flags with one or more
+    /// spaces between them, and none at the ends. `\Recent` is dropped. The first fault from the left is told.
+    pub fn read_list(alloc: Global, text: &[u8]) -> Result<FlagSet, FlagFault>
+        ensures value { IfOk result (λ set. set ≡ set_of (flags_of text.now)) }
+        ensures accepted { OnOk result (HasNoFault (flags_of text.now)) }
+        ensures refused { IfErr result (λ fault. IsFirstFault (flags_of text.now) fault ⊎ (fault ≡ FlagFault.Memory)) }
+    {
+        let mut set = FlagSet::none(alloc);
+        let mut left = if text.is_empty() { None } else { Some(text) };
+        while let Some(list) = left {
+            let (flag, later) = first_flag(list);
+            set.take(FlagKey::new(alloc, flag)?)?;
+            left = later;
+        }
+        Ok(set)
+    }
+
+    // Takes a flag of a list that is read.
+    fn take(&mut self, key: FlagKey) -> Result<(), FlagFault>
+        requires { length self.old ≤ MAX_FLAGS }
+        ensures value { OnOk result (self.new ≡ keep key self.old) }
+        ensures within { OnOk result (length self.new ≤ MAX_FLAGS) }
+        ensures accepted { OnOk result (excess (keep key self.old) ≡ None) }
+        ensures refused { IfErr result (λ fault. (excess (keep key self.old) ≡ Some fault) ⊎ (fault ≡ FlagFault.Memory)) }
+    {
+        if key.is_recent() {
+            return Ok(());
+        }
+        self.add(key)?;
+        if self.len() > MAX_FLAGS {
+            return Err(FlagFault::TooMany {
+                count: MAX_FLAGS + 1,
+            });
+        }
+        Ok(())
     }
 
     /// The keys, rising by their bytes.

@@ -3,6 +3,7 @@
 
 mod flag_fault;
 mod flag_key;
+mod flag_list;
 mod flag_set;
 mod key_runs;
 
