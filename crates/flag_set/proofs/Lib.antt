@@ -4,3 +4,4 @@ pub mod Members
 pub mod Merge
 pub mod Order
 pub mod Pieces
+pub mod Texts

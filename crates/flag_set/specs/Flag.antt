@@ -1,6 +1,6 @@
 -- What a flag is, and where a text fails to be one (RFC 9051, section 9, flag and ATOM-CHAR).
-use Rattle.std.specs.Prelude.{ℕ, ◌+◌, ◌-◌, Bool, true, not, ◌&&◌, ◌||◌, ◌==◌, nat_le, nat_lt, List, [], ◌∷◌, length, Option, Some, None, unwrap_or, if◌then◌else◌, codes}
-use Rattle.std.specs.List.{list_all, list_any, position}
+use Rattle.std.specs.Prelude.{ℕ, ◌+◌, ◌-◌, Bool, true, not, ◌&&◌, ◌||◌, ◌==◌, nat_le, nat_lt, List, [], ◌∷◌, length, Option, Some, None, is_some, unwrap_or, if◌then◌else◌, codes}
+use Rattle.std.specs.List.{find, list_all, list_any, position}
 use Rattle.std.specs.Option.{option_or}
 use Rattle.std.specs.Str.{str_eq_ignore_ascii_case}
 use Rattle.flag_set.specs.declared.flag_fault.TheConstants.{MAX_FLAG}
@@ -47,10 +47,14 @@ is_keyword (first ∷ rest) = not (first == backslash)
 abbrev pub system_flags : List (List ℕ)
 system_flags = codes "\\Answered" ∷ codes "\\Flagged" ∷ codes "\\Deleted" ∷ codes "\\Seen" ∷ codes "\\Draft" ∷ []
 
--- the text is one of these in any case
-abbrev pub is_system : List ℕ → Bool
-is_system text = list_any (λ flag. str_eq_ignore_ascii_case flag text) system_flags
+-- the one of these that the text is in any case, if it is one
+abbrev pub system_flag : List ℕ → Option (List ℕ)
+system_flag text = find (λ flag. str_eq_ignore_ascii_case flag text) system_flags
+
+-- the key as it is written: a system flag as the standard spells it, any other flag as its key
+abbrev pub spelling : List ℕ → List ℕ
+spelling key = unwrap_or (system_flag key) key
 
 -- why a user's word is refused as a flag, if it is: behind the reasons for any text, that it names no flag that a client may set
 abbrev pub asked_refusal : List ℕ → Option FlagFault
-asked_refusal text = option_or (refusal text) (if is_keyword text || is_system text then None else Some (BadFlag 0))
+asked_refusal text = option_or (refusal text) (if is_keyword text || is_some (system_flag text) then None else Some (BadFlag 0))

@@ -2,3 +2,4 @@ pub mod Flag
 pub mod FlagKey
 pub mod FlagList
 pub mod FlagSet
+pub mod FlagText

@@ -6,9 +6,10 @@ ghost use Rattle.std.specs.Cmp.{partial_order_from_own_ties};
 ghost use Rattle.std.specs.Cmp.Rules.{comparing};
 ghost use Rattle.std.specs.Cmp.Lexicographic.{slice_cmp, nat_list_cmp_total, nat_list_eq_equiv, texts_po, texts_ties};
 ghost use Rattle.std.specs.List.{list_all, position};
+ghost use Rattle.std.specs.Option.{option_copied};
 ghost use Rattle.std.specs.Ordering.{nat_cmp, as_partial_cmp};
 ghost use Rattle.std.specs.Str.{bytes_eq, str_eq_ignore_ascii_case};
-ghost use Rattle.flag_set.specs.Flag.{is_atom_byte, is_flag, is_keyword, is_system, misfit, name_of, refusal, asked_refusal};
+ghost use Rattle.flag_set.specs.Flag.{is_atom_byte, is_flag, is_keyword, misfit, name_of, refusal, spelling, system_flag, asked_refusal};
 ghost use Rattle.flag_set.specs.FlagKey.{IsKey, key_of, recent};
 
 use crate::flag_fault::{FlagFault, MAX_FLAG};
@@ -49,7 +50,7 @@ impl FlagKey {
         ensures refused { IfErr result (λ fault. fault ≡ unwrap_or (asked_refusal text.now) FlagFault.Memory) }
     {
         accept(text)?;
-        if !is_keyword(text) && !is_system(text) {
+        if !is_keyword(text) && system_flag(text).is_none() {
             return Err(FlagFault::BadFlag { at: 0 });
         }
         Ok(lowered(alloc, text)?)
@@ -77,6 +78,14 @@ impl FlagKey {
         ensures { result ≡ is_keyword self.now }
     {
         is_keyword(&self.bytes)
+    }
+
+    /// The flag as it is written: one of the five system flags that a client may set as the standard spells it, any
+    /// other flag as its key (RFC 9051, section 2.3.2).
+    pub fn spelling(&self) -> &[u8]
+        ensures { result.now ≡ spelling self.now }
+    {
+        system_flag(&self.bytes).unwrap_or(&self.bytes)
     }
 
     /// Whether the flag is `\Recent`, which the server alone sets (RFC 9051, section 2.3.2).
@@ -204,14 +213,22 @@ fn is_keyword(text: &[u8]) -> bool
     text.first() != Some(&b'\\')
 }
 
-fn is_system(text: &[u8]) -> bool
-    ensures { result ≡ is_system text.now }
+fn system_flag(text: &[u8]) -> Option<&'static [u8]>
+    ensures { option_copied result ≡ system_flag text.now }
 {
-    is_same_flag(b"\\Answered", text)
-        || is_same_flag(b"\\Flagged", text)
-        || is_same_flag(b"\\Deleted", text)
-        || is_same_flag(b"\\Seen", text)
-        || is_same_flag(b"\\Draft", text)
+    if is_same_flag(b"\\Answered", text) {
+        Some(b"\\Answered".as_slice())
+    } else if is_same_flag(b"\\Flagged", text) {
+        Some(b"\\Flagged".as_slice())
+    } else if is_same_flag(b"\\Deleted", text) {
+        Some(b"\\Deleted".as_slice())
+    } else if is_same_flag(b"\\Seen", text) {
+        Some(b"\\Seen".as_slice())
+    } else if is_same_flag(b"\\Draft", text) {
+        Some(b"\\Draft".as_slice())
+    } else {
+        None
+    }
 }
 
 fn is_same_flag(flag: &[u8], text: &[u8]) -> bool

@@ -1,17 +1,19 @@
 //! A set of flags: the keys of the flags that a message has (RFC 9051, section 2.3.2).
 
-ghost use Rattle.std.specs.Prelude.{◌≡◌, ◌↔◌, ◌⊎◌, ◌≤◌, ℕ, List, [], ◌∷◌, All, Contains, IsTrue, not, true, None, Some, IfErr, IfOk, OnOk, is_ok, length, if◌then◌else◌};
+ghost use Rattle.std.specs.Prelude.{◌≡◌, ◌↔◌, ◌⊎◌, ◌≤◌, ℕ, List, [], ◌∷◌, ◌∷◌, All, Contains, IsTrue, not, true, None, Some, IfErr, IfOk, OnOk, is_ok, length, if◌then◌else◌};
 ghost use Rattle.std.specs.Cmp.{partial_equiv_from_equiv};
 ghost use Rattle.std.specs.Cmp.Lexicographic.{lists_equiv, nat_list_eq_equiv, pointwise};
 ghost use Rattle.std.specs.List.{list_all};
 ghost use Rattle.std.specs.Str.{bytes_eq};
+ghost use Rattle.flag_set.specs.FlagKey.{recent};
 ghost use Rattle.flag_set.specs.FlagList.{HasNoFault, IsFirstFault, excess, flags_of, keep, set_of};
 ghost use Rattle.flag_set.specs.FlagSet.{IsFlagSet, IsGap, has, put, union, minus};
+ghost use Rattle.flag_set.specs.FlagText.{list_text};
 
 use crate::flag_fault::{FlagFault, MAX_FLAGS};
 use crate::flag_key::FlagKey;
 use crate::flag_list::first_flag;
-use crate::key_runs::{copied, lacking, merged};
+use crate::key_runs::{copied, joined, lacking, merged};
 use std::alloc::{AllocError, Global};
 use std::marker::Model;
 
@@ -50,14 +52,14 @@ impl FlagSet {
         let mut left = if text.is_empty() { None } else { Some(text) };
         while let Some(list) = left {
             let (flag, later) = first_flag(list);
-            set.take(FlagKey::new(alloc, flag)?)?;
+            set.keep(FlagKey::new(alloc, flag)?)?;
             left = later;
         }
         Ok(set)
     }
 
     // Takes a flag of a list that is read.
-    fn take(&mut self, key: FlagKey) -> Result<(), FlagFault>
+    fn keep(&mut self, key: FlagKey) -> Result<(), FlagFault>
         requires { length self.old ≤ MAX_FLAGS }
         ensures value { OnOk result (self.new ≡ keep key self.old) }
         ensures within { OnOk result (length self.new ≤ MAX_FLAGS) }
@@ -163,6 +165,17 @@ impl FlagSet {
         Ok(FlagSet {
             keys: lacking(*self.keys.allocator(), &self.keys, other)?,
         })
+    }
+
+    /// The flags as they are written, with one space between, which `read_list` reads again.
+    pub fn text(&self) -> Result<Vec<u8>, AllocError>
+        ensures value { IfOk result (λ text. text.items ≡ list_text self.now) }
+
+        // What is read again is this set, but for `\Recent`, which a list doesn't keep.
+        ensures again { IfOk result (λ text. set_of (flags_of text.items) ≡ minus self.now (recent ∷ [])) }
+        ensures readable { length self.now ≤ MAX_FLAGS → IfOk result (λ text. HasNoFault (flags_of text.items)) }
+    {
+        joined(*self.keys.allocator(), &self.keys)
     }
 
     /// A set with the same keys.

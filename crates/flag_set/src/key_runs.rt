@@ -2,6 +2,7 @@
 
 ghost use Rattle.std.specs.Prelude.{◌≡◌, [], not, filter, IfOk, IfNone, IfSome};
 ghost use Rattle.flag_set.specs.FlagSet.{IsFirst, IsLower, IsRising, has, union};
+ghost use Rattle.flag_set.specs.FlagText.{list_text};
 
 use crate::flag_key::FlagKey;
 use crate::flag_set::FlagSet;
@@ -50,6 +51,19 @@ pub(crate) fn merged(
         right = right.split_at(first.rights).1;
     }
     Ok(keys)
+}
+
+pub(crate) fn joined(alloc: Global, keys: &[FlagKey]) -> Result<Vec<u8>, AllocError>
+    ensures { IfOk result (λ text. text.items ≡ list_text keys.now) }
+{
+    let mut text = Vec::new(alloc);
+    for (at, key) in keys.iter().enumerate() {
+        if at > 0 {
+            text.push(b' ')?;
+        }
+        text.extend_from_slice(key.spelling())?;
+    }
+    Ok(text)
 }
 
 // The lower of two runs' first keys, and how many keys of each run it stands for.
