@@ -80,7 +80,7 @@ flag_refused all keys rest left flag fault whole parts e =
 pub key_refused : (all : List (List ℕ)) (keys rest left : List (List ℕ)) (flag key : List ℕ) (fault : FlagFault) → fault_behind keys left ≡ fault_behind [] all → left ≡ flag ∷ rest → refusal flag ≡ None → key ≡ key_of flag → (excess (keep key keys) ≡ Some fault) ⊎ (fault ≡ Memory) → IsFirstFault all fault ⊎ (fault ≡ Memory)
 key_refused all keys rest left flag key fault whole parts r k (inl e) =
     inl (first_fault all fault
-      (sym whole ∙ ap (fault_behind keys) parts
-      ∙ ap (λ o. option_or (option_or o (excess (with_flag keys flag))) (fault_behind (with_flag keys flag) rest)) r
-      ∙ ap (λ o. option_or o (fault_behind (with_flag keys flag) rest)) (ap (λ y. excess (keep y keys)) (sym k) ∙ e)))
+    (sym whole ∙ ap (fault_behind keys) parts
+    ∙ ap (λ o. option_or (option_or o (excess (with_flag keys flag))) (fault_behind (with_flag keys flag) rest)) r
+    ∙ ap (λ o. option_or o (fault_behind (with_flag keys flag) rest)) (ap (λ y. excess (keep y keys)) (sym k) ∙ e)))
 key_refused all keys rest left flag key fault whole parts r k (inr e) = inr e

@@ -1,11 +1,14 @@
 -- The lower-case text of a flag is a key.
-use Rattle.std.proofs.Common.{◌≡◌, ℕ, ◌≤◌, ◌<◌, Bool, true, false, cond, not, ◌&&◌, List, [], ◌∷◌, length, Option, None, Some, IsTrue, nat_eq, nat_lt, map, refl, sym, ap, ◌∙◌, arith}
+use Rattle.std.proofs.Common.{◌≡◌, ◌↔◌, ℕ, ◌≤◌, ◌<◌, Bool, true, false, cond, not, ◌&&◌, List, [], ◌∷◌, length, Option, None, Some, IsTrue, nat_eq, nat_lt, map, refl, sym, ap, ◌∙◌, arith}
 use Rattle.std.proofs.lemmas.Bool.{and_parts, ltb-false}
 use Rattle.std.proofs.lemmas.Bool.Decides.{nat_tests}
+use Rattle.std.proofs.lemmas.Cmp.{nat_list_eq_equiv}
 use Rattle.std.proofs.lemmas.List.{length-map}
 use Rattle.std.proofs.lemmas.Str.Ascii.{lowercase-lowercase, lowercase_is}
 use Rattle.std.specs.Char.{to_ascii_lowercase}
+use Rattle.std.specs.Cmp.Lexicographic.{same_text}
 use Rattle.std.specs.List.{list_all}
+use Rattle.std.specs.Str.{bytes_eq}
 use Rattle.flag_set.specs.declared.flag_fault.TheConstants.{MAX_FLAG}
 use Rattle.flag_set.specs.declared.flag_fault.FlagFault.TheVariants.{TooLong, BadFlag}
 use Rattle.flag_set.specs.Flag.{is_atom_byte, name_of, is_flag, misfit, refusal, backslash}
@@ -19,7 +22,7 @@ backslash_lower b = grind (arith, nat_tests)
 
 name_lower : (text : List ℕ) → name_of (key_of text) ≡ key_of (name_of text)
 name_lower [] = refl
-name_lower (b ∷ rest) = 
+name_lower (b ∷ rest) =
     ap (λ t. cond t (key_of rest) (key_of (b ∷ rest))) (backslash_lower b)
     ∙ elim (nat_eq b backslash) as (λ t. cond t (key_of rest) (key_of (b ∷ rest)) ≡ key_of (cond t rest (b ∷ rest))) [ true ↦ refl | false ↦ refl ]
 
@@ -53,3 +56,7 @@ pub key_is : (text : List ℕ) → refusal text ≡ None → IsKey (key_of text)
 key_is text h =
     let good = accepted text h in
     record { flag = flag_lower text good.1; lower = lower_lower text; short = rw length-map good.0 }
+
+-- two keys that are tested byte by byte
+pub keys_same : (a b : List ℕ) (r : Bool) → r ≡ bytes_eq a b → IsTrue r ↔ (a ≡ b)
+keys_same a b r e = (λ t. same_text a b (sym t ∙ e), λ s. e ∙ ap (bytes_eq a) (sym s) ∙ nat_list_eq_equiv.refl a)

@@ -118,28 +118,28 @@ or_right true b h = refl
 or_right false b h = h
 
 pub members_put : (key : List ℕ) (keys : List (List ℕ)) (k : List ℕ) → Contains (put key keys) k ↔ ((k ≡ key) ⊎ Contains keys k)
-members_put key keys k =
-    (λ c. elim (or_cases _ _ (sym (has-put key keys k) ∙ has_from_member _ _ c)) [
-        | inl e ↦ inl (same_text k key (sym e))
-        | inr h ↦ inr (member_from_has keys k h)
-      ]
-    , λ s. member_from_has _ _ (has-put key keys k ∙ elim s [
-        | inl e ↦ or_left _ _ (ap (bytes_eq k) (sym e) ∙ eq_itself k)
-        | inr c ↦ or_right (bytes_eq k key) _ (has_from_member keys k c)
-      ])
-    )
+members_put key keys k = (
+  λ c. elim (or_cases _ _ (sym (has-put key keys k) ∙ has_from_member _ _ c)) [
+    | inl e ↦ inl (same_text k key (sym e))
+    | inr h ↦ inr (member_from_has keys k h)
+  ],
+  λ s. member_from_has _ _ (has-put key keys k ∙ elim s [
+    | inl e ↦ or_left _ _ (ap (bytes_eq k) (sym e) ∙ eq_itself k)
+    | inr c ↦ or_right (bytes_eq k key) _ (has_from_member keys k c)
+  ]),
+)
 
 pub members_union : (a b : List (List ℕ)) (k : List ℕ) → Contains (union a b) k ↔ (Contains a k ⊎ Contains b k)
-members_union a b k =
-    (λ c. elim (or_cases _ _ (sym (has-union a b k) ∙ has_from_member _ _ c)) [
-        | inl h ↦ inl (member_from_has a k h)
-        | inr h ↦ inr (member_from_has b k h)
-      ]
-    , λ s. member_from_has _ _ (has-union a b k ∙ elim s [
-        | inl c ↦ or_left _ _ (has_from_member a k c)
-        | inr c ↦ or_right (has a k) _ (has_from_member b k c)
-      ])
-    )
+members_union a b k = (
+  λ c. elim (or_cases _ _ (sym (has-union a b k) ∙ has_from_member _ _ c)) [
+    | inl h ↦ inl (member_from_has a k h)
+    | inr h ↦ inr (member_from_has b k h)
+  ],
+  λ s. member_from_has _ _ (has-union a b k ∙ elim s [
+    | inl c ↦ or_left _ _ (has_from_member a k c)
+    | inr c ↦ or_right (has a k) _ (has_from_member b k c)
+  ]),
+)
 
 -- a test of keys, and what it says of each
 pub all_hold : (p : List ℕ → Bool) (P : List ℕ → Type 0) → ((x : List ℕ) → p x ≡ true → P x) → (keys : List (List ℕ)) → list_all p keys ≡ true → All P keys
@@ -156,18 +156,18 @@ has_not keys key h c = both_ways (not (has keys key)) (ap not (has_from_member k
 
 not_has : (keys : List (List ℕ)) (key : List ℕ) → ¬ Contains keys key → not (has keys key) ≡ true
 not_has keys key h = elim (has keys key) as (λ b. has keys key ≡ b → not b ≡ true) [
-      | true ↦ λ e. absurd (h (member_from_has keys key e))
-      | false ↦ λ e. refl
-    ] refl
+  | true ↦ λ e. absurd (h (member_from_has keys key e))
+  | false ↦ λ e. refl
+] refl
 
 pub holds_each : (a b : List (List ℕ)) (r : Bool) → r ≡ list_all (has a) b → IsTrue r ↔ All (λ key. Contains a key) b
 holds_each a b r e = (λ t. all_hold (has a) (λ key. Contains a key) (member_from_has a) b (sym e ∙ t), λ all. e ∙ all_pass (has a) (λ key. Contains a key) (has_from_member a) b all)
 
 pub holds_no : (a b : List (List ℕ)) (r : Bool) → r ≡ list_all (λ key. not (has a key)) b → IsTrue r ↔ All (λ key. ¬ Contains a key) b
-holds_no a b r e =
-    (λ t. all_hold (λ key. not (has a key)) (λ key. ¬ Contains a key) (has_not a) b (sym e ∙ t)
-    , λ all. e ∙ all_pass (λ key. not (has a key)) (λ key. ¬ Contains a key) (not_has a) b all
-    )
+holds_no a b r e = (
+  λ t. all_hold (λ key. not (has a key)) (λ key. ¬ Contains a key) (has_not a) b (sym e ∙ t),
+  λ all. e ∙ all_pass (λ key. not (has a key)) (λ key. ¬ Contains a key) (not_has a) b all,
+)
 
 -- filtered sets
 pub all_filter : (P : List ℕ → Type 0) (p : List ℕ → Bool) (keys : List (List ℕ)) → AllKeys P keys → AllKeys P (filter p keys)
@@ -203,10 +203,10 @@ has-filter p [] q = refl
 has-filter p (x ∷ xs) q = has_of_cond (p x) x (filter p xs) q ∙ has_filter_cases q x (has xs q) (has (filter p xs) q) p (p x) (bytes_eq q x) refl refl (has-filter p xs q)
 
 pub members_minus : (a b : List (List ℕ)) (k : List ℕ) → Contains (minus a b) k ↔ (Contains a k × (¬ Contains b k))
-members_minus a b k =
-    (λ c. let both = and_parts (has a k) (not (has b k)) (sym (has-filter (λ key. not (has b key)) a k) ∙ has_from_member _ _ c) in (member_from_has a k both.0, has_not b k both.1)
-    , λ s. member_from_has _ _ (has-filter (λ key. not (has b key)) a k ∙ ap (λ t. t && not (has b k)) (has_from_member a k s.0) ∙ not_has b k s.1)
-    )
+members_minus a b k = (
+  λ c. let both = and_parts (has a k) (not (has b k)) (sym (has-filter (λ key. not (has b key)) a k) ∙ has_from_member _ _ c) in (member_from_has a k both.0, has_not b k both.1),
+  λ s. member_from_has _ _ (has-filter (λ key. not (has b key)) a k ∙ ap (λ t. t && not (has b k)) (has_from_member a k s.0) ∙ not_has b k s.1),
+)
 
 -- what a binary search answers of a set
 pub found_is_member : (keys : List (List ℕ)) (key : List ℕ) (at : ℕ) → at < length keys → HoldsAt (λ y. order y key ≡ Equal) keys at → has keys key ≡ true
@@ -278,11 +278,11 @@ is_same a b r e = (λ t. lists_same a b (sym e ∙ t), λ s. e ∙ lists_itself 
 members_same : (a b : List (List ℕ)) → IsRising a → IsRising b → ((k : List ℕ) → Contains a k ↔ Contains b k) → a ≡ b
 members_same a b up vp each =
     same_set a b up vp (λ q. both_ways_same (has a q) (has b q)
-      (λ h. has_from_member b q ((each q).0 (member_from_has a q h)))
-      (λ h. has_from_member a q ((each q).1 (member_from_has b q h))))
+    (λ h. has_from_member b q ((each q).0 (member_from_has a q h)))
+    (λ h. has_from_member a q ((each q).1 (member_from_has b q h))))
 
 pub has_same_members : (a b : List (List ℕ)) (r : Bool) → IsRising a → IsRising b → r ≡ pointwise bytes_eq a b → IsTrue r ↔ ((k : List ℕ) → Contains a k ↔ Contains b k)
-has_same_members a b r up vp e =
-    (λ t k. let s : a ≡ b = (is_same a b r e).0 t in subst (λ l. Contains a k ↔ Contains l k) s ((λ c. c), (λ c. c))
-    , λ each. (is_same a b r e).1 (members_same a b up vp each)
-    )
+has_same_members a b r up vp e = (
+  λ t k. let s : a ≡ b = (is_same a b r e).0 t in subst (λ l. Contains a k ↔ Contains l k) s ((λ c. c), (λ c. c)),
+  λ each. (is_same a b r e).1 (members_same a b up vp each),
+)

@@ -4,7 +4,8 @@ use Rattle.std.specs.List.{slice_get}
 use Rattle.std.specs.Ordering.{MatchOrdering, ordering_reverse}
 use Rattle.std.specs.declared.cmp.Ordering.{Ordering}
 use Rattle.std.specs.declared.cmp.Ordering.TheVariants.{Less, Equal, Greater}
-use Rattle.flag_set.specs.FlagSet.{order, AllKeys, IsFirst, IsLower, IsRising, union}
+use Rattle.flag_set.specs.FlagSet.{order, AllKeys, IsRising, union}
+use Rattle.flag_set.specs.KeyRuns.{IsFirst, IsLower}
 use Rattle.flag_set.proofs.Order.{below_all, order_flip, order_same, union_both, union_left, union_nil, union_right}
 
 same_first : (left right : List (List ℕ)) (k k' : List ℕ) (a a' b b' : ℕ) → k' ≡ k → a' ≡ a → b' ≡ b → IsFirst left right k a b → IsFirst left right k' a' b'
@@ -40,7 +41,7 @@ lower_first Equal x xs y ys lower lefts rights e up vp is =
       comes_first = ap (λ k. union (x ∷ xs) (k ∷ ys)) (sym (order_same x y e)) ∙ union_both x xs ys up.0;
       left_within = omega arith;
       right_within = omega arith;
-      some = omega arith
+      some = omega arith;
     })
 lower_first Greater x xs y ys lower lefts rights e up vp is =
     let f : order y x ≡ Less = order_flip x y ∙ ap ordering_reverse e in

@@ -1,8 +1,8 @@
 -- Sets of flags, as the rising lists of their keys (RFC 9051, section 2.3.2).
-use Rattle.std.specs.Prelude.{◌≡◌, ◌≤◌, ◌<◌, ◌+◌, ℕ, Bool, false, not, List, [], ◌∷◌, drop, length}
+use Rattle.std.specs.Prelude.{◌≡◌, ◌≤◌, ℕ, Bool, false, not, List, [], ◌∷◌, length}
 use Rattle.std.specs.Cmp.Lexicographic.{slice_cmp}
 use Rattle.std.specs.List.{filter, insert, list_any}
-use Rattle.std.specs.Ordering.{MatchOrdering, match_ordering, nat_cmp}
+use Rattle.std.specs.Ordering.{match_ordering, nat_cmp}
 use Rattle.std.specs.Str.{bytes_eq}
 use Rattle.std.specs.declared.cmp.Ordering.{Ordering}
 use Rattle.std.specs.declared.cmp.Ordering.TheVariants.{Less}
@@ -50,17 +50,3 @@ union (key ∷ rest) keys = put key (union rest keys)
 -- the first set without the keys of the second
 abbrev pub minus : List (List ℕ) → List (List ℕ) → List (List ℕ)
 minus keys others = filter (λ key. not (has others key)) keys
-
--- the key comes first in the union of the two sets, and stands for so many keys at the front of each
-pub record IsFirst (left right : List (List ℕ)) (key : List ℕ) (lefts rights : ℕ) : Type 0 where
-  pub comes_first : union left right ≡ key ∷ union (drop lefts left) (drop rights right)
-  pub left_within : lefts ≤ length left
-  pub right_within : rights ≤ length right
-  pub some : 0 < lefts + rights
-
--- the lower of two keys, and how often each of these is it
-abbrev pub IsLower : List ℕ → List ℕ → List ℕ → ℕ → ℕ → Type 0
-IsLower key other lower lefts rights = MatchOrdering (order key other)
-    ((lower ≡ key) × (lefts ≡ 1) × (rights ≡ 0))
-    ((lower ≡ key) × (lefts ≡ 1) × (rights ≡ 1))
-    ((lower ≡ other) × (lefts ≡ 0) × (rights ≡ 1))

@@ -3,3 +3,4 @@ pub mod FlagKey
 pub mod FlagList
 pub mod FlagSet
 pub mod FlagText
+pub mod KeyRuns

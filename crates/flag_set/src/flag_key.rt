@@ -1,6 +1,6 @@
 //! The key of a flag, by which flags are compared without ASCII case (RFC 9051, section 2.3.2).
 
-ghost use Rattle.std.specs.Prelude.{◌≡◌, ◌<◌, ℕ, List, length, not, None, Some, OnOk, IfOk, IfErr, IfSome, unwrap_or};
+ghost use Rattle.std.specs.Prelude.{◌≡◌, ◌↔◌, ◌<◌, ℕ, List, length, not, None, Some, OnOk, IfOk, IfErr, IfSome, IsTrue, unwrap_or};
 ghost use Rattle.std.proofs.Common.{rules};
 ghost use Rattle.std.specs.Cmp.{partial_order_from_own_ties};
 ghost use Rattle.std.specs.Cmp.Rules.{comparing};
@@ -32,7 +32,8 @@ impl Model for FlagKey {
 }
 
 impl FlagKey {
-    /// Reads one flag (RFC 9051, section 9, flag), with or without a backslash, and takes its key.
+    /// Reads one flag (RFC 9051, section 9, flag), with or without a backslash, and takes its key. Refuses a text of
+    /// more than `MAX_FLAG` bytes by `TooLong`, and any other that isn't a flag by `BadFlag`, before it takes memory.
     pub fn new(alloc: Global, text: &[u8]) -> Result<FlagKey, FlagFault>
         ensures value { IfOk result (λ key. key ≡ key_of text.now) }
         ensures accepted { OnOk result (refusal text.now ≡ None) }
@@ -43,7 +44,7 @@ impl FlagKey {
     }
 
     /// Reads a flag as a user names it: a keyword, or one of the five system flags that a client may set
-    /// (RFC 9051, section 2.3.2).
+    /// (RFC 9051, section 2.3.2). Refuses what `new` refuses, and then any other name with a backslash by `BadFlag` 0.
     pub fn asked(alloc: Global, text: &[u8]) -> Result<FlagKey, FlagFault>
         ensures value { IfOk result (λ key. key ≡ key_of text.now) }
         ensures accepted { OnOk result (asked_refusal text.now ≡ None) }
@@ -56,7 +57,7 @@ impl FlagKey {
         Ok(lowered(alloc, text)?)
     }
 
-    /// A key with the same bytes.
+    /// A key with the same bytes. Fails for want of memory alone.
     pub fn copy(&self) -> Result<FlagKey, AllocError>
         ensures { IfOk result (λ key. key ≡ self.now) }
     {
@@ -96,12 +97,16 @@ impl FlagKey {
     }
 }
 
+/// Keys are equal where their bytes are.
 impl PartialEq for FlagKey {
     ghost eq = { bytes_eq };
 
     ghost laws = { Prim.search (comparing, rules) };
 
-    fn eq(&self, other: &FlagKey) -> bool {
+    fn eq(&self, other: &FlagKey) -> bool
+        ensures value { result ≡ bytes_eq self.now other.now }
+        ensures same { IsTrue result ↔ (self.now ≡ other.now) }
+    {
         self.bytes.as_slice() == other.bytes.as_slice()
     }
 }

@@ -42,7 +42,9 @@ impl FlagSet {
     }
 
     /// Reads the text between the parentheses of a flag list (RFC 9051, section 9, flag-list): flags with one or more
-    /// spaces between them, and none at the ends. `\Recent` is dropped. The first fault from the left is told.
+    /// spaces between them. `\Recent` is dropped, and no bytes are the empty set. The first flag that is refused is
+    /// told: by `TooLong` or `BadFlag` of that flag, or by `TooMany` where its key is one above `MAX_FLAGS`. A space at
+    /// an end stands beside an empty flag, which is `BadFlag` 0. Each flag takes a binary search and one insertion.
     pub fn read_list(alloc: Global, text: &[u8]) -> Result<FlagSet, FlagFault>
         ensures value { IfOk result (λ set. set ≡ set_of (flags_of text.now)) }
         ensures accepted { OnOk result (HasNoFault (flags_of text.now)) }
@@ -136,7 +138,7 @@ impl FlagSet {
         keys.iter().all(|key| !self.holds(key))
     }
 
-    /// Adds a key: a binary search, and one insertion where it isn't there.
+    /// Adds a key: a binary search, and one insertion where it isn't there. For want of memory the set stays as it was.
     pub fn add(&mut self, key: FlagKey) -> Result<(), AllocError>
         ensures value { self.new ≡ (if is_ok result then put key self.old else self.old) }
         ensures members { OnOk result ((k : List ℕ) → Contains self.new k ↔ ((k ≡ key) ⊎ Contains self.old k)) }
@@ -147,7 +149,7 @@ impl FlagSet {
         Ok(())
     }
 
-    /// The keys of either set: one merge.
+    /// The keys of either set: one merge. Fails for want of memory alone.
     pub fn with(&self, other: &FlagSet) -> Result<FlagSet, AllocError>
         ensures value { IfOk result (λ set. set ≡ union self.now other.now) }
         ensures members { IfOk result (λ set. (k : List ℕ) → Contains set k ↔ (Contains self.now k ⊎ Contains other.now k)) }
@@ -157,7 +159,8 @@ impl FlagSet {
         })
     }
 
-    /// The keys of this set that the other doesn't have: a binary search in the other for each.
+    /// The keys of this set that the other doesn't have: a binary search in the other for each. Fails for want of
+    /// memory alone.
     pub fn without(&self, other: &FlagSet) -> Result<FlagSet, AllocError>
         ensures value { IfOk result (λ set. set ≡ minus self.now other.now) }
         ensures members { IfOk result (λ set. (k : List ℕ) → Contains set k ↔ (Contains self.now k × (¬ Contains other.now k))) }
@@ -167,7 +170,8 @@ impl FlagSet {
         })
     }
 
-    /// The flags as they are written, with one space between, which `read_list` reads again.
+    /// The flags as they are written, with one space between, which `read_list` reads again. Fails for want of memory
+    /// alone.
     pub fn text(&self) -> Result<Vec<u8>, AllocError>
         ensures value { IfOk result (λ text. text.items ≡ list_text self.now) }
 
@@ -178,7 +182,7 @@ impl FlagSet {
         joined(*self.keys.allocator(), &self.keys)
     }
 
-    /// A set with the same keys.
+    /// A set with the same keys. Fails for want of memory alone.
     pub fn copy(&self) -> Result<FlagSet, AllocError>
         ensures { IfOk result (λ set. set ≡ self.now) }
     {

@@ -1,7 +1,8 @@
 //! Runs of keys that rise by their bytes, from which sets of flags are made (RFC 9051, section 2.3.2).
 
 ghost use Rattle.std.specs.Prelude.{◌≡◌, [], not, filter, IfOk, IfNone, IfSome};
-ghost use Rattle.flag_set.specs.FlagSet.{IsFirst, IsLower, IsRising, has, union};
+ghost use Rattle.flag_set.specs.FlagSet.{IsRising, has, union};
+ghost use Rattle.flag_set.specs.KeyRuns.{IsFirst, IsLower};
 ghost use Rattle.flag_set.specs.FlagText.{list_text};
 
 use crate::flag_key::FlagKey;

@@ -6,6 +6,8 @@ mod flag_key;
 mod flag_list;
 mod flag_set;
 mod key_runs;
+#[cfg(test)]
+mod tests;
 
 pub use flag_fault::{FlagFault, MAX_FLAG, MAX_FLAGS};
 pub use flag_key::FlagKey;

@@ -12,5 +12,5 @@ pub returns-in-len1-up-clause-parts : goal.returns-in-len1-up-clause-parts
 returns-in-len1-up-clause-parts c =
     parts _ _ _ _ c.flag_len.ensures.len c.split_at.ensures.front c.split_at.ensures.back
     ∙ ap (λ l. c.split_at.result.0.now ∷ l)
-      (behind_some _ c.in-len1-up.len_at_least
-      ∙ ap pieces (ap behind (sym (tail_is _ c.in-len1-up.len_at_least)) ∙ sym c.without_spaces.ensures))
+    (behind_some _ c.in-len1-up.len_at_least
+    ∙ ap pieces (ap behind (sym (tail_is _ c.in-len1-up.len_at_least)) ∙ sym c.without_spaces.ensures))

@@ -6,7 +6,7 @@ abbrev pub invariant-loop-first : goal.invariant-loop-first
 invariant-loop-first l = record {
   whole : l.keys.items ++ union l.left l.right ≡ union l.fn.left l.fn.right;
   left_rises : IsRising l.left;
-  right_rises : IsRising l.right
+  right_rises : IsRising l.right;
 }
 
 abbrev pub decreases-loop-first : goal.decreases-loop-first

@@ -9,15 +9,15 @@ pub returns-in_err-new-clause-refused : goal.returns-in_err-new-clause-refused
 returns-in_err-new-clause-refused c =
     let p = err_from_is_err_and c.from_residual.result c.from_residual.ensures.1 in
     rw (p.1, p.2) (flag_refused _ _ _ _ _ _
-      (sym (ap (λ o. fault_behind c.loop-left.set (pieces_left (option_copied o))) c.in-Some.is) ∙ c.loop-left.invariant.faults)
-      c.first_flag.ensures.parts c.in_err-new.ensures.refused)
+    (sym (ap (λ o. fault_behind c.loop-left.set (pieces_left (option_copied o))) c.in-Some.is) ∙ c.loop-left.invariant.faults)
+    c.first_flag.ensures.parts c.in_err-new.ensures.refused)
 
 pub returns-in_err-keep-clause-refused : goal.returns-in_err-keep-clause-refused
 returns-in_err-keep-clause-refused c =
     let p = err_from_is_err_and c.from_residual-in_err-keep.result c.from_residual-in_err-keep.ensures.1 in
     rw (p.1, p.2) (key_refused _ _ _ _ _ _ _
-      (sym (ap (λ o. fault_behind c.loop-left.set (pieces_left (option_copied o))) c.in-Some.is) ∙ c.loop-left.invariant.faults)
-      c.first_flag.ensures.parts c.in_ok-new.ensures.accepted c.in_ok-new.ensures.value c.in_err-keep.ensures.refused)
+    (sym (ap (λ o. fault_behind c.loop-left.set (pieces_left (option_copied o))) c.in-Some.is) ∙ c.loop-left.invariant.faults)
+    c.first_flag.ensures.parts c.in_ok-new.ensures.accepted c.in_ok-new.ensures.value c.in_err-keep.ensures.refused)
 
 pub returns-clause-accepted : goal.returns-clause-accepted
 returns-clause-accepted c =

@@ -9,7 +9,7 @@ abbrev pub invariant-loop-left : goal.invariant-loop-left
 invariant-loop-left l = record {
   short : length l.set ≤ MAX_FLAGS;
   keys : fold with_flag l.set (pieces_left (option_copied l.left)) ≡ set_of (flags_of l.text);
-  faults : fault_behind l.set (pieces_left (option_copied l.left)) ≡ fault_behind [] (flags_of l.text)
+  faults : fault_behind l.set (pieces_left (option_copied l.left)) ≡ fault_behind [] (flags_of l.text);
 }
 
 abbrev pub decreases-loop-left : goal.decreases-loop-left

@@ -13,8 +13,8 @@ returns-clause-again c =
     (λ text. text.items ≡ list_text c.deref.result.now)
     (λ text. set_of (flags_of text.items) ≡ minus c.args.self.now (recent ∷ []))
     (λ text t.
-      ap (λ bytes. set_of (flags_of bytes)) (t ∙ ap list_text (c.deref.ensures.value ∙ c.self.view_is))
-      ∙ text_again _ (subst IsFlagSet c.self.view_is c.self.invariant))
+    ap (λ bytes. set_of (flags_of bytes)) (t ∙ ap list_text (c.deref.ensures.value ∙ c.self.view_is))
+    ∙ text_again _ (subst IsFlagSet c.self.view_is c.self.invariant))
     c.joined.ensures
 
 pub returns-clause-readable : goal.returns-clause-readable
@@ -23,6 +23,6 @@ returns-clause-readable c short =
     (λ text. text.items ≡ list_text c.deref.result.now)
     (λ text. HasNoFault (flags_of text.items))
     (λ text t.
-      subst (λ bytes. HasNoFault (flags_of bytes)) (sym (t ∙ ap list_text (c.deref.ensures.value ∙ c.self.view_is)))
-      (text_readable _ (subst IsFlagSet c.self.view_is c.self.invariant) short))
+    subst (λ bytes. HasNoFault (flags_of bytes)) (sym (t ∙ ap list_text (c.deref.ensures.value ∙ c.self.view_is)))
+    (text_readable _ (subst IsFlagSet c.self.view_is c.self.invariant) short))
     c.joined.ensures
