@@ -1,11 +1,11 @@
 -- Reading a list from the left, and its first fault.
-use Rattle.std.proofs.Common.{◌≡◌, ℕ, zero, suc, ◌+◌, ◌≤◌, ◌<◌, List, [], ◌∷◌, length, take, get_or, fold, ◌⊎◌, inl, inr, Option, Some, None, unwrap_or, refl, sym, ap, ◌∙◌, subst, arith}
+use Rattle.std.proofs.Common.{◌≡◌, ℕ, zero, suc, ◌<◌, List, [], ◌∷◌, length, take, get_or, fold, ◌⊎◌, inl, inr, Option, Some, None, unwrap_or, refl, sym, ap, ◌∙◌, arith}
 use Rattle.std.specs.Option.{option_or}
 use Rattle.flag_set.specs.declared.flag_fault.FlagFault.{FlagFault}
 use Rattle.flag_set.specs.declared.flag_fault.FlagFault.TheVariants.{Memory}
 use Rattle.flag_set.specs.Flag.{refusal}
 use Rattle.flag_set.specs.FlagKey.{key_of}
-use Rattle.flag_set.specs.FlagList.{HasNoFault, IsFirstFault, excess, fault_at, flags_of, keep, set_of, with_flag}
+use Rattle.flag_set.specs.FlagList.{HasNoFault, IsFirstFault, excess, keep, with_flag}
 
 -- why one more flag is refused behind those of a set, if it is
 abbrev pub next_fault : List (List ℕ) → List ℕ → Option FlagFault

@@ -1,10 +1,10 @@
 -- The first key of a union of two rising runs.
-use Rattle.std.proofs.Common.{◌≡◌, ℕ, zero, suc, ◌+◌, ◌<◌, ◌≤◌, List, [], ◌∷◌, ◌++◌, length, drop, Option, None, Some, append_assoc, refl, sym, ap, ◌∙◌, subst, arith}
+use Rattle.std.proofs.Common.{◌≡◌, ℕ, zero, suc, List, [], ◌∷◌, ◌++◌, drop, None, Some, append_assoc, refl, sym, ap, ◌∙◌, subst, arith}
 use Rattle.std.specs.List.{slice_get}
 use Rattle.std.specs.Ordering.{MatchOrdering, ordering_reverse}
 use Rattle.std.specs.declared.cmp.Ordering.{Ordering}
 use Rattle.std.specs.declared.cmp.Ordering.TheVariants.{Less, Equal, Greater}
-use Rattle.flag_set.specs.FlagSet.{order, AllKeys, IsRising, union}
+use Rattle.flag_set.specs.FlagSet.{order, IsRising, union}
 use Rattle.flag_set.specs.KeyRuns.{IsFirst, IsLower}
 use Rattle.flag_set.proofs.Order.{below_all, order_flip, order_same, union_both, union_left, union_nil, union_right}
 

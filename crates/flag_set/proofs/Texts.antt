@@ -1,21 +1,21 @@
 -- The text of a set, and what is read of it again.
-use Rattle.std.proofs.Common.{◌≡◌, ℕ, zero, suc, ◌+◌, ◌≤◌, ◌<◌, Bool, true, false, cond, not, ◌&&◌, ◌||◌, nat_lt, List, [], ◌∷◌, ◌++◌, length, take, get_or, fold, map, Option, Some, None, unwrap_or, add-one, append_assoc, refl, sym, ap, ◌∙◌, subst, arith, length-append}
+use Rattle.std.proofs.Common.{◌≡◌, ℕ, ◌+◌, ◌≤◌, ◌<◌, Bool, true, false, cond, not, ◌&&◌, ◌||◌, nat_lt, List, [], ◌∷◌, ◌++◌, length, take, get_or, fold, map, Some, None, unwrap_or, add-one, append_assoc, refl, sym, ap, ◌∙◌, subst, arith, length-append}
 use Rattle.std.proofs.Math.Seq.{take-suc}
-use Rattle.std.proofs.lemmas.Bool.{and_parts, both_ways, le-ltb}
+use Rattle.std.proofs.lemmas.Bool.{and_parts, le-ltb}
 use Rattle.std.proofs.lemmas.Bool.Decides.{nat_tests}
 use Rattle.std.proofs.lemmas.List.{append-nil, length-take, map-append}
 use Rattle.std.specs.Cmp.Lexicographic.{same_text}
 use Rattle.std.specs.Prelude.{◌==◌}
-use Rattle.std.specs.List.{filter, find, join_with_byte, list_all, onto_first}
+use Rattle.std.specs.List.{find, join_with_byte, list_all, onto_first}
 use Rattle.std.specs.Option.{option_or}
 use Rattle.std.specs.Str.{bytes_eq, str_eq_ignore_ascii_case}
 use Rattle.std.specs.declared.cmp.Ordering.TheVariants.{Less}
 use Rattle.flag_set.specs.declared.flag_fault.TheConstants.{MAX_FLAG, MAX_FLAGS}
 use Rattle.flag_set.specs.declared.flag_fault.FlagFault.TheVariants.{BadFlag, TooLong, TooMany}
-use Rattle.flag_set.specs.Flag.{backslash, is_atom_byte, is_flag, misfit, name_of, refusal, spelling, system_flag, system_flags}
+use Rattle.flag_set.specs.Flag.{backslash, is_atom_byte, is_flag, misfit, name_of, refusal, spelling, system_flags}
 use Rattle.flag_set.specs.FlagKey.{IsKey, key_of, recent}
 use Rattle.flag_set.specs.FlagList.{HasNoFault, begins_with_space, excess, flags_of, is_space, keep, pieces, set_of, with_flag}
-use Rattle.flag_set.specs.FlagSet.{AllKeys, IsFlagSet, IsRising, has, minus, order, put}
+use Rattle.flag_set.specs.FlagSet.{AllKeys, IsFlagSet, IsRising, minus, order, put}
 use Rattle.flag_set.specs.FlagText.{list_text}
 use Rattle.flag_set.proofs.Faults.{fault_behind, next_fault, no_fault}
 use Rattle.flag_set.proofs.Keys.{accepted}

@@ -1,4 +1,4 @@
-use Rattle.flag_set.proofs.Merge.{first_left, first_right, first_both}
+use Rattle.flag_set.proofs.Merge.{first_left, first_both}
 use Rattle.flag_set.proofs.key_runs.first_of.Goals as goal
 
 pub returns-in-Some-None-clause-first : goal.returns-in-Some-None-clause-first

@@ -1,4 +1,4 @@
-use Rattle.std.proofs.Common.{◌≡◌, arith}
+use Rattle.std.proofs.Common.{arith}
 use Rattle.std.proofs.lemmas.Grind.{common_steps}
 use Rattle.flag_set.proofs.Keys.{keys_same}
 use Rattle.flag_set.proofs.flag_key.FlagKeyPartialEq.eq.Goals as goal

@@ -1,7 +1,7 @@
 use Rattle.std.proofs.Common.{◌≡◌, ℕ, List, ◌⊎◌, ◌↔◌, sym, ap, ◌∙◌, subst}
 use Rattle.std.specs.List.{Contains, insert}
 use Rattle.flag_set.specs.FlagKey.{IsKey}
-use Rattle.flag_set.specs.FlagSet.{IsFlagSet, put}
+use Rattle.flag_set.specs.FlagSet.{IsFlagSet}
 use Rattle.flag_set.proofs.Order.{set_put}
 use Rattle.flag_set.proofs.Members.{members_put, put_held}
 use Rattle.flag_set.proofs.flag_set.FlagSet.add.Goals as goal

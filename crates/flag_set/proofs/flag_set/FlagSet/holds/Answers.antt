@@ -1,6 +1,5 @@
-use Rattle.std.proofs.Common.{◌≡◌, arith}
+use Rattle.std.proofs.Common.{arith}
 use Rattle.std.proofs.lemmas.Grind.{common_steps}
-use Rattle.flag_set.specs.FlagSet.{has}
 use Rattle.flag_set.proofs.Members.{is_member}
 use Rattle.flag_set.proofs.flag_set.FlagSet.holds.Goals as goal
 

@@ -1,4 +1,4 @@
-use Rattle.std.proofs.Common.{◌≡◌, arith}
+use Rattle.std.proofs.Common.{arith}
 use Rattle.std.proofs.lemmas.Grind.{common_steps}
 use Rattle.flag_set.proofs.Members.{holds_each}
 use Rattle.flag_set.proofs.flag_set.FlagSet.holds_all.Goals as goal

@@ -1,4 +1,4 @@
-use Rattle.std.proofs.Common.{◌≡◌, ℕ, List, ◌↔◌, sym, ap, ◌∙◌, subst}
+use Rattle.std.proofs.Common.{ℕ, List, ◌↔◌, sym, ap, ◌∙◌, subst}
 use Rattle.std.specs.List.{Contains}
 use Rattle.flag_set.specs.FlagSet.{IsFlagSet, minus}
 use Rattle.flag_set.proofs.Members.{members_minus, set_minus}

@@ -1,4 +1,4 @@
-use Rattle.std.proofs.Common.{◌≡◌, arith, subst}
+use Rattle.std.proofs.Common.{arith, subst}
 use Rattle.std.proofs.lemmas.Grind.{common_steps}
 use Rattle.flag_set.specs.FlagSet.{IsFlagSet}
 use Rattle.flag_set.proofs.Members.{has_same_members, is_same}
