@@ -8,7 +8,7 @@ use Rattle.flag_set.specs.Flag.{is_flag}
 abbrev pub key_of : List ℕ → List ℕ
 key_of text = str_to_ascii_lowercase text
 
--- the key of the flag that the server alone sets (RFC 9051, section 2.3.2)
+-- the key of the flag that servers of IMAP4rev1 set, and no client (RFC 9051, section 2.3.2)
 abbrev pub recent : List ℕ
 recent = codes "\\recent"
 

@@ -1,9 +1,8 @@
 //! The key of a flag, by which flags are compared without ASCII case (RFC 9051, section 2.3.2).
 
 ghost use Rattle.std.specs.Prelude.{◌≡◌, ◌↔◌, ◌<◌, ℕ, List, length, not, None, Some, OnOk, IfOk, IfErr, IfSome, IsTrue, unwrap_or};
-ghost use Rattle.std.proofs.Common.{rules};
-ghost use Rattle.std.specs.Cmp.{partial_order_from_own_ties};
-ghost use Rattle.std.specs.Cmp.Rules.{comparing};
+ghost use Rattle.std.proofs.Common.{refl};
+ghost use Rattle.std.specs.Cmp.{partial_equiv_from_equiv};
 ghost use Rattle.std.specs.Cmp.Lexicographic.{slice_cmp, nat_list_cmp_total, nat_list_eq_equiv, texts_po, texts_ties};
 ghost use Rattle.std.specs.List.{list_all, position};
 ghost use Rattle.std.specs.Option.{option_copied};
@@ -37,6 +36,8 @@ impl FlagKey {
     pub fn new(alloc: Global, text: &[u8]) -> Result<FlagKey, FlagFault>
         ensures value { IfOk result (λ key. key ≡ key_of text.now) }
         ensures accepted { OnOk result (refusal text.now ≡ None) }
+
+        // Want of memory is told only of a text that isn't refused.
         ensures refused { IfErr result (λ fault. fault ≡ unwrap_or (refusal text.now) FlagFault.Memory) }
     {
         accept(text)?;
@@ -48,6 +49,8 @@ impl FlagKey {
     pub fn asked(alloc: Global, text: &[u8]) -> Result<FlagKey, FlagFault>
         ensures value { IfOk result (λ key. key ≡ key_of text.now) }
         ensures accepted { OnOk result (asked_refusal text.now ≡ None) }
+
+        // Want of memory is told only of a text that isn't refused.
         ensures refused { IfErr result (λ fault. fault ≡ unwrap_or (asked_refusal text.now) FlagFault.Memory) }
     {
         accept(text)?;
@@ -89,7 +92,7 @@ impl FlagKey {
         system_flag(&self.bytes).unwrap_or(&self.bytes)
     }
 
-    /// Whether the flag is `\Recent`, which the server alone sets (RFC 9051, section 2.3.2).
+    /// Whether the flag is `\Recent`, which servers of IMAP4rev1 set (RFC 9051, section 2.3.2).
     pub(crate) fn is_recent(&self) -> bool
         ensures { result ≡ bytes_eq self.now recent }
     {
@@ -101,7 +104,7 @@ impl FlagKey {
 impl PartialEq for FlagKey {
     ghost eq = { bytes_eq };
 
-    ghost laws = { Prim.search (comparing, rules) };
+    ghost laws = { partial_equiv_from_equiv nat_list_eq_equiv };
 
     fn eq(&self, other: &FlagKey) -> bool
         ensures value { result ≡ bytes_eq self.now other.now }
@@ -121,7 +124,7 @@ impl Ord for FlagKey {
 
     ghost total = { nat_list_cmp_total };
 
-    ghost matches_partial_cmp = { Prim.search (comparing, rules) };
+    ghost matches_partial_cmp = { λ x y. refl };
 
     ghost matches_eq = { texts_ties };
 

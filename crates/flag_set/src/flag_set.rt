@@ -1,6 +1,6 @@
 //! A set of flags: the keys of the flags that a message has (RFC 9051, section 2.3.2).
 
-ghost use Rattle.std.specs.Prelude.{◌≡◌, ◌↔◌, ◌⊎◌, ◌≤◌, ℕ, List, [], ◌∷◌, ◌∷◌, All, Contains, IsTrue, not, true, None, Some, IfErr, IfOk, OnOk, is_ok, length, if◌then◌else◌};
+ghost use Rattle.std.specs.Prelude.{◌≡◌, ◌↔◌, ◌⊎◌, ◌≤◌, ℕ, List, [], ◌∷◌, All, Contains, IsTrue, not, true, None, Some, IfErr, IfOk, OnOk, is_ok, length, if◌then◌else◌};
 ghost use Rattle.std.specs.Cmp.{partial_equiv_from_equiv};
 ghost use Rattle.std.specs.Cmp.Lexicographic.{lists_equiv, nat_list_eq_equiv, pointwise};
 ghost use Rattle.std.specs.List.{list_all};
@@ -48,7 +48,8 @@ impl FlagSet {
     pub fn read_list(alloc: Global, text: &[u8]) -> Result<FlagSet, FlagFault>
         ensures value { IfOk result (λ set. set ≡ set_of (flags_of text.now)) }
         ensures accepted { OnOk result (HasNoFault (flags_of text.now)) }
-        ensures refused { IfErr result (λ fault. IsFirstFault (flags_of text.now) fault ⊎ (fault ≡ FlagFault.Memory)) }
+        ensures refused { IfErr result (λ fault.
+            IsFirstFault (flags_of text.now) fault ⊎ (fault ≡ FlagFault.Memory)) }
     {
         let mut set = FlagSet::none(alloc);
         let mut left = if text.is_empty() { None } else { Some(text) };
@@ -66,7 +67,8 @@ impl FlagSet {
         ensures value { OnOk result (self.new ≡ keep key self.old) }
         ensures within { OnOk result (length self.new ≤ MAX_FLAGS) }
         ensures accepted { OnOk result (excess (keep key self.old) ≡ None) }
-        ensures refused { IfErr result (λ fault. (excess (keep key self.old) ≡ Some fault) ⊎ (fault ≡ FlagFault.Memory)) }
+        ensures refused { IfErr result (λ fault.
+            (excess (keep key self.old) ≡ Some fault) ⊎ (fault ≡ FlagFault.Memory)) }
     {
         if key.is_recent() {
             return Ok(());
@@ -152,7 +154,8 @@ impl FlagSet {
     /// The keys of either set: one merge. Fails for want of memory alone.
     pub fn with(&self, other: &FlagSet) -> Result<FlagSet, AllocError>
         ensures value { IfOk result (λ set. set ≡ union self.now other.now) }
-        ensures members { IfOk result (λ set. (k : List ℕ) → Contains set k ↔ (Contains self.now k ⊎ Contains other.now k)) }
+        ensures members { IfOk result (λ set.
+            (k : List ℕ) → Contains set k ↔ (Contains self.now k ⊎ Contains other.now k)) }
     {
         Ok(FlagSet {
             keys: merged(*self.keys.allocator(), &self.keys, &other.keys)?,
@@ -163,7 +166,8 @@ impl FlagSet {
     /// memory alone.
     pub fn without(&self, other: &FlagSet) -> Result<FlagSet, AllocError>
         ensures value { IfOk result (λ set. set ≡ minus self.now other.now) }
-        ensures members { IfOk result (λ set. (k : List ℕ) → Contains set k ↔ (Contains self.now k × (¬ Contains other.now k))) }
+        ensures members { IfOk result (λ set.
+            (k : List ℕ) → Contains set k ↔ (Contains self.now k × (¬ Contains other.now k))) }
     {
         Ok(FlagSet {
             keys: lacking(*self.keys.allocator(), &self.keys, other)?,
