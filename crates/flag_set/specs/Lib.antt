@@ -1,0 +1,6 @@
+pub mod Flag
+pub mod FlagKey
+pub mod FlagList
+pub mod FlagSet
+pub mod FlagText
+pub mod KeyRuns
