@@ -1,8 +1,8 @@
 -- What the calls of an opening and of an append do to the moments, one after the other.
-use Rattle.std.proofs.Common.{◌≡◌, ◌⊎◌, inl, inr, ℕ, ◌+◌, ◌-◌, ◌≤◌, min, List, [], ◌∷◌, ◌++◌, length, take, drop, replicate, refl, sym, ◌∙◌, ap, subst, arith, Result, Ok, Err, OnOk, length-append, length-take}
+use Rattle.std.proofs.Common.{◌≡◌, inl, inr, ℕ, ◌+◌, ◌-◌, ◌≤◌, min, List, [], ◌++◌, length, take, drop, replicate, refl, ◌∙◌, ap, subst, arith, Result, Ok, Err, OnOk, length-append}
 use Rattle.std.proofs.lemmas.List.{append-nil, take_all, drop_all, take_at, take-take, take-append-le}
-use Rattle.world_traits.specs.Files.{Range, Stored, MayHold, Files, clean, touch, put}
-use Rattle.world_traits.specs.Moments.{Moment, MayLeave, Clock, Since, Images}
+use Rattle.world_traits.specs.Files.{Stored, MayHold, Files, clean, touch, put}
+use Rattle.world_traits.specs.Moments.{Moment, Clock, Since}
 use Rattle.world_traits.specs.Calls.{written, settled, Looked, Wrote, Synced}
 use Rattle.world_traits.specs.declared.disk.Side.TheVariants.{Left}
 use Rattle.world_traits.proofs.Images.{Behind, image_front}

@@ -1,11 +1,11 @@
 -- A text is a number, or it stops being one at one place for one cause.
-use Rattle.std.proofs.Common.{◌≡◌, ◌⊎◌, inl, inr, ℕ, zero, suc, ◌+◌, ◌-◌, ◌*◌, ◌/◌, ◌<◌, ◌≤◌, List, [], ◌∷◌, length, take, refl, sym, ◌∙◌, ap, subst, arith, get_or, get_or-take, Result, Ok, Err, length-take}
+use Rattle.std.proofs.Common.{◌≡◌, inl, inr, ℕ, ◌+◌, ◌-◌, ◌*◌, ◌/◌, ◌<◌, ◌≤◌, List, [], length, take, refl, sym, ◌∙◌, ap, subst, arith, get_or-take, Result, Ok, Err, length-take}
 use Rattle.std.proofs.Math.Seq.{take-length}
 use Rattle.std.proofs.lemmas.Bool.{cases_lt}
-use Rattle.std.proofs.lemmas.Str.Parse.{digit_at, digit_from_value}
-use Rattle.std.specs.Prelude.{slice_index, IsErrOf, ◌↔◌}
+use Rattle.std.proofs.lemmas.Str.Parse.{digit_at}
+use Rattle.std.specs.Prelude.{slice_index, ◌↔◌}
 use Rattle.std.specs.Char.{digit_value, IsAsciiDigit}
-use Rattle.std.specs.Str.Parse.{AllDigits, digits_value, IsNumeral}
+use Rattle.std.specs.Str.Parse.{AllDigits, digits_value}
 use Rattle.mail_base.specs.Number.{IsNumberUpTo, FitsBefore, StopsAtByte, StopsAtSize, WhyNoNumber, Verdict}
 use Rattle.mail_base.specs.declared.number.NumberFault.{NumberFault}
 use Rattle.mail_base.specs.declared.number.NumberFault.TheVariants as faults
@@ -60,10 +60,12 @@ size_stops largest text place stop = record { before = stop.before; there = stop
 -- it does so at one place
 same_stop : (largest : ℕ) (text : List ℕ) (here there : ℕ) → Stops largest text here → Stops largest text there → here ≡ there
 same_stop largest text here there a b = elim (cases_lt here there) [
-    inl lt ↦ absurd (a.beyond (fits_fewer largest text (here + 1) there (omega arith) b.before))
+  | inl lt ↦ absurd (a.beyond (fits_fewer largest text (here + 1) there (omega arith) b.before))
   | inr le ↦ elim (cases_lt there here) [
-        inl lt' ↦ absurd (b.beyond (fits_fewer largest text (there + 1) here (omega arith) a.before))
-      | inr le' ↦ omega arith ] ]
+    | inl lt' ↦ absurd (b.beyond (fits_fewer largest text (there + 1) here (omega arith) a.before))
+    | inr le' ↦ omega arith
+  ]
+]
 
 -- and a number stops nowhere
 never_stops : (largest : ℕ) (text : List ℕ) (n place : ℕ) → IsNumberUpTo largest text n → Stops largest text place → ⊥

@@ -1,5 +1,5 @@
 -- Numbers in decimal digits (RFC 9051, section 9: number = 1*DIGIT), and where a text stops being one.
-use Rattle.std.specs.Prelude.{◌≡◌, ℕ, ◌+◌, ◌≤◌, ◌<◌, List, [], length, take, slice_index, Result, Ok, Err, MatchResult}
+use Rattle.std.specs.Prelude.{◌≡◌, ℕ, ◌+◌, ◌≤◌, ◌<◌, List, [], length, take, slice_index, Result, MatchResult}
 use Rattle.std.specs.Str.Parse.{IsNumeral, AllDigits, digits_value}
 use Rattle.std.specs.Char.{IsAsciiDigit}
 use Rattle.mail_base.specs.declared.number.NumberFault.{NumberFault}

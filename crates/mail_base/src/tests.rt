@@ -9,8 +9,14 @@ fn a_number_is_refused_at_its_place(rt: HostRuntime) -> Result<(), Fail> {
     assert_eq!(rt; read_u32(b""), Err(NumberFault::Empty));
     assert_eq!(rt; read_u32(b"12x"), Err(NumberFault::NotDigit { at: 2 }));
     assert_eq!(rt; read_u32(b"4294967296"), Err(NumberFault::TooBig { at: 9 }));
-    assert_eq!(rt; read_u32(b"42949672950x"), Err(NumberFault::TooBig { at: 10 }));
-    assert_eq!(rt; read_u32(b"429496729x0"), Err(NumberFault::NotDigit { at: 9 }));
+    assert_eq!(rt;
+        read_u32(b"42949672950x"),
+        Err(NumberFault::TooBig { at: 10 })
+    );
+    assert_eq!(rt;
+        read_u32(b"429496729x0"),
+        Err(NumberFault::NotDigit { at: 9 })
+    );
     Ok(())
 }
 
@@ -43,9 +49,15 @@ fn name_of(text: &[u8]) -> Result<BoxName, NameFault> {
 fn a_name_is_refused_at_its_place(rt: HostRuntime) -> Result<(), Fail> {
     assert_eq!(rt; name_of(b"").err(), Some(NameFault::Empty));
     assert_eq!(rt; name_of(b"a%b").err(), Some(NameFault::BadByte { at: 1 }));
-    assert_eq!(rt; name_of(b"caf\xc3\xa9").err(), Some(NameFault::BadByte { at: 3 }));
+    assert_eq!(rt;
+        name_of(b"caf\xc3\xa9").err(),
+        Some(NameFault::BadByte { at: 3 })
+    );
     assert_eq!(rt; name_of(b"a\"").err(), Some(NameFault::BadByte { at: 1 }));
-    assert_eq!(rt; name_of(&[b'a'; 129]).err(), Some(NameFault::TooLong { length: 129 }));
+    assert_eq!(rt;
+        name_of(&[b'a'; 129]).err(),
+        Some(NameFault::TooLong { length: 129 })
+    );
     Ok(())
 }
 
@@ -77,11 +89,17 @@ fn lines_are_printed(rt: HostRuntime) -> Result<(), Fail> {
     assert_eq!(rt; Line::accepted(1).as_bytes(), b"accepted 1\n".as_slice());
     assert_eq!(rt; Line::error_words().as_bytes(), b"error words\n".as_slice());
     assert_eq!(rt; Line::error_disk().as_bytes(), b"error disk\n".as_slice());
-    assert_eq!(rt; Line::error_memory().as_bytes(), b"error memory\n".as_slice());
+    assert_eq!(rt;
+        Line::error_memory().as_bytes(),
+        b"error memory\n".as_slice()
+    );
     let broken = Line::journal_record(22);
     assert_eq!(rt; broken.as_bytes(), b"error journal record 22\n".as_slice());
     let full = Line::limit_journal(18_446_744_073_709_551_615);
-    assert_eq!(rt; full.as_bytes(), b"error limit journal 18446744073709551615\n".as_slice());
+    assert_eq!(rt;
+        full.as_bytes(),
+        b"error limit journal 18446744073709551615\n".as_slice()
+    );
     Ok(())
 }
 
@@ -92,7 +110,10 @@ fn lists_and_words_hold_what_was_added(rt: HostRuntime) -> Result<(), Fail> {
     bytes.extend(b"QRESYNC")?;
     let mut words = Words::new(alloc);
     words.push(bytes.copy()?)?;
-    assert_eq!(rt; (words.has(b"qresync"), words.has(b"QRESYN")), (true, false));
+    assert_eq!(rt;
+        (words.has(b"qresync"), words.has(b"QRESYN")),
+        (true, false)
+    );
     assert_eq!(rt; words.as_slice()[0].as_slice(), b"QRESYNC".as_slice());
     let mut list = List::new(alloc);
     list.push(7)?;

@@ -54,7 +54,14 @@ fn carried_out<R: Files<File = File> + Env + Input + Print + AllocGlobal>(
     let mut input = InputSource::new(rt.reader());
     let mut world = MailFolder::new(rt, path);
     let mut out = OutputSink::new(io::writer(rt));
-    Ok(run(rt.alloc(), words, &account, &mut input, &mut world, &mut out))
+    Ok(run(
+        rt.alloc(),
+        words,
+        &account,
+        &mut input,
+        &mut world,
+        &mut out,
+    ))
 }
 
 // Prints the line of a refusal that comes before the top call.

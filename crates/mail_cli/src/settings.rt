@@ -45,7 +45,11 @@ pub fn account<R: Env + AllocGlobal>(rt: &R) -> Result<Account, AllocError> {
 
 // The text, or nothing where it holds a NUL.
 fn plain(text: &str) -> &str {
-    if text.as_bytes().contains(&0) { "" } else { text }
+    if text.as_bytes().contains(&0) {
+        ""
+    } else {
+        text
+    }
 }
 
 // The text of a variable, or nothing where there is none.

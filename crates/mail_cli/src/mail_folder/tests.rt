@@ -3,10 +3,8 @@
 use super::*;
 use mail_base::{Account, Status};
 use mail_top::run;
-use std::env;
-use std::fs;
-use std::process;
 use std::test::Fail;
+use std::{env, fs, process};
 use world_traits::{MemSink, MemSource};
 
 // A new empty folder.
@@ -55,7 +53,10 @@ fn bytes_are_read_where_they_were_written(rt: HostRuntime) -> Result<(), Fail> {
     let mut buffer = [1; 8];
     assert_eq!(rt; world.read(Side::Right, 1, &mut buffer), Ok(4));
     assert_eq!(rt; buffer, [0, 7, 8, 9, 1, 1, 1, 1]);
-    assert_eq!(rt; (world.length(Side::Right), world.length(Side::Left)), (Ok(5), Ok(0)));
+    assert_eq!(rt;
+        (world.length(Side::Right), world.length(Side::Left)),
+        (Ok(5), Ok(0))
+    );
     fs::remove_dir_all(&rt, path.as_str())?;
     Ok(())
 }
