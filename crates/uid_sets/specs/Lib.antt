@@ -1,0 +1,5 @@
+-- The definitions that this crate's contracts cite.
+pub mod SequenceSet
+pub mod Spelling
+pub mod Uid
+pub mod UidSet
