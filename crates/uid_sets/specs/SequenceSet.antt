@@ -51,7 +51,7 @@ item at text =
 unfoldable pub items : ℕ → List (List ℕ) → Result (List UidRange) SetFault
 items at [] = Ok []
 items at (text ∷ texts) =
-    item at text >>= λ range. items (at + length text + 1) texts >>= λ ranges. Ok (range ∷ ranges)
+    item at text >>= λ range. items (at + (length text + 1)) texts >>= λ ranges. Ok (range ∷ ranges)
 
 -- the items of a whole sequence-set, of which there is at least one, as they are written
 unfoldable pub items_of : List ℕ → Result (List UidRange) SetFault

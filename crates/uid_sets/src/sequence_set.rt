@@ -1,6 +1,7 @@
 //! Reads a sequence-set without `*` (RFC 9051, section 9): numbers and ranges with commas between.
 
-ghost use Rattle.std.specs.Prelude.{◌≡◌, ◌<◌, ◌≤◌, ◌==◌, ◌+◌, ◌^◌, ◌↔◌, ℕ, length, false, All, MatchOption, IsTrue, MatchResult, Ok, Err, IfSome, IfNone, IfOk, IfErr, position};
+ghost use Rattle.std.specs.Prelude.{◌≡◌, ◌<◌, ◌≤◌, ◌==◌, ◌+◌, ◌^◌, ◌↔◌, ℕ, length, false, All, MatchOption, IsTrue, MatchResult, Ok, Err, IfSome, IfNone, IfOk, IfErr, OnOk, IsPermutation, position};
+ghost use Rattle.std.specs.List.Sorted.{IsNonDecreasingBy};
 ghost use Rattle.std.specs.List.{before_first, after_first, position_or_len};
 ghost use Rattle.std.specs.Str.Parse.{AllDigits, digits_value};
 ghost use Rattle.uid_sets.specs.UidSet.{Member, IsCanonical};
@@ -9,7 +10,7 @@ ghost use Rattle.uid_sets.specs.SequenceSet.{number, item, items_of, digit_count
 use super::join::joined;
 use super::set_fault::SetFault;
 use super::uid::UidRange;
-use std::alloc::Global;
+use std::alloc::{AllocError, Global};
 
 /// The canonical ranges of the members that the text names.
 pub fn ranges_of(alloc: Global, text: &[u8]) -> Result<Vec<UidRange>, SetFault>
@@ -17,10 +18,26 @@ pub fn ranges_of(alloc: Global, text: &[u8]) -> Result<Vec<UidRange>, SetFault>
     ensures fault { IfErr result (λ fault. Refuses text.now fault) }
 {
     let mut written = written_of(alloc, text)?;
-    if !written.is_sorted() {
-        written.sort()?;
-    }
+    put_in_order(&mut written)?;
     Ok(joined(alloc, &written)?)
+}
+
+/// Puts ranges in the order of their low ends: in one walk where they stand in it.
+fn put_in_order(ranges: &mut Vec<UidRange>) -> Result<(), AllocError>
+    ensures ordered { OnOk result (IsNonDecreasingBy (λ range. range.low) ranges.new.items) }
+    ensures permutation { IsPermutation ranges.old.items ranges.new.items }
+{
+    if is_in_order(ranges) {
+        return Ok(());
+    }
+    ranges.sort_by_key(|range| range.low)
+}
+
+/// Whether ranges rise by their low ends.
+fn is_in_order(ranges: &[UidRange]) -> bool
+    ensures { IsTrue result → IsNonDecreasingBy (λ range. range.low) ranges.now }
+{
+    ranges.is_sorted_by_key(|range| range.low)
 }
 
 /// The items in the order in which they are written.
@@ -35,9 +52,9 @@ fn written_of(alloc: Global, text: &[u8]) -> Result<Vec<UidRange>, SetFault>
     let mut at = 0;
     let mut left = Some(text);
     while let Some(texts) = left {
-        let (text, behind) = cut(texts, b',');
-        written.push(item_of(at, text)?)?;
-        at += text.len() + 1;
+        let (first, behind) = cut(texts, b',');
+        written.push(item_of(at, first)?)?;
+        at += first.len() + 1;
         left = behind;
     }
     Ok(written)
