@@ -6,4 +6,5 @@ pub mod Joins
 pub mod Numbers
 pub mod Orders
 pub mod Places
+pub mod Queries
 pub mod Ranges

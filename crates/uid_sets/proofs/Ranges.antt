@@ -50,7 +50,7 @@ same_range left right low high =
     ap by_low low ∙ ap by_high high
 
 -- no member is below the first range
-Member-first : (floor : ℕ) (range : UidRange) (ranges : List UidRange) (uid : ℕ) → RisesAbove floor (range ∷ ranges) → Member (range ∷ ranges) uid → range.low ≤ uid
+pub Member-first : (floor : ℕ) (range : UidRange) (ranges : List UidRange) (uid : ℕ) → RisesAbove floor (range ∷ ranges) → Member (range ∷ ranges) uid → range.low ≤ uid
 Member-first floor range ranges uid rises member =
     elim member as (λ _. range.low ≤ uid) [ inl within ↦ within.above | inr later ↦ let more = Member-above (range.high + 1) ranges uid rises.1 later in omega (arith, rises.0) ]
 

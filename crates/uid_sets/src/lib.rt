@@ -3,6 +3,7 @@
 
 mod join;
 mod merge;
+mod search;
 mod sequence_set;
 mod set_fault;
 mod spelling;

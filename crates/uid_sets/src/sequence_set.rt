@@ -14,6 +14,7 @@ use std::alloc::{AllocError, Global};
 
 /// The canonical ranges of the members that the text names.
 pub fn ranges_of(alloc: Global, text: &[u8]) -> Result<Vec<UidRange>, SetFault>
+    requires { 0 < length text.now }
     ensures value { IfOk result (λ ranges. Spells text.now ranges.items) }
     ensures fault { IfErr result (λ fault. Refuses text.now fault) }
 {
@@ -42,12 +43,10 @@ fn is_in_order(ranges: &[UidRange]) -> bool
 
 /// The items in the order in which they are written.
 fn written_of(alloc: Global, text: &[u8]) -> Result<Vec<UidRange>, SetFault>
+    requires { 0 < length text.now }
     ensures value { IfOk result (λ written. items_of text.now ≡ Ok written.items) }
     ensures fault { IfErr result (λ fault. Refuses text.now fault) }
 {
-    if text.is_empty() {
-        return Err(SetFault::Empty);
-    }
     let mut written = Vec::new(alloc);
     let mut at = 0;
     let mut left = Some(text);

@@ -8,6 +8,7 @@ ghost use Rattle.uid_sets.specs.declared.uid.UidRange.{UidRange};
 
 use super::join::join;
 use super::merge::{difference_of, rest_of, union_of};
+use super::search::holds;
 use super::sequence_set::ranges_of;
 use super::set_fault::SetFault;
 use super::spelling::text_of;
@@ -46,6 +47,9 @@ impl UidSet {
         ensures fault { IfErr result (Refuses text.now) }
         ensures empty { IsErrOf result SetFault.Empty ↔ (text.now ≡ []) }
     {
+        if text.is_empty() {
+            return Err(SetFault::Empty);
+        }
         let ranges = ranges_of(alloc, text)?;
         Ok(UidSet { ranges })
     }
@@ -70,9 +74,7 @@ impl UidSet {
     pub fn contains(&self, uid: Uid) -> bool
         ensures { IsTrue result ↔ Member self.now uid }
     {
-        let uid = uid.number();
-        let place = self.ranges.partition_point(|range| range.high < uid);
-        place < self.ranges.len() && self.ranges[place].low <= uid
+        holds(&self.ranges, uid.number())
     }
 
     /// The member, where there is exactly one.

@@ -1,23 +1,17 @@
 -- One item more, its fault, and the end.
 use Rattle.std.proofs.Common.{◌≡◌, ◌<◌, length, sym, ◌∙◌, arith}
 use Rattle.std.specs.List.{slice_split}
-use Rattle.std.proofs.lemmas.Bool.Decides.{nat_tests}
 use Rattle.std.proofs.lemmas.Result.{err_from_is_err_and}
 use Rattle.uid_sets.specs.SequenceSet.{is_comma, items}
-use Rattle.uid_sets.proofs.Items.{items_of_none, items_of_some, fault_first, read_more, split_by_cut, place_by_cut, texts_behind, refuses, behind}
+use Rattle.uid_sets.proofs.Items.{items_of_some, fault_first, read_more, split_by_cut, place_by_cut, texts_behind, refuses, behind}
 use Rattle.uid_sets.proofs.sequence_set.written_of.Goals as goal
-
-pub returns-then-is_empty-clause-fault : goal.returns-then-is_empty-clause-fault
-returns-then-is_empty-clause-fault c =
-    let none : length c.args.text.now ≡ 0 = grind (arith, nat_tests) in items_of_none c.args.text.now none
 
 pub returns-in_err-item_of-clause-fault : goal.returns-in_err-item_of-clause-fault
 returns-in_err-item_of-clause-fault c =
     let text = c.args.text.now in
-    let some : 0 < length text = grind (arith, nat_tests) in
     let read = rw (c.in-Some.is, split_by_cut _ _ _ c.cut.ensures.before c.cut.ensures.behind) at c.loop-left.invariant.read in
     let p = err_from_is_err_and c.from_residual.result c.from_residual.ensures.1 in
-    rw (p.1, p.2) (refuses text _ (items_of_some text some ∙ sym read ∙ fault_first c.loop-left.at _ _ _ _ (sym c.in_err-item_of.ensures)))
+    rw (p.1, p.2) (refuses text _ (items_of_some text c.requires ∙ sym read ∙ fault_first c.loop-left.at _ _ _ _ (sym c.in_err-item_of.ensures)))
 
 pub loop-left-preserved : goal.loop-left-preserved
 loop-left-preserved c =
@@ -31,6 +25,5 @@ loop-left-preserved c =
 pub returns-clause-value : goal.returns-clause-value
 returns-clause-value c =
     let text = c.args.text.now in
-    let some : 0 < length text = grind (arith, nat_tests) in
     let read = rw c.in_default.is at c.loop-left.invariant.read in
-    items_of_some text some ∙ read
+    items_of_some text c.requires ∙ read
