@@ -8,3 +8,5 @@ pub mod Orders
 pub mod Places
 pub mod Queries
 pub mod Ranges
+pub mod RoundTrip
+pub mod Texts

@@ -43,7 +43,7 @@ RisesAbove-weaker low floor [] below rises = tt
 RisesAbove-weaker low floor (range ∷ ranges) below rises =
     (record { above = omega (arith, rises.0); ordered = rises.0.ordered; fits = rises.0.fits }, rises.1)
 
-same_range : (left right : UidRange) → left.low ≡ right.low → left.high ≡ right.high → left ≡ right
+pub same_range : (left right : UidRange) → left.low ≡ right.low → left.high ≡ right.high → left ≡ right
 same_range left right low high =
     let by_low : ℕ → UidRange = λ n. record { low = n; high = left.high } in
     let by_high : ℕ → UidRange = λ n. record { low = right.low; high = n } in
