@@ -14,12 +14,17 @@ up_to_end Old Now New Taken from low high uid new now free low_from low_high = g
 pub range_done : (New Now Range Rest All Taken Left : Type 0) → (New ↔ (Now ⊎ (Range × ¬ Left))) → ((Now ⊎ ((Range ⊎ Rest) × ¬ Taken)) ↔ (All × ¬ Taken)) → ((Range ⊎ Rest) → Taken ↔ Left) → (New ⊎ (Rest × ¬ Taken)) ↔ (All × ¬ Taken)
 range_done New Now Range Rest All Taken Left new now same = (
   λ h. elim h [
-    inl put ↦ elim (new.0 put) [
-        inl old ↦ now.0 (inl old)
-      | inr cut ↦ now.0 (inr (inl cut.0, λ taken. cut.1 ((same (inl cut.0)).0 taken))) ]
-  | inr rest ↦ now.0 (inr (inr rest.0, rest.1)) ],
+    | inl put ↦ elim (new.0 put) [
+      | inl old ↦ now.0 (inl old)
+      | inr cut ↦ now.0 (inr (inl cut.0, λ taken. cut.1 ((same (inl cut.0)).0 taken)))
+    ]
+    | inr rest ↦ now.0 (inr (inr rest.0, rest.1))
+  ],
   λ h. elim (now.1 h) [
-    inl old ↦ inl (new.1 (inl old))
-  | inr left ↦ elim left.0 [
-        inl range ↦ inl (new.1 (inr (range, λ taken. left.1 ((same (inl range)).1 taken))))
-      | inr rest ↦ inr (rest, left.1) ] ])
+    | inl old ↦ inl (new.1 (inl old))
+    | inr left ↦ elim left.0 [
+      | inl range ↦ inl (new.1 (inr (range, λ taken. left.1 ((same (inl range)).1 taken))))
+      | inr rest ↦ inr (rest, left.1)
+    ]
+  ],
+)

@@ -71,16 +71,19 @@ either_not_empty false x y is two one = one is
 two_not_empty : (at : ℕ) (text : List ℕ) → ◌≡◌ {A = Result UidRange SetFault} (number at (before_first is_colon text) >>= λ first. number (at + position_or_len is_colon text + 1) (after_first is_colon text) >>= λ second. Ok (record { low = min first second; high = max first second })) (Err Empty) → ⊥
 two_not_empty at text is =
     elim (bind_err {B = UidRange} (number at (before_first is_colon text)) (λ first. number (at + position_or_len is_colon text + 1) (after_first is_colon text) >>= λ second. Ok (record { low = min first second; high = max first second })) Empty is) as (λ _. ⊥) [
-      inl first ↦ number_not_empty at _ first
-    | inr more ↦ elim (bind_err {B = UidRange} (number (at + position_or_len is_colon text + 1) (after_first is_colon text)) (λ second. Ok (record { low = min more.0 second; high = max more.0 second })) Empty more.1) as (λ _. ⊥) [
-          inl second ↦ number_not_empty _ _ second
-        | inr done ↦ (let no = done.1 in cc) ] ]
+      | inl first ↦ number_not_empty at _ first
+      | inr more ↦ elim (bind_err {B = UidRange} (number (at + position_or_len is_colon text + 1) (after_first is_colon text)) (λ second. Ok (record { low = min more.0 second; high = max more.0 second })) Empty more.1) as (λ _. ⊥) [
+        | inl second ↦ number_not_empty _ _ second
+        | inr done ↦ (let no = done.1 in cc)
+      ]
+    ]
 
 one_not_empty : (at : ℕ) (text : List ℕ) → ◌≡◌ {A = Result UidRange SetFault} (number at text >>= λ only. Ok (record { low = only; high = only })) (Err Empty) → ⊥
 one_not_empty at text is =
     elim (bind_err {B = UidRange} (number at text) (λ only. Ok (record { low = only; high = only })) Empty is) as (λ _. ⊥) [
-      inl only ↦ number_not_empty at text only
-    | inr done ↦ (let no = done.1 in cc) ]
+      | inl only ↦ number_not_empty at text only
+      | inr done ↦ (let no = done.1 in cc)
+    ]
 
 item_not_empty : (at : ℕ) (text : List ℕ) → item at text ≡ Err Empty → ⊥
 unfolding item
@@ -92,10 +95,12 @@ unfolding items
 items_not_empty [] at is = cc
 items_not_empty (text ∷ texts) at is =
     elim (bind_err (item at text) (λ range. items (at + (length text + 1)) texts >>= λ ranges. Ok (range ∷ ranges)) Empty is) as (λ _. ⊥) [
-      inl first ↦ item_not_empty at text first
-    | inr more ↦ elim (bind_err (items (at + (length text + 1)) texts) (λ ranges. Ok (more.0 ∷ ranges)) Empty more.1) as (λ _. ⊥) [
-          inl second ↦ items_not_empty texts _ second
-        | inr done ↦ (let no = done.1 in cc) ] ]
+      | inl first ↦ item_not_empty at text first
+      | inr more ↦ elim (bind_err (items (at + (length text + 1)) texts) (λ ranges. Ok (more.0 ∷ ranges)) Empty more.1) as (λ _. ⊥) [
+        | inl second ↦ items_not_empty texts _ second
+        | inr done ↦ (let no = done.1 in cc)
+      ]
+    ]
 
 -- the fault of no bytes comes of no bytes alone
 pub items_of_empty : (text : List ℕ) → items_of text ≡ Err Empty → text ≡ []

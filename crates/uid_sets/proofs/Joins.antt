@@ -1,7 +1,8 @@
 -- One range more, joined to the last where they overlap or touch.
-use Rattle.std.proofs.Common.{◌≡◌, ◌↔◌, ◌⊎◌, inl, inr, ℕ, suc, zero, ◌+◌, ◌-◌, ◌<◌, ◌≤◌, max, List, [], ◌∷◌, ◌++◌, length, get_or, set, refl, arith, ap, sym, ◌∙◌}
+use Rattle.std.proofs.Common.{◌≡◌, ◌↔◌, ◌⊎◌, ℕ, suc, zero, ◌+◌, ◌-◌, ◌<◌, ◌≤◌, max, List, [], ◌∷◌, ◌++◌, length, get_or, set, refl, arith, ap, sym}
 use Rattle.uid_sets.specs.Uid.{IsWithin}
-use Rattle.uid_sets.specs.UidSet.{Member, IsCanonical, IsRange, RisesAbove, RisesByLow, last_low, floor_behind}
+use Rattle.uid_sets.specs.Rising.{last_low, floor_behind}
+use Rattle.uid_sets.specs.UidSet.{Member, IsCanonical, IsRange}
 use Rattle.uid_sets.specs.declared.uid.UidRange.{UidRange}
 use Rattle.uid_sets.proofs.Ranges.{Member-push, RisesAbove-push, RisesAbove-front, last_low-push, floor_behind-push}
 
@@ -38,10 +39,10 @@ wider_at front last range high canonical is_range low touch is =
     record {
       canonical = RisesAbove-push 0 front wide parts.0 fits;
       members = λ uid.
-        let old = Member-push front last uid in
-        let new = Member-push front wide uid in
-        let cover = covers uid high last range low touch is in
-        grind (arith, old.0, old.1, new.0, new.1, cover.0, cover.1);
+          let old = Member-push front last uid in
+          let new = Member-push front wide uid in
+          let cover = covers uid high last range low touch is in
+          grind (arith, old.0, old.1, new.0, new.1, cover.0, cover.1);
       rising = rw (last_low-push front wide) low;
     }
 

@@ -18,5 +18,5 @@ pub AllDigits-front : (text : List ℕ) → AllDigits 10 (take (prefix_len is_as
 AllDigits-front text =
     let digits = take (prefix_len is_ascii_digit text) text in
     (numerals_by_value _ tells_by_index).to digits (λ i within.
-        let below : i < prefix_len is_ascii_digit text = rw length-prefix_len at within in
-        rw (get_or-take _ text i 0 below) (digit_in_range _ (prefix_len_passes is_ascii_digit text i 0 below)))
+    let below : i < prefix_len is_ascii_digit text = rw length-prefix_len at within in
+    rw (get_or-take _ text i 0 below) (digit_in_range _ (prefix_len_passes is_ascii_digit text i 0 below)))

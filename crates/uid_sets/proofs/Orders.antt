@@ -1,12 +1,13 @@
 -- Ranges in order, and in another order.
-use Rattle.std.proofs.Common.{◌≡◌, ◌↔◌, ◌⊎◌, inl, inr, ℕ, zero, suc, ◌+◌, ◌<◌, ◌≤◌, List, [], ◌∷◌, length, get_or, IsPermutation, Contains, refl, arith, sym, subst, true}
+use Rattle.std.proofs.Common.{◌≡◌, ◌↔◌, inl, inr, ℕ, zero, suc, ◌<◌, ◌≤◌, List, [], ◌∷◌, length, get_or, IsPermutation, Contains, refl, arith, sym, subst, true}
 use Rattle.std.specs.List.{AllByRecursion}
 use Rattle.std.specs.Ordering.{is_le, nat_cmp}
 use Rattle.std.proofs.lemmas.Bool.Decides.{nat_tests}
 use Rattle.std.specs.List.Sorted.{IsNonDecreasingBy}
 use Rattle.std.proofs.lemmas.List.Sorted.{Contains-permutation, IsPermutation-sym}
 use Rattle.uid_sets.specs.Uid.{IsWithin}
-use Rattle.uid_sets.specs.UidSet.{Member, IsRange, RisesByLow}
+use Rattle.uid_sets.specs.Rising.{RisesByLow}
+use Rattle.uid_sets.specs.UidSet.{Member, IsRange}
 use Rattle.uid_sets.specs.declared.uid.UidRange.{UidRange}
 
 -- a member is within one of the ranges
@@ -14,9 +15,10 @@ found : (ranges : List UidRange) (uid : ℕ) → Member ranges uid → (range : 
 found [] uid member = absurd member
 found (range ∷ ranges) uid member =
     elim member [
-      inl within ↦ (range, (0, omega arith, refl), within)
-    | inr later ↦ let more = found ranges uid later in
-        (more.0, (suc more.1.0, (let below = more.1.1 in omega arith), more.1.2), more.2) ]
+      | inl within ↦ (range, (0, omega arith, refl), within)
+      | inr later ↦ let more = found ranges uid later in
+          (more.0, (suc more.1.0, (let below = more.1.1 in omega arith), more.1.2), more.2)
+    ]
 
 member_at : (ranges : List UidRange) (uid k : ℕ) (range : UidRange) → k < length ranges → get_or ranges k range ≡ range → IsWithin range.low range.high uid → Member ranges uid
 member_at [] uid k range below at within = absurd (omega arith)

@@ -1,8 +1,8 @@
 -- What the questions to a set find in its ranges.
-use Rattle.std.proofs.Common.{◌≡◌, ◌↔◌, ◌⊎◌, inl, inr, ℕ, zero, suc, ◌+◌, ◌<◌, ◌≤◌, List, [], ◌∷◌, ◌++◌, length, get_or, refl, arith, sym}
+use Rattle.std.proofs.Common.{◌≡◌, ◌↔◌, inl, inr, ℕ, zero, suc, ◌+◌, ◌<◌, ◌≤◌, List, [], ◌∷◌, length, get_or, refl, arith}
 use Rattle.std.specs.List.Sorted.{IsNonDecreasingBy}
-use Rattle.uid_sets.specs.Uid.{IsWithin}
-use Rattle.uid_sets.specs.UidSet.{Member, IsCanonical, IsOnly, RisesAbove, last_low}
+use Rattle.uid_sets.specs.Rising.{last_low}
+use Rattle.uid_sets.specs.UidSet.{Member, IsCanonical, IsOnly, RisesAbove}
 use Rattle.uid_sets.specs.declared.uid.UidRange.{UidRange}
 use Rattle.uid_sets.proofs.Ranges.{Member-first, last_low-push}
 use Rattle.uid_sets.proofs.Joins.{ends_in}
@@ -29,14 +29,16 @@ highs_rise floor (range ∷ ranges) rises (suc i) (suc j) other le within =
 -- the one place where a member can stand
 pub member_by_place : (floor : ℕ) (ranges : List UidRange) (uid place : ℕ) → RisesAbove floor ranges → ((k : ℕ) → k < place → k < length ranges → (get_or ranges k none).high < uid) → (place < length ranges → uid ≤ (get_or ranges place none).high) → Member ranges uid ↔ ((place < length ranges) × ((get_or ranges place none).low ≤ uid))
 member_by_place floor [] uid place rises below above = (λ member. absurd member, λ found. absurd (omega (arith, found.0)))
-member_by_place floor (range ∷ ranges) uid zero rises below above =
-    (λ member. (omega arith, Member-first floor range ranges uid rises member),
-     λ found. inl (record { above = found.1; below = above found.0 }))
+member_by_place floor (range ∷ ranges) uid zero rises below above = (
+  λ member. (omega arith, Member-first floor range ranges uid rises member),
+  λ found. inl (record { above = found.1; below = above found.0 }),
+)
 member_by_place floor (range ∷ ranges) uid (suc place) rises below above =
     let past = below 0 (omega arith) (omega arith) in
-    let more = member_by_place (range.high + 1) ranges uid place rises.1 (λ k low within. below (suc k) (omega arith) (omega arith)) (λ within. above (omega arith)) in
-    (λ member. elim member [ inl here ↦ absurd (omega (arith, here)) | inr later ↦ (let found = more.0 later in (omega (arith, found.0), found.1)) ],
-     λ found. inr (more.1 (omega (arith, found.0), found.1)))
+    let more = member_by_place (range.high + 1) ranges uid place rises.1 (λ k low within. below (suc k) (omega arith) (omega arith)) (λ within. above (omega arith)) in (
+      λ member. elim member [ inl here ↦ absurd (omega (arith, here)) | inr later ↦ (let found = more.0 later in (omega (arith, found.0), found.1)) ],
+      λ found. inr (more.1 (omega (arith, found.0), found.1)),
+    )
 
 -- a set with no member has no range
 pub no_range : (ranges : List UidRange) → IsCanonical ranges → ((uid : ℕ) → ¬ Member ranges uid) → ranges ≡ []

@@ -1,7 +1,8 @@
 -- Ranges put behind other ranges, and the one list of each set.
 use Rattle.std.proofs.Common.{◌≡◌, ◌↔◌, ◌⊎◌, inl, inr, ℕ, zero, suc, ◌+◌, ◌<◌, ◌≤◌, List, [], ◌∷◌, ◌++◌, length, get_or, drop, drop-cons, add-one, refl, arith, ap, sym, ◌∙◌}
 use Rattle.uid_sets.specs.Uid.{IsWithin}
-use Rattle.uid_sets.specs.UidSet.{Member, IsCanonical, IsRange, RisesAbove, RisesByLow, last_low, floor_behind}
+use Rattle.uid_sets.specs.Rising.{RisesByLow, last_low, floor_behind}
+use Rattle.uid_sets.specs.UidSet.{Member, IsCanonical, IsRange, RisesAbove}
 use Rattle.uid_sets.specs.declared.uid.UidRange.{UidRange}
 
 -- a member of two lists of ranges is one of either
@@ -59,11 +60,14 @@ first_high : (floor : ℕ) (range other : UidRange) (ranges others : List UidRan
 first_high floor range other ranges others rises is_range low same =
     let within : IsWithin other.low other.high other.high = record { above = is_range.ordered; below = omega arith } in
     let here = same other.high (inl within) in
-    elim here as (λ _. other.high ≤ range.high) [ inl w ↦ w.below | inr later ↦
-        let beyond = Member-above (range.high + 1) ranges other.high rises.1 later in
-        let next : IsWithin other.low other.high (range.high + 1) = record { above = omega (arith, rises.0, is_range); below = omega arith } in
-        let there = same (range.high + 1) (inl next) in
-        elim there as (λ _. other.high ≤ range.high) [ inl w ↦ omega arith | inr again ↦ let far = Member-above (range.high + 1) ranges (range.high + 1) rises.1 again in omega arith ] ]
+    elim here as (λ _. other.high ≤ range.high) [
+      | inl w ↦ w.below
+      | inr later ↦
+          let beyond = Member-above (range.high + 1) ranges other.high rises.1 later in
+          let next : IsWithin other.low other.high (range.high + 1) = record { above = omega (arith, rises.0, is_range); below = omega arith } in
+          let there = same (range.high + 1) (inl next) in
+          elim there as (λ _. other.high ≤ range.high) [ inl w ↦ omega arith | inr again ↦ let far = Member-above (range.high + 1) ranges (range.high + 1) rises.1 again in omega arith ]
+    ]
 
 -- a member of the rest is one of the other's rest
 rest_member : (range other : UidRange) (ranges others : List UidRange) (uid : ℕ) → RisesAbove (range.high + 1) ranges → range.high ≡ other.high → (Member (range ∷ ranges) uid → Member (other ∷ others) uid) → Member ranges uid → Member others uid
@@ -89,7 +93,7 @@ one_form floor (l ∷ left) (r ∷ right) rises_left rises_right same =
     let high : l.high ≡ r.high = omega arith in
     let lower : RisesAbove (l.high + 1) right = rw high rises_right.1 in
     let rest = one_form (l.high + 1) left right rises_left.1 lower
-        (λ uid. (rest_member l r left right uid rises_left.1 high (same uid).0, rest_member r l right left uid rises_right.1 (sym high) (same uid).1)) in
+    (λ uid. (rest_member l r left right uid rises_left.1 high (same uid).0, rest_member r l right left uid rises_right.1 (sym high) (same uid).1)) in
     ap (λ x. x ∷ left) (same_range l r low high) ∙ ap (λ xs. r ∷ xs) rest
 
 -- the first range of what is left of a list

@@ -1,8 +1,8 @@
 -- The text of a set is read as the set.
-use Rattle.std.proofs.Common.{◌≡◌, ℕ, ◌+◌, ◌<◌, ◌≤◌, ◌^◌, Bool, true, false, not, cond, nat_lt, ◌==◌, min, max, List, [], ◌∷◌, ◌++◌, length, get_or, take, drop, map, decimal, Result, Ok, Err, refl, arith, ap, sym, ◌∙◌, append_assoc}
+use Rattle.std.proofs.Common.{◌≡◌, ℕ, ◌+◌, ◌<◌, ◌≤◌, ◌^◌, Bool, true, false, not, cond, nat_lt, ◌==◌, min, max, List, [], ◌∷◌, ◌++◌, length, take, drop, map, decimal, Result, Ok, refl, arith, ap, sym, ◌∙◌, append_assoc}
 use Rattle.std.specs.Char.{is_ascii_digit}
 use Rattle.std.specs.Int.{IsInRange}
-use Rattle.std.specs.List.{All, position_or_len, prefix_len, before_first, after_first, slice_split}
+use Rattle.std.specs.List.{All, position_or_len, before_first, after_first, slice_split}
 use Rattle.std.specs.Str.Parse.{AllDigits, digits_value}
 use Rattle.std.proofs.lemmas.Bool.Decides.{nat_tests}
 use Rattle.std.proofs.lemmas.Fmt.{decimal_is_IsNumeral, decimal_nonempty}
@@ -13,11 +13,10 @@ use Rattle.std.proofs.lemmas.List.Elements.{All-from_get_or, All-append, All-con
 use Rattle.std.proofs.lemmas.List.Splits.{slice_split_none, slice_split_at}
 use Rattle.std.proofs.lemmas.List.Sums.{prefix_len_is}
 use Rattle.uid_sets.specs.UidSet.{IsCanonical, RisesAbove, IsRange}
-use Rattle.uid_sets.specs.SequenceSet.{◌>>=◌, number, item, items, items_of, is_colon, is_comma, digit_count, spelt, Spells}
+use Rattle.uid_sets.specs.SequenceSet.{◌>>=◌, number, item, items, is_colon, is_comma, digit_count, spelt, Spells}
 use Rattle.uid_sets.specs.Spelling.{range_text, set_text}
 use Rattle.uid_sets.specs.declared.uid.UidRange.{UidRange}
 use Rattle.uid_sets.specs.declared.set_fault.SetFault.{SetFault}
-use Rattle.uid_sets.specs.declared.set_fault.SetFault.TheVariants.{BadByte, Zero, BadNumber}
 use Rattle.uid_sets.proofs.Ranges.{same_range}
 use Rattle.uid_sets.proofs.Items.{items_of_some}
 
@@ -55,9 +54,9 @@ no_colon text digits =
 next_colon : (text rest : List ℕ) → AllDigits 10 text → position_or_len is_colon (text ++ 58 ∷ rest) ≡ length text
 next_colon text rest digits =
     prefix_len_is (λ x. not (is_colon x)) (text ++ 58 ∷ rest) (length text) 0
-        (let len = length-append text (58 ∷ rest) in omega arith)
-        (λ k within. rw (get_or_append_left text (58 ∷ rest) 0 k within) (digit_no_colon _ (digit_at text k digits within)))
-        (λ within. rw (get_or-append_seam text 58 rest 0) refl)
+    (let len = length-append text (58 ∷ rest) in omega arith)
+    (λ k within. rw (get_or_append_left text (58 ∷ rest) 0 k within) (digit_no_colon _ (digit_at text k digits within)))
+    (λ within. rw (get_or-append_seam text 58 rest 0) refl)
 
 cond_true : {A : Type 0} (b : Bool) (x y : A) → b ≡ true → cond b x y ≡ x
 cond_true true x y is = refl
@@ -102,8 +101,8 @@ item_pair at low high above ordered below =
     let before : before_first is_colon text ≡ decimal low = ap (λ k. take k text) place ∙ take_at (decimal low) (58 ∷ decimal high) _ refl in
     let behind : after_first is_colon text ≡ decimal high = ap (λ k. drop (k + 1) text) place ∙ drop_past (decimal low) 58 (decimal high) in
     item_two at text low high (omega arith)
-        (ap (number at) before ∙ number_decimal at low above (omega arith))
-        (ap (number (at + position_or_len is_colon text + 1)) behind ∙ number_decimal _ high (omega arith) below)
+    (ap (number at) before ∙ number_decimal at low above (omega arith))
+    (ap (number (at + position_or_len is_colon text + 1)) behind ∙ number_decimal _ high (omega arith) below)
 
 range_ends : (b : Bool) (at : ℕ) (range : UidRange) → IsRange 0 range → (range.low == range.high) ≡ b → item at (cond b (decimal range.low) (decimal range.low ++ 58 ∷ decimal range.high)) ≡ Ok range
 range_ends true at range fits same =

@@ -43,8 +43,8 @@ unfoldable pub item : ℕ → List ℕ → Result UidRange SetFault
 item at text =
     if nat_lt (position_or_len is_colon text) (length text)
     then (number at (before_first is_colon text) >>= λ first.
-        number (at + position_or_len is_colon text + 1) (after_first is_colon text) >>= λ second.
-        Ok (record { low = min first second; high = max first second }))
+    number (at + position_or_len is_colon text + 1) (after_first is_colon text) >>= λ second.
+    Ok (record { low = min first second; high = max first second }))
     else (number at text >>= λ only. Ok (record { low = only; high = only }))
 
 -- items, one behind the other, each a comma behind the one before

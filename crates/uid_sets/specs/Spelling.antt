@@ -1,5 +1,5 @@
 -- The one text that a set is written as (RFC 9051, section 9, sequence-set).
-use Rattle.std.specs.Prelude.{ℕ, ◌==◌, if◌then◌else◌, List, [], ◌∷◌, ◌++◌, decimal, map}
+use Rattle.std.specs.Prelude.{ℕ, ◌==◌, if◌then◌else◌, List, ◌∷◌, ◌++◌, decimal, map}
 use Rattle.std.specs.List.{join_with_byte}
 use Rattle.uid_sets.specs.declared.uid.UidRange.{UidRange}
 

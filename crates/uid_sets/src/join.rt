@@ -2,7 +2,8 @@
 
 ghost use Rattle.std.specs.Prelude.{◌≡◌, ◌≤◌, ◌↔◌, ◌⊎◌, ℕ, OnOk, OnErr, IfOk};
 ghost use Rattle.uid_sets.specs.Uid.{IsWithin};
-ghost use Rattle.uid_sets.specs.UidSet.{Member, IsCanonical, IsRange, last_low, RisesByLow};
+ghost use Rattle.uid_sets.specs.Rising.{last_low, RisesByLow};
+ghost use Rattle.uid_sets.specs.UidSet.{Member, IsCanonical, IsRange};
 
 use super::uid::UidRange;
 use std::alloc::{AllocError, Global};

@@ -13,7 +13,5 @@ mod uid;
 mod uid_set;
 
 pub use set_fault::SetFault;
-pub use uid::Uid;
-pub use uid::UidRange;
-pub use uid_set::UidSet;
-pub use uid_set::one_form;
+pub use uid::{Uid, UidRange};
+pub use uid_set::{UidSet, one_form};

@@ -2,7 +2,8 @@
 
 ghost use Rattle.std.specs.Prelude.{◌≡◌, ◌+◌, ◌<◌, ◌≤◌, ◌↔◌, ◌⊎◌, ℕ, OnOk, IfOk, length, drop, max};
 ghost use Rattle.uid_sets.specs.Uid.{IsWithin};
-ghost use Rattle.uid_sets.specs.UidSet.{Member, IsCanonical, IsRange, floor_behind};
+ghost use Rattle.uid_sets.specs.Rising.{floor_behind};
+ghost use Rattle.uid_sets.specs.UidSet.{Member, IsCanonical, IsRange};
 
 use super::join::join;
 use super::uid::UidRange;
@@ -68,7 +69,7 @@ fn push_rest(
     ensures floor { OnOk result (floor_behind 0 ranges.new.items ≤ range.high + 1) }
     ensures members { OnOk result ((uid : ℕ) → Member ranges.new.items uid
         ↔ (Member ranges.old.items uid
-            ⊎ (IsWithin range.low range.high uid × ¬ Member taken.now uid))) }
+        ⊎ (IsWithin range.low range.high uid × ¬ Member taken.now uid))) }
     ensures within { IfOk result (λ passed. passed ≤ length taken.now) }
     ensures passed { IfOk result (λ passed. (uid : ℕ) → range.high < uid →
         Member taken.now uid ↔ Member (drop passed taken.now) uid) }
@@ -109,11 +110,7 @@ fn push_below(ranges: &mut Vec<UidRange>, low: u32, end: u32) -> Result<(), Allo
 }
 
 /// The ranges of the members of at least `low`.
-pub fn rest_of(
-    alloc: Global,
-    ranges: &[UidRange],
-    low: u32,
-) -> Result<Vec<UidRange>, AllocError>
+pub fn rest_of(alloc: Global, ranges: &[UidRange], low: u32) -> Result<Vec<UidRange>, AllocError>
     requires { IsCanonical ranges.now }
     ensures canonical { IfOk result (λ rest. IsCanonical rest.items) }
     ensures members { IfOk result (λ rest.

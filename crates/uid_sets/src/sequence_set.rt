@@ -65,7 +65,7 @@ fn cut(text: &[u8], mark: u8) -> (&[u8], Option<&[u8]>)
     ensures behind { MatchOption result.1
         (position_or_len (λ byte. byte == mark) text.now ≡ length text.now)
         (λ behind. (position_or_len (λ byte. byte == mark) text.now < length text.now)
-            × (behind.now ≡ after_first (λ byte. byte == mark) text.now)) }
+        × (behind.now ≡ after_first (λ byte. byte == mark) text.now)) }
 {
     match place_of(text, mark) {
         Some(place) => (&text[..place], Some(&text[place + 1..])),

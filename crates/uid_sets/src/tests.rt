@@ -111,7 +111,10 @@ fn a_text_is_read_and_written(rt: HostRuntime) -> Result<(), Fail> {
         (b"4294967295,1,2", b"1:2,4294967295"),
     ];
     for (text, written) in rows {
-        assert!(rt; again(rt.alloc(), text)?.as_slice() == written, "of {text:?}");
+        assert!(rt;
+            again(rt.alloc(), text)?.as_slice() == written,
+            "of {text:?}"
+        );
     }
     Ok(())
 }

@@ -45,7 +45,7 @@ impl Uid {
 }
 
 /// The UIDs from `low` to `high`, both included (`seq-range` of RFC 9051, section 9).
-#[derive(Clone, Copy, Debug, PartialEq, Eq, PartialOrd, Ord)]
+#[derive(Clone, Copy, Debug, PartialEq, Eq)]
 pub struct UidRange {
     /// The least UID.
     pub low: u32,

@@ -163,5 +163,4 @@ impl UidSet {
 pub fn one_form()
     ensures { (left right : List UidRange) → IsCanonical left → IsCanonical right
         → ((uid : ℕ) → Member left uid ↔ Member right uid) → left ≡ right }
-{
-}
+{}

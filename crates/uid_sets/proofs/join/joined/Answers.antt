@@ -1,6 +1,5 @@
 -- One range more is joined.
-use Rattle.std.proofs.Common.{◌≡◌, ℕ, ◌↔◌, ◌⊎◌, ◌+◌, ◌∷◌, drop, get_or, arith}
-use Rattle.uid_sets.specs.UidSet.{Member}
+use Rattle.std.proofs.Common.{arith}
 use Rattle.uid_sets.proofs.Ranges.{drop_here, RisesByLow-weaker}
 use Rattle.uid_sets.proofs.join.joined.Goals as goal
 
@@ -14,7 +13,7 @@ loop-range-preserved c =
       canonical = joins.canonical;
       left = RisesByLow-weaker _ _ _ joins.rising left.2;
       members = λ uid.
-        let new = joins.members uid in
-        let old = rw here at (before.members uid) in
-        grind (arith, new.0, new.1, old.0, old.1);
+          let new = joins.members uid in
+          let old = rw here at (before.members uid) in
+          grind (arith, new.0, new.1, old.0, old.1);
     }

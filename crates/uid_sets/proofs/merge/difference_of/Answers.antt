@@ -1,8 +1,6 @@
 -- One range more has lost what is taken of it.
-use Rattle.std.proofs.Common.{◌≡◌, ◌↔◌, ◌⊎◌, inl, inr, ◌+◌, ℕ, drop, length, get_or, arith, ap, ◌∙◌}
+use Rattle.std.proofs.Common.{inr, ◌+◌, get_or, arith}
 use Rattle.std.proofs.lemmas.List.{take_rest, drop-drop, length-drop}
-use Rattle.uid_sets.specs.Uid.{IsWithin}
-use Rattle.uid_sets.specs.UidSet.{Member}
 use Rattle.uid_sets.specs.declared.uid.UidRange.{UidRange}
 use Rattle.uid_sets.proofs.Ranges.{drop_here, RisesAbove-weaker, RisesAbove-drop, Member-above}
 use Rattle.uid_sets.proofs.Differences.{range_done}
@@ -29,12 +27,12 @@ loop-range-preserved c =
       canonical = put.canonical;
       left = RisesAbove-weaker _ (range.high + 1) _ put.floor left.1;
       skipped = λ uid member.
-        let above = Member-above (range.high + 1) _ uid left.1 member in
-        let same = before.skipped uid (rw here (inr member)) in
-        let passed = rw onward at (put.passed uid (omega arith)) in
-        grind (arith, same.0, same.1, passed.0, passed.1);
+          let above = Member-above (range.high + 1) _ uid left.1 member in
+          let same = before.skipped uid (rw here (inr member)) in
+          let passed = rw onward at (put.passed uid (omega arith)) in
+          grind (arith, same.0, same.1, passed.0, passed.1);
       members = λ uid.
-        let old = rw here at (before.members uid) in
-        let same = rw here at (before.skipped uid) in
-        range_done _ _ _ _ _ _ _ (put.members uid) old same;
+          let old = rw here at (before.members uid) in
+          let same = rw here at (before.skipped uid) in
+          range_done _ _ _ _ _ _ _ (put.members uid) old same;
     }

@@ -1,6 +1,7 @@
 -- A range behind the others.
-use Rattle.std.proofs.Common.{ℕ, ◌-◌, ◌∷◌, [], ◌++◌, arith}
-use Rattle.uid_sets.specs.UidSet.{IsRange, floor_behind}
+use Rattle.std.proofs.Common.{◌-◌, ◌∷◌, [], ◌++◌, arith}
+use Rattle.uid_sets.specs.Rising.{floor_behind}
+use Rattle.uid_sets.specs.UidSet.{IsRange}
 use Rattle.uid_sets.specs.declared.uid.UidRange.{UidRange}
 use Rattle.uid_sets.proofs.Ranges.{Pushes, pushes}
 use Rattle.uid_sets.proofs.merge.push_below.Goals as goal

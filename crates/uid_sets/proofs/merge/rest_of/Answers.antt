@@ -1,7 +1,7 @@
 -- A range more is high enough in part, or not at all.
-use Rattle.std.proofs.Common.{◌≡◌, ◌↔◌, ◌⊎◌, inl, inr, ◌+◌, ℕ, drop, length, get_or, arith}
-use Rattle.uid_sets.specs.Uid.{IsWithin}
-use Rattle.uid_sets.specs.UidSet.{Member, IsRange, floor_behind}
+use Rattle.std.proofs.Common.{◌+◌, get_or, arith}
+use Rattle.uid_sets.specs.Rising.{floor_behind}
+use Rattle.uid_sets.specs.UidSet.{IsRange}
 use Rattle.uid_sets.specs.declared.uid.UidRange.{UidRange}
 use Rattle.uid_sets.proofs.Ranges.{drop_here, RisesAbove-weaker, pushes}
 use Rattle.uid_sets.proofs.merge.rest_of.Goals as goal
@@ -22,9 +22,9 @@ loop-range-preserved c =
       canonical = put.canonical;
       left = rw put.floor left.1;
       members = λ uid.
-        let new = put.members uid in
-        let old = rw here at (before.members uid) in
-        grind (arith, new.0, new.1, old.0, old.1);
+          let new = put.members uid in
+          let old = rw here at (before.members uid) in
+          grind (arith, new.0, new.1, old.0, old.1);
     })
 
 pub loop-range-preserved-then-range-low : goal.loop-range-preserved-then-range-low
@@ -37,6 +37,6 @@ loop-range-preserved-then-range-low c =
       canonical = before.canonical;
       left = RisesAbove-weaker _ (range.high + 1) _ (omega (arith, left.0)) left.1;
       members = λ uid.
-        let old = rw here at (before.members uid) in
-        grind (arith, old.0, old.1);
+          let old = rw here at (before.members uid) in
+          grind (arith, old.0, old.1);
     }

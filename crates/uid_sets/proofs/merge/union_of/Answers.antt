@@ -1,6 +1,5 @@
 -- One range more of either list is joined.
-use Rattle.std.proofs.Common.{◌≡◌, ℕ, ◌↔◌, ◌⊎◌, ◌+◌, ◌<◌, ◌≤◌, ◌∷◌, length, drop, get_or, arith}
-use Rattle.uid_sets.specs.UidSet.{Member}
+use Rattle.std.proofs.Common.{◌<◌, ◌≤◌, length, get_or, arith}
 use Rattle.uid_sets.specs.declared.uid.UidRange.{UidRange}
 use Rattle.uid_sets.proofs.Ranges.{drop_here, RisesByLow-weaker, RisesByLow-raised, RisesByLow-canonical}
 use Rattle.uid_sets.proofs.merge.union_of.Goals as goal
@@ -33,9 +32,9 @@ loop-i-preserved-then-left-i c =
       left = RisesByLow-weaker _ _ _ joins.rising left.2;
       right = RisesByLow-weaker _ _ _ joins.rising (RisesByLow-raised _ _ _ c.loop-i.j before.right first);
       members = λ uid.
-        let new = joins.members uid in
-        let old = rw here at (before.members uid) in
-        grind (arith, new.0, new.1, old.0, old.1);
+          let new = joins.members uid in
+          let old = rw here at (before.members uid) in
+          grind (arith, new.0, new.1, old.0, old.1);
     }
 
 pub loop-i-preserved : goal.loop-i-preserved
@@ -53,7 +52,7 @@ loop-i-preserved c =
       left = RisesByLow-weaker _ _ _ joins.rising (RisesByLow-raised _ _ _ c.loop-i.i before.left first);
       right = RisesByLow-weaker _ _ _ joins.rising right.2;
       members = λ uid.
-        let new = joins.members uid in
-        let old = rw here at (before.members uid) in
-        grind (arith, new.0, new.1, old.0, old.1);
+          let new = joins.members uid in
+          let old = rw here at (before.members uid) in
+          grind (arith, new.0, new.1, old.0, old.1);
     }

@@ -1,6 +1,7 @@
 -- What is joined is canonical, and with what is left of both lists holds what they hold.
 use Rattle.std.proofs.Common.{◌↔◌, ◌⊎◌, ◌+◌, ◌-◌, ◌≤◌, ℕ, length, drop}
-use Rattle.uid_sets.specs.UidSet.{Member, IsCanonical, last_low, RisesByLow}
+use Rattle.uid_sets.specs.Rising.{last_low, RisesByLow}
+use Rattle.uid_sets.specs.UidSet.{Member, IsCanonical}
 use Rattle.uid_sets.proofs.merge.union_of.Given as goal
 
 abbrev pub invariant-loop-i : goal.invariant-loop-i
@@ -11,7 +12,7 @@ invariant-loop-i l = record {
   left : RisesByLow (last_low l.ranges.items) (drop l.i l.left);
   right : RisesByLow (last_low l.ranges.items) (drop l.j l.right);
   members : (uid : ℕ) → (Member l.ranges.items uid ⊎ (Member (drop l.i l.left) uid ⊎ Member (drop l.j l.right) uid))
-    ↔ (Member l.left uid ⊎ Member l.right uid);
+      ↔ (Member l.left uid ⊎ Member l.right uid);
 }
 
 abbrev pub decreases-loop-i : goal.decreases-loop-i

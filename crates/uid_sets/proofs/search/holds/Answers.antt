@@ -1,7 +1,6 @@
 -- The place where the UID would stand.
-use Rattle.std.proofs.Common.{◌≡◌, ◌↔◌, ◌<◌, ◌≤◌, ℕ, length, get_or, arith}
+use Rattle.std.proofs.Common.{arith}
 use Rattle.std.proofs.lemmas.Bool.Decides.{nat_tests}
-use Rattle.uid_sets.specs.UidSet.{Member}
 use Rattle.uid_sets.proofs.Queries.{none, member_by_place}
 use Rattle.uid_sets.proofs.search.holds.Goals as goal
 

@@ -1,7 +1,7 @@
 -- The number that the digits spell, or its first fault.
-use Rattle.std.proofs.Common.{◌≡◌, ◌<◌, ◌≤◌, ◌^◌, ap, sym, arith}
+use Rattle.std.proofs.Common.{arith}
 use Rattle.std.proofs.lemmas.Bool.Decides.{nat_tests}
-use Rattle.uid_sets.specs.SequenceSet.{number, spelt}
+use Rattle.uid_sets.specs.SequenceSet.{number}
 use Rattle.uid_sets.proofs.Numbers.{AllDigits-front}
 use Rattle.uid_sets.proofs.sequence_set.number_of.Goals as goal
 

@@ -22,7 +22,7 @@ returns-clause-value c =
       read = c.in_ok-written.ensures.value;
       canonical = joins.canonical;
       members = λ uid.
-        let same = Member-permutation _ _ uid c.in_ok-put_in_order.ensures.permutation in
-        let whole = members uid in
-        (λ member. same.1 (whole.0 member), λ member. whole.1 (same.0 member));
+          let same = Member-permutation _ _ uid c.in_ok-put_in_order.ensures.permutation in
+          let whole = members uid in
+          (λ member. same.1 (whole.0 member), λ member. whole.1 (same.0 member));
     }

@@ -1,9 +1,7 @@
 -- One item more, its fault, and the end.
-use Rattle.std.proofs.Common.{◌≡◌, ◌<◌, length, sym, ◌∙◌, arith}
-use Rattle.std.specs.List.{slice_split}
+use Rattle.std.proofs.Common.{sym, ◌∙◌}
 use Rattle.std.proofs.lemmas.Result.{err_from_is_err_and}
-use Rattle.uid_sets.specs.SequenceSet.{is_comma, items}
-use Rattle.uid_sets.proofs.Items.{items_of_some, fault_first, read_more, split_by_cut, place_by_cut, texts_behind, refuses, behind}
+use Rattle.uid_sets.proofs.Items.{items_of_some, fault_first, read_more, split_by_cut, place_by_cut, refuses}
 use Rattle.uid_sets.proofs.sequence_set.written_of.Goals as goal
 
 pub returns-in_err-item_of-clause-fault : goal.returns-in_err-item_of-clause-fault

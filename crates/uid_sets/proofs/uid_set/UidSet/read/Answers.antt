@@ -15,6 +15,7 @@ returns-in_err-ranges-clause-empty c =
     let text = c.args.text.now in
     let some : 0 < length text = grind (arith, nat_tests) in
     let p = err_from_is_err_and c.from_residual.result c.from_residual.ensures.1 in
-    rw (p.1, p.2) (
-      (λ is. absurd (empty_refused text _ some c.in_err-ranges.ensures.fault (Err_injective is)),
-       λ none. let len = ap length none in absurd (omega arith)))
+    rw (p.1, p.2) ((
+      λ is. absurd (empty_refused text _ some c.in_err-ranges.ensures.fault (Err_injective is)),
+      λ none. let len = ap length none in absurd (omega arith),
+    ))

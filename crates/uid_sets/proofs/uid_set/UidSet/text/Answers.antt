@@ -11,4 +11,4 @@ returns-clause-spells c = rw (← c.self.view_is) (
     let ranges = c.self.inside.ranges.items in
     let written = rw c.deref.ensures.value at c.text_of.ensures in
     IfOk-weaker c.text_of.result (λ text. text.items ≡ set_text ranges) (λ text. ¬ (ranges ≡ []) → Spells text.items ranges)
-        (λ text is some. rw is (set_spells ranges c.self.invariant (some_of ranges some))) written)
+    (λ text is some. rw is (set_spells ranges c.self.invariant (some_of ranges some))) written)
