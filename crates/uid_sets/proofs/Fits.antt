@@ -1,9 +1,10 @@
 -- What is read is a range of nonzero numbers of 32 bits.
-use Rattle.std.proofs.Common.{◌≡◌, ◌⊎◌, inl, inr, ℕ, nat_lt, ◌+◌, ◌<◌, ◌^◌, min, max, Bool, true, false, cond, List, [], ◌∷◌, length, Result, Ok, Err, refl, ap, arith}
+use Rattle.std.proofs.Common.{◌≡◌, ◌⊎◌, inl, inr, ℕ, nat_lt, ◌+◌, ◌<◌, ◌^◌, min, max, Bool, true, false, cond, List, [], ◌∷◌, length, Result, Ok, Err, refl, ap, sym, ◌∙◌, arith}
 use Rattle.std.specs.List.{AllByRecursion, before_first, after_first, position_or_len}
 use Rattle.std.proofs.lemmas.Bool.Decides.{nat_tests}
 use Rattle.uid_sets.specs.UidSet.{IsRange}
-use Rattle.uid_sets.specs.SequenceSet.{◌>>=◌, number, item, items, items_of, is_colon, Refuses}
+use Rattle.uid_sets.specs.SequenceSet.{◌>>=◌, number, item, items, items_of, is_colon, Spells, Refuses}
+use Rattle.uid_sets.proofs.Ranges.{one_form}
 use Rattle.uid_sets.specs.declared.uid.UidRange.{UidRange}
 use Rattle.uid_sets.specs.declared.set_fault.SetFault.{SetFault}
 use Rattle.uid_sets.specs.declared.set_fault.SetFault.TheVariants.{Memory, Empty, Zero, BadNumber, BadByte}
@@ -120,3 +121,12 @@ empty_refused text Empty some refused is =
 empty_refused text (Zero at) some refused is = cc
 empty_refused text (BadNumber at) some refused is = cc
 empty_refused text (BadByte at) some refused is = cc
+
+-- one text spells one set
+pub same_reading : (text : List ℕ) (left right : List UidRange) → Spells text left → Spells text right → left ≡ right
+same_reading text left right first second =
+    let written = Ok_injective (sym first.read ∙ second.read) in
+    one_form 0 left right first.canonical second.canonical (λ uid.
+    let l = first.members uid in
+    let r = rw (← written) at (second.members uid) in
+    (λ member. r.1 (l.0 member), λ member. l.1 (r.0 member)))

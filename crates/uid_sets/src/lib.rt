@@ -14,4 +14,4 @@ mod uid_set;
 
 pub use set_fault::SetFault;
 pub use uid::{Uid, UidRange};
-pub use uid_set::{UidSet, one_form};
+pub use uid_set::{UidSet, one_form, one_reading};

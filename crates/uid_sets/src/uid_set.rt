@@ -2,9 +2,10 @@
 
 ghost use Rattle.std.specs.Prelude.{◌≡◌, ◌≤◌, ◌↔◌, ◌⊎◌, ℕ, List, [], IsTrue, OnOk, OnErr, IfOk, IfErr, IfSome, IfNone, IsErrOf};
 ghost use Rattle.uid_sets.specs.UidSet.{Member, IsCanonical, IsOnly};
-ghost use Rattle.uid_sets.specs.SequenceSet.{Spells, Refuses};
+ghost use Rattle.uid_sets.specs.SequenceSet.{Spells, Refuses, items_of};
 ghost use Rattle.uid_sets.specs.Spelling.{set_text};
 ghost use Rattle.uid_sets.specs.declared.uid.UidRange.{UidRange};
+ghost use Rattle.uid_sets.specs.declared.set_fault.SetFault.{SetFault};
 
 use super::join::join;
 use super::merge::{difference_of, rest_of, union_of};
@@ -163,4 +164,11 @@ impl UidSet {
 pub fn one_form()
     ensures { (left right : List UidRange) → IsCanonical left → IsCanonical right
         → ((uid : ℕ) → Member left uid ↔ Member right uid) → left ≡ right }
+{}
+
+/// A text spells one set at most, so what is read is the set that the text spells, and no text has a fault beside it.
+pub fn one_reading()
+    ensures same { (text : List ℕ) (left right : List UidRange) → Spells text left → Spells text right → left ≡ right }
+    ensures refused { (text : List ℕ) (ranges : List UidRange) (fault : SetFault) → Spells text ranges
+        → ¬ (items_of text ≡ Err fault) }
 {}
