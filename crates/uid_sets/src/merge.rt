@@ -1,6 +1,6 @@
 //! The union and the difference of two sets, each as one walk over both lists (RFC 9051, section 9, sequence-set).
 
-ghost use Rattle.std.specs.Prelude.{◌≡◌, ◌+◌, ◌<◌, ◌≤◌, ◌↔◌, ◌⊎◌, ℕ, OnOk, IfOk, length, drop, max};
+ghost use Rattle.std.specs.Prelude.{◌+◌, ◌<◌, ◌≤◌, ◌↔◌, ◌⊎◌, ℕ, OnOk, IfOk, length, drop, max};
 ghost use Rattle.uid_sets.specs.Uid.{IsWithin};
 ghost use Rattle.uid_sets.specs.Rising.{floor_behind};
 ghost use Rattle.uid_sets.specs.UidSet.{Member, IsCanonical, IsRange};

@@ -1,10 +1,9 @@
 //! Reads a sequence-set without `*` (RFC 9051, section 9): numbers and ranges with commas between.
 
-ghost use Rattle.std.specs.Prelude.{◌≡◌, ◌<◌, ◌≤◌, ◌==◌, ◌+◌, ◌^◌, ◌↔◌, ℕ, length, false, All, MatchOption, IsTrue, MatchResult, Ok, Err, IfSome, IfNone, IfOk, IfErr, OnOk, IsPermutation, position};
+ghost use Rattle.std.specs.Prelude.{◌≡◌, ◌<◌, ◌≤◌, ◌==◌, ◌+◌, ◌^◌, length, MatchOption, IsTrue, IfSome, IfNone, IfOk, IfErr, OnOk, IsPermutation, position};
 ghost use Rattle.std.specs.List.Sorted.{IsNonDecreasingBy};
 ghost use Rattle.std.specs.List.{before_first, after_first, position_or_len};
 ghost use Rattle.std.specs.Str.Parse.{AllDigits, digits_value};
-ghost use Rattle.uid_sets.specs.UidSet.{Member, IsCanonical};
 ghost use Rattle.uid_sets.specs.SequenceSet.{number, item, items_of, digit_count, Spells, Refuses};
 
 use super::join::joined;

@@ -1,6 +1,6 @@
 //! Writes a set as the one sequence-set without needless bytes (RFC 9051, section 9).
 
-ghost use Rattle.std.specs.Prelude.{◌≡◌, ◌++◌, ◌^◌, IfOk, OnOk, decimal, string_bytes};
+ghost use Rattle.std.specs.Prelude.{◌≡◌, ◌++◌, IfOk, OnOk, decimal};
 ghost use Rattle.uid_sets.specs.Spelling.{range_text, set_text};
 
 use super::uid::UidRange;
