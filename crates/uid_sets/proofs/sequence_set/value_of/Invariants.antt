@@ -1,0 +1,10 @@
+-- The value of the digits so far.
+use Rattle.std.proofs.Common.{◌≡◌, ◌<◌, ◌^◌, take}
+use Rattle.std.specs.Str.Parse.{digits_value}
+use Rattle.uid_sets.proofs.sequence_set.value_of.Given as goal
+
+abbrev pub invariant-loop-digit : goal.invariant-loop-digit
+invariant-loop-digit l = record {
+  fits : l.value < 2 ^ 32;
+  value : l.value ≡ digits_value 10 (take l.digit-index l.digits);
+}
