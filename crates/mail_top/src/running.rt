@@ -11,7 +11,7 @@ ghost use Rattle.mail_top.specs.Words.{Asks};
 
 use crate::accepting::accept;
 use crate::words::asked;
-use crate::{AcceptFault};
+use crate::AcceptFault;
 use mail_base::{Account, Line, Status};
 use std::alloc::Global;
 use world_traits::{Clocked, Disk, Sink, Source, World, WriteFailed};
@@ -114,7 +114,10 @@ pub fn run<W: World, I: Source, S: Sink>(
     ensures any_moment { W.tells_files → (W.clock world.old).now.left ≡ clean (W.seen world.old).left →
         Since (AllBegin (W.seen world.old).left) LeftOnly (W.clock world.old) (W.clock world.new) }
 
+    // No more of the outside is touched: neither the link nor the input.
     ensures link { W.link world.new ≡ W.link world.old }
+    ensures unread { _input.new ≡ _input.old }
+
     ensures count { W.disk_faults world.old ≤ W.disk_faults world.new }
     ensures sink_count { S.sink_faults out.old ≤ S.sink_faults out.new }
 {
