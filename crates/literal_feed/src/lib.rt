@@ -8,6 +8,8 @@ mod part;
 mod pending;
 mod progress;
 #[cfg(test)]
+mod slow;
+#[cfg(test)]
 mod tests;
 
 pub use feed::Feed;
