@@ -4,6 +4,7 @@
 mod account;
 mod box_name;
 mod bytes;
+mod frame;
 mod line;
 mod list;
 mod map;
@@ -19,6 +20,7 @@ mod words;
 pub use account::{Account, AccountFault};
 pub use box_name::{BoxName, MAX_NAME, NameFault};
 pub use bytes::Bytes;
+pub use frame::{FeedFault, Frame};
 pub use line::Line;
 pub use list::List;
 pub use map::Map;

@@ -1,0 +1,11 @@
+//! The tokens of a line (RFC 9051, section 9), each with the place of its text.
+#![tactic(auto)]
+
+#[cfg(test)]
+mod tests;
+mod token;
+mod tokens;
+mod word;
+
+pub use token::{Token, TokenFault, TokenKind};
+pub use tokens::Tokens;

@@ -1,0 +1,9 @@
+pub mod Ends
+pub mod Headers
+pub mod Lf
+pub mod Lines
+pub mod Literals
+pub mod Parts
+pub mod Searches
+pub mod Streams
+pub mod Unique

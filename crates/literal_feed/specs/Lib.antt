@@ -1,0 +1,5 @@
+pub mod Headers
+pub mod Lines
+pub mod Parts
+pub mod Stream
+pub mod Streams

@@ -1,0 +1,75 @@
+//! The header of a literal at the end of a part of a line: `{`, digits and `}` (RFC 9051, section 4.3).
+
+ghost use Rattle.std.specs.Prelude.{◌≡◌, ℕ, ◌+◌, ◌*◌, ◌-◌, ◌<◌, ◌≤◌, ◌++◌, List, length, take, drop, min, IfSome, IfNone, slice_index};
+ghost use Rattle.std.specs.Char.{IsAsciiDigit};
+ghost use Rattle.std.specs.Str.Parse.{IsNumeral, AllDigits, digits_value};
+ghost use Rattle.mail_base.specs.Frames.{header};
+ghost use Rattle.literal_feed.specs.Headers.{EndsIn};
+
+/// The largest number of octets that is told.
+pub(crate) const MOST: u64 = 9_223_372_036_854_775_807;
+
+/// Where the `{` stands in the part, and how many octets are announced, or `MOST` for more.
+#[derive(Clone, Copy)]
+pub(crate) struct Header {
+    pub(crate) at: usize,
+    pub(crate) octets: u64,
+}
+
+// The number with one digit more, or `MOST` where it is more.
+fn with_digit(number: u64, digit: u64) -> u64
+    requires number { number ≤ 9223372036854775807 }
+    requires digit { digit < 10 }
+    ensures { result ≡ min (number * 10 + digit) 9223372036854775807 }
+{
+    if number > (MOST - digit) / 10 {
+        MOST
+    } else {
+        number * 10 + digit
+    }
+}
+
+// The number that the digits write, or `MOST` for more.
+fn number_of(digits: &[u8]) -> u64
+    requires { AllDigits 10 digits.now }
+    ensures { result ≡ min (digits_value 10 digits.now) 9223372036854775807 }
+{
+    let mut number = 0;
+    for at in 0..digits.len() {
+        let byte = digits[at];
+        number = with_digit(number, u64::from(byte - b'0'));
+    }
+    number
+}
+
+// Where the digits begin that stand at the end of the text.
+fn digits_from(text: &[u8]) -> usize
+    ensures within { result ≤ length text.now }
+    ensures digits { AllDigits 10 (drop result text.now) }
+    ensures other { 0 < result → IsAsciiDigit (slice_index text.now (result - 1)) → ⊥ }
+{
+    let mut from = text.len();
+    while from > 0 && text[from - 1].is_ascii_digit() {
+        from -= 1;
+    }
+    from
+}
+
+/// The header at the end of a part.
+pub(crate) fn header_of(part: &[u8]) -> Option<Header>
+    ensures found { IfSome result (λ header. (front : List ℕ) × (digits : List ℕ) × EndsIn part.now front digits header) }
+    ensures none { IfNone result ((front digits : List ℕ) → IsNumeral 10 digits → part.now ≡ front ++ header digits → ⊥) }
+{
+    let (close, text) = part.split_last()?;
+    if *close != b'}' {
+        return None;
+    }
+    let from = digits_from(text);
+    if from == 0 || from == text.len() || text[from - 1] != b'{' {
+        return None;
+    }
+    Some(Header {
+        at: from - 1,
+        octets: number_of(&text[from..]),
+    })
+}
