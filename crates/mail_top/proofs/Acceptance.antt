@@ -5,7 +5,7 @@ use Rattle.world_traits.specs.Files.{Stored, MayHold, Files, clean}
 use Rattle.world_traits.specs.Moments.{Moment, Clock, Since}
 use Rattle.world_traits.proofs.Images.{image_clean}
 use Rattle.world_traits.proofs.Passing.{since_then, since_weaker}
-use Rattle.journal_core.specs.Moving.{AllBegin, LeftOnly, EntryOrSettled, Opens, IsAtRest}
+use Rattle.action_list.specs.Moving.{AllBegin, LeftOnly, EntryOrSettled, Opens, IsAtRest}
 use Rattle.mail_top.specs.Accepted.{AllAre}
 
 -- a left file on the disk is its one image

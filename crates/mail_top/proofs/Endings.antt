@@ -5,7 +5,7 @@ use Rattle.mail_base.specs.declared.status.Status.{Status}
 use Rattle.mail_base.specs.declared.status.Status.TheVariants as status
 use Rattle.world_traits.specs.Files.{Files}
 use Rattle.world_traits.specs.Moments.{Moment}
-use Rattle.journal_core.specs.Records.{record_of}
+use Rattle.action_list.specs.Records.{record_of}
 use Rattle.mail_top.specs.Accepted.{AllAre, StaysOrBegins, IsNextNumber, IsOverfull}
 use Rattle.mail_top.specs.Ending.{Ends, HasRoom, status_of, line_of}
 use Rattle.mail_top.specs.FlagAction.{body_of, BrokenAt, HoldsCount}

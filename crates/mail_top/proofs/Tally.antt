@@ -3,8 +3,8 @@ use Rattle.std.proofs.Common.{◌≡◌, ℕ, zero, suc, ◌+◌, ◌-◌, ◌<�
 use Rattle.std.specs.List.{AllByRecursion}
 use Rattle.std.proofs.lemmas.List.{append-nil, take_all, take_at}
 use Rattle.std.specs.Int.{w32, to_be_bytes}
-use Rattle.journal_core.specs.Records.{record_of, records}
-use Rattle.journal_core.proofs.Unique.{one_body, one_rest}
+use Rattle.action_list.specs.Records.{record_of, records}
+use Rattle.action_list.proofs.Unique.{one_body, one_rest}
 use Rattle.mail_base.specs.BoxName.{IsBoxName}
 use Rattle.mail_top.specs.FlagAction.{body_of, key_of, counted, sign_of, IsLawful, Lists, HoldsCount, BeginsWithAction, BrokenAt}
 use Rattle.mail_top.specs.declared.flag_action.FlagAction.{FlagAction}

@@ -1,7 +1,7 @@
 -- What an accepted action leaves in the journal, and what a refused one.
 use Rattle.std.specs.Prelude.{◌≡◌, ◌⊎◌, ℕ, ◌+◌, ◌≤◌, ◌<◌, List, length}
 use Rattle.world_traits.specs.Moments.{Moment, Images}
-use Rattle.journal_core.specs.Moving.{AllBegin}
+use Rattle.action_list.specs.Moving.{AllBegin}
 use Rattle.mail_top.specs.FlagAction.{HoldsCount}
 
 -- each image's left file is these bytes

@@ -1,6 +1,6 @@
 -- Why an action isn't accepted where its journal can't be read.
-use Rattle.journal_core.specs.declared.opening.OpenFault.{OpenFault}
-use Rattle.journal_core.specs.declared.opening.OpenFault.TheVariants as opening
+use Rattle.action_list.specs.declared.opening.OpenFault.{OpenFault}
+use Rattle.action_list.specs.declared.opening.OpenFault.TheVariants as opening
 use Rattle.mail_top.specs.declared.accepting.AcceptFault.{AcceptFault}
 use Rattle.mail_top.specs.declared.accepting.AcceptFault.TheVariants as accepting
 

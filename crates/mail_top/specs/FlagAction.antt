@@ -3,7 +3,7 @@ use Rattle.std.specs.Prelude.{◌≡◌, ℕ, ◌<◌, ◌^◌, Bool, true, fals
 use Rattle.std.specs.List.{AllByRecursion}
 use Rattle.std.specs.Int.{w32, to_be_bytes}
 use Rattle.mail_base.specs.BoxName.{IsBoxName}
-use Rattle.journal_core.specs.Records.{records, record_of}
+use Rattle.action_list.specs.Records.{records, record_of}
 use Rattle.mail_top.specs.declared.flag_action.FlagAction.{FlagAction}
 use Rattle.mail_top.specs.declared.flag_action.SystemFlag.{SystemFlag}
 use Rattle.mail_top.specs.declared.flag_action.SystemFlag.TheVariants as flags

@@ -4,13 +4,13 @@ ghost use Rattle.std.specs.Prelude.{◌≡◌, ◌<◌, ◌≤◌, ◌++◌, ◌
 ghost use Rattle.world_traits.specs.Files.{clean};
 ghost use Rattle.world_traits.specs.Calls.{Rose};
 ghost use Rattle.world_traits.specs.Moments.{Since};
-ghost use Rattle.journal_core.specs.Moving.{AllBegin, LeftOnly};
-ghost use Rattle.journal_core.specs.Records.{record_of};
+ghost use Rattle.action_list.specs.Moving.{AllBegin, LeftOnly};
+ghost use Rattle.action_list.specs.Records.{record_of};
 ghost use Rattle.mail_top.specs.FlagAction.{body_of, BrokenAt, HoldsCount};
 ghost use Rattle.mail_top.specs.Accepted.{AllAre, StaysOrBegins, IsNextNumber, IsOverfull};
 
 use crate::{FlagAction, count_actions};
-use journal_core::{OpenFault, append, open};
+use action_list::{OpenFault, append, open};
 use std::alloc::Global;
 use thiserror::Error;
 use world_traits::{Clocked, Disk, DiskFailed};

@@ -1,11 +1,11 @@
 //! How many actions a journal holds.
 
 ghost use Rattle.std.specs.Prelude.{◌≡◌, ◌≤◌, ◌++◌, length, IsNone, IfSome, IfOk, IfErr};
-ghost use Rattle.journal_core.specs.Records.{record_of};
+ghost use Rattle.action_list.specs.Records.{record_of};
 ghost use Rattle.mail_top.specs.FlagAction.{body_of, IsLawful, BeginsWithAction, HoldsCount, BrokenAt};
 
 use crate::FlagAction;
-use journal_core::first_body;
+use action_list::first_body;
 
 /// Counts the actions of a journal's bytes.
 ///

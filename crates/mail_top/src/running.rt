@@ -4,7 +4,7 @@ ghost use Rattle.std.specs.Prelude.{◌≡◌, ◌≢◌, ◌⊎◌, ◌≤◌, 
 ghost use Rattle.world_traits.specs.Files.{clean};
 ghost use Rattle.world_traits.specs.Calls.{Rose};
 ghost use Rattle.world_traits.specs.Moments.{Since};
-ghost use Rattle.journal_core.specs.Moving.{AllBegin, LeftOnly};
+ghost use Rattle.action_list.specs.Moving.{AllBegin, LeftOnly};
 ghost use Rattle.mail_top.specs.Ending.{Ends, Comes, Prints, HasRoom, status_of, line_of};
 ghost use Rattle.mail_top.specs.FlagAction.{HoldsCount};
 ghost use Rattle.mail_top.specs.Words.{Asks};

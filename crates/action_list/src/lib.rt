@@ -1,4 +1,4 @@
-//! The journal: a file of records that only grows, read whole and written one record at a time.
+//! The list of actions: a file of records that only grows, read whole and written one record at a time.
 #![tactic(auto)]
 
 mod opening;

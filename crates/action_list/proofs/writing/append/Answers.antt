@@ -1,6 +1,6 @@
 use Rattle.std.proofs.lemmas.Result.{err_from_is_err_and}
-use Rattle.journal_core.proofs.Steps.{appends_unwritten, appends_written}
-use Rattle.journal_core.proofs.writing.append.Goals as goal
+use Rattle.action_list.proofs.Steps.{appends_unwritten, appends_written}
+use Rattle.action_list.proofs.writing.append.Goals as goal
 
 pub returns-in_err-write_at-clause-told : goal.returns-in_err-write_at-clause-told
 returns-in_err-write_at-clause-told g c tells file rest end =

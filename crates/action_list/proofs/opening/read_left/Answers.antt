@@ -1,7 +1,7 @@
 use Rattle.std.proofs.Common.{◌∙◌, ap}
 use Rattle.world_traits.specs.Files.{Files}
-use Rattle.journal_core.proofs.Steps.{stands_look, stands_then, whole_read}
-use Rattle.journal_core.proofs.opening.read_left.Goals as goal
+use Rattle.action_list.proofs.Steps.{stands_look, stands_then, whole_read}
+use Rattle.action_list.proofs.opening.read_left.Goals as goal
 
 pub returns-in_err-size-clause-told : goal.returns-in_err-size-clause-told
 returns-in_err-size-clause-told g c tells = stands_look _ _ _ _ (c.length.ensures.told tells)

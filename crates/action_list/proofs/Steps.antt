@@ -9,7 +9,7 @@ use Rattle.world_traits.proofs.Images.{Behind, image_front}
 use Rattle.world_traits.proofs.Passing.{since_start, since_then, since_weaker, stays_now}
 use Rattle.world_traits.proofs.Calls.{since_write, since_sync, since_look}
 use Rattle.world_traits.proofs.Keeping.{since_now}
-use Rattle.journal_core.specs.Moving.{BeginsWith, LeftOnly, AllBegin, EntryOrSettled, Opens, Stands, IsAtRest, Appends}
+use Rattle.action_list.specs.Moving.{BeginsWith, LeftOnly, AllBegin, EntryOrSettled, Opens, Stands, IsAtRest, Appends}
 
 left_self : (m : Moment) → LeftOnly m m
 left_self m = record { right = refl; outside = refl }

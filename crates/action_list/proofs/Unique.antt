@@ -3,7 +3,7 @@ use Rattle.std.proofs.Common.{◌≡◌, ℕ, ◌<◌, ◌^◌, List, ◌++◌, 
 use Rattle.std.specs.Int.{w32, to_be_bytes, from_be_bytes}
 use Rattle.std.proofs.lemmas.Nat.{from_be_bytes-to_be_bytes_4}
 use Rattle.std.proofs.lemmas.List.{take_at, drop_at}
-use Rattle.journal_core.specs.Records.{record_of}
+use Rattle.action_list.specs.Records.{record_of}
 
 -- two fronts of one list that are as long as one another
 module _ (xs ys us vs : List ℕ) (same : xs ++ us ≡ ys ++ vs) (long : length xs ≡ length ys) where

@@ -1,7 +1,7 @@
 use Rattle.std.proofs.Common.{◌∙◌, ap, Err}
 use Rattle.std.proofs.lemmas.Result.{err_from_is_err_and}
-use Rattle.journal_core.proofs.Steps.{opens_failed, opens_done}
-use Rattle.journal_core.proofs.opening.open.Goals as goal
+use Rattle.action_list.proofs.Steps.{opens_failed, opens_done}
+use Rattle.action_list.proofs.opening.open.Goals as goal
 
 pub returns-in_err-sync-clause-told : goal.returns-in_err-sync-clause-told
 returns-in_err-sync-clause-told g c tells =

@@ -1,7 +1,7 @@
 //! A record in a file: its length in four bytes, high byte first, and a body of that length.
 
 ghost use Rattle.std.specs.Prelude.{◌≡◌, ◌+◌, ◌<◌, ◌^◌, ◌++◌, ℕ, List, IsNone, IfSome, drop, length};
-ghost use Rattle.journal_core.specs.Records.{record_of};
+ghost use Rattle.action_list.specs.Records.{record_of};
 
 /// The body of the record that the bytes begin with. `None` exactly where no whole record stands there.
 pub fn first_body(bytes: &[u8]) -> Option<&[u8]>

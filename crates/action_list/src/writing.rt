@@ -3,7 +3,7 @@
 ghost use Rattle.std.specs.Prelude.{◌≡◌, ◌≤◌, ◌+◌, ◌^◌, ℕ, List, length, OnErr};
 ghost use Rattle.world_traits.specs.Files.{clean};
 ghost use Rattle.world_traits.specs.Calls.{Rose};
-ghost use Rattle.journal_core.specs.Moving.{IsAtRest, Appends};
+ghost use Rattle.action_list.specs.Moving.{IsAtRest, Appends};
 
 use world_traits::{Clocked, Disk, DiskFailed, Side};
 

@@ -2,7 +2,7 @@
 
 ghost use Rattle.std.specs.Prelude.{◌≡◌, ◌≤◌, IfOk, IsErrOf};
 ghost use Rattle.world_traits.specs.Calls.{Rose};
-ghost use Rattle.journal_core.specs.Moving.{Opens, Stands};
+ghost use Rattle.action_list.specs.Moving.{Opens, Stands};
 
 use std::alloc::{AllocError, Global};
 use thiserror::Error;
@@ -21,7 +21,7 @@ pub enum OpenFault {
 
 impl From<DiskFailed> for OpenFault {
     ghost use Rattle.std.specs.Prelude.{◌≡◌};
-    ghost use Rattle.journal_core.specs.declared.opening.OpenFault.TheVariants as faults;
+    ghost use Rattle.action_list.specs.declared.opening.OpenFault.TheVariants as faults;
 
     ghost from_gives = { λ _ fault. fault ≡ faults.Disk };
 
@@ -32,7 +32,7 @@ impl From<DiskFailed> for OpenFault {
 
 impl From<AllocError> for OpenFault {
     ghost use Rattle.std.specs.Prelude.{◌≡◌};
-    ghost use Rattle.journal_core.specs.declared.opening.OpenFault.TheVariants as faults;
+    ghost use Rattle.action_list.specs.declared.opening.OpenFault.TheVariants as faults;
 
     ghost from_gives = { λ _ fault. fault ≡ faults.Memory };
 
