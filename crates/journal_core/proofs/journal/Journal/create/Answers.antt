@@ -1,0 +1,45 @@
+use Rattle.std.proofs.Common.{refl, ap, sym, ◌∙◌, arith, is_some, true, false}
+use Rattle.journal_core.specs.Standing.{Standing}
+use Rattle.journal_core.specs.Records.{AreBodies, records}
+use Rattle.journal_core.specs.Creating.{created, end_of}
+use Rattle.journal_core.proofs.Creation.{narrows_creates, sets_creates, still_created, are_bodies, created_at}
+use Rattle.journal_core.proofs.journal.Journal.create.Goals as goal
+use Rattle.world_traits.specs.declared.disk.Side.TheVariants.{Left}
+use Rattle.journal_core.specs.declared.version.Version.TheVariants.{First}
+
+pub returns-in-Err-clause-told : goal.returns-in-Err-clause-told
+returns-in-Err-clause-told g c tells = narrows_creates _ _ _ (c.read_sides.ensures.told tells)
+
+pub returns-in-Some-clause-told : goal.returns-in-Some-clause-told
+returns-in-Some-clause-told g c tells = narrows_creates _ _ _ (c.read_sides.ensures.told tells)
+
+pub returns-then-wanted-gt-MAX_SIDE-clause-told : goal.returns-then-wanted-gt-MAX_SIDE-clause-told
+returns-then-wanted-gt-MAX_SIDE-clause-told g c tells = narrows_creates _ _ _ (c.read_sides.ensures.told tells)
+
+pub side_bytes-requires : goal.side_bytes-requires
+side_bytes-requires g c = record { sizes = are_bodies _ c.requires.sizes (omega (arith, c.place_behind-wanted.ensures, c.if-wanted-gt-MAX_SIDE.false)) }
+
+pub returns-in_default-side_bytes-clause-told : goal.returns-in_default-side_bytes-clause-told
+returns-in_default-side_bytes-clause-told g c tells = narrows_creates _ _ _ (c.read_sides.ensures.told tells)
+
+pub returns-in-Err-set_up-clause-told : goal.returns-in-Err-set_up-clause-told
+returns-in-Err-set_up-clause-told g c tells =
+    let sizes = are_bodies _ c.requires.sizes (omega (arith, c.place_behind-wanted.ensures, c.if-wanted-gt-MAX_SIDE.false)) in
+    let unbegun = c.why_taken.ensures.none (g.D.Disk.seen c.args.disk.now) (c.in-Ok.ensures.left tells) (c.in-Ok.ensures.right tells) (ap is_some c.in_default.is) in
+    sets_creates c.args.bodies.now sizes _ _ _ _ _ _ (c.read_sides.ensures.told tells) (c.in-Ok.ensures.rests tells) (c.in-Ok.ensures.seen tells) unbegun _
+    (c.set_up.ensures.told tells First 1 c.args.bodies.now (c.deref.ensures.value ∙ c.in-Ok-side_bytes.ensures))
+
+pub returns-clause-still : goal.returns-clause-still
+returns-clause-still g c tells =
+    let sizes = are_bodies _ c.requires.sizes (omega (arith, c.place_behind-wanted.ensures, c.if-wanted-gt-MAX_SIDE.false)) in
+    let unbegun = c.why_taken.ensures.none (g.D.Disk.seen c.args.disk.now) (c.in-Ok.ensures.left tells) (c.in-Ok.ensures.right tells) (ap is_some c.in_default.is) in
+    still_created c.args.bodies.now sizes _ _ _ _ _ (c.in-Ok.ensures.rests tells) (c.in-Ok.ensures.seen tells) unbegun _ _ c.in-Ok-set_up.is
+    (c.set_up.ensures.told tells First 1 c.args.bodies.now (c.deref.ensures.value ∙ c.in-Ok-side_bytes.ensures)) _
+    (ap created_at (omega (arith, c.place_behind-wanted.ensures, c.if-wanted-gt-MAX_SIDE.false)))
+
+pub returns-clause-told : goal.returns-clause-told
+returns-clause-told g c tells =
+    let sizes = are_bodies _ c.requires.sizes (omega (arith, c.place_behind-wanted.ensures, c.if-wanted-gt-MAX_SIDE.false)) in
+    let unbegun = c.why_taken.ensures.none (g.D.Disk.seen c.args.disk.now) (c.in-Ok.ensures.left tells) (c.in-Ok.ensures.right tells) (ap is_some c.in_default.is) in
+    sets_creates c.args.bodies.now sizes _ _ _ _ _ _ (c.read_sides.ensures.told tells) (c.in-Ok.ensures.rests tells) (c.in-Ok.ensures.seen tells) unbegun _
+    (c.set_up.ensures.told tells First 1 c.args.bodies.now (c.deref.ensures.value ∙ c.in-Ok-side_bytes.ensures))

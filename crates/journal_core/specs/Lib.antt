@@ -1,0 +1,11 @@
+pub mod Records
+pub mod Sides
+pub mod Holds
+pub mod Gates
+pub mod Standing
+pub mod Appending
+pub mod Reading
+pub mod Heads
+pub mod Fronts
+pub mod Creating
+pub mod Taken

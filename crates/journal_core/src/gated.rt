@@ -1,0 +1,32 @@
+//! Bytes are put behind a closed gate, and count once it is open.
+
+ghost use Rattle.std.specs.Prelude.{◌≡◌, ◌≤◌, ◌+◌, ◌^◌, length, OnErr};
+ghost use Rattle.world_traits.specs.Calls.{Rose};
+ghost use Rattle.journal_core.specs.Gates.{OpensGate};
+
+use world_traits::{Clocked, Disk, DiskFailed, Side};
+
+/// The byte of an open gate. Every other byte is a closed one.
+pub const OPEN: u8 = 1;
+
+/// Writes bytes behind the closed gate at the place, and then opens the gate.
+///
+/// The bytes are durable before the gate opens, so a stop leaves them whole or not counted.
+pub fn write_gated<D: Disk>(
+    disk: &mut D,
+    side: Side,
+    place: u64,
+    fresh: &[u8],
+) -> Result<(), DiskFailed>
+    requires room { place + 1 + length fresh.now ≤ 2 ^ 32 }
+    ensures told { D.tells_files → OpensGate side place fresh.now (D.clock disk.old)
+        (D.clock disk.new) (D.seen disk.old) (D.seen disk.new) result }
+    ensures link { D.link disk.new ≡ D.link disk.old }
+    ensures count { D.disk_faults disk.old ≤ D.disk_faults disk.new }
+    ensures cause { OnErr result (Rose (D.disk_faults disk.old) (D.disk_faults disk.new)) }
+{
+    disk.write_at(side, place + 1, fresh)?;
+    disk.sync(side)?;
+    disk.write_at(side, place, &[OPEN])?;
+    disk.sync(side)
+}

@@ -1,0 +1,31 @@
+//! A journal that is open.
+
+use crate::Version;
+use std::marker::Model;
+use world_traits::Side;
+
+/// A journal that is open: which side it is, and how far it was read. It keeps no body.
+#[derive(Debug, Drop)]
+pub struct Journal {
+    pub(crate) side: Side,
+    pub(crate) version: Version,
+    pub(crate) generation: u32,
+    pub(crate) place: u64,
+    pub(crate) all_read: bool,
+    pub(crate) failed: bool,
+}
+
+impl Model for Journal {
+    ghost use Rattle.journal_core.specs.Standing.{Standing};
+
+    ghost Value = { Standing };
+
+    ghost view = { λ j. record {
+      side = j.side;
+      version = j.version;
+      generation = j.generation;
+      place = j.place;
+      all_read = j.all_read;
+      failed = j.failed;
+    } };
+}

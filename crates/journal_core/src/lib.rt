@@ -1,0 +1,22 @@
+//! The journal: two files of gated records, of which a stop leaves the records whole.
+#![tactic(auto)]
+
+mod appending;
+mod creating;
+mod fault;
+mod gated;
+mod heads;
+mod journal;
+mod opening;
+mod reading;
+mod setting_up;
+mod settling;
+#[cfg(test)]
+mod tests;
+mod version;
+
+pub use appending::AppendFault;
+pub use creating::{CreateFault, MAX_SIDE};
+pub use fault::{OpenFault, Place9};
+pub use journal::Journal;
+pub use version::Version;
