@@ -1,5 +1,7 @@
 //! A journal that is open.
 
+ghost use Rattle.std.specs.Prelude.{◌≡◌};
+
 use crate::Version;
 use std::marker::Model;
 use world_traits::Side;
@@ -28,4 +30,13 @@ impl Model for Journal {
       all_read = j.all_read;
       failed = j.failed;
     } };
+}
+
+impl Journal {
+    /// The place of the next gate, in bytes from 0.
+    pub fn place(&self) -> u64
+        ensures { result ≡ self.now.place }
+    {
+        self.place
+    }
 }

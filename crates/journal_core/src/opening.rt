@@ -1,6 +1,6 @@
 //! A journal is opened.
 
-ghost use Rattle.std.specs.Prelude.{◌≡◌, ◌≤◌, [], IfOk, IsErrOf, MatchResult, OnErr, OnOk};
+ghost use Rattle.std.specs.Prelude.{◌≡◌, ◌≤◌, [], false, IfOk, IsErrOf, MatchResult, OnErr, OnOk};
 ghost use Rattle.world_traits.specs.Calls.{Rose};
 ghost use Rattle.world_traits.specs.Files.{Files};
 ghost use Rattle.world_traits.specs.Moments.{Narrows, Rests};
@@ -29,6 +29,11 @@ impl Journal {
         ensures no_journal { D.tells_files → (why : Place9) →
             IsErrOf result (faults.NotAJournal why) → IsNoJournal why (D.seen disk.old) }
         ensures no_memory { IsErrOf result faults.Memory → ⊥ }
+
+        // Whatever the disk tells, the journal is sound; and unless the disk failed the files read as before.
+        ensures sound { IfOk result (λ journal. journal.failed ≡ false) }
+        ensures seen { D.tells_files → (IsErrOf result faults.Disk → ⊥) →
+            D.seen disk.new ≡ D.seen disk.old }
         ensures told { D.tells_files → Narrows (D.clock disk.old) (D.clock disk.new) }
         ensures link { D.link disk.new ≡ D.link disk.old }
         ensures count { D.disk_faults disk.old ≤ D.disk_faults disk.new }
@@ -65,8 +70,9 @@ pub fn read_sides<D: Disk>(disk: &mut D) -> Result<(Head, Head), DiskFailed>
 
 // Which side is the journal, as the two heads tell it.
 fn present_side(left: Head, right: Head) -> Result<Journal, Place9>
-    ensures { (files : Files) → HeadIs left files.left → HeadIs right files.right →
+    ensures value { (files : Files) → HeadIs left files.left → HeadIs right files.right →
         MatchResult result (λ journal. IsAtFirst journal files) (λ why. IsNoJournal why files) }
+    ensures sound { IfOk result (λ journal. journal.failed ≡ false) }
 {
     match (left, right) {
         (Head::Wrong, _) => Err(Place9::Header),
@@ -101,9 +107,10 @@ fn present_side(left: Head, right: Head) -> Result<Journal, Place9>
 
 // Which of two sides that are set up is the journal: the one with the higher generation.
 fn newer_side(of_left: Version, left: u32, of_right: Version, right: u32) -> Result<Journal, Place9>
-    ensures { (files : Files) → IsSetUp of_left left files.left →
+    ensures value { (files : Files) → IsSetUp of_left left files.left →
         IsSetUp of_right right files.right →
         MatchResult result (λ journal. IsAtFirst journal files) (λ why. IsNoJournal why files) }
+    ensures sound { IfOk result (λ journal. journal.failed ≡ false) }
 {
     if left == right {
         return Err(Place9::Generations);

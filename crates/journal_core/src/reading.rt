@@ -1,7 +1,7 @@
 //! The records of an open journal are read one by one.
 
 ghost use Rattle.std.specs.Prelude.{◌≡◌, ◌≤◌, ◌+◌, ◌-◌, ◌^◌, ◌++◌, List, ℕ, min, take, drop, length};
-ghost use Rattle.std.specs.Prelude.{IfOk, IsErrOf, OnErr};
+ghost use Rattle.std.specs.Prelude.{◌<◌, IfNone, IfOk, IsErrOf, IsTrue, OnErr, OnSome};
 ghost use Rattle.world_traits.specs.Calls.{Rose};
 ghost use Rattle.world_traits.specs.Files.{file_of};
 ghost use Rattle.journal_core.specs.Fronts.{FrontIs, FrontFits};
@@ -55,6 +55,11 @@ impl Journal {
             IfOk result (λ next. IsStill self.new (bodies ++ option_to_list next)
             (D.clock disk.new).now (D.seen disk.new)) }
         ensures kept { OnErr result (self.new ≡ self.old) }
+
+        // Whatever the disk tells: a record takes the journal on, and at none all were read.
+        ensures advances { IfOk result (λ next. OnSome next (self.old.place < self.new.place)) }
+        ensures ended { IfOk result (λ next. IfNone next (IsTrue self.new.all_read)) }
+        ensures sound { self.new.failed ≡ self.old.failed }
         ensures told { D.tells_files → OnlyLooks (D.clock disk.old) (D.clock disk.new)
             (D.seen disk.old) (D.seen disk.new) }
         ensures link { D.link disk.new ≡ D.link disk.old }

@@ -84,8 +84,8 @@ fn each_call_of_a_disk_that_fails(rt: HostRuntime) -> Result<(), Fail> {
         let result = Journal::create(alloc, &mut disk, &bodies);
         assert_eq!(rt; result.err(), (call < 12).then_some(CreateFault::Disk));
         let mut later = disk_of(alloc, disk.bytes(Side::Left), disk.bytes(Side::Right))?;
-        let read = read_all(alloc, &mut later);
-        assert_eq!(rt; read, if call < 11 { none } else { Ok((1, 16)) });
+        let read = read_all(alloc, &mut later).map(|(count, _)| count);
+        assert_eq!(rt; read, if call < 11 { none } else { Ok(1) });
     }
     Ok(())
 }
@@ -97,6 +97,28 @@ fn frame(alloc: Global, body: &[u8]) -> Result<Vec<u8>, AllocError> {
     frame.extend_from_slice(body)?;
     frame.push(0)?;
     Ok(frame)
+}
+
+// Opens and reads a journal, and appends a body, where no call fails.
+fn append_one<D: Disk>(alloc: Global, disk: &mut D) -> Option<()> {
+    let mut journal = Journal::open(disk).ok()?;
+    while journal.next(alloc, disk).ok()?.is_some() {}
+    let more = frame(alloc, b"abc").ok()?;
+    journal.append(disk, &more, 1000).ok()
+}
+
+#[test]
+fn each_call_that_fails_on_the_way_to_an_append(rt: HostRuntime) -> Result<(), Fail> {
+    let alloc = rt.alloc();
+    for call in 1..20u64 {
+        let fails = [call].to_vec(alloc)?;
+        let mut disk = FaultyDisk::new(FILE.to_vec(alloc)?, Vec::new(alloc), fails);
+        let done = append_one(alloc, &mut disk).is_some();
+        let mut later = disk_of(alloc, disk.bytes(Side::Left), disk.bytes(Side::Right))?;
+        let (count, _) = read_all(alloc, &mut later)?;
+        assert_eq!(rt; count == 2 || (count == 1 && !done), true);
+    }
+    Ok(())
 }
 
 #[test]
@@ -145,22 +167,22 @@ fn slow_why(left: &[u8], right: &[u8]) -> Option<Place9> {
     }
 }
 
-// Reads a journal whole: how many bodies it has and their octets, or why not.
-fn read_all(alloc: Global, disk: &mut MemDisk) -> Result<(usize, usize), OpenFault> {
+// Reads a journal whole: how many bodies it has, and all of them joined, or why not.
+fn read_all<D: Disk>(alloc: Global, disk: &mut D) -> Result<(usize, Vec<u8>), OpenFault> {
     let mut journal = Journal::open(disk)?;
     let mut count: usize = 0;
-    let mut octets: usize = 0;
+    let mut joined = Vec::new(alloc);
     for _ in 0..100 {
         let Some(body) = journal.next(alloc, disk)? else {
             break;
         };
         count = count.saturating_add(1);
-        octets = octets.saturating_add(body.as_slice().len());
+        joined.extend_from_slice(body.as_slice())?;
     }
-    Ok((count, octets))
+    Ok((count, joined))
 }
 
-fn slow_all(left: &[u8], right: &[u8]) -> Result<(usize, usize), OpenFault> {
+fn slow_all(alloc: Global, left: &[u8], right: &[u8]) -> Result<(usize, Vec<u8>), OpenFault> {
     if let Some(why) = slow_why(left, right) {
         return Err(OpenFault::NotAJournal { why });
     }
@@ -173,7 +195,7 @@ fn slow_all(left: &[u8], right: &[u8]) -> Result<(usize, usize), OpenFault> {
     };
     let mut at: usize = 13;
     let mut count: usize = 0;
-    let mut octets: usize = 0;
+    let mut joined = Vec::new(alloc);
     for _ in 0..100 {
         if file.get(at) != Some(&1) {
             break;
@@ -186,10 +208,11 @@ fn slow_all(left: &[u8], right: &[u8]) -> Result<(usize, usize), OpenFault> {
             });
         }
         count = count.saturating_add(1);
-        octets = octets.saturating_add(size);
+        let body = file.get(at.saturating_add(5)..next).unwrap_or(&[]);
+        joined.extend_from_slice(body)?;
         at = next;
     }
-    Ok((count, octets))
+    Ok((count, joined))
 }
 
 // A journal of two records.
@@ -209,9 +232,9 @@ fn each_cut_is_read_as_a_slow_program_reads_it(rt: HostRuntime) -> Result<(), Fa
     for end in 0..file.len().saturating_add(1) {
         let cut = &file[..end];
         let mut disk = disk_of(alloc, cut, &[])?;
-        assert_eq!(rt; read_all(alloc, &mut disk), slow_all(cut, &[]));
+        assert_eq!(rt; read_all(alloc, &mut disk), slow_all(alloc, cut, &[]));
         let mut disk = disk_of(alloc, &other, cut)?;
-        assert_eq!(rt; read_all(alloc, &mut disk), slow_all(&other, cut));
+        assert_eq!(rt; read_all(alloc, &mut disk), slow_all(alloc, &other, cut));
     }
     Ok(())
 }
@@ -226,9 +249,12 @@ fn each_changed_byte_is_read_as_a_slow_program_reads_it(rt: HostRuntime) -> Resu
             let mut changed = file.clone()?;
             changed[place] = byte;
             let mut disk = disk_of(alloc, &changed, &other)?;
-            assert_eq!(rt; read_all(alloc, &mut disk), slow_all(&changed, &other));
+            assert_eq!(rt;
+                read_all(alloc, &mut disk),
+                slow_all(alloc, &changed, &other)
+            );
             let mut disk = disk_of(alloc, &[], &changed)?;
-            assert_eq!(rt; read_all(alloc, &mut disk), slow_all(&[], &changed));
+            assert_eq!(rt; read_all(alloc, &mut disk), slow_all(alloc, &[], &changed));
         }
     }
     Ok(())

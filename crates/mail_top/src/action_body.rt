@@ -120,7 +120,11 @@ fn part(bytes: &[u8], at: usize, size: usize) -> &[u8]
         return &[];
     }
     let rest = &bytes[at..];
-    if size < rest.len() { &rest[..size] } else { rest }
+    if size < rest.len() {
+        &rest[..size]
+    } else {
+        rest
+    }
 }
 
 // The name that is kept as these bytes.

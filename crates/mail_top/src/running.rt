@@ -9,9 +9,9 @@ ghost use Rattle.mail_top.specs.Ending.{Ends, Comes, Prints, HasRoom, status_of,
 ghost use Rattle.mail_top.specs.FlagAction.{HoldsCount};
 ghost use Rattle.mail_top.specs.Words.{Asks};
 
+use crate::AcceptFault;
 use crate::accepting::accept;
 use crate::words::asked;
-use crate::AcceptFault;
 use mail_base::{Account, Line, Status};
 use std::alloc::Global;
 use world_traits::{Clocked, Disk, Sink, Source, World, WriteFailed};

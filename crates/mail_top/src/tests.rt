@@ -84,7 +84,10 @@ fn other_words_are_refused(rt: HostRuntime) -> Result<(), Fail> {
         let mut disk = disk_of(alloc, &SEEN)?;
         let mut out = MemSink::new(alloc);
         let status = run_on(alloc, command, &mut disk, &mut out)?;
-        assert_eq!(rt; (status, out.bytes()), (Status::Words, b"error words\n".as_slice()));
+        assert_eq!(rt;
+            (status, out.bytes()),
+            (Status::Words, b"error words\n".as_slice())
+        );
         assert_eq!(rt; disk.bytes(Side::Left), SEEN.as_slice());
     }
     Ok(())
@@ -140,7 +143,10 @@ fn each_call_of_a_failing_disk_is_told(rt: HostRuntime) -> Result<(), Fail> {
         let mut disk = FaultyDisk::new(SEEN.to_vec(alloc)?, Vec::new(alloc), fails);
         let mut out = MemSink::new(alloc);
         let status = run_on(alloc, "flag INBOX 42 + \\Seen", &mut disk, &mut out)?;
-        assert_eq!(rt; (status, out.bytes()), (Status::Disk, b"error disk\n".as_slice()));
+        assert_eq!(rt;
+            (status, out.bytes()),
+            (Status::Disk, b"error disk\n".as_slice())
+        );
         assert_eq!(rt; disk.bytes(Side::Left).starts_with(&SEEN), true);
     }
     let mut disk = FaultyDisk::new(SEEN.to_vec(alloc)?, Vec::new(alloc), [6].to_vec(alloc)?);
@@ -181,7 +187,10 @@ fn an_action_is_read_as_it_was_written(rt: HostRuntime) -> Result<(), Fail> {
     let action = words::asked(&words).ok_or(AllocError)?;
     let record = action.record_bytes();
     let again = FlagAction::read(&record[4..]).ok_or(AllocError)?;
-    assert_eq!(rt; (again.uid, again.add, again.flag), (7, false, SystemFlag::Draft));
+    assert_eq!(rt;
+        (again.uid, again.add, again.flag),
+        (7, false, SystemFlag::Draft)
+    );
     assert_eq!(rt; again.name.as_bytes(), b"Archive".as_slice());
     assert_eq!(rt; count_actions(&record), Ok(1));
     let mut disk = disk_of(alloc, &record)?;
