@@ -1,5 +1,7 @@
 //! Journals in memory: the bytes that stand there, each refusal, and each fault.
 
+ghost use Rattle.std.specs.Prelude.{◌≤◌, ◌^◌};
+
 use super::*;
 use mail_base::Bytes;
 use std::alloc::{AllocError, Global};
@@ -13,10 +15,12 @@ const BEGIN: [u8; 16] = *b"B\x02\x05INBOX\x07Archive";
 const FILE: [u8; 35] =
     *b"\x01ODMAILJ1\x00\x00\x00\x01\x01\x00\x00\x00\x10B\x02\x05INBOX\x07Archive\x00";
 
-fn one_body(alloc: Global) -> Result<Vec<Bytes>, AllocError> {
-    let mut bodies = Vec::new(alloc);
-    bodies.push(Bytes::of(BEGIN.to_vec(alloc)?))?;
-    Ok(bodies)
+// Creates a journal with that body.
+fn create_one<D: Disk>(alloc: Global, disk: &mut D) -> Result<Journal, CreateFault> {
+    let Ok(body) = BEGIN.to_vec(alloc) else {
+        return Err(CreateFault::Memory);
+    };
+    Journal::create(alloc, disk, &[Bytes::of(body)])
 }
 
 fn disk_of(alloc: Global, left: &[u8], right: &[u8]) -> Result<MemDisk, AllocError> {
@@ -27,11 +31,10 @@ fn disk_of(alloc: Global, left: &[u8], right: &[u8]) -> Result<MemDisk, AllocErr
 fn a_created_journal_has_these_bytes(rt: HostRuntime) -> Result<(), Fail> {
     let alloc = rt.alloc();
     let mut disk = disk_of(alloc, &[], &[])?;
-    let bodies = one_body(alloc)?;
-    assert_eq!(rt; Journal::create(alloc, &mut disk, &bodies).is_ok(), true);
+    assert_eq!(rt; create_one(alloc, &mut disk).is_ok(), true);
     assert_eq!(rt; disk.bytes(Side::Left), FILE.as_slice());
     assert_eq!(rt; disk.bytes(Side::Right).len(), 0);
-    let again = Journal::create(alloc, &mut disk, &bodies);
+    let again = create_one(alloc, &mut disk);
     assert_eq!(rt; again.err(), Some(CreateFault::Already));
     let mut journal = Journal::open(&mut disk)?;
     let first = journal.next(alloc, &mut disk)?;
@@ -80,8 +83,7 @@ fn each_call_of_a_disk_that_fails(rt: HostRuntime) -> Result<(), Fail> {
         let mut fails = Vec::new(alloc);
         fails.push(call)?;
         let mut disk = FaultyDisk::new(Vec::new(alloc), Vec::new(alloc), fails);
-        let bodies = one_body(alloc)?;
-        let result = Journal::create(alloc, &mut disk, &bodies);
+        let result = create_one(alloc, &mut disk);
         assert_eq!(rt; result.err(), (call < 12).then_some(CreateFault::Disk));
         let mut later = disk_of(alloc, disk.bytes(Side::Left), disk.bytes(Side::Right))?;
         let read = read_all(alloc, &mut later).map(|(count, _)| count);
@@ -90,21 +92,25 @@ fn each_call_of_a_disk_that_fails(rt: HostRuntime) -> Result<(), Fail> {
     Ok(())
 }
 
-// The frame of a body.
-fn frame(alloc: Global, body: &[u8]) -> Result<Vec<u8>, AllocError> {
-    let mut frame = Vec::new(alloc);
-    frame.extend_from_slice(&(body.len() as u32).to_be_bytes())?;
-    frame.extend_from_slice(body)?;
-    frame.push(0)?;
-    Ok(frame)
-}
+// The frame of the body `abc`.
+const ABC: [u8; 8] = *b"\x00\x00\x00\x03abc\x00";
 
-// Opens and reads a journal, and appends a body, where no call fails.
-fn append_one<D: Disk>(alloc: Global, disk: &mut D) -> Option<()> {
-    let mut journal = Journal::open(disk).ok()?;
-    while journal.next(alloc, disk).ok()?.is_some() {}
-    let more = frame(alloc, b"abc").ok()?;
-    journal.append(disk, &more, 1000).ok()
+// Appends the body `abc` to a journal of few records, under this limit.
+fn append_abc<D: Disk>(alloc: Global, disk: &mut D, limit: u64) -> Result<(), AppendFault>
+    requires { limit ≤ 2 ^ 30 }
+{
+    let Ok(mut journal) = Journal::open(disk) else {
+        return Err(AppendFault::Disk);
+    };
+    for _ in 0..100u8 {
+        let Ok(next) = journal.next(alloc, disk) else {
+            return Err(AppendFault::Disk);
+        };
+        if next.is_none() {
+            return journal.append(disk, &ABC, limit);
+        }
+    }
+    Err(AppendFault::Disk)
 }
 
 #[test]
@@ -113,7 +119,7 @@ fn each_call_that_fails_on_the_way_to_an_append(rt: HostRuntime) -> Result<(), F
     for call in 1..20u64 {
         let fails = [call].to_vec(alloc)?;
         let mut disk = FaultyDisk::new(FILE.to_vec(alloc)?, Vec::new(alloc), fails);
-        let done = append_one(alloc, &mut disk).is_some();
+        let done = append_abc(alloc, &mut disk, 1000).is_ok();
         let mut later = disk_of(alloc, disk.bytes(Side::Left), disk.bytes(Side::Right))?;
         let (count, _) = read_all(alloc, &mut later)?;
         assert_eq!(rt; count == 2 || (count == 1 && !done), true);
@@ -125,21 +131,17 @@ fn each_call_that_fails_on_the_way_to_an_append(rt: HostRuntime) -> Result<(), F
 fn an_append_ends_at_its_limit(rt: HostRuntime) -> Result<(), Fail> {
     let alloc = rt.alloc();
     let mut disk = disk_of(alloc, &FILE, &[])?;
-    let mut journal = Journal::open(&mut disk)?;
-    while journal.next(alloc, &mut disk)?.is_some() {}
-    let more = frame(alloc, b"abc")?;
     let full = AppendFault::Full {
         end: 35,
         wanted: 43,
     };
-    assert_eq!(rt; journal.append(&mut disk, &more, 42), Err(full));
+    assert_eq!(rt; append_abc(alloc, &mut disk, 42), Err(full));
     assert_eq!(rt; disk.bytes(Side::Left), FILE.as_slice());
-    assert_eq!(rt; journal.append(&mut disk, &more, 43), Ok(()));
-    assert_eq!(rt; disk.bytes(Side::Left)[..34], FILE[..34]);
-    assert_eq!(rt;
-        disk.bytes(Side::Left)[34..],
-        *b"\x01\x00\x00\x00\x03abc\x00".as_slice()
-    );
+    assert_eq!(rt; append_abc(alloc, &mut disk, 43), Ok(()));
+    let bytes = disk.bytes(Side::Left);
+    assert_eq!(rt; bytes.starts_with(&FILE[..34]), true);
+    assert_eq!(rt; bytes.ends_with(b"\x01\x00\x00\x00\x03abc\x00"), true);
+    assert_eq!(rt; bytes.len(), 43);
     Ok(())
 }
 
@@ -219,7 +221,7 @@ fn slow_all(alloc: Global, left: &[u8], right: &[u8]) -> Result<(usize, Vec<u8>)
 fn two_records(alloc: Global) -> Result<Vec<u8>, AllocError> {
     let mut file = FILE.to_vec(alloc)?;
     file[34] = 1;
-    file.extend_from_slice(&frame(alloc, b"abc")?)?;
+    file.extend_from_slice(&ABC)?;
     Ok(file)
 }
 
