@@ -1,4 +1,5 @@
 pub mod Acceptance
+pub mod Beginning
 pub mod Body
 pub mod Endings
 pub mod Tally

@@ -1,4 +1,5 @@
 pub mod Accepted
+pub mod Begin
 pub mod Ending
 pub mod Faults
 pub mod FlagAction

@@ -3,6 +3,7 @@
 
 mod accepting;
 mod action_body;
+mod begin;
 mod counting;
 mod flag_action;
 mod running;
@@ -11,6 +12,7 @@ mod tests;
 mod words;
 
 pub use accepting::{AcceptFault, MAX_JOURNAL};
+pub use begin::{MAX_NAMES, are_names, begin_body, is_begin};
 pub use counting::count_actions;
 pub use flag_action::{FlagAction, SystemFlag};
 pub use running::run;
