@@ -1,5 +1,5 @@
 -- Faults of a stream are alike or not, so that what is known to be alike is alike (RFC 9051, sections 2.2 and 4.3).
-use Rattle.std.proofs.Common.{◌≡◌, ◌⊎◌, inl, inr, ℕ, ◌<◌, ◌≤◌, refl, ap, arith}
+use Rattle.std.proofs.Common.{◌≡◌, ◌⊎◌, inl, inr, ℕ, refl, ap, arith}
 use Rattle.std.proofs.Math.Logic.{∥∥₁_elim}
 use Rattle.std.proofs.lemmas.Bool.{cases_lt}
 use Rattle.mail_base.specs.declared.frame.FeedFault.{FeedFault}

@@ -1,9 +1,8 @@
 -- A stream has its frames, its rest and its first fault in one way, and keeps them when more bytes follow (RFC 9051, sections 2.2, 4.3 and 9).
-use Rattle.std.proofs.Common.{◌≡◌, ℕ, ◌+◌, ◌-◌, ◌<◌, ◌≤◌, List, [], ◌∷◌, ◌++◌, length, min, refl, sym, ◌∙◌, ap, subst, arith, append_assoc, length-append}
+use Rattle.std.proofs.Common.{◌≡◌, ℕ, ◌+◌, ◌-◌, ◌≤◌, List, [], ◌∷◌, ◌++◌, length, min, refl, sym, ◌∙◌, ap, subst, arith, append_assoc, length-append}
 use Rattle.std.specs.List.{AllByRecursion}
 use Rattle.std.specs.Str.Parse.{IsNumeral, digits_value}
-use Rattle.mail_base.specs.Frames.{told, GoesOn, header, Opening, IsOpening, part_of, counted, BeginsWith, line_text, literals_from, IsNext, NoWhole, AreFrames, PartFault, LineFault, FirstFault}
-use Rattle.mail_base.specs.declared.span.Span.{Span}
+use Rattle.mail_base.specs.Frames.{told, header, Opening, IsOpening, part_of, counted, BeginsWith, line_text, literals_from, IsNext, NoWhole, AreFrames, PartFault, LineFault, FirstFault}
 use Rattle.mail_base.specs.declared.frame.Frame.{Frame}
 use Rattle.mail_base.specs.declared.frame.FeedFault.{FeedFault}
 use Rattle.mail_base.specs.declared.frame.FeedFault.TheVariants as faults

@@ -1,5 +1,5 @@
 -- What a stream has, it has still when more bytes follow, and from whatever place it is told alike (RFC 9051, sections 2.2 and 4.3).
-use Rattle.std.proofs.Common.{◌≡◌, ℕ, ◌+◌, ◌-◌, ◌<◌, ◌≤◌, List, [], ◌∷◌, ◌++◌, length, refl, sym, ◌∙◌, ap, subst, arith, append_assoc, length-append}
+use Rattle.std.proofs.Common.{◌≡◌, ℕ, ◌+◌, ◌-◌, List, [], ◌∷◌, ◌++◌, length, ◌∙◌, ap, subst, arith, append_assoc, length-append}
 use Rattle.mail_base.specs.Frames.{told, GoesOn, header, counted, line_text, IsNext, AreFrames, PartFault, LineFault, FirstFault}
 use Rattle.mail_base.specs.declared.frame.Frame.{Frame}
 use Rattle.mail_base.specs.declared.frame.FeedFault.{FeedFault}
