@@ -1,2 +1,3 @@
+pub mod OneToken
 pub mod Quoted
 pub mod Runs

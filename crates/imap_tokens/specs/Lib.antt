@@ -1,2 +1,3 @@
+pub mod Quoted
 pub mod Reading
 pub mod Tokens

@@ -1,19 +1,19 @@
 -- What a reader of tokens holds: a line's text, the literals that are still to come, and how far it was read.
-use Rattle.std.specs.Prelude.{◌≡◌, ℕ, ◌-◌, ◌<◌, ◌≤◌, List, length, drop, Option, Some}
+use Rattle.std.specs.Prelude.{◌≡◌, ℕ, ◌-◌, ◌<◌, ◌≤◌, List, length, drop}
 use Rattle.mail_base.specs.declared.span.Span.{Span}
 use Rattle.imap_tokens.specs.declared.token.TokenKind.{TokenKind}
 use Rattle.imap_tokens.specs.declared.token.TokenKind.TheVariants as kinds
 use Rattle.imap_tokens.specs.declared.token.Token.{Token}
-use Rattle.imap_tokens.specs.Tokens.{token_at}
+use Rattle.imap_tokens.specs.Tokens.{IsToken, NoToken}
 
 pub record Reading : Type 0 where
   pub text : List ℕ
   pub literals : List Span
   pub at : ℕ
 
--- the token that begins where the reader stands
-abbrev pub next_of : Reading → Option (TokenKind × ℕ)
-next_of reading = token_at reading.literals reading.at (drop reading.at reading.text)
+-- no token begins where the reader stands
+abbrev pub HasNoNext : Reading → Type 0
+HasNoNext reading = NoToken reading.literals reading.at (drop reading.at reading.text)
 
 -- the literals that come behind a token
 abbrev pub literals_behind : TokenKind → List Span → List Span
@@ -25,5 +25,5 @@ pub record Reads (old : Reading) (token : Token) (new : Reading) : Type 0 where
   pub begins : token.span.low ≡ old.at
   pub some : token.span.low < token.span.high
   pub within : token.span.high ≤ length old.text
-  pub is_next : next_of old ≡ Some (token.kind, token.span.high - token.span.low)
+  pub is_next : IsToken old.literals old.at (drop old.at old.text) token.kind (token.span.high - token.span.low)
   pub behind : new ≡ record { text = old.text; literals = literals_behind token.kind old.literals; at = token.span.high }

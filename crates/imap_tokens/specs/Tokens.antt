@@ -1,11 +1,12 @@
 -- The tokens of a line (RFC 9051, section 9): which one begins at a place, and how many bytes it takes.
-use Rattle.std.specs.Prelude.{ℕ, ◌+◌, ◌-◌, Bool, true, false, ◌&&◌, ◌||◌, ◌==◌, not, nat_le, nat_lt, nat_eq, List, [], ◌∷◌, length, take, drop, map, codes, Option, Some, None, option_map, if◌then◌else◌}
+use Rattle.std.specs.Prelude.{◌≡◌, ◌⊎◌, ℕ, ◌+◌, ◌-◌, Bool, ◌&&◌, ◌||◌, ◌==◌, not, nat_le, nat_lt, nat_eq, List, [], ◌∷◌, length, take, drop, map, codes, Option, Some, None, option_map, if◌then◌else◌}
 use Rattle.std.specs.List.{prefix_len, starts_with}
 use Rattle.std.specs.Str.{bytes_eq}
 use Rattle.std.specs.Char.{is_ascii_digit, to_ascii_lowercase}
 use Rattle.mail_base.specs.declared.span.Span.{Span}
 use Rattle.imap_tokens.specs.declared.token.TokenKind.{TokenKind}
 use Rattle.imap_tokens.specs.declared.token.TokenKind.TheVariants as kinds
+use Rattle.imap_tokens.specs.Quoted.{BeginsQuoted, NoQuoted}
 
 -- a byte from 33 to 255 other than `(`, `)`, `[`, `]`, `"`, `{` and 127
 abbrev pub is_word_byte : ℕ → Bool
@@ -29,19 +30,6 @@ is_escaped b = b == 34 || b == 92
 abbrev pub is_forbidden : ℕ → Bool
 is_forbidden b = b == 0 || b == 10 || b == 13
 
--- the bytes of a quoted string, of which so many stand before this text
-unfoldable pub quoted_from : Bool → ℕ → List ℕ → Option ℕ
-quoted_from escaped n [] = None
-quoted_from true n (b ∷ more) = if is_escaped b then quoted_from false (n + 1) more else None
-quoted_from false n (b ∷ more) =
-    if b == 34 then Some (n + 1)
-    else (if is_forbidden b then None
-    else quoted_from (b == 92) (n + 1) more)
-
--- the bytes of the quoted string whose first `"` stands in front of this text
-abbrev pub quoted_size : List ℕ → Option ℕ
-quoted_size text = quoted_from false 1 text
-
 -- the bytes of a literal's header with its CRLF: the text behind the `{` goes on with digits, `}`, CR and LF
 abbrev pub header_size : List ℕ → Option ℕ
 header_size text =
@@ -59,7 +47,7 @@ abbrev pub literal_size : List Span → ℕ → List ℕ → Option ℕ
 literal_size [] at text = None
 literal_size (next ∷ later) at text = literal_of next at (length text) (header_size (drop 1 text))
 
--- the token that begins at the place, in front of this text, and how many bytes it takes; no token is None
+-- the token that begins at the place, in front of this text, and how many bytes it takes, if it is no quoted string; no token is None
 abbrev pub token_at : List Span → ℕ → List ℕ → Option (TokenKind × ℕ)
 token_at literals at [] = None
 token_at literals at (b ∷ more) =
@@ -68,7 +56,14 @@ token_at literals at (b ∷ more) =
     else (if b == 41 then Some (kinds.RightParen, 1)
     else (if b == 91 then Some (kinds.LeftBracket, 1)
     else (if b == 93 then Some (kinds.RightBracket, 1)
-    else (if b == 34 then option_map (λ size. (kinds.Quoted, size)) (quoted_size more)
     else (if b == 123 then option_map (λ size. (kinds.Literal, size)) (literal_size literals at (b ∷ more))
     else (if is_word_byte b then Some (word_kind (take (prefix_len is_word_byte (b ∷ more)) (b ∷ more)), prefix_len is_word_byte (b ∷ more))
-    else None)))))))
+    else None))))))
+
+-- the token in front of this text, which has this place, is of this kind and takes so many bytes
+abbrev pub IsToken : List Span → ℕ → List ℕ → TokenKind → ℕ → Type 0
+IsToken literals at text kind size = (token_at literals at text ≡ Some (kind, size)) ⊎ ((kind ≡ kinds.Quoted) × BeginsQuoted text size)
+
+-- none begins there
+abbrev pub NoToken : List Span → ℕ → List ℕ → Type 0
+NoToken literals at text = (token_at literals at text ≡ None) × NoQuoted text

@@ -1,8 +1,8 @@
 //! Reads the tokens of a line, from the left (RFC 9051, section 9).
 
 ghost use Rattle.std.specs.Prelude.{◌≡◌, ◌<◌, ◌≤◌, ◌+◌, ◌^◌, ◌↔◌, ℕ, drop, length, IfOk, IfNone, IfSome, IsErrOf, OnErr, None};
-ghost use Rattle.imap_tokens.specs.Reading.{Reading, Reads, next_of};
-ghost use Rattle.imap_tokens.specs.Tokens.{token_at, literal_size, word_kind, is_word_byte};
+ghost use Rattle.imap_tokens.specs.Reading.{Reading, Reads, HasNoNext};
+ghost use Rattle.imap_tokens.specs.Tokens.{token_at, IsToken, NoToken, literal_size, word_kind, is_word_byte};
 
 use crate::word::{header_size, is_word_byte, quoted_size, space_len, word_kind, word_len};
 use crate::{Token, TokenFault, TokenKind};
@@ -48,7 +48,7 @@ impl<'a> Tokens<'a> {
         ensures token { IfOk result (λ found. IfSome found (λ token. Reads self.old token self.new)) }
         ensures end { IfOk result (λ found. IfNone found ((self.old.at ≡ length self.old.text) × (self.new ≡ self.old))) }
         ensures bad_byte { (at : ℕ) → IsErrOf result (TokenFault.BadByte at)
-            ↔ ((at ≡ self.old.at) × (at < length self.old.text) × (next_of self.old ≡ None)) }
+            ↔ ((at ≡ self.old.at) × (at < length self.old.text) × HasNoNext self.old) }
         ensures kept { OnErr result (self.new ≡ self.old) }
     {
         let rest = &self.text[self.at..];
@@ -72,17 +72,29 @@ impl<'a> Tokens<'a> {
 
 // The token that begins in front of `rest`, which stands at `at`, and how many bytes it takes.
 fn token_at(literals: &[Span], at: usize, rest: &[u8]) -> Option<(TokenKind, usize)>
+    ensures token { IfSome result (λ token. IsToken literals.now at rest.now token.0 token.1) }
+    ensures none { IfNone result (NoToken literals.now at rest.now) }
+    ensures within { IfSome result (λ token. (0 < token.1) × (token.1 ≤ length rest.now)) }
+{
+    if let Some((b'"', more)) = rest.split_first() {
+        let size = quoted_size(more)?;
+        return Some((TokenKind::Quoted, size));
+    }
+    other_token_at(literals, at, rest)
+}
+
+// The same for every token but a quoted string.
+fn other_token_at(literals: &[Span], at: usize, rest: &[u8]) -> Option<(TokenKind, usize)>
     ensures value { result ≡ token_at literals.now at rest.now }
     ensures within { IfSome result (λ token. (0 < token.1) × (token.1 ≤ length rest.now)) }
 {
-    let (first, more) = rest.split_first()?;
+    let (first, _) = rest.split_first()?;
     match *first {
         b' ' => Some((TokenKind::Space, space_len(rest))),
         b'(' => Some((TokenKind::LeftParen, 1)),
         b')' => Some((TokenKind::RightParen, 1)),
         b'[' => Some((TokenKind::LeftBracket, 1)),
         b']' => Some((TokenKind::RightBracket, 1)),
-        b'"' => quoted_size(more).map(|size| (TokenKind::Quoted, size)),
         b'{' => literal_size(literals, at, rest).map(|size| (TokenKind::Literal, size)),
         byte if is_word_byte(byte) => {
             let size = word_len(rest);

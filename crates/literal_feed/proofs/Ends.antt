@@ -1,18 +1,18 @@
--- A line is open, whole or at fault, and only one of these, in one way.
-use Rattle.std.proofs.Common.{◌≡◌, ◌⊎◌, inl, inr, ℕ, ◌+◌, ◌<◌, ◌≤◌, List, [], ◌∷◌, ◌++◌, length, refl, sym, ◌∙◌, ap, subst, arith, append_assoc, length-append}
+-- An open line is neither whole nor at fault.
+use Rattle.std.proofs.Common.{◌≡◌, ◌⊎◌, inl, inr, ℕ, ◌+◌, ◌<◌, ◌≤◌, List, [], ◌∷◌, ◌++◌, length, refl, sym, ◌∙◌, ap, subst, arith, length-append}
 use Rattle.std.proofs.lemmas.List.{same_from_push}
 use Rattle.std.specs.List.{AllByRecursion}
 use Rattle.std.specs.Str.Parse.{IsNumeral, digits_value}
-use Rattle.mail_base.specs.Frames.{NoWhole, NoLf, GoesOn, header, Opening, IsOpening, part_of, counted, BeginsWith, LineFault, PartFault, HasLongLine}
+use Rattle.mail_base.specs.Frames.{NoWhole, NoLf, GoesOn, header, Opening, IsOpening, part_of, counted, LineFault, PartFault, HasLongLine}
 use Rattle.mail_base.specs.declared.frame.FeedFault.{FeedFault}
 use Rattle.mail_base.specs.declared.frame.FeedFault.TheVariants as faults
-use Rattle.literal_feed.specs.Parts.{IsOpenPart, IsLastPart}
+use Rattle.literal_feed.specs.Parts.{IsOpenPart}
 use Rattle.literal_feed.specs.Lines.{IsOpenLine}
-use Rattle.literal_feed.proofs.Lf.{no_lf-append, no_lf-here, no_lf-header}
-use Rattle.literal_feed.proofs.Headers.{one_header}
-use Rattle.literal_feed.proofs.Lines.{spelled}
+use Rattle.mail_base.proofs.Lf.{no_lf-append, no_lf-here, no_lf-header}
+use Rattle.mail_base.proofs.Headers.{one_header}
 use Rattle.literal_feed.proofs.Parts.{ends_in_cr}
-use Rattle.literal_feed.proofs.Unique.{Crlf, crlf_unique, crlf_plain, crlf_bare, crlf_long, opening_crlf, large_crlf, last_crlf, NoOpening, align}
+use Rattle.mail_base.proofs.Openings.{Crlf, crlf_unique, crlf_plain, crlf_bare, crlf_long, opening_crlf, large_crlf, spelled, NoOpening}
+use Rattle.mail_base.proofs.Frames.{IsLast, fault_opens_none, last_opens_none, fault_short, one_way, last_tail, last_is, last_short}
 
 -- a literal whose octets aren't all there
 pub record IsShort (used : ℕ) (tail front digits octets : List ℕ) : Type 0 where
@@ -38,26 +38,11 @@ open_opens_none used tail (inr s) o x is n e =
     let digits = one_header o.front o.digits s.0 s.1 is.number.1 s.3.number.1 same.0 in
     omega (arith, ap (digits_value 10) digits.1, is.octets, s.3.owed, ap length same.1, length-append o.octets x)
 
--- nor does the last part of a line
-pub last_opens_none : (used : ℕ) (tail last rest : List ℕ) → IsLastPart used tail last rest → NoOpening used tail
-last_opens_none used tail last rest is o x io n e =
-    is.closed o.front o.digits io.number (sym (crlf_unique used tail (part_of o) (o.octets ++ x) (opening_crlf used tail o x io n e) last rest used (last_crlf used tail last rest is)).0)
-
--- nor a part with a fault
-pub fault_opens_none : (at used : ℕ) (tail : List ℕ) (fault : FeedFault) → PartFault at used tail fault → NoOpening used tail
-fault_opens_none at used tail (faults.BareLf place) bad o x io n e = crlf_bare used tail (part_of o) (o.octets ++ x) (opening_crlf used tail o x io n e) bad.0 bad.1 bad.2
-fault_opens_none at used tail (faults.LiteralTooLarge place asked) bad o x io n e =
-    let same = crlf_unique used tail (part_of o) (o.octets ++ x) (opening_crlf used tail o x io n e) (bad.0 ++ header bad.1) bad.2 used (large_crlf used tail bad.0 bad.1 bad.2 bad.3) in
-    let digits = one_header o.front o.digits bad.0 bad.1 io.number.1 bad.3.number.1 same.0 in
-    omega (arith, ap (digits_value 10) digits.1, io.octets, io.few, bad.3.large)
-fault_opens_none at used tail (faults.LineTooLong place) bad o x io n e = crlf_long used tail (part_of o) (o.octets ++ x) (opening_crlf used tail o x io n e) bad.0 bad.1 bad.2 bad.3
-fault_opens_none at used tail faults.Memory bad o x io n e = bad
-
 -- an open end isn't the last part
-pub open_last : (used : ℕ) (tail last rest : List ℕ) → IsOpenEnd used tail → IsLastPart used tail last rest → ⊥
-open_last used tail last rest (inl goes) is = crlf_plain used tail last rest (last_crlf used tail last rest is) goes.plain
+pub open_last : (used : ℕ) (tail last rest : List ℕ) → IsOpenEnd used tail → IsLast used tail last rest → ⊥
+open_last used tail last rest (inl goes) is = crlf_plain used tail last rest is.0 goes.plain
 open_last used tail last rest (inr s) is =
-    is.closed s.0 s.1 s.3.number (crlf_unique used tail last rest (last_crlf used tail last rest is) (s.0 ++ header s.1) s.2 used (short_crlf used tail s.0 s.1 s.2 s.3)).0
+    is.1 s.0 s.1 s.3.number (crlf_unique used tail last rest is.0 (s.0 ++ header s.1) s.2 used (short_crlf used tail s.0 s.1 s.2 s.3)).0
 
 -- a part that is too long is longer than an open one may be
 long_open : (used : ℕ) (tail : List ℕ) → IsOpenPart used tail → (part : List ℕ) (byte : ℕ) (rest : List ℕ) → HasLongLine used tail part byte rest → ⊥
@@ -95,26 +80,12 @@ open_fault at used tail (faults.LineTooLong place) (inl goes) bad = long_open us
 open_fault at used tail (faults.LineTooLong place) (inr s) bad = crlf_long used tail (s.0 ++ header s.1) s.2 (short_crlf used tail s.0 s.1 s.2 s.3) bad.0 bad.1 bad.2 bad.3
 open_fault at used tail faults.Memory goes bad = bad
 
--- a last part has no fault
-pub last_fault : (at used : ℕ) (tail last rest : List ℕ) (fault : FeedFault) → IsLastPart used tail last rest → PartFault at used tail fault → ⊥
-last_fault at used tail last rest (faults.BareLf place) is bad = crlf_bare used tail last rest (last_crlf used tail last rest is) bad.0 bad.1 bad.2
-last_fault at used tail last rest (faults.LiteralTooLarge place asked) is bad =
-    is.closed bad.0 bad.1 bad.3.number (crlf_unique used tail last rest (last_crlf used tail last rest is) (bad.0 ++ header bad.1) bad.2 used (large_crlf used tail bad.0 bad.1 bad.2 bad.3)).0
-last_fault at used tail last rest (faults.LineTooLong place) is bad = crlf_long used tail last rest (last_crlf used tail last rest is) bad.0 bad.1 bad.2 bad.3
-last_fault at used tail last rest faults.Memory is bad = bad
-
 -- Now of whole lines.
 open_short : (used : ℕ) (tail : List ℕ) → IsOpenPart used tail → used ≤ 1048576
 open_short used tail goes = elim (ends_in_cr tail) [
   | inl cr ↦ omega (arith, goes.short (length cr.0) (record { cr = λ body e. ap length (same_from_push cr.0 body 13 13 (sym cr.1 ∙ e)).0; other = λ lacks. absurd (lacks cr.0 cr.1) }))
   | inr lacks ↦ omega (arith, goes.short (length tail) (record { cr = λ body e. absurd (lacks body e); other = λ all. refl }))
 ]
-
-fault_short : (at used : ℕ) (tail : List ℕ) (fault : FeedFault) → PartFault at used tail fault → used ≤ 1048576
-fault_short at used tail (faults.BareLf place) bad = omega (arith, bad.2.short)
-fault_short at used tail (faults.LiteralTooLarge place asked) bad = omega (arith, bad.3.short)
-fault_short at used tail (faults.LineTooLong place) bad = omega (arith, bad.3.full)
-fault_short at used tail faults.Memory bad = absurd bad
 
 -- an open line, seen from its last part
 abbrev pub OpenView : List ℕ → Type 0
@@ -132,27 +103,11 @@ open_view line (inr is) =
       inr (is.3, is.4, is.5, record { text = refl; plain = l.plain; number = l.number; few = l.few; owed = l.owed; short = omega (arith, l.used_is, l.short) }),
     )
 
-pub one_way : (os ps : List Opening) (t u : List ℕ) → AllByRecursion IsOpening os → AllByRecursion IsOpening ps → counted os ≤ 1048576 → counted ps ≤ 1048576 → NoOpening (counted os) t → NoOpening (counted ps) u → spelled os ++ t ≡ spelled ps ++ u → (os ≡ ps) × (t ≡ u)
-one_way os ps t u a b m n lacks lacks' e =
-    let zo : counted os ≡ 0 + counted os = omega arith in
-    let zp : counted ps ≡ 0 + counted ps = omega arith in
-    align 0 os ps t u a b (omega (arith, m)) (omega (arith, n)) (subst (λ (k : ℕ). NoOpening k t) zo lacks) (subst (λ (k : ℕ). NoOpening k u) zp lacks') e
-
--- a whole line, seen from its last part
-last_tail : (line : List ℕ) (os : List Opening) (last rest : List ℕ) → BeginsWith line os last rest → line ≡ spelled os ++ (last ++ 13 ∷ 10 ∷ rest)
-last_tail line os last rest is = is.whole ∙ append_assoc (spelled os) last (13 ∷ 10 ∷ rest)
-
-last_is : (line : List ℕ) (os : List Opening) (last rest : List ℕ) → BeginsWith line os last rest → IsLastPart (counted os) (last ++ 13 ∷ 10 ∷ rest) last rest
-last_is line os last rest is = record { text = refl; plain = is.line.plain; closed = is.line.closed; short = is.line.short }
-
-last_short : (line : List ℕ) (os : List Opening) (last rest : List ℕ) → BeginsWith line os last rest → counted os ≤ 1048576
-last_short line os last rest is = omega (arith, is.line.short)
-
 pub open_no_whole : (line : List ℕ) → IsOpenLine line → NoWhole line
 open_no_whole line is ps last rest whole =
     let v = open_view line is in
     let same = one_way v.0 ps v.1 (last ++ 13 ∷ 10 ∷ rest) v.2 whole.line.opened v.4 (last_short line ps last rest whole) (open_opens_none (counted v.0) v.1 v.5) (last_opens_none (counted ps) (last ++ 13 ∷ 10 ∷ rest) last rest (last_is line ps last rest whole)) (sym v.3 ∙ last_tail line ps last rest whole) in
-    open_last (counted v.0) v.1 last rest v.5 (subst (λ (t : List ℕ). IsLastPart (counted v.0) t last rest) (sym same.1) (subst (λ (o : List Opening). IsLastPart (counted o) (last ++ 13 ∷ 10 ∷ rest) last rest) (sym same.0) (last_is line ps last rest whole)))
+    open_last (counted v.0) v.1 last rest v.5 (subst (λ (t : List ℕ). IsLast (counted v.0) t last rest) (sym same.1) (subst (λ (o : List Opening). IsLast (counted o) (last ++ 13 ∷ 10 ∷ rest) last rest) (sym same.0) (last_is line ps last rest whole)))
 
 pub open_no_fault : (line : List ℕ) (at : ℕ) (fault : FeedFault) → IsOpenLine line → LineFault at line fault → ⊥
 open_no_fault line at fault is bad =
@@ -161,16 +116,3 @@ open_no_fault line at fault is bad =
     open_fault (at + length (spelled bad.0)) (counted v.0) v.1 fault v.5
     (subst (λ (t : List ℕ). PartFault (at + length (spelled bad.0)) (counted v.0) t fault) (sym same.1)
     (subst (λ (o : List Opening). PartFault (at + length (spelled bad.0)) (counted o) bad.1 fault) (sym same.0) bad.4))
-
-pub fault_no_whole : (line : List ℕ) (at : ℕ) (fault : FeedFault) → LineFault at line fault → NoWhole line
-fault_no_whole line at fault bad ps last rest whole =
-    let same = one_way bad.0 ps bad.1 (last ++ 13 ∷ 10 ∷ rest) bad.2 whole.line.opened (fault_short _ (counted bad.0) bad.1 fault bad.4) (last_short line ps last rest whole) (fault_opens_none _ (counted bad.0) bad.1 fault bad.4) (last_opens_none (counted ps) (last ++ 13 ∷ 10 ∷ rest) last rest (last_is line ps last rest whole)) (sym bad.3 ∙ last_tail line ps last rest whole) in
-    last_fault (at + length (spelled bad.0)) (counted bad.0) bad.1 last rest fault
-    (subst (λ (t : List ℕ). IsLastPart (counted bad.0) t last rest) (sym same.1) (subst (λ (o : List Opening). IsLastPart (counted o) (last ++ 13 ∷ 10 ∷ rest) last rest) (sym same.0) (last_is line ps last rest whole)))
-    bad.4
-
-pub one_whole : (line : List ℕ) (os ps : List Opening) (last rest last' rest' : List ℕ) → BeginsWith line os last rest → BeginsWith line ps last' rest' → (os ≡ ps) × (last ≡ last') × (rest ≡ rest')
-one_whole line os ps last rest last' rest' a b =
-    let same = one_way os ps (last ++ 13 ∷ 10 ∷ rest) (last' ++ 13 ∷ 10 ∷ rest') a.line.opened b.line.opened (last_short line os last rest a) (last_short line ps last' rest' b) (last_opens_none (counted os) (last ++ 13 ∷ 10 ∷ rest) last rest (last_is line os last rest a)) (last_opens_none (counted ps) (last' ++ 13 ∷ 10 ∷ rest') last' rest' (last_is line ps last' rest' b)) (sym (last_tail line os last rest a) ∙ last_tail line ps last' rest' b) in
-    let ends = crlf_unique (counted os) (last ++ 13 ∷ 10 ∷ rest) last rest (last_crlf (counted os) (last ++ 13 ∷ 10 ∷ rest) last rest (last_is line os last rest a)) last' rest' (counted ps) (record { text = same.1; plain = b.line.plain; short = b.line.short }) in
-    (same.0, ends.0, ends.1)

@@ -1,5 +1,5 @@
 -- A header at the end of a part is found in one way.
-use Rattle.std.proofs.Common.{◌≡◌, ◌≢◌, ℕ, zero, suc, ◌+◌, ◌-◌, ◌<◌, ◌≤◌, List, [], ◌∷◌, ◌++◌, inl, inr, length, take, drop, refl, sym, ◌∙◌, ap, subst, arith, get_or, drop-cons, length-append, append_assoc, take-append-drop}
+use Rattle.std.proofs.Common.{◌≡◌, ◌≢◌, ℕ, zero, suc, ◌+◌, ◌-◌, ◌<◌, ◌≤◌, List, [], ◌∷◌, ◌++◌, inl, inr, length, take, drop, sym, ◌∙◌, ap, subst, arith, get_or, drop-cons, length-append, take-append-drop}
 use Rattle.std.proofs.lemmas.List.{same_from_push, drop-append-le, get_or-append-add}
 use Rattle.std.proofs.lemmas.Str.Parse.{digit_at}
 use Rattle.std.proofs.lemmas.Bool.{cases_lt}
@@ -7,6 +7,7 @@ use Rattle.std.specs.Prelude.{slice_index}
 use Rattle.std.specs.Char.{digit_value, IsAsciiDigit}
 use Rattle.std.specs.Str.Parse.{AllDigits, IsNumeral}
 use Rattle.mail_base.specs.Frames.{header}
+use Rattle.mail_base.proofs.Headers.{no_brace, open_brace}
 
 -- one digit more in front
 pub digits-front : (text : List ℕ) (from : ℕ) → 0 < from → from ≤ length text → AllDigits 10 (drop from text) → digit_value (slice_index text (from - 1)) < 10 → AllDigits 10 (drop (from - 1) text)
@@ -15,20 +16,6 @@ digits-front text (suc from) some within all digit =
     let at : suc from - 1 ≡ from = omega arith in
     let d : digit_value (get_or text from 0) < 10 = subst (λ k. digit_value (get_or text k 0) < 10) at digit in
     rw (at, drop-cons text from 0) (d, all)
-
--- no digit is a `{`
-not_brace : digit_value 123 < 10 → ⊥
-not_brace h = omega (arith, h)
-
-pub no_brace : (front digits more : List ℕ) → AllDigits 10 digits → digits ≡ front ++ 123 ∷ more → ⊥
-no_brace [] [] more all e = cc
-no_brace [] (d ∷ ds) more all e = let b : d ≡ 123 = cc in not_brace (subst (λ k. digit_value k < 10) b all.0)
-no_brace (f ∷ fs) [] more all e = cc
-no_brace (f ∷ fs) (d ∷ ds) more all e = no_brace fs ds more all.1 cc
-
--- a header's parts before its `}`
-pub open_brace : (front digits : List ℕ) → front ++ header digits ≡ (front ++ 123 ∷ digits) ++ 125 ∷ []
-open_brace front digits = sym (append_assoc front (123 ∷ digits) (125 ∷ []))
 
 -- the digits at the end of a text begin behind its last `{`
 module _ (text front digits : List ℕ) (from : ℕ) (is : text ≡ front ++ 123 ∷ digits) (numeral : AllDigits 10 digits)
@@ -77,16 +64,3 @@ some_header part text close (suc from) is closes some within brace =
     let cut : text ≡ take from text ++ 123 ∷ drop (suc from) text =
     sym (take-append-drop from text) ∙ ap (λ (t : List ℕ). take from text ++ t) (drop-cons text from 0 within ∙ ap (λ (x : ℕ). x ∷ drop (suc from) text) b) in
     is ∙ ap (λ (x : ℕ). text ++ x ∷ []) closes ∙ ap (λ (t : List ℕ). t ++ 125 ∷ []) cut ∙ sym (open_brace (take from text) (drop (suc from) text)) ∙ ap (λ (i : ℕ). take i text ++ header (drop (suc from) text)) (sym at)
-
--- one way
-pub one_header : (f d g e : List ℕ) → AllDigits 10 d → AllDigits 10 e → f ++ header d ≡ g ++ header e → (f ≡ g) × (d ≡ e)
-one_header f d g e da ea same = inside f d g e da ea (same_from_push (f ++ 123 ∷ d) (g ++ 123 ∷ e) 125 125 (sym (open_brace f d) ∙ same ∙ open_brace g e)).0
-  where
-    inside : (f d g e : List ℕ) → AllDigits 10 d → AllDigits 10 e → f ++ 123 ∷ d ≡ g ++ 123 ∷ e → (f ≡ g) × (d ≡ e)
-    inside [] d [] e da ea s = (refl, cc)
-    inside [] d (c ∷ g) e da ea s = absurd (no_brace g d e da cc)
-    inside (c ∷ f) d [] e da ea s = absurd (no_brace f e d ea cc)
-    inside (c ∷ f) d (c' ∷ g) e da ea s =
-        let head : c ≡ c' = cc in
-        let rest = inside f d g e da ea cc in
-        ((λ i. head i ∷ rest.0 i), rest.1)

@@ -1,9 +1,8 @@
+pub mod Cuts
 pub mod Ends
 pub mod Headers
-pub mod Lf
 pub mod Lines
 pub mod Literals
 pub mod Parts
 pub mod Searches
 pub mod Streams
-pub mod Unique

@@ -4,20 +4,17 @@ use Rattle.std.proofs.Math.Logic.{∥∥₁_elim}
 use Rattle.std.proofs.Math.Seq.{drop-append_seam, take-length}
 use Rattle.std.proofs.lemmas.Bool.{cases_lt}
 use Rattle.std.proofs.lemmas.List.Concat.{flat_map-append}
-use Rattle.std.specs.List.{AllByRecursion, flat_map}
+use Rattle.std.specs.List.{AllByRecursion}
 use Rattle.std.specs.Str.Parse.{digits_value}
 use Rattle.mail_base.specs.Frames.{NoLf, header, Opening, IsOpening, opening_text, part_of, counted, BeginsWith, line_text, LineFault, PartFault}
 use Rattle.mail_base.specs.declared.frame.FeedFault.{FeedFault}
+use Rattle.mail_base.proofs.Openings.{spelled}
 use Rattle.literal_feed.specs.declared.part.Cursor.{Cursor}
 use Rattle.literal_feed.specs.Parts.{IsOpenPart, IsLiteralPart, IsLastPart}
 use Rattle.literal_feed.specs.Lines.{IsInPart, IsInLiteral, Stands, IsOpenLine}
 
 pub known : {A B : Type 0} → ∥ A ∥₁ → (A → B) → ∥ B ∥₁
 known h f = ∥∥₁_elim h (hlevel) (λ a. ∣ f a ∣₁)
-
--- the bytes of the openings
-abbrev pub spelled : List Opening → List ℕ
-spelled openings = flat_map opening_text openings
 
 -- in a literal whose octets aren't all there, the part begins past the end
 literal_past : (line : List ℕ) (part used : ℕ) (openings : List Opening) (front digits octets : List ℕ) → IsInLiteral line part used openings front digits octets → length line < part

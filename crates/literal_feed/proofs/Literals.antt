@@ -11,7 +11,8 @@ use Rattle.mail_base.specs.Frames.{NoLf, IsNext, NoWhole, BeginsWith, line_text}
 use Rattle.mail_base.specs.declared.frame.Frame.{Frame}
 use Rattle.literal_feed.specs.Parts.{IsLiteralPart, IsLastPart}
 use Rattle.literal_feed.proofs.Ends.{open_no_whole}
-use Rattle.literal_feed.proofs.Lines.{spelled, in_literal, behind_literal, rest_size, last_line}
+use Rattle.mail_base.proofs.Openings.{spelled}
+use Rattle.literal_feed.proofs.Lines.{in_literal, behind_literal, rest_size, last_line}
 
 pub literals_more : (at : ℕ) (os : List Opening) (o : Opening) (low high : ℕ) → low ≡ at + length (spelled os) + length (part_of o) + 2 → high ≡ low + length o.octets → literals_from at (os ++ o ∷ []) ≡ literals_from at os ++ record { low = low; high = high } ∷ []
 literals_more at [] o low high l h =

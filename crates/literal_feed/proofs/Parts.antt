@@ -8,7 +8,7 @@ use Rattle.mail_base.specs.Frames.{header, HasLargeLiteral}
 use Rattle.literal_feed.specs.declared.header.Header.{Header}
 use Rattle.literal_feed.specs.Headers.{EndsIn}
 use Rattle.literal_feed.specs.Parts.{Counts, IsLastPart, IsLiteralPart}
-use Rattle.literal_feed.proofs.Lf.{no_lf-front, no_lf-back}
+use Rattle.mail_base.proofs.Lf.{no_lf-front, no_lf-back}
 
 -- whether a list ends with CR
 abbrev pub EndsInCr : List ℕ → Type 0

@@ -7,7 +7,7 @@ use Rattle.std.proofs.lemmas.Bool.Decides.{nat_tests}
 use Rattle.std.specs.Prelude.{◌==◌, IfNone, IfSome}
 use Rattle.memchr.specs.Find.{IsFirstByte, is_byte}
 use Rattle.mail_base.specs.Frames.{NoLf}
-use Rattle.literal_feed.proofs.Lf.{no_lf-append, no_lf-index}
+use Rattle.mail_base.proofs.Lf.{no_lf-append, no_lf-index}
 use Rattle.literal_feed.proofs.Parts.{cut}
 
 -- the rest as code slices it

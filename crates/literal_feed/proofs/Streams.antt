@@ -5,7 +5,7 @@ use Rattle.std.proofs.Math.Seq.{drop-append-add}
 use Rattle.std.proofs.lemmas.List.{drop-drop, drop-append-le, take-append-le}
 use Rattle.std.proofs.lemmas.Bool.{cases_lt}
 use Rattle.std.specs.Str.Parse.{digits_value}
-use Rattle.mail_base.specs.Frames.{NoLf, NoWhole, header, Opening, counted, BeginsWith, line_text, literals_from, IsNext, AreFrames, LineFault, PartFault, FirstFault, told}
+use Rattle.mail_base.specs.Frames.{NoLf, NoWhole, header, Opening, counted, BeginsWith, line_text, literals_from, IsNext, AreFrames, LineFault, FirstFault, told}
 use Rattle.mail_base.specs.declared.frame.Frame.{Frame}
 use Rattle.mail_base.specs.declared.frame.FeedFault.{FeedFault}
 use Rattle.mail_base.specs.declared.frame.FeedFault.TheVariants as faults
@@ -17,8 +17,11 @@ use Rattle.std.specs.Prelude.{Result, Ok, Err, OnOk, OnErr, IfErr}
 use Rattle.literal_feed.specs.Stream.{Stream, NoFault}
 use Rattle.literal_feed.specs.Streams.{AreWhole, Reads, RestIs, Holds}
 use Rattle.literal_feed.proofs.Parts.{counts-le}
-use Rattle.literal_feed.proofs.Lines.{spelled, known, tail_is, goes_on}
-use Rattle.literal_feed.proofs.Ends.{open_no_whole, open_no_fault, fault_no_whole, one_whole}
+use Rattle.mail_base.proofs.Openings.{spelled}
+use Rattle.mail_base.proofs.Frames.{fault_no_whole, one_whole, frames_le}
+use Rattle.mail_base.proofs.MoreBytes.{frames_stay, line_told, frames_told}
+use Rattle.literal_feed.proofs.Lines.{known, tail_is, goes_on}
+use Rattle.literal_feed.proofs.Ends.{open_no_whole, open_no_fault}
 
 -- a line at its beginning
 pub stands_start : (line : List ℕ) (cursor : Cursor) → cursor.part ≡ 0 → cursor.searched ≡ 0 → cursor.counted ≡ 0 → Stands line cursor
@@ -39,13 +42,6 @@ pub nothing_open : IsOpenLine []
 nothing_open = inl ([], [], tt, refl, record { plain = tt; short = λ size counts. omega (arith, counts-le [] size counts) })
 
 -- more comes
-next_more : (at : ℕ) (stream more : List ℕ) (f : Frame) (rest : List ℕ) → IsNext at stream f rest → IsNext at (stream ++ more) f (rest ++ more)
-next_more at stream more f rest is = (is.0, is.1, record { line = is.2.line; whole = ap (λ (t : List ℕ). t ++ more) is.2.whole ∙ append_assoc (line_text is.0 is.1) (13 ∷ 10 ∷ rest) more }, is.3, is.4, is.5)
-
-pub frames_more : (at : ℕ) (stream more : List ℕ) (fs : List Frame) (rest : List ℕ) → AreFrames at stream fs rest → AreFrames at (stream ++ more) fs (rest ++ more)
-frames_more at stream more [] rest is = ap (λ (t : List ℕ). t ++ more) is
-frames_more at stream more (f ∷ fs) rest is = (is.0 ++ more, next_more at stream more f is.0 is.1, frames_more (at + length f.bytes + 2) is.0 more fs rest is.2)
-
 part_more : (line more : List ℕ) (part searched used : ℕ) (os : List Opening) (tail : List ℕ) → part ≤ searched → IsInPart line part searched used os tail → IsInPart (line ++ more) part searched used os (tail ++ more)
 part_more line more part searched used os tail ordered is = record {
   text = ap (λ (t : List ℕ). t ++ more) is.text ∙ append_assoc (spelled os) tail more;
@@ -110,25 +106,6 @@ reads_line at text whole end old new is line p s u =
     let more = frame_more at text is.0.1.0 rest is.0.1.1 line.0 line.1 line.2 line.3 in
     ((omega (arith, size, is.0.0, length-drop whole text), (more.0, subst (λ (t : List ℕ). AreFrames at text more.0 t) (sym later) more.1)), stands_start (drop (whole + (end + 2)) text) new p s u)
 
--- places are told alike
-part_told : (a b used : ℕ) (tail : List ℕ) (fault : FeedFault) → told a ≡ told b → PartFault a used tail fault → PartFault b used tail fault
-part_told a b used tail (faults.BareLf place) same bad = (bad.0, bad.1, bad.2, omega (arith, same, bad.3))
-part_told a b used tail (faults.LiteralTooLarge place asked) same bad = (bad.0, bad.1, bad.2, bad.3, omega (arith, same, bad.4), bad.5)
-part_told a b used tail (faults.LineTooLong place) same bad = (bad.0, bad.1, bad.2, bad.3, omega (arith, same, bad.4))
-part_told a b used tail faults.Memory same bad = bad
-
-pub line_told : (a b : ℕ) (line : List ℕ) (fault : FeedFault) → told a ≡ told b → LineFault a line fault → LineFault b line fault
-line_told a b line fault same bad =
-    let n : ℕ = length (spelled bad.0) in
-    let shifted : told (a + n) ≡ told (b + n) = omega (arith, same) in
-    (bad.0, bad.1, bad.2, bad.3, part_told (a + n) (b + n) (counted bad.0) bad.1 fault shifted bad.4)
-
-frames_told : (a b : ℕ) (stream : List ℕ) (fs : List Frame) (rest : List ℕ) → told a ≡ told b → AreFrames a stream fs rest → AreFrames b stream fs rest
-frames_told a b stream [] rest same is = is
-frames_told a b stream (f ∷ fs) rest same is =
-    let shifted : told (a + length f.bytes + 2) ≡ told (b + length f.bytes + 2) = omega (arith, same) in
-    (is.0, (is.1.0, is.1.1, is.1.2, is.1.3, is.1.4, is.1.5 ∙ same), frames_told (a + length f.bytes + 2) (b + length f.bytes + 2) is.0 fs rest shifted is.2)
-
 -- an open stream has no fault
 pub open_frames : (at a : ℕ) (stream : List ℕ) (fs : List Frame) (rest : List ℕ) → AreFrames at stream fs rest → IsOpenLine rest → (b : ℕ) (gs : List Frame) (rest' : List ℕ) (fault : FeedFault) → AreFrames a stream gs rest' → LineFault b rest' fault → ⊥
 open_frames at a stream [] rest is goes b [] rest' fault is' bad = open_no_fault rest b fault goes (subst (λ (t : List ℕ). LineFault b t fault) (sym is' ∙ is) bad)
@@ -137,11 +114,6 @@ open_frames at a stream (f ∷ fs) rest is goes b [] rest' fault is' bad = fault
 open_frames at a stream (f ∷ fs) rest is goes b (g ∷ gs) rest' fault is' bad =
     let same = one_whole stream is.1.0 is'.1.0 is.1.1 is.0 is'.1.1 is'.0 is.1.2 is'.1.2 in
     open_frames (at + length f.bytes + 2) (a + length g.bytes + 2) is.0 fs rest is.2 goes b gs rest' fault (subst (λ (t : List ℕ). AreFrames (a + length g.bytes + 2) t gs rest') (sym same.2) is'.2) bad
-
--- what is left is no more
-frames_le : (at : ℕ) (stream : List ℕ) (fs : List Frame) (rest : List ℕ) → AreFrames at stream fs rest → length rest ≤ length stream
-frames_le at stream [] rest is = omega (arith, ap length is)
-frames_le at stream (f ∷ fs) rest is = omega (arith, frames_le (at + length f.bytes + 2) is.0 fs rest is.2, ap length is.1.2.whole, length-append (line_text is.1.0 is.1.1) (13 ∷ 10 ∷ is.0))
 
 -- no bytes were read
 pub holds_nothing : (progress : Progress) → progress.whole ≡ 0 → progress.fault ≡ None → progress.cursor.part ≡ 0 → progress.cursor.searched ≡ 0 → progress.cursor.counted ≡ 0 → Holds 0 [] progress
@@ -157,7 +129,7 @@ pub holds_more : (at : ℕ) (bytes more : List ℕ) (progress : Progress) → pr
 holds_more at bytes more progress ordered fault is =
     let rest : drop progress.whole (bytes ++ more) ≡ drop progress.whole bytes ++ more = drop-append-le progress.whole bytes more is.0.0 in
     let open_is : RestIs (at + progress.whole) (drop progress.whole bytes) progress.cursor None = subst (λ (f : Option FeedFault). RestIs (at + progress.whole) (drop progress.whole bytes) progress.cursor f) fault is.1 in (
-      (omega (arith, is.0.0, length-append bytes more), (is.0.1.0, subst (λ (t : List ℕ). AreFrames at (bytes ++ more) is.0.1.0 t) (sym rest) (frames_more at bytes more is.0.1.0 (drop progress.whole bytes) is.0.1.1))),
+      (omega (arith, is.0.0, length-append bytes more), (is.0.1.0, subst (λ (t : List ℕ). AreFrames at (bytes ++ more) is.0.1.0 t) (sym rest) (frames_stay at bytes more is.0.1.0 (drop progress.whole bytes) is.0.1.1))),
       subst (λ (t : List ℕ). Stands t progress.cursor) (sym rest) (stands_more (drop progress.whole bytes) more progress.cursor ordered open_is.0),
     )
 

@@ -1,6 +1,6 @@
 //! The frames of a stream that comes in pieces (RFC 9051, section 2.2).
 
-ghost use Rattle.std.specs.Prelude.{◌≡◌, ◌≢◌, ◌+◌, ◌⊎◌, ◌++◌, [], length, Some, None, OnOk, OnErr, IfOk, IfErr, IfSome, IfNone, IsErr, IsErrOf};
+ghost use Rattle.std.specs.Prelude.{◌≡◌, ◌≢◌, ◌+◌, ◌⊎◌, ◌++◌, [], length, Some, None, OnOk, OnErr, IfOk, IfErr, IfSome, IfNone, IsErrOf, Err};
 ghost use Rattle.mail_base.specs.Frames.{FirstFault, IsNext, NoWhole, told};
 ghost use Rattle.literal_feed.specs.Stream.{Stream, NoFault};
 
@@ -58,7 +58,7 @@ impl Feed {
         ensures fault { IfErr result (λ fault. fault ≢ FeedFault.Memory → ∥ FirstFault self.new.at self.new.bytes fault ∥₁) }
         ensures first { IfErr result (λ fault. fault ≢ FeedFault.Memory → NoFault self.old
             → self.new ≡ record { at = self.old.at; bytes = self.old.bytes ++ piece.now }) }
-        ensures again { (fault : FeedFault) → FirstFault self.old.at self.old.bytes fault → IsErr result × (IsErrOf result FeedFault.Memory → ⊥) × (self.new ≡ self.old) }
+        ensures again { (fault : FeedFault) → FirstFault self.old.at self.old.bytes fault → (result ≡ Err fault) × (self.new ≡ self.old) }
         ensures kept { IsErrOf result FeedFault.Memory → (self.new ≡ self.old) × NoFault self.old }
     {
         if let Some(fault) = self.progress.fault {

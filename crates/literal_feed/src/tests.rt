@@ -1,7 +1,7 @@
 //! Streams cut at every place (RFC 9051, sections 2.2 and 4.3), with frames and places counted by hand.
 
 use crate::Feed;
-use mail_base::{FeedFault, Span};
+use mail_base::{FeedFault, Frame, Span};
 use std::test::Fail;
 
 // A frame that is wanted: its bytes, its place, and how many literals it has.
@@ -12,14 +12,19 @@ struct Wanted<'a> {
     literals: usize,
 }
 
+// Whether the frame is the wanted one.
+fn is_wanted(frame: &Frame, wanted: Wanted) -> bool {
+    frame.bytes.as_slice() == wanted.bytes
+        && frame.at == wanted.at
+        && frame.literals.len() == wanted.literals
+}
+
 // Whether the next frame is the wanted one.
 fn takes(feed: &mut Feed, wanted: Wanted) -> bool {
     let Ok(Some(frame)) = feed.take() else {
         return false;
     };
-    frame.bytes.as_slice() == wanted.bytes
-        && frame.at == wanted.at
-        && frame.literals.len() == wanted.literals
+    is_wanted(&frame, wanted)
 }
 
 // Whether a stream, cut at this place, gives these frames and then the fault, again and again.
@@ -52,7 +57,36 @@ fn gives(
     }
 }
 
-// The same at every place.
+// Whether a stream that comes byte by byte gives these frames, each with its last byte, and then the fault.
+fn gives_byte_by_byte(
+    rt: &HostRuntime,
+    stream: &[u8],
+    wanted: &[Wanted],
+    fault: Option<FeedFault>,
+) -> bool {
+    let mut feed = Feed::new(rt.alloc());
+    let mut left = wanted.iter();
+    let mut answer = Ok(());
+    for byte in stream {
+        answer = feed.push(&[*byte]);
+        let taken = feed.take();
+        let Ok(taken) = taken else {
+            return false;
+        };
+        let Some(frame) = taken else {
+            continue;
+        };
+        let Some(wanted) = left.next() else {
+            return false;
+        };
+        if !is_wanted(&frame, *wanted) {
+            return false;
+        }
+    }
+    left.next().is_none() && answer == fault.map_or(Ok(()), Err)
+}
+
+// The same cut at every place, and byte by byte.
 fn gives_however_cut(
     rt: &HostRuntime,
     stream: &[u8],
@@ -64,7 +98,7 @@ fn gives_however_cut(
             return false;
         }
     }
-    gives(rt, stream, stream.len(), wanted, fault)
+    gives(rt, stream, stream.len(), wanted, fault) && gives_byte_by_byte(rt, stream, wanted, fault)
 }
 
 fn frame(bytes: &[u8], at: u64, literals: usize) -> Wanted {

@@ -127,6 +127,22 @@ fn lists_and_words_hold_what_was_added(rt: HostRuntime) -> Result<(), Fail> {
 }
 
 #[test]
+fn a_frame_is_copied_whole(rt: HostRuntime) -> Result<(), Fail> {
+    let mut literals = List::new(rt.alloc());
+    literals.push(Span { low: 5, high: 7 })?;
+    let frame = Frame {
+        bytes: Bytes::of(b"{2}\r\nab".to_vec(rt.alloc())?),
+        literals,
+        at: 12,
+    };
+    let copy = frame.copy(rt.alloc())?;
+    assert!(rt; copy.bytes.as_slice() == b"{2}\r\nab".as_slice());
+    assert!(rt; copy.literals.as_slice() == [Span { low: 5, high: 7 }].as_slice());
+    assert_eq!(rt; copy.at, 12);
+    Ok(())
+}
+
+#[test]
 fn an_action_has_its_tag(rt: HostRuntime) -> Result<(), Fail> {
     assert_eq!(rt; Tag::Play(3).action(), Some(3));
     assert_eq!(rt; Tag::Count(3).action(), None);

@@ -1,11 +1,11 @@
-use Rattle.std.proofs.Common.{◌≡◌, true, arith}
+use Rattle.std.proofs.Common.{◌≡◌, ℕ, ◌∷◌, ◌∙◌, ap, arith}
 use Rattle.std.proofs.lemmas.Bool.Decides.{nat_tests}
-use Rattle.std.proofs.lemmas.List.Sums.{prefix_len-le-length}
-use Rattle.imap_tokens.specs.Tokens.{is_space}
-use Rattle.imap_tokens.proofs.Runs.{run_some}
+use Rattle.imap_tokens.proofs.OneToken.{on_none, quote_none}
 use Rattle.imap_tokens.proofs.tokens.token_at.Goals as goal
 
-pub returns-in-32-clause-within : goal.returns-in-32-clause-within
-returns-in-32-clause-within c =
-    let passes : is_space c.in_ok-first.first.now ≡ true = grind (arith, nat_tests) in
-    (omega (arith, c.space_len.ensures, run_some is_space c.args.rest.now c.in_ok-first.first.now c.in_ok-first.more.now c.in_ok-first.ensures.cases.0 passes), omega (arith, c.space_len.ensures, prefix_len-le-length is_space c.args.rest.now))
+pub returns-in_err-size-clause-none : goal.returns-in_err-size-clause-none
+returns-in_err-size-clause-none c =
+    let some = c.in-Some-eq34-default in
+    let quote : some.field-0-0.now ≡ 34 = grind (arith, nat_tests) in
+    on_none c.from_residual.result
+    (quote_none c.args.literals.now c.args.at c.args.rest.now some.more.now (some.ensures.cases.0 ∙ ap (λ (b : ℕ). b ∷ some.more.now) quote) c.in_err-size.ensures.none)

@@ -1,6 +1,7 @@
 use Rattle.std.proofs.Common.{◌≡◌, take, refl, rules}
 use Rattle.literal_feed.proofs.Lines.{open_line, bad_line}
-use Rattle.literal_feed.proofs.Ends.{open_no_whole, fault_no_whole}
+use Rattle.mail_base.proofs.Frames.{fault_no_whole}
+use Rattle.literal_feed.proofs.Ends.{open_no_whole}
 use Rattle.literal_feed.proofs.Literals.{in_so, past_so, goes_so, whole_so}
 use Rattle.literal_feed.proofs.line.frame_from.Goals as goal
 

@@ -1,7 +1,7 @@
 use Rattle.std.proofs.Common.{◌-◌, drop, take, inl}
 use Rattle.std.proofs.Math.Logic.{∥∥₁_elim}
 use Rattle.literal_feed.proofs.Lines.{known, in_part, past_end, searched_plain, open_part, open_line, last_line, bad_line, goes_on}
-use Rattle.literal_feed.proofs.Lf.{no_lf-prop}
+use Rattle.mail_base.proofs.Lf.{no_lf-prop}
 use Rattle.literal_feed.proofs.line.read_on.Goals as goal
 
 pub step_of-requires-clause-plain : goal.step_of-requires-clause-plain

@@ -1,5 +1,9 @@
 use Rattle.std.proofs.Common.{◌≡◌, ◌++◌, ℕ, List, refl, sym, ap, subst, ◌∙◌}
+use Rattle.std.specs.Prelude.{Err}
+use Rattle.mail_base.specs.declared.frame.FeedFault.{FeedFault}
 use Rattle.mail_base.specs.declared.frame.FeedFault.TheVariants as faults
+use Rattle.mail_base.proofs.Faults.{sure_fault}
+use Rattle.mail_base.proofs.Frames.{one_first_fault}
 use Rattle.literal_feed.specs.Stream.{Stream}
 use Rattle.literal_feed.specs.Streams.{Reads, Holds}
 use Rattle.literal_feed.proofs.Lines.{known}
@@ -13,7 +17,11 @@ pub returns-in-Some-clause-first : goal.returns-in-Some-clause-first
 returns-in-Some-clause-first c = λ other sound. absurd (never (stream_fault c.args.self.now c.self.inside.at c.self.inside.bytes c.self.inside.progress c.self.view_is c.self.invariant c.in-Some.fault c.in-Some.is) (λ bad. sound c.in-Some.fault bad))
 
 pub returns-in-Some-clause-again : goal.returns-in-Some-clause-again
-returns-in-Some-clause-again c = λ fault first. (refl, (λ e. not_memory c.args.self.now.at c.args.self.now.bytes c.in-Some.fault (stream_fault c.args.self.now c.self.inside.at c.self.inside.bytes c.self.inside.progress c.self.view_is c.self.invariant c.in-Some.fault c.in-Some.is) (err_of c.in-Some.fault faults.Memory e)), refl)
+returns-in-Some-clause-again c = λ fault first. (
+  ap (λ (f : FeedFault). Err f) (sure_fault c.in-Some.fault fault (stream_fault c.args.self.now c.self.inside.at c.self.inside.bytes c.self.inside.progress c.self.view_is c.self.invariant c.in-Some.fault c.in-Some.is)
+      (λ bad. one_first_fault c.args.self.now.at c.args.self.now.bytes c.in-Some.fault fault bad first)),
+  refl,
+)
 
 pub returns-in-Some-clause-kept : goal.returns-in-Some-clause-kept
 returns-in-Some-clause-kept c = λ e. absurd (not_memory c.args.self.now.at c.args.self.now.bytes c.in-Some.fault (stream_fault c.args.self.now c.self.inside.at c.self.inside.bytes c.self.inside.progress c.self.view_is c.self.invariant c.in-Some.fault c.in-Some.is) (err_of c.in-Some.fault faults.Memory e))

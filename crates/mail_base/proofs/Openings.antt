@@ -1,14 +1,16 @@
--- A line goes on in one way.
+-- A line opens its literals in one way (RFC 9051, sections 2.2 and 4.3).
 use Rattle.std.proofs.Common.{◌≡◌, ◌≢◌, ℕ, ◌+◌, ◌<◌, ◌≤◌, List, [], ◌∷◌, ◌++◌, length, take, drop, refl, sym, ◌∙◌, ap, subst, arith, append_assoc, length-append}
 use Rattle.std.proofs.Math.Seq.{take-append_seam, drop-append_seam}
 use Rattle.std.proofs.lemmas.List.{same_from_push}
-use Rattle.std.specs.List.{AllByRecursion}
+use Rattle.std.specs.List.{AllByRecursion, flat_map}
 use Rattle.std.specs.Str.Parse.{digits_value}
 use Rattle.mail_base.specs.Frames.{NoLf, GoesOn, header, Opening, IsOpening, opening_text, part_of, counted, HasBareLf, HasLargeLiteral, HasLongLine}
-use Rattle.literal_feed.specs.Parts.{IsLastPart}
-use Rattle.literal_feed.proofs.Lf.{no_lf-append, no_lf-here, no_lf-header, one_lf}
-use Rattle.literal_feed.proofs.Headers.{one_header}
-use Rattle.literal_feed.proofs.Lines.{spelled}
+use Rattle.mail_base.proofs.Lf.{no_lf-append, no_lf-here, no_lf-header, one_lf}
+use Rattle.mail_base.proofs.Headers.{one_header}
+
+-- the bytes of the openings
+abbrev pub spelled : List Opening → List ℕ
+spelled openings = flat_map opening_text openings
 
 lf_plain : NoLf (13 ∷ [])
 lf_plain = ((λ e. absurd {A = ⊥} (cc e)), tt)
@@ -82,9 +84,6 @@ opening_crlf used tail o x is short e = record {
 
 pub large_crlf : (used : ℕ) (tail front digits rest : List ℕ) → HasLargeLiteral used tail front digits rest → Crlf used tail (front ++ header digits) rest
 large_crlf used tail front digits rest is = record { text = is.text; plain = no_lf-append front (header digits) is.plain (no_lf-header digits is.number.1); short = is.short }
-
-pub last_crlf : (used : ℕ) (tail last rest : List ℕ) → IsLastPart used tail last rest → Crlf used tail last rest
-last_crlf used tail last rest is = record { text = is.text; plain = is.plain; short = is.short }
 
 -- two openings in front are one
 pub peel : (o p : Opening) (x y : List ℕ) → IsOpening o → IsOpening p → opening_text o ++ x ≡ opening_text p ++ y → (o ≡ p) × (x ≡ y)
