@@ -2,7 +2,9 @@
 
 ghost use Rattle.std.specs.Prelude.{◌≡◌, ◌≢◌, ◌+◌, ◌⊎◌, ◌++◌, [], length, Some, None, OnOk, OnErr, IfOk, IfErr, IfSome, IfNone, IsErrOf, Err};
 ghost use Rattle.mail_base.specs.Frames.{FirstFault, IsNext, NoWhole, told};
-ghost use Rattle.literal_feed.specs.Stream.{Stream, NoFault};
+ghost use Rattle.literal_feed.specs.Stream.{Stream, NoFault, StandsFor};
+ghost use Rattle.mail_base.specs.declared.frame.Frame.{Frame};
+ghost use Rattle.std.specs.Prelude.{List, ℕ, option_to_list};
 
 use crate::line::frame_of;
 use crate::part::told;
@@ -38,7 +40,8 @@ impl Model for Feed {
 impl Feed {
     /// Nothing came yet. It takes no memory.
     pub fn new(alloc: Global) -> Feed
-        ensures { result ≡ record { at = 0; bytes = [] } }
+        ensures value { result ≡ record { at = 0; bytes = [] } }
+        ensures stands { StandsFor [] [] result }
     {
         Feed {
             alloc,
@@ -60,6 +63,10 @@ impl Feed {
             → self.new ≡ record { at = self.old.at; bytes = self.old.bytes ++ piece.now }) }
         ensures again { (fault : FeedFault) → FirstFault self.old.at self.old.bytes fault → (result ≡ Err fault) × (self.new ≡ self.old) }
         ensures kept { IsErrOf result FeedFault.Memory → (self.new ≡ self.old) × NoFault self.old }
+
+        // However the stream is cut: of all the bytes that came, the same frames were taken, and the rest is here.
+        ensures stands { (all : List ℕ) (taken : List Frame) → StandsFor all taken self.old
+            → OnOk result (StandsFor (all ++ piece.now) taken self.new) }
     {
         if let Some(fault) = self.progress.fault {
             return Err(fault);
@@ -78,6 +85,10 @@ impl Feed {
             × (self.new.at ≡ told (self.old.at + (length frame.bytes + 2))))) }
         ensures none { IfOk result (λ found. IfNone found (NoWhole self.old.bytes × (self.new ≡ self.old))) }
         ensures kept { OnErr result ((self.new ≡ self.old) × (NoWhole self.old.bytes → ⊥)) }
+
+        // Of all the bytes that came, this frame was taken behind the others.
+        ensures stands { (all : List ℕ) (taken : List Frame) → StandsFor all taken self.old
+            → IfOk result (λ found. StandsFor all (taken ++ option_to_list found) self.new) }
     {
         if self.progress.whole == 0 {
             return Ok(None);

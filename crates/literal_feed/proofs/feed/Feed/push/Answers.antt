@@ -6,6 +6,8 @@ use Rattle.mail_base.proofs.Faults.{sure_fault}
 use Rattle.mail_base.proofs.Frames.{one_first_fault}
 use Rattle.literal_feed.specs.Stream.{Stream}
 use Rattle.literal_feed.specs.Streams.{Reads, Holds}
+use Rattle.std.proofs.lemmas.Result.{on_ok_weaker}
+use Rattle.literal_feed.proofs.Cuts.{piece_came}
 use Rattle.literal_feed.proofs.Lines.{known}
 use Rattle.literal_feed.proofs.Streams.{never, none_of, on_ok, if_err, stream_fault, stream_open, not_memory, holds_more, err_of, other_than}
 use Rattle.literal_feed.proofs.feed.Feed.push.Goals as goal
@@ -79,3 +81,7 @@ returns-clause-kept c =
     let is : ∥ Holds c.self.inside.at c.extend.new.self c.read_lines-self-inside.result ∥₁ = subst (λ (b : List ℕ). ∥ Holds c.self.inside.at b c.read_lines-self-inside.result ∥₁) c.as_slice.ensures c.read_lines-self-inside.ensures in
     λ e. absurd (other_than c.verdict.result _ faults.Memory c.verdict.ensures.some
     (λ some. not_memory c.self.inside.at c.extend.new.self faults.Memory (stream_fault (record { at = c.self.inside.at; bytes = c.extend.new.self }) c.self.inside.at c.extend.new.self c.read_lines-self-inside.result refl is faults.Memory some) refl) e)
+
+-- what stood for all that came stands for all that came and the piece
+pub returns-clause-stands : goal.returns-clause-stands
+returns-clause-stands c = λ all taken stands. on_ok_weaker c.verdict.result (λ both. piece_came all c.args.piece.now taken c.args.self.now _ stands both.0) (returns-clause-done c)

@@ -1,9 +1,10 @@
-use Rattle.std.proofs.Common.{◌≡◌, ◌<◌, ◌≤◌, ◌+◌, ◌-◌, ℕ, List, length, drop, refl, sym, ap, subst, ◌∙◌, arith, Option, Some}
+use Rattle.std.proofs.Common.{◌≡◌, ◌<◌, ◌≤◌, ◌+◌, ◌-◌, ℕ, List, length, drop, refl, sym, ap, subst, ◌∙◌, arith, rules, Option, Some}
 use Rattle.std.specs.Prelude.{IfSome}
 use Rattle.mail_base.specs.Frames.{IsNext, told}
 use Rattle.mail_base.specs.declared.frame.Frame.{Frame}
 use Rattle.literal_feed.specs.declared.progress.Progress.{Progress}
 use Rattle.literal_feed.specs.Streams.{Holds}
+use Rattle.literal_feed.proofs.Cuts.{frame_taken}
 use Rattle.literal_feed.proofs.Lines.{known}
 use Rattle.literal_feed.proofs.Streams.{sure_le, on_err, stream_whole, stream_some, holds_taken}
 use Rattle.literal_feed.proofs.feed.Feed.take.Goals as goal
@@ -44,3 +45,11 @@ invariant_of-self c =
     subst (λ (b : List ℕ). Holds c.told-self-inside.result b new) bytes
     (subst (λ (k : ℕ). Holds k (drop (length frame.bytes + 2) c.self.inside.bytes) new) at
     (holds_taken c.self.inside.at c.self.inside.bytes old new frame some h next (ap (λ (k : ℕ). old.whole - k) count) refl refl).1))
+
+-- the frame that was taken
+pub returns-clause-frame : goal.returns-clause-frame
+returns-clause-frame c = search rules
+
+-- the frame was taken behind the others
+pub returns-clause-stands : goal.returns-clause-stands
+returns-clause-stands c = λ all taken stands. let next = returns-clause-frame c in frame_taken all taken c.args.self.now _ c.in-Some.frame stands next.0 next.1
