@@ -122,13 +122,13 @@ fn each_changed_byte_breaks_the_record_or_names_another_action(
 ) -> Result<(), Fail> {
     let alloc = rt.alloc();
     // A changed byte of the name or of the UID names another message; any other one breaks the record.
-    let mut accepted = 0;
+    let mut accepted: u32 = 0;
     for at in 0..SEEN.len() {
         let mut bytes = SEEN;
         bytes[at] ^= 2;
         let (status, _, _) = refusal(alloc, &bytes)?;
         if status == Status::Done {
-            accepted += 1;
+            accepted = accepted.saturating_add(1);
         }
     }
     assert_eq!(rt; accepted, 9);
