@@ -11,5 +11,7 @@ mod progress;
 mod slow;
 #[cfg(test)]
 mod tests;
+#[cfg(test)]
+mod transcripts;
 
 pub use feed::Feed;

@@ -82,7 +82,7 @@ fn line(stream: &[u8], from: usize) -> Goes {
 }
 
 // Whether a feed that is given the stream in two pieces tells what the slow reading does.
-fn agrees(rt: &HostRuntime, stream: &[u8], cut: usize) -> bool {
+pub(crate) fn agrees(rt: &HostRuntime, stream: &[u8], cut: usize) -> bool {
     let Some((first, second)) = stream.split_at_checked(cut) else {
         return false;
     };

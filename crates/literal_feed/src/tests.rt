@@ -6,7 +6,7 @@ use std::test::Fail;
 
 // A frame that is wanted: its bytes, its place, and how many literals it has.
 #[derive(Clone, Copy)]
-struct Wanted<'a> {
+pub(crate) struct Wanted<'a> {
     bytes: &'a [u8],
     at: u64,
     literals: usize,
@@ -87,7 +87,7 @@ fn gives_byte_by_byte(
 }
 
 // The same cut at every place, and byte by byte.
-fn gives_however_cut(
+pub(crate) fn gives_however_cut(
     rt: &HostRuntime,
     stream: &[u8],
     wanted: &[Wanted],
@@ -101,7 +101,7 @@ fn gives_however_cut(
     gives(rt, stream, stream.len(), wanted, fault) && gives_byte_by_byte(rt, stream, wanted, fault)
 }
 
-fn frame(bytes: &[u8], at: u64, literals: usize) -> Wanted {
+pub(crate) fn frame(bytes: &[u8], at: u64, literals: usize) -> Wanted {
     Wanted {
         bytes,
         at,
@@ -225,6 +225,107 @@ fn a_line_ends_at_its_limit(rt: HostRuntime) -> Result<(), Fail> {
     assert_eq!(rt;
         feed.push(b"\n"),
         Err(FeedFault::LineTooLong { at: 2_097_154 })
+    );
+    Ok(())
+}
+
+#[test]
+fn what_follows_a_literal_belongs_to_its_line(rt: HostRuntime) -> Result<(), Fail> {
+    let stream =
+        b"* 2 FETCH (BODY[HEADER.FIELDS (MESSAGE-ID)] {22}\r\nMessage-ID: <a1@x>\r\n\r\n FLAGS (\\Seen) UID 42)\r\n";
+    let text =
+        b"* 2 FETCH (BODY[HEADER.FIELDS (MESSAGE-ID)] {22}\r\nMessage-ID: <a1@x>\r\n\r\n FLAGS (\\Seen) UID 42)";
+    assert!(rt; gives_however_cut(&rt, stream, &[frame(text, 0, 1)], None));
+    for cut in 0..=stream.len() {
+        assert!(rt; has_literal(&rt, stream, cut, Span { low: 50, high: 72 }));
+    }
+    Ok(())
+}
+
+// Whether the first frame of a stream, cut at this place, has one literal, with its octets there.
+fn has_literal(rt: &HostRuntime, stream: &[u8], cut: usize, octets: Span) -> bool {
+    let mut feed = Feed::new(rt.alloc());
+    let Some((first, second)) = stream.split_at_checked(cut) else {
+        return false;
+    };
+    if feed.push(first).is_err() || feed.push(second).is_err() {
+        return false;
+    }
+    let Ok(Some(frame)) = feed.take() else {
+        return false;
+    };
+    frame.literals.as_slice() == [octets].as_slice()
+}
+
+#[test]
+fn a_literals_number_is_told_up_to_its_limit(rt: HostRuntime) -> Result<(), Fail> {
+    for stream in [
+        b"{9223372036854775807}\r\n".as_slice(),
+        b"{9223372036854775808}\r\n",
+    ] {
+        assert!(rt;
+            gives_however_cut(
+                &rt,
+                stream,
+                &[],
+                Some(FeedFault::LiteralTooLarge {
+                    at: 0,
+                    asked: 9_223_372_036_854_775_807
+                })
+            )
+        );
+    }
+    Ok(())
+}
+
+#[test]
+fn the_largest_literal_comes_whole(rt: HostRuntime) -> Result<(), Fail> {
+    let octets = vec![in rt.alloc(); b'\n'; 33_554_432]?;
+    let mut feed = Feed::new(rt.alloc());
+    assert_eq!(rt; feed.push(b"{33554432}\r\n"), Ok(()));
+    assert_eq!(rt; feed.push(&octets), Ok(()));
+    assert!(rt; matches!(feed.take(), Ok(None)));
+    assert_eq!(rt; feed.push(b")\r\n"), Ok(()));
+    let Ok(Some(frame)) = feed.take() else {
+        assert!(rt; false);
+        return Ok(());
+    };
+    assert_eq!(rt; frame.bytes.as_slice().len(), 33_554_445);
+    assert!(rt;
+        frame.literals.as_slice()
+            == [Span {
+                low: 12,
+                high: 33_554_444
+            }]
+            .as_slice()
+    );
+    Ok(())
+}
+
+#[test]
+fn one_byte_more_than_a_line_may_have_is_told(rt: HostRuntime) -> Result<(), Fail> {
+    let long = vec![in rt.alloc(); b'a'; 1_048_577]?;
+    let mut feed = Feed::new(rt.alloc());
+    assert_eq!(rt;
+        feed.push(&long),
+        Err(FeedFault::LineTooLong { at: 1_048_576 })
+    );
+    Ok(())
+}
+
+#[test]
+fn all_parts_of_a_line_count_to_its_limit(rt: HostRuntime) -> Result<(), Fail> {
+    // The header counts, its CRLF and the two octets don't.
+    let full = vec![in rt.alloc(); b'a'; 1_048_573]?;
+    let mut feed = Feed::new(rt.alloc());
+    assert_eq!(rt; feed.push(b"{2}\r\nxy"), Ok(()));
+    assert_eq!(rt; feed.push(&full), Ok(()));
+    assert_eq!(rt; feed.push(b"\r\n{2}\r\nxy"), Ok(()));
+    assert!(rt; matches!(feed.take(), Ok(Some(_))));
+    assert_eq!(rt; feed.push(&full), Ok(()));
+    assert_eq!(rt;
+        feed.push(b"a"),
+        Err(FeedFault::LineTooLong { at: 2_097_162 })
     );
     Ok(())
 }
