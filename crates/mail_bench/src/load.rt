@@ -1,0 +1,100 @@
+//! What the words of the program ask for: which stream, and how long (RFC 9051, sections 2.2 and 4.3).
+
+ghost use Rattle.std.specs.Prelude.{◌≡◌, ◌<◌, ◌≤◌, length, IfOk};
+
+use mail_base::read_u32;
+use std::alloc::{AllocError, Global};
+
+/// Which stream is pushed.
+#[derive(Clone, Copy, Debug, PartialEq, Eq)]
+pub enum Case {
+    /// Short lines, in pieces of 64 KiB.
+    Lines,
+    /// Lines with a literal of 1,000,000 octets each, in pieces of 64 KiB.
+    Literals,
+    /// Short lines, byte by byte.
+    Bytes,
+}
+
+impl Case {
+    /// The word that names the case.
+    pub fn name(&self) -> &'static str {
+        match *self {
+            Case::Lines => "lines",
+            Case::Literals => "literals",
+            Case::Bytes => "bytes",
+        }
+    }
+
+    /// How many bytes are pushed at once.
+    pub fn piece(&self) -> usize
+        ensures some { 0 < result }
+        ensures at_most { result ≤ 65536 }
+    {
+        match *self {
+            Case::Lines | Case::Literals => 65536,
+            Case::Bytes => 1,
+        }
+    }
+
+    // How many bytes one of the words' units has.
+    fn unit(&self) -> u64
+        ensures { result ≤ 1000000 }
+    {
+        match *self {
+            Case::Lines | Case::Literals => 1_000_000,
+            Case::Bytes => 1_000,
+        }
+    }
+}
+
+/// A stream and its size in bytes.
+#[derive(Clone, Copy, Debug, PartialEq, Eq)]
+pub struct Load {
+    pub case: Case,
+    pub size: u64,
+}
+
+/// What `feed CASE NUMBER` asks for. The number counts 1,000,000 bytes each, or 1,000 for the case `bytes`.
+pub fn load_of(words: &[String]) -> Option<Load> {
+    let [feed, case, number] = words else {
+        return None;
+    };
+    if feed.as_str() != "feed" {
+        return None;
+    }
+    let case = case_of(case.as_str())?;
+    let number = read_u32(number.as_bytes()).ok()?;
+    Some(Load {
+        case,
+        size: u64::from(number) * case.unit(),
+    })
+}
+
+// The case that a word names.
+fn case_of(word: &str) -> Option<Case> {
+    match word {
+        "lines" => Some(Case::Lines),
+        "literals" => Some(Case::Literals),
+        "bytes" => Some(Case::Bytes),
+        _ => None,
+    }
+}
+
+/// The line with its CRLF that the stream of a case repeats.
+pub fn text_of(alloc: Global, case: Case) -> Result<Vec<u8>, AllocError>
+    ensures { IfOk result (λ text. 0 < length text.items) }
+{
+    let mut text = Vec::new(alloc);
+    match case {
+        Case::Lines | Case::Bytes => {
+            text.extend_from_slice(b"* 1 FETCH (UID 1 FLAGS (\\Seen) MODSEQ (715))\r\n")?;
+        }
+        Case::Literals => {
+            text.extend_from_slice(b"* 1 FETCH (UID 1 BODY[] {1000000}\r\n")?;
+            text.extend_from_slice(&vec![in alloc; b'x'; 1_000_000]?)?;
+            text.extend_from_slice(b")\r\n")?;
+        }
+    }
+    Ok(text)
+}
