@@ -22,7 +22,8 @@ pub struct Meter {
 impl Meter {
     /// Nothing came yet.
     pub fn new(alloc: Global) -> Meter
-        ensures { Metered [] result }
+        ensures counted { Metered [] result }
+        ensures taken { NoWhole result.feed.bytes }
     {
         Meter {
             feed: Feed::new(alloc),
@@ -67,9 +68,10 @@ impl Meter {
     }
 }
 
-/// Pushes a stream of so many bytes, piece by piece, and counts it.
+/// Pushes a stream of so many bytes, piece by piece, and takes and counts every frame that is whole.
 pub fn measure(alloc: Global, block: &Block, size: u64) -> Result<Meter, FeedFault>
-    ensures { IfOk result (λ meter. MeteredSize size meter) }
+    ensures counted { IfOk result (λ meter. MeteredSize size meter) }
+    ensures taken { IfOk result (λ meter. NoWhole meter.feed.bytes) }
 {
     let mut meter = Meter::new(alloc);
     let mut left = size;
