@@ -5,6 +5,10 @@ use Rattle.std.specs.Prelude.{ℕ, List, [], ◌∷◌, ◌++◌, codes, decimal
 abbrev pub numbered : List ℕ → ℕ → List ℕ
 numbered front number = front ++ decimal number ++ 10 ∷ []
 
+-- the journal is set up
+abbrev pub ready : List ℕ
+ready = codes "ready" ++ 10 ∷ []
+
 -- the action is on the disk, as the journal's action of this number
 abbrev pub accepted : ℕ → List ℕ
 accepted number = numbered (codes "accepted ") number
@@ -20,6 +24,22 @@ error_disk = codes "error disk" ++ 10 ∷ []
 -- memory is wanting
 abbrev pub error_memory : List ℕ
 error_memory = codes "error memory" ++ 10 ∷ []
+
+-- there is no journal
+abbrev pub journal_none : List ℕ
+journal_none = codes "error journal none" ++ 10 ∷ []
+
+-- a file isn't a journal's, or is one of another version
+abbrev pub journal_header : List ℕ
+journal_header = codes "error journal header" ++ 10 ∷ []
+
+-- both files are a journal's, and neither is the newer one
+abbrev pub journal_generations : List ℕ
+journal_generations = codes "error journal generations" ++ 10 ∷ []
+
+-- a journal is set up already
+abbrev pub journal_exists : List ℕ
+journal_exists = codes "error journal exists" ++ 10 ∷ []
 
 -- the journal's record at this place isn't whole, or isn't one
 abbrev pub journal_record : ℕ → List ℕ

@@ -1,6 +1,9 @@
 //! Names of mailboxes (RFC 9051, section 5.1), as far as this client takes them.
 
 ghost use Rattle.std.specs.Prelude.{◌≡◌, ◌<◌, ◌≤◌, ◌↔◌, ℕ, [], length, IsTrue, IsNone, IfSome, All, IsOk, IfOk, IsErrOf};
+ghost use Rattle.std.specs.Cmp.{partial_equiv_from_equiv};
+ghost use Rattle.std.specs.Cmp.Lexicographic.{nat_list_eq_equiv};
+ghost use Rattle.std.specs.Str.{bytes_eq};
 ghost use Rattle.mail_base.specs.BoxName.{IsNameByte, IsBoxText, IsBoxName, KeptAs, IsFirstBad};
 
 use arrayvec::ArrayVec;
@@ -116,4 +119,22 @@ impl BoxName {
     {
         BoxName::hold(self.as_bytes())
     }
+}
+
+/// Names are one where their bytes are; INBOX is kept in capitals, so its case doesn't count.
+impl PartialEq for BoxName {
+    ghost eq = { bytes_eq };
+
+    ghost laws = { partial_equiv_from_equiv nat_list_eq_equiv };
+
+    fn eq(&self, other: &BoxName) -> bool
+        ensures value { result ≡ bytes_eq self.now other.now }
+        ensures same { IsTrue result ↔ (self.now ≡ other.now) }
+    {
+        self.as_bytes() == other.as_bytes()
+    }
+}
+
+impl Eq for BoxName {
+    ghost laws = { nat_list_eq_equiv };
 }

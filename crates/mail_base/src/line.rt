@@ -1,7 +1,8 @@
 //! The lines that the program prints.
 
 ghost use Rattle.std.specs.Prelude.{◌≡◌, ◌++◌, ◌≤◌, ◌+◌, length, decimal, codes};
-ghost use Rattle.mail_base.specs.Lines.{numbered, accepted, error_words, error_disk, error_memory, journal_record, limit_journal};
+ghost use Rattle.mail_base.specs.Lines.{numbered, ready, accepted, error_words, error_disk, error_memory};
+ghost use Rattle.mail_base.specs.Lines.{journal_none, journal_header, journal_generations, journal_record, journal_exists, limit_journal};
 
 use arrayvec::ArrayVec;
 use itoa::Buffer;
@@ -52,6 +53,13 @@ impl Line {
         &self.text
     }
 
+    /// `ready`: the journal is set up.
+    pub fn ready() -> Line
+        ensures { result ≡ ready }
+    {
+        Line::plain(b"ready\n")
+    }
+
     /// `accepted n`: the action is on the disk, as the journal's n-th.
     pub fn accepted(number: u64) -> Line
         ensures { result ≡ accepted number }
@@ -78,6 +86,34 @@ impl Line {
         ensures { result ≡ error_memory }
     {
         Line::plain(b"error memory\n")
+    }
+
+    /// `error journal none`: there is no journal.
+    pub fn journal_none() -> Line
+        ensures { result ≡ journal_none }
+    {
+        Line::plain(b"error journal none\n")
+    }
+
+    /// `error journal header`: a file isn't a journal's, or is one of another version.
+    pub fn journal_header() -> Line
+        ensures { result ≡ journal_header }
+    {
+        Line::plain(b"error journal header\n")
+    }
+
+    /// `error journal generations`: both files are a journal's, and neither is the newer one.
+    pub fn journal_generations() -> Line
+        ensures { result ≡ journal_generations }
+    {
+        Line::plain(b"error journal generations\n")
+    }
+
+    /// `error journal exists`: a journal is set up already.
+    pub fn journal_exists() -> Line
+        ensures { result ≡ journal_exists }
+    {
+        Line::plain(b"error journal exists\n")
     }
 
     /// `error journal record AT`: the journal's record at this place isn't whole, or isn't one.

@@ -1,6 +1,6 @@
 //! A list of values on the heap.
 
-ghost use Rattle.std.specs.Prelude.{◌≡◌, [], ◌∷◌, ◌++◌, OnOk, OnErr, length};
+ghost use Rattle.std.specs.Prelude.{◌≡◌, ◌<◌, [], ◌∷◌, ◌++◌, OnOk, OnErr, length, slice_set};
 
 use std::alloc::{AllocError, Global};
 use std::marker::Model;
@@ -49,6 +49,13 @@ impl<T> List<T> {
     {
         &self.content
     }
+
+    /// The items, given up to change them.
+    pub fn into_vec(self) -> Vec<T>
+        ensures { result.items ≡ self }
+    {
+        self.content
+    }
 }
 
 impl<T: Drop> List<T> {
@@ -59,5 +66,13 @@ impl<T: Drop> List<T> {
     {
         self.content.push(item)?;
         Ok(())
+    }
+
+    /// Puts an item in place of the one there, counted from 0. It takes no memory.
+    pub fn put(&mut self, at: usize, item: T)
+        requires { at < length self.old }
+        ensures { self.new ≡ slice_set self.old at item }
+    {
+        self.content[at] = item;
     }
 }

@@ -72,6 +72,14 @@ fn a_name_is_kept(rt: HostRuntime) -> Result<(), Fail> {
 }
 
 #[test]
+fn names_are_compared(rt: HostRuntime) -> Result<(), Fail> {
+    assert!(rt; name_of(b"inbox")? == name_of(b"InBoX")?);
+    assert!(rt; name_of(b"Sent")? != name_of(b"sent")?);
+    assert!(rt; name_of(b"Sent")? != name_of(b"Sent 2")?);
+    Ok(())
+}
+
+#[test]
 fn an_account_holds_no_nul(rt: HostRuntime) -> Result<(), Fail> {
     let alloc = rt.alloc();
     let account = Account::new(alloc, "ann", "pw")?;
@@ -100,6 +108,38 @@ fn lines_are_printed(rt: HostRuntime) -> Result<(), Fail> {
         full.as_bytes(),
         b"error limit journal 18446744073709551615\n".as_slice()
     );
+    Ok(())
+}
+
+#[test]
+fn the_lines_of_a_journal_are_printed(rt: HostRuntime) -> Result<(), Fail> {
+    assert_eq!(rt; Line::ready().as_bytes(), b"ready\n".as_slice());
+    let none = Line::journal_none();
+    assert_eq!(rt; none.as_bytes(), b"error journal none\n".as_slice());
+    let header = Line::journal_header();
+    assert_eq!(rt; header.as_bytes(), b"error journal header\n".as_slice());
+    let generations = Line::journal_generations();
+    assert_eq!(rt;
+        generations.as_bytes(),
+        b"error journal generations\n".as_slice()
+    );
+    let exists = Line::journal_exists();
+    assert_eq!(rt; exists.as_bytes(), b"error journal exists\n".as_slice());
+    Ok(())
+}
+
+#[test]
+fn items_are_replaced_and_words_are_copied(rt: HostRuntime) -> Result<(), Fail> {
+    let mut list = List::new(rt.alloc());
+    list.push(7)?;
+    list.push(8)?;
+    list.put(1, 9);
+    assert_eq!(rt; list.as_slice(), [7, 9].as_slice());
+    assert_eq!(rt; list.into_vec().pop(), Some(9));
+    let mut words = Words::new(rt.alloc());
+    words.push(Bytes::of(b"IDLE".to_vec(rt.alloc())?))?;
+    let copy = words.copy(rt.alloc())?;
+    assert_eq!(rt; (copy.as_slice().len(), copy.has(b"IDLE")), (1, true));
     Ok(())
 }
 

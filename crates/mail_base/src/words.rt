@@ -1,6 +1,6 @@
 //! Words in order, as a server tells its capabilities (RFC 9051, section 7.2.2).
 
-ghost use Rattle.std.specs.Prelude.{◌≡◌, ◌↔◌, [], ◌∷◌, ◌++◌, IsTrue, Any, map, OnOk, OnErr};
+ghost use Rattle.std.specs.Prelude.{◌≡◌, ◌↔◌, [], ◌∷◌, ◌++◌, IsTrue, Any, map, IfOk, OnOk, OnErr};
 ghost use Rattle.std.specs.Char.{to_ascii_lowercase};
 
 use crate::Bytes;
@@ -52,6 +52,17 @@ impl Words {
     {
         self.content.push(word)?;
         Ok(())
+    }
+
+    /// The same words once more, or want of memory.
+    pub fn copy(&self, alloc: Global) -> Result<Words, AllocError>
+        ensures { IfOk result (λ words. words ≡ self.now) }
+    {
+        let mut content = Vec::new(alloc);
+        for word in &self.content {
+            content.push(word.copy()?)?;
+        }
+        Ok(Words { content })
     }
 
     /// Whether this is one of the words. Case doesn't count in ASCII letters.
