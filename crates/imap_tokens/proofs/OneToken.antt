@@ -1,7 +1,7 @@
 -- A token is a quoted string or one of the table, and only one token begins at a place.
-use Rattle.std.proofs.Common.{◌≡◌, inl, inr, ℕ, ◌-◌, ◌<◌, List, ◌∷◌, ◌++◌, length, take, drop, Option, Some, None, refl, sym, ◌∙◌, ap, subst, arith, length-drop}
+use Rattle.std.proofs.Common.{◌≡◌, inl, inr, ℕ, ◌-◌, ◌<◌, List, [], ◌∷◌, ◌++◌, length, take, drop, Option, Some, None, refl, sym, ◌∙◌, ap, subst, arith, length-drop}
 use Rattle.std.proofs.Math.Seq.{take-length}
-use Rattle.std.specs.Prelude.{IfSome, IfNone, Result, Ok, Err, IsErrOf}
+use Rattle.std.specs.Prelude.{◌==◌, false, option_map, IfSome, IfNone, Result, Ok, Err, IsErrOf}
 use Rattle.mail_base.specs.declared.span.Span.{Span}
 use Rattle.imap_tokens.specs.declared.token.TokenKind.{TokenKind}
 use Rattle.imap_tokens.specs.declared.token.TokenKind.TheVariants as kinds
@@ -10,6 +10,7 @@ use Rattle.imap_tokens.specs.declared.token.TokenFault.{TokenFault}
 use Rattle.imap_tokens.specs.declared.token.TokenFault.TheVariants as fault
 use Rattle.imap_tokens.specs.Reading.{Reading, HasNoNext}
 use Rattle.imap_tokens.specs.Tokens.{token_at, IsToken, NoToken}
+use Rattle.imap_tokens.specs.Scan.{quoted_size, token_of}
 use Rattle.imap_tokens.specs.Quoted.{BeginsQuoted, NoQuoted, inner_text}
 use Rattle.imap_tokens.proofs.Quoted.{one_quoted}
 
@@ -91,3 +92,26 @@ module _ (s : Reading) (text : List ℕ) (literals : List Span) (a : ℕ) (view 
     (λ e. absurd (no_fault o (fault.BadByte at) e)),
     (λ w. absurd (some_token literals a (drop a text) kind size (subst (λ (r : List ℕ). IsToken literals a r kind size) (all_behind text a) is) w.2)),
   )
+
+-- no `"` stands in front
+abbrev pub NoQuoteFirst : List ℕ → Type 0
+NoQuoteFirst [] = Unit {0}
+NoQuoteFirst (b ∷ more) = (b == 34) ≡ false
+
+-- what begins with `"` is a quoted string or nothing
+pub quoted_is : (literals : List Span) (at : ℕ) (rest more : List ℕ) (r : Option ℕ) → rest ≡ 34 ∷ more → r ≡ quoted_size more → option_map (λ size. (kinds.Quoted, size)) r ≡ token_of literals at rest
+unfolding token_of
+quoted_is literals at rest more r is e = ap (option_map (λ size. (kinds.Quoted, size))) e ∙ ap (token_of literals at) (sym is)
+
+-- and what doesn't is a token of the table
+pub other_is : (literals : List Span) (at : ℕ) (rest : List ℕ) → NoQuoteFirst rest → token_at literals at rest ≡ token_of literals at rest
+unfolding token_of
+other_is literals at [] other = refl
+other_is literals at (b ∷ more) other = rw other refl
+
+pub other_first : (rest more : List ℕ) (b : ℕ) → rest ≡ b ∷ more → (b == 34) ≡ false → NoQuoteFirst rest
+other_first rest more b is other = subst (λ (t : List ℕ). NoQuoteFirst t) (sym is) other
+
+pub none_first : (rest : List ℕ) → length rest ≡ 0 → NoQuoteFirst rest
+none_first [] e = tt
+none_first (b ∷ more) e = absurd (omega arith)

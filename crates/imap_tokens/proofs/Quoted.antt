@@ -3,23 +3,11 @@ use Rattle.std.proofs.Common.{◌≡◌, ◌≢◌, ◌⊎◌, inl, inr, ℕ, �
 use Rattle.std.proofs.Math.Seq.{drop-length}
 use Rattle.std.proofs.lemmas.Bool.{cases_Bool}
 use Rattle.std.proofs.lemmas.Bool.Decides.{nat_tests}
-use Rattle.std.specs.Prelude.{◌==◌, if◌then◌else◌}
+use Rattle.std.specs.Prelude.{◌==◌}
 use Rattle.std.specs.List.{AllByRecursion}
 use Rattle.imap_tokens.specs.Tokens.{is_escaped, is_forbidden}
+use Rattle.imap_tokens.specs.Scan.{quoted_from, quoted_size}
 use Rattle.imap_tokens.specs.Quoted.{QuotedChar, Plain, Escaped, IsQuotedChar, inner_text, BeginsQuoted, NoQuoted}
-
--- the bytes of a quoted string, of which so many stand before this text, behind a backslash or not
-unfoldable pub quoted_from : Bool → ℕ → List ℕ → Option ℕ
-quoted_from escaped n [] = None
-quoted_from true n (b ∷ more) = if is_escaped b then quoted_from false (n + 1) more else None
-quoted_from false n (b ∷ more) =
-    if b == 34 then Some (n + 1)
-    else (if is_forbidden b then None
-    else quoted_from (b == 92) (n + 1) more)
-
--- the quoted string whose first `"` stands in front of this text
-abbrev pub quoted_size : List ℕ → Option ℕ
-quoted_size text = quoted_from false 1 text
 
 -- One byte more.
 step_escaped : (b n : ℕ) (more : List ℕ) → is_escaped b ≡ true → quoted_from true n (b ∷ more) ≡ quoted_from false (n + 1) more

@@ -1,3 +1,4 @@
 pub mod Quoted
 pub mod Reading
 pub mod Tokens
+pub mod Scan

@@ -8,4 +8,4 @@ mod tokens;
 mod word;
 
 pub use token::{Token, TokenFault, TokenKind};
-pub use tokens::Tokens;
+pub use tokens::{Tokens, token_at};

@@ -2,6 +2,7 @@
 
 ghost use Rattle.std.specs.Prelude.{◌≡◌, ◌<◌, ◌≤◌, ◌+◌, ◌^◌, ◌↔◌, ℕ, drop, length, IfOk, IfNone, IfSome, IsErrOf, OnErr, None};
 ghost use Rattle.imap_tokens.specs.Reading.{Reading, Reads, HasNoNext};
+ghost use Rattle.imap_tokens.specs.Scan.{token_of};
 ghost use Rattle.imap_tokens.specs.Tokens.{token_at, IsToken, NoToken, literal_size, word_kind, is_word_byte};
 
 use crate::word::{header_size, is_word_byte, quoted_size, space_len, word_kind, word_len};
@@ -70,8 +71,10 @@ impl<'a> Tokens<'a> {
     }
 }
 
-// The token that begins in front of `rest`, which stands at `at`, and how many bytes it takes.
-fn token_at(literals: &[Span], at: usize, rest: &[u8]) -> Option<(TokenKind, usize)>
+/// The token that begins in front of `rest`, which stands at `at` in its line, and how many bytes it takes. The spans
+/// are those of the octets of the literals that are still to come.
+pub fn token_at(literals: &[Span], at: usize, rest: &[u8]) -> Option<(TokenKind, usize)>
+    ensures value { result ≡ token_of literals.now at rest.now }
     ensures token { IfSome result (λ token. IsToken literals.now at rest.now token.0 token.1) }
     ensures none { IfNone result (NoToken literals.now at rest.now) }
     ensures within { IfSome result (λ token. (0 < token.1) × (token.1 ≤ length rest.now)) }

@@ -4,6 +4,7 @@ ghost use Rattle.std.specs.Prelude.{◌≡◌, ◌<◌, ◌≤◌, ◌+◌, ◌�
 ghost use Rattle.std.specs.List.{prefix_len};
 ghost use Rattle.std.specs.Char.{is_ascii_digit};
 ghost use Rattle.imap_tokens.specs.Tokens.{is_word_byte, is_space, word_kind, is_escaped, is_forbidden, header_size};
+ghost use Rattle.imap_tokens.specs.Scan.{quoted_size};
 ghost use Rattle.imap_tokens.specs.Quoted.{BeginsQuoted, NoQuoted};
 
 use crate::TokenKind;
@@ -57,6 +58,7 @@ pub(crate) fn word_kind(word: &[u8]) -> TokenKind
 
 // The bytes of the quoted string whose first `"` stands in front of the text.
 pub(crate) fn quoted_size(text: &[u8]) -> Option<usize>
+    ensures value { result ≡ quoted_size text.now }
     ensures found { IfSome result (λ size. BeginsQuoted (34 ∷ text.now) size) }
     ensures none { IfNone result (NoQuoted (34 ∷ text.now)) }
     ensures within { IfSome result (λ size. (0 < size) × (size ≤ length text.now + 1)) }

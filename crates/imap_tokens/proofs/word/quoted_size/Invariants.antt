@@ -1,5 +1,5 @@
 use Rattle.std.proofs.Common.{◌≡◌, ◌+◌, drop}
-use Rattle.imap_tokens.proofs.Quoted.{quoted_from, quoted_size}
+use Rattle.imap_tokens.specs.Scan.{quoted_from, quoted_size}
 use Rattle.imap_tokens.proofs.word.quoted_size.Given as goal
 
 abbrev pub invariant-loop-before : goal.invariant-loop-before
