@@ -1,0 +1,13 @@
+pub mod Codes
+pub mod FetchItems
+pub mod FlagLists
+pub mod Numbers
+pub mod Others
+pub mod Parts
+pub mod Responses
+pub mod Searches
+pub mod Strings
+pub mod Tagged
+pub mod TextParts
+pub mod Values
+pub mod Words
