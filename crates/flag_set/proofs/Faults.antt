@@ -5,16 +5,7 @@ use Rattle.flag_set.specs.declared.flag_fault.FlagFault.{FlagFault}
 use Rattle.flag_set.specs.declared.flag_fault.FlagFault.TheVariants.{Memory}
 use Rattle.flag_set.specs.Flag.{refusal}
 use Rattle.flag_set.specs.FlagKey.{key_of}
-use Rattle.flag_set.specs.FlagList.{HasNoFault, IsFirstFault, excess, keep, with_flag}
-
--- why one more flag is refused behind those of a set, if it is
-abbrev pub next_fault : List (List ℕ) → List ℕ → Option FlagFault
-next_fault keys flag = option_or (refusal flag) (excess (with_flag keys flag))
-
--- the first fault of flags that come to a set, if there is one
-abbrev pub fault_behind : List (List ℕ) → List (List ℕ) → Option FlagFault
-fault_behind keys [] = None
-fault_behind keys (flag ∷ rest) = option_or (next_fault keys flag) (fault_behind (with_flag keys flag) rest)
+use Rattle.flag_set.specs.FlagList.{HasNoFault, IsFirstFault, excess, fault_behind, keep, next_fault, with_flag}
 
 -- the fault at a place of flags that come to a set
 abbrev behind_at : List (List ℕ) → List (List ℕ) → ℕ → Option FlagFault
@@ -76,6 +67,24 @@ flag_refused all keys rest left flag fault whole parts e =
           ∙ ap Some (sym t)))
       | None ↦ λ r t. inr t
     ] refl e
+
+-- the same as an equation
+pub flag_fault : (all : List (List ℕ)) (keys rest left : List (List ℕ)) (flag : List ℕ) (fault : FlagFault) → fault_behind keys left ≡ fault_behind [] all → left ≡ flag ∷ rest → fault ≡ unwrap_or (refusal flag) Memory → (fault_behind [] all ≡ Some fault) ⊎ (fault ≡ Memory)
+flag_fault all keys rest left flag fault whole parts e =
+    elim (refusal flag) as (λ o. refusal flag ≡ o → fault ≡ unwrap_or o Memory → (fault_behind [] all ≡ Some fault) ⊎ (fault ≡ Memory)) [
+      | Some x ↦ λ r t. inl
+          (sym whole ∙ ap (fault_behind keys) parts
+          ∙ ap (λ o. option_or (option_or o (excess (with_flag keys flag))) (fault_behind (with_flag keys flag) rest)) r
+          ∙ ap Some (sym t))
+      | None ↦ λ r t. inr t
+    ] refl e
+
+pub key_fault : (all : List (List ℕ)) (keys rest left : List (List ℕ)) (flag key : List ℕ) (fault : FlagFault) → fault_behind keys left ≡ fault_behind [] all → left ≡ flag ∷ rest → refusal flag ≡ None → key ≡ key_of flag → (excess (keep key keys) ≡ Some fault) ⊎ (fault ≡ Memory) → (fault_behind [] all ≡ Some fault) ⊎ (fault ≡ Memory)
+key_fault all keys rest left flag key fault whole parts r k (inl e) =
+    inl (sym whole ∙ ap (fault_behind keys) parts
+    ∙ ap (λ o. option_or (option_or o (excess (with_flag keys flag))) (fault_behind (with_flag keys flag) rest)) r
+    ∙ ap (λ o. option_or o (fault_behind (with_flag keys flag) rest)) (ap (λ y. excess (keep y keys)) (sym k) ∙ e))
+key_fault all keys rest left flag key fault whole parts r k (inr e) = inr e
 
 pub key_refused : (all : List (List ℕ)) (keys rest left : List (List ℕ)) (flag key : List ℕ) (fault : FlagFault) → fault_behind keys left ≡ fault_behind [] all → left ≡ flag ∷ rest → refusal flag ≡ None → key ≡ key_of flag → (excess (keep key keys) ≡ Some fault) ⊎ (fault ≡ Memory) → IsFirstFault all fault ⊎ (fault ≡ Memory)
 key_refused all keys rest left flag key fault whole parts r k (inl e) =

@@ -17,7 +17,8 @@ use Rattle.flag_set.specs.FlagKey.{IsKey, key_of, recent}
 use Rattle.flag_set.specs.FlagList.{HasNoFault, begins_with_space, excess, flags_of, is_space, keep, pieces, set_of, with_flag}
 use Rattle.flag_set.specs.FlagSet.{AllKeys, IsFlagSet, IsRising, minus, order, put}
 use Rattle.flag_set.specs.FlagText.{list_text}
-use Rattle.flag_set.proofs.Faults.{fault_behind, next_fault, no_fault}
+use Rattle.flag_set.proofs.Faults.{no_fault}
+use Rattle.flag_set.specs.FlagList.{fault_behind, next_fault}
 use Rattle.flag_set.proofs.Keys.{accepted}
 use Rattle.flag_set.proofs.Order.{put_behind}
 

@@ -1,6 +1,6 @@
 -- What a list of flags holds, and which fault comes first (RFC 9051, section 9, flag-list).
-use Rattle.std.specs.Prelude.{◌≡◌, ◌<◌, ◌+◌, ◌==◌, ℕ, suc, Bool, false, List, [], ◌∷◌, length, take, fold, nat_lt, slice_index_or, Option, Some, None, if◌then◌else◌}
-use Rattle.std.specs.List.{onto_first}
+use Rattle.std.specs.Prelude.{◌≡◌, ◌<◌, ◌+◌, ◌==◌, ℕ, suc, Bool, false, not, codes, List, [], ◌∷◌, length, take, fold, nat_lt, slice_index_or, Option, Some, None, if◌then◌else◌}
+use Rattle.std.specs.List.{filter, onto_first}
 use Rattle.std.specs.Option.{option_or}
 use Rattle.std.specs.Str.{bytes_eq}
 use Rattle.flag_set.specs.declared.flag_fault.TheConstants.{MAX_FLAGS}
@@ -61,6 +61,27 @@ pub record IsFirstFault (flags : List (List ℕ)) (fault : FlagFault) : Type 0 w
   pub within : place < length flags
   pub here : fault_at flags place ≡ Some fault
   pub before : (earlier : ℕ) → earlier < place → fault_at flags earlier ≡ None
+
+-- why one more flag is refused behind those of a set, if it is
+abbrev pub next_fault : List (List ℕ) → List ℕ → Option FlagFault
+next_fault keys flag = option_or (refusal flag) (excess (with_flag keys flag))
+
+-- the first fault of flags that come to a set, if there is one
+abbrev pub fault_behind : List (List ℕ) → List (List ℕ) → Option FlagFault
+fault_behind keys [] = None
+fault_behind keys (flag ∷ rest) = option_or (next_fault keys flag) (fault_behind (with_flag keys flag) rest)
+
+-- the first fault of a list, if it has one
+abbrev pub first_fault_of : List (List ℕ) → Option FlagFault
+first_fault_of flags = fault_behind [] flags
+
+-- `\*` among the flags that can be changed for good: new keywords can be made (RFC 9051, section 9, flag-perm)
+abbrev pub is_any : List ℕ → Bool
+is_any flag = bytes_eq flag (codes "\\*")
+
+-- the flags beside it
+abbrev pub flags_alone : List (List ℕ) → List (List ℕ)
+flags_alone flags = filter (λ flag. not (is_any flag)) flags
 
 -- the pieces of what is left of a list
 abbrev pub pieces_left : Option (List ℕ) → List (List ℕ)

@@ -172,7 +172,7 @@ fn lower_case(alloc: Global, text: &[u8]) -> Result<Vec<u8>, AllocError>
         .collect(alloc)
 }
 
-fn is_flag(text: &[u8]) -> bool
+pub(crate) fn is_flag(text: &[u8]) -> bool
     ensures { result ≡ is_flag text.now }
 {
     let name = name_of(text);

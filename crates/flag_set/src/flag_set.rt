@@ -6,7 +6,7 @@ ghost use Rattle.std.specs.Cmp.Lexicographic.{lists_equiv, nat_list_eq_equiv, po
 ghost use Rattle.std.specs.List.{list_all};
 ghost use Rattle.std.specs.Str.{bytes_eq};
 ghost use Rattle.flag_set.specs.FlagKey.{recent};
-ghost use Rattle.flag_set.specs.FlagList.{HasNoFault, IsFirstFault, excess, flags_of, keep, set_of};
+ghost use Rattle.flag_set.specs.FlagList.{HasNoFault, IsFirstFault, excess, first_fault_of, flags_of, keep, set_of};
 ghost use Rattle.flag_set.specs.FlagSet.{IsFlagSet, IsGap, has, put, union, minus};
 ghost use Rattle.flag_set.specs.FlagText.{list_text};
 
@@ -47,9 +47,15 @@ impl FlagSet {
     /// an end stands beside an empty flag, which is `BadFlag` 0. Each flag takes a binary search and one insertion.
     pub fn read_list(alloc: Global, text: &[u8]) -> Result<FlagSet, FlagFault>
         ensures value { IfOk result (λ set. set ≡ set_of (flags_of text.now)) }
+        ensures few { IfOk result (λ set. length set ≤ MAX_FLAGS) }
         ensures accepted { OnOk result (HasNoFault (flags_of text.now)) }
         ensures refused { IfErr result (λ fault.
             IsFirstFault (flags_of text.now) fault ⊎ (fault ≡ FlagFault.Memory)) }
+
+        // The same as an equation, for a reader that stands on this one.
+        ensures none { OnOk result (first_fault_of (flags_of text.now) ≡ None) }
+        ensures some { IfErr result (λ fault.
+            (first_fault_of (flags_of text.now) ≡ Some fault) ⊎ (fault ≡ FlagFault.Memory)) }
     {
         let mut set = FlagSet::none(alloc);
         let mut left = if text.is_empty() { None } else { Some(text) };
@@ -62,7 +68,7 @@ impl FlagSet {
     }
 
     // Takes a flag of a list that is read.
-    fn keep(&mut self, key: FlagKey) -> Result<(), FlagFault>
+    pub(crate) fn keep(&mut self, key: FlagKey) -> Result<(), FlagFault>
         requires { length self.old ≤ MAX_FLAGS }
         ensures value { OnOk result (self.new ≡ keep key self.old) }
         ensures within { OnOk result (length self.new ≤ MAX_FLAGS) }

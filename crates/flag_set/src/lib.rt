@@ -4,6 +4,7 @@
 mod flag_fault;
 mod flag_key;
 mod flag_list;
+mod flag_perm;
 mod flag_set;
 mod key_runs;
 #[cfg(test)]
@@ -11,4 +12,5 @@ mod tests;
 
 pub use flag_fault::{FlagFault, MAX_FLAG, MAX_FLAGS};
 pub use flag_key::FlagKey;
+pub use flag_perm::{is_flag_list, is_permanent_list, read_permanent};
 pub use flag_set::FlagSet;

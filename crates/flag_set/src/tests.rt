@@ -1,6 +1,9 @@
 //! Rows of calls on flags and their sets, and plain programs beside the definitions (RFC 9051, sections 2.3.2 and 9).
 
-use super::{FlagFault, FlagKey, FlagSet, MAX_FLAG, MAX_FLAGS};
+use super::{
+    FlagFault, FlagKey, FlagSet, MAX_FLAG, MAX_FLAGS, is_flag_list, is_permanent_list,
+    read_permanent,
+};
 use std::alloc::AllocError;
 use std::test::Fail;
 
@@ -282,5 +285,24 @@ fn lists_are_read_as_a_slow_program_reads_them(rt: HostRuntime) -> Result<(), Fa
             }
         }
     }
+    Ok(())
+}
+
+#[test]
+fn a_star_stands_anywhere_among_permanent_flags(rt: HostRuntime) -> Result<(), Fail> {
+    let (flags, any) = read_permanent(rt.alloc(), b"\\* \\Seen \\*  Work")?;
+    assert!(rt; any && flags == set(&rt, b"work \\SEEN")?);
+    let (flags, any) = read_permanent(rt.alloc(), b"")?;
+    assert!(rt; !any && flags.is_empty());
+    Ok(())
+}
+
+#[test]
+fn a_list_is_well_formed_whatever_its_size(rt: HostRuntime) -> Result<(), Fail> {
+    let long = [b'a'; MAX_FLAG + 1];
+    assert!(rt; is_flag_list(&long) && is_permanent_list(&long));
+    assert!(rt; is_flag_list(b"\\Seen  a[b") && !is_flag_list(b"\\Seen \\*"));
+    assert!(rt; is_permanent_list(b"\\Seen \\*") && !is_permanent_list(b"\\*a"));
+    assert!(rt; is_flag_list(b"") && !is_flag_list(b" a") && !is_permanent_list(b"a "));
     Ok(())
 }

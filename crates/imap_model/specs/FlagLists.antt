@@ -3,19 +3,15 @@ use Rattle.std.specs.Prelude.{◌≡◌, ◌⊎◌, ℕ, Bool, IsTrue, not, List
 use Rattle.std.specs.List.{AllByRecursion, filter, list_any}
 use Rattle.std.specs.Str.{bytes_eq}
 use Rattle.flag_set.specs.Flag.{is_flag}
-use Rattle.flag_set.specs.FlagList.{flags_of, set_of}
+use Rattle.flag_set.specs.FlagList.{flags_alone, flags_of, is_any, set_of}
 
 -- the text is flags with spaces between, and these are their keys
 pub record IsFlags (text : List ℕ) (keys : List (List ℕ)) : Type 0 where
   pub each : AllByRecursion (λ flag. IsTrue (is_flag flag)) (flags_of text)
   pub set : keys ≡ set_of (flags_of text)
 
--- `\*`: new keywords can be made
-abbrev pub is_any : List ℕ → Bool
-is_any flag = bytes_eq flag (codes "\\*")
-
 -- the text is flags and `\*`, which may stand anywhere among them
 pub record ArePermanent (text : List ℕ) (keys : List (List ℕ)) (any : Bool) : Type 0 where
   pub each : AllByRecursion (λ flag. IsTrue (is_flag flag) ⊎ IsTrue (is_any flag)) (flags_of text)
-  pub set : keys ≡ set_of (filter (λ flag. not (is_any flag)) (flags_of text))
+  pub set : keys ≡ set_of (flags_alone (flags_of text))
   pub starred : any ≡ list_any is_any (flags_of text)

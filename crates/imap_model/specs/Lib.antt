@@ -6,6 +6,7 @@ pub mod Others
 pub mod Parts
 pub mod Responses
 pub mod Searches
+pub mod Small
 pub mod Strings
 pub mod Tagged
 pub mod TextParts

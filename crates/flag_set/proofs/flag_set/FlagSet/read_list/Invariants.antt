@@ -1,8 +1,8 @@
 use Rattle.std.proofs.Common.{◌≡◌, ◌≤◌, [], fold, length}
 use Rattle.std.specs.Option.{option_copied}
 use Rattle.flag_set.specs.declared.flag_fault.TheConstants.{MAX_FLAGS}
-use Rattle.flag_set.specs.FlagList.{flags_of, pieces_left, set_of, with_flag}
-use Rattle.flag_set.proofs.Faults.{fault_behind, left_len}
+use Rattle.flag_set.specs.FlagList.{fault_behind, flags_of, pieces_left, set_of, with_flag}
+use Rattle.flag_set.proofs.Faults.{left_len}
 use Rattle.flag_set.proofs.flag_set.FlagSet.read_list.Given as goal
 
 abbrev pub invariant-loop-left : goal.invariant-loop-left
