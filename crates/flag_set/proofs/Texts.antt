@@ -124,10 +124,10 @@ key_accepted key k =
     ap (λ t. cond t (Some (TooLong (length key))) (cond (is_flag key) None (Some (BadFlag (misfit key))))) (le-ltb MAX_FLAG (length key) k.short)
     ∙ ap (λ t. cond t None (Some (BadFlag (misfit key)))) k.flag
 
-spelling_accepted : (key : List ℕ) → IsKey key → refusal (spelling key) ≡ None
+pub spelling_accepted : (key : List ℕ) → IsKey key → refusal (spelling key) ≡ None
 spelling_accepted key k = spelling_accepted_from key system_flags (key_accepted key k) (refl, (refl, (refl, (refl, (refl, tt)))))
 
-spelling_key : (key : List ℕ) → IsKey key → key_of (spelling key) ≡ key
+pub spelling_key : (key : List ℕ) → IsKey key → key_of (spelling key) ≡ key
 spelling_key key k = spelling_key_from key system_flags k.lower
 
 spelled_words : (keys : List (List ℕ)) → AllKeys IsKey keys → AllKeys IsWord (map spelling keys)

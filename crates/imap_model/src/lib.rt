@@ -2,9 +2,11 @@
 #![tactic(auto)]
 
 mod code;
+mod command;
 mod ending;
 mod fetched;
 mod item;
+mod laws;
 mod limit;
 mod mark;
 mod response;
@@ -12,9 +14,11 @@ mod response;
 mod tests;
 
 pub use code::Code;
+pub use command::Command;
 pub use ending::Ending;
 pub use fetched::Fetched;
 pub use item::Item;
+pub use laws::one_text;
 pub use limit::Limit;
 pub use mark::Mark;
 pub use response::Response;
