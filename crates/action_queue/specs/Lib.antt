@@ -1,0 +1,9 @@
+-- The definitions that this crate's contracts cite.
+pub mod Book
+pub mod Events
+pub mod Queues
+pub mod Readiness
+pub mod Rules
+pub mod Steps
+pub mod Targets
+pub mod Writable

@@ -1,0 +1,28 @@
+//! What the user asked for and what became of it: the queue of actions, and the book that a journal's events make
+//! (RFC 4549, section 4.2).
+#![tactic(auto)]
+
+mod action;
+mod allows;
+mod book;
+mod event;
+mod found;
+mod intent;
+mod outcome;
+mod queue;
+mod queued;
+mod ready;
+mod rule;
+mod target;
+
+pub use action::Action;
+pub use book::{Book, Known};
+pub use event::Event;
+pub use found::Found;
+pub use intent::Intent;
+pub use outcome::{Kind, Outcome, Place};
+pub use queue::Queue;
+pub use queued::Queued;
+pub use ready::Ready;
+pub use rule::{MAX_ACTIONS, MAX_ROWS, Rule, Version};
+pub use target::Target;

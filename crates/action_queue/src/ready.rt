@@ -1,0 +1,134 @@
+//! An event is made ready before it is written, and entered without memory once it is on the disk.
+
+ghost use Rattle.std.specs.Prelude.{◌≡◌, IfOk, bytes_eq};
+ghost use Rattle.std.specs.List.{position};
+ghost use Rattle.action_queue.specs.Book.{meaning, after, learned, cache_at, put_cache};
+ghost use Rattle.action_queue.specs.Events.{IsLawful};
+ghost use Rattle.action_queue.specs.Readiness.{IsReady, AtHand};
+ghost use Rattle.action_queue.specs.Rules.{delta_of};
+ghost use Rattle.action_queue.specs.declared.event.Event.TheVariants as events;
+
+use crate::{Book, Event, Known, Outcome};
+use mail_base::{ActionId, BoxName};
+use mailbox_cache::{Cache, Delta};
+use std::alloc::{AllocError, Global};
+
+/// An event with what it needs to be entered: for a resynchronised mailbox its new cache.
+#[derive(Drop)]
+pub struct Ready {
+    pub event: Event,
+    pub cache: Option<Cache>,
+}
+
+impl Book {
+    /// Makes an event ready to be entered: the room for one more action, or a mailbox's new cache. The book's meaning
+    /// stays. Fails for want of memory alone.
+    pub fn prepare(&mut self, alloc: Global, event: Event) -> Result<Ready, AllocError>
+        requires { IsLawful (meaning self.old) event }
+        ensures same { meaning self.new ≡ meaning self.old }
+        ensures event { IfOk result (λ ready. ready.event ≡ event) }
+        ensures ready { IfOk result (λ ready. IsReady self.new ready.event ready.cache) }
+    {
+        let cache = self.need(alloc, &event)?;
+        Ok(Ready { event, cache })
+    }
+
+    // What an event needs to be entered.
+    fn need(&mut self, alloc: Global, event: &Event) -> Result<Option<Cache>, AllocError>
+        requires { IsLawful (meaning self.old) event.now }
+        ensures same { meaning self.new ≡ meaning self.old }
+        ensures at_hand { IfOk result (AtHand self.new event.now) }
+    {
+        match event {
+            Event::Accept { .. } => {
+                self.queue.reserve()?;
+                Ok(None)
+            }
+            Event::Learn { name, delta } => {
+                let cache = self.learned(alloc, name, delta)?;
+                Ok(Some(cache))
+            }
+            Event::Begin { .. } | Event::Intend { .. } | Event::Settle { .. } => Ok(None),
+        }
+    }
+
+    // The mailbox's cache after a delta.
+    fn learned(&self, alloc: Global, name: &BoxName, delta: &Delta) -> Result<Cache, AllocError>
+        requires { delta_of (cache_at name.now self.now.boxes) delta.now ≡ None }
+        ensures { IfOk result (λ cache. cache ≡ learned (cache_at name.now self.now.boxes) delta.now) }
+    {
+        match self.known(name) {
+            Some(known) => learned_by(alloc, &known.cache, delta),
+            None => Cache::first(alloc, delta),
+        }
+    }
+
+    /// Enters an event that was prepared on the book as it is. It takes no memory, and never fails.
+    pub fn enter(&mut self, ready: Ready)
+        requires { IsReady self.old ready.event ready.cache }
+        ensures { meaning self.new ≡ after (meaning self.old) ready.event }
+    {
+        self.enter_event(ready.event, ready.cache);
+    }
+
+    // The same of an event and what it needs.
+    fn enter_event(&mut self, event: Event, cache: Option<Cache>)
+        requires { IsReady self.old event cache }
+        ensures { meaning self.new ≡ after (meaning self.old) event }
+    {
+        match event {
+            Event::Begin { names: _names } => {}
+            Event::Accept { id: _id, action } => self.queue.accept(action),
+            Event::Intend { id: _id, intent } => self.pending = Some(intent),
+            Event::Settle { id, outcome } => self.settle(id, outcome),
+            Event::Learn {
+                name,
+                delta: _delta,
+            } => self.learn(&name, cache),
+        }
+    }
+
+    /// Gives the action that is due its outcome. It takes no memory, and never fails.
+    pub fn settle(&mut self, id: ActionId, outcome: Outcome)
+        requires { IsLawful (meaning self.old) (events.Settle id outcome) }
+        ensures { meaning self.new ≡ after (meaning self.old) (events.Settle id outcome) }
+    {
+        self.queue.settle(outcome);
+        self.pending = None;
+    }
+
+    // Puts a mailbox's new cache in place of its old one.
+    fn learn(&mut self, name: &BoxName, cache: Option<Cache>)
+        ensures boxes { self.new.boxes ≡ put_cache name.now cache self.old.boxes }
+        ensures queue { self.new.queue ≡ self.old.queue }
+        ensures pending { self.new.pending ≡ self.old.pending }
+    {
+        if let Some(at) = place_of(self.boxes.as_slice(), name) {
+            self.boxes.put(
+                at,
+                Known {
+                    name: name.copy(),
+                    cache,
+                },
+            );
+        }
+    }
+}
+
+// The cache after a delta, where there is one or none.
+fn learned_by(alloc: Global, cache: &Option<Cache>, delta: &Delta) -> Result<Cache, AllocError>
+    requires { delta_of cache.now delta.now ≡ None }
+    ensures { IfOk result (λ new. new ≡ learned cache.now delta.now) }
+{
+    match cache {
+        Some(cache) => cache.apply(alloc, delta),
+        None => Cache::first(alloc, delta),
+    }
+}
+
+// The place of the first mailbox of this name.
+fn place_of(boxes: &[Known], name: &BoxName) -> Option<usize>
+    ensures { result ≡ position (λ known. bytes_eq known.name name.now) boxes.now }
+{
+    boxes.iter().position(|known| known.name == *name)
+}
