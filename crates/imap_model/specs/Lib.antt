@@ -1,9 +1,12 @@
 pub mod Astring
+pub mod Changes
 pub mod Codes
 pub mod CommandParts
 pub mod CommandText
 pub mod FetchItems
 pub mod FlagLists
+pub mod Lawful
+pub mod Lookups
 pub mod Mutating
 pub mod Numbers
 pub mod OneText
@@ -17,4 +20,5 @@ pub mod TagText
 pub mod Tagged
 pub mod TextParts
 pub mod Values
+pub mod WellFormed
 pub mod Words

@@ -3,6 +3,7 @@
 
 mod code;
 mod command;
+mod deed;
 mod ending;
 mod fetched;
 mod item;
@@ -10,11 +11,13 @@ mod laws;
 mod limit;
 mod mark;
 mod response;
+mod server;
 #[cfg(test)]
 mod tests;
 
 pub use code::Code;
 pub use command::Command;
+pub use deed::{Author, Change, Deed};
 pub use ending::Ending;
 pub use fetched::Fetched;
 pub use item::Item;
@@ -22,3 +25,4 @@ pub use laws::one_text;
 pub use limit::Limit;
 pub use mark::Mark;
 pub use response::Response;
+pub use server::{Gone, Mailbox, Message, Server};
