@@ -1,11 +1,11 @@
 -- A record more behind an open journal's gate.
-use Rattle.std.proofs.Common.{◌≡◌, ℕ, ◌+◌, IsTrue, List, [], ◌∷◌, ◌++◌, length, refl, sym, ◌∙◌, ap, subst, arith, Result, Ok, Err, OnOk}
-use Rattle.world_traits.specs.Files.{Files, file_of, other}
-use Rattle.world_traits.specs.Moments.{Clock, Rests}
+use Rattle.std.proofs.Common.{◌≡◌, ℕ, ◌+◌, IsTrue, List, [], ◌∷◌, ◌++◌, length, sym, ◌∙◌, ap, subst, Result, Ok, Err, OnOk}
+use Rattle.world_traits.specs.Files.{Files, file_of}
+use Rattle.world_traits.specs.Moments.{Clock}
 use Rattle.world_traits.proofs.Passing.{since_start}
 use Rattle.journal_core.specs.Records.{IsBody, frame_of, records}
 use Rattle.journal_core.specs.Sides.{head_of}
-use Rattle.journal_core.specs.Gates.{IsShut, IsOpened, Beside, OpensGate, Passes}
+use Rattle.journal_core.specs.Gates.{IsShut, IsOpened, OpensGate, Passes}
 use Rattle.journal_core.specs.Standing.{Standing, IsStill}
 use Rattle.journal_core.specs.Appending.{Appends}
 use Rattle.journal_core.specs.Holds.{Holds}

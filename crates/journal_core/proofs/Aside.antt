@@ -1,7 +1,7 @@
 -- Images whose other side is on the disk.
-use Rattle.std.proofs.Common.{◌≡◌, ◌⊎◌, inl, inr, ⊎_elim, ℕ, zero, suc, List, length, refl, sym, ◌∙◌, ap, subst, Result, Ok}
+use Rattle.std.proofs.Common.{◌≡◌, ◌⊎◌, inl, inr, ⊎_elim, ℕ, zero, suc, List, length, refl, sym, ◌∙◌, ap, subst, Ok}
 use Rattle.world_traits.specs.Files.{Stored, MayHold, Files, clean, touch, put, file_of, other}
-use Rattle.world_traits.specs.Moments.{Moment, MayLeave, Clock, Images, Occurs, Only, Both, Rests, GoesOn, AtPhase, Since, stored}
+use Rattle.world_traits.specs.Moments.{Moment, MayLeave, Clock, Images, Occurs, Only, Both, Rests, GoesOn, AtPhase, stored}
 use Rattle.world_traits.specs.Calls.{Wrote, Synced}
 use Rattle.world_traits.specs.Sound.{holds_clean}
 use Rattle.world_traits.specs.declared.disk.Side.{Side}

@@ -1,5 +1,5 @@
 -- Which side is the journal.
-use Rattle.std.proofs.Common.{◌≡◌, ℕ, ◌<◌, ◌≤◌, List, ◌∷◌, ◌++◌, length, take, drop, slice_index, true, false, [], append_assoc, refl, sym, ◌∙◌, ap, subst, arith}
+use Rattle.std.proofs.Common.{◌≡◌, ℕ, ◌<◌, List, ◌∷◌, length, take, drop, slice_index, true, false, [], append_assoc, refl, sym, ◌∙◌, ap, subst, arith}
 use Rattle.std.proofs.lemmas.List.{append-nil}
 use Rattle.std.specs.Int.{w32, to_be_bytes, from_be_bytes}
 use Rattle.std.proofs.lemmas.Nat.{from_be_bytes-to_be_bytes_4}
@@ -9,7 +9,6 @@ use Rattle.world_traits.specs.declared.disk.Side.{Side}
 use Rattle.world_traits.specs.declared.disk.Side.TheVariants.{Left, Right}
 use Rattle.journal_core.specs.declared.version.Version.{Version}
 use Rattle.journal_core.specs.declared.version.Version.TheVariants.{First}
-use Rattle.journal_core.specs.Records.{AreBodies}
 use Rattle.journal_core.specs.Sides.{head_of, IsBegun, IsSetUp, HasWrongHeader}
 use Rattle.journal_core.specs.Holds.{IsPresent}
 use Rattle.journal_core.specs.Standing.{Standing, IsStill}

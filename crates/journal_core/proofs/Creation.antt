@@ -1,17 +1,14 @@
 -- A journal that is created.
-use Rattle.std.proofs.Common.{◌≡◌, ◌≢◌, ◌⊎◌, inl, inr, ⊎_elim, ℕ, zero, suc, ◌+◌, ◌≤◌, ◌<◌, List, [], ◌∷◌, ◌++◌, length, get_or, take, refl, sym, ◌∙◌, true, false, min, ap, subst, arith, append_assoc, length-append, Result, Ok, Err, OnOk}
-use Rattle.std.specs.List.{AllByRecursion}
+use Rattle.std.proofs.Common.{◌≡◌, ◌⊎◌, inl, inr, ⊎_elim, ℕ, zero, suc, ◌+◌, ◌≤◌, ◌<◌, List, [], ◌∷◌, ◌++◌, length, get_or, take, sym, ◌∙◌, true, false, min, ap, subst, arith, append_assoc, length-append, Result, Ok, OnOk}
 use Rattle.std.specs.Int.{w32, to_be_bytes}
 use Rattle.std.proofs.lemmas.List.{append-nil, take_more}
-use Rattle.world_traits.specs.Files.{Files, file_of, other}
-use Rattle.world_traits.specs.Moments.{Moment, Clock, Images, Within, GoesOn, Narrows, Rests, Since}
-use Rattle.world_traits.specs.declared.disk.Side.{Side}
+use Rattle.world_traits.specs.Files.{Files}
+use Rattle.world_traits.specs.Moments.{Clock, Images, Within, GoesOn, Narrows, Rests}
 use Rattle.world_traits.specs.declared.disk.Side.TheVariants.{Left, Right}
 use Rattle.world_traits.proofs.Passing.{since_then, since_weaker}
-use Rattle.journal_core.specs.declared.version.Version.{Version}
 use Rattle.journal_core.specs.declared.version.Version.TheVariants.{First}
 use Rattle.journal_core.specs.Records.{IsBody, AreBodies, open_record, records}
-use Rattle.journal_core.specs.Sides.{head_of, header_of, IsBegun, IsSetUp, IsGeneration}
+use Rattle.journal_core.specs.Sides.{head_of, IsBegun, IsGeneration}
 use Rattle.journal_core.specs.Holds.{Holds, IsPresent}
 use Rattle.journal_core.specs.Standing.{Standing, IsStill}
 use Rattle.journal_core.specs.Gates.{IsShut, Beside}

@@ -1,6 +1,6 @@
 -- The four calls that put fresh bytes behind a gate, one after the other.
 use Rattle.std.proofs.Common.{◌≡◌, ◌≢◌, ◌⊎◌, inl, inr, ℕ, ◌+◌, List, [], ◌∷◌, ◌++◌, length, get_or, drop, refl, sym, ◌∙◌, subst, arith, Result, Ok, Err, OnOk}
-use Rattle.world_traits.specs.Files.{Stored, MayHold, Files, clean, touch, file_of, other}
+use Rattle.world_traits.specs.Files.{MayHold, Files, clean, touch, file_of, other}
 use Rattle.world_traits.specs.Moments.{Moment, Clock, Images, stored, Only, Both, GoesOn, Since, Rests}
 use Rattle.world_traits.specs.Calls.{written, settled, Wrote, Synced}
 use Rattle.world_traits.specs.declared.disk.Side.{Side}

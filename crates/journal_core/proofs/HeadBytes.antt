@@ -1,7 +1,7 @@
 -- The head of a side, byte by byte.
-use Rattle.std.proofs.Common.{◌≡◌, ⊎_elim, ℕ, zero, suc, ◌+◌, ◌-◌, ◌≤◌, ◌<◌, ◌^◌, min, List, [], ◌∷◌, ◌++◌, length, get_or, take, drop, slice_index, codes, eqb, not, Bool, true, false, refl, sym, ◌∙◌, ap, subst, arith, append_assoc, length-append, length-take, take-append-drop, get_or-take}
-use Rattle.std.specs.Int.{w32, to_be_bytes, from_be_bytes}
-use Rattle.std.proofs.lemmas.Nat.{be_bytes_4, from_be_bytes-to_be_bytes_4}
+use Rattle.std.proofs.Common.{◌≡◌, ℕ, zero, suc, ◌-◌, ◌≤◌, ◌<◌, ◌^◌, min, List, [], ◌∷◌, ◌++◌, length, get_or, take, drop, codes, eqb, not, Bool, true, false, refl, sym, ◌∙◌, ap, subst, arith, append_assoc, length-take, take-append-drop, get_or-take}
+use Rattle.std.specs.Int.{w32, from_be_bytes}
+use Rattle.std.proofs.lemmas.Nat.{be_bytes_4}
 use Rattle.std.proofs.lemmas.List.{drop_more, drop-drop}
 use Rattle.std.proofs.lemmas.Slice.Eq.{bytes_eq-Decides}
 use Rattle.std.specs.Cmp.Lexicographic.{pointwise}
@@ -9,7 +9,7 @@ use Rattle.journal_core.specs.declared.version.Version.{Version}
 use Rattle.journal_core.specs.declared.version.Version.TheVariants.{First}
 use Rattle.journal_core.specs.declared.heads.Head.{Head}
 use Rattle.journal_core.specs.declared.heads.Head.TheVariants.{Closed, Wrong, SetUp}
-use Rattle.journal_core.specs.Sides.{magic_of, head_of, IsGeneration, IsSetUp, IsBegun, HasWrongHeader}
+use Rattle.journal_core.specs.Sides.{head_of, IsSetUp, IsBegun}
 use Rattle.journal_core.specs.Heads.{HeadIs}
 
 not_false : (b : Bool) → not b ≡ false → b ≡ true

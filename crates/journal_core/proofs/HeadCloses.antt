@@ -1,10 +1,9 @@
 -- The head gate is closed, and a side is set up behind it.
-use Rattle.std.proofs.Common.{◌≡◌, ◌≢◌, ◌⊎◌, inl, inr, ⊎_elim, ℕ, ◌+◌, ◌-◌, ◌≤◌, ◌<◌, max, min, List, [], ◌∷◌, ◌++◌, length, get_or, take, drop, replicate, slice_index, refl, sym, ◌∙◌, ap, subst, arith, append_assoc, get_or-take, Result, Ok, Err, OnOk}
-use Rattle.std.specs.Int.{w32, to_be_bytes}
-use Rattle.std.proofs.lemmas.List.{append-nil, drop_more}
+use Rattle.std.proofs.Common.{◌≡◌, ◌≢◌, ◌⊎◌, inl, inr, ⊎_elim, ℕ, ◌-◌, ◌<◌, min, List, [], ◌∷◌, ◌++◌, length, get_or, take, drop, replicate, slice_index, refl, sym, ◌∙◌, ap, subst, arith, append_assoc, get_or-take, Result, Ok, Err, OnOk}
+use Rattle.std.proofs.lemmas.List.{drop_more}
 use Rattle.std.proofs.lemmas.Bool.{cases_eq}
-use Rattle.world_traits.specs.Files.{Stored, MayHold, Files, clean, touch, put, file_of, other}
-use Rattle.world_traits.specs.Moments.{Moment, Clock, Images, stored, Only, GoesOn, Since, Rests}
+use Rattle.world_traits.specs.Files.{MayHold, Files, clean, touch, put, file_of, other}
+use Rattle.world_traits.specs.Moments.{Moment, Clock, stored, Only, GoesOn, Since, Rests}
 use Rattle.world_traits.specs.Calls.{written, settled, Looked, Wrote, Synced}
 use Rattle.world_traits.specs.declared.disk.Side.{Side}
 use Rattle.world_traits.specs.Sound.{holds_clean}
@@ -18,10 +17,9 @@ use Rattle.journal_core.specs.Records.{records}
 use Rattle.journal_core.specs.Sides.{head_of, header_of, IsBegun}
 use Rattle.journal_core.specs.Gates.{IsShut, IsOpened, Beside, OpensGate, Passes}
 use Rattle.journal_core.specs.Creating.{AsBefore, set_up_bytes, SetsUp, ClosesHead}
-use Rattle.journal_core.specs.Reading.{OnlyLooks}
 use Rattle.journal_core.proofs.Bytes.{gate_image}
 use Rattle.journal_core.proofs.Aside.{only_beside, At, away, resting_at, write_at, sync_at, passes_as}
-use Rattle.journal_core.proofs.GateOpens.{P, S, old_is_either, old_to_old}
+use Rattle.journal_core.proofs.GateOpens.{old_is_either, old_to_old}
 use Rattle.journal_core.proofs.Looking.{looks, rests_look}
 
 at_err : {T E : Type 0} (r : Result T E) (e : E) (Q : Type 0) → r ≡ Err e → OnOk r Q

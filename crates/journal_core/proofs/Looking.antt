@@ -1,7 +1,7 @@
 -- Calls that only look, one after the other.
-use Rattle.std.proofs.Common.{◌≡◌, refl, sym, ◌∙◌, ap, subst, Result, OnOk}
+use Rattle.std.proofs.Common.{◌≡◌, refl, sym, ◌∙◌, subst}
 use Rattle.world_traits.specs.Files.{Files}
-use Rattle.world_traits.specs.Moments.{Moment, Clock, Since, Rests, Within, Narrows}
+use Rattle.world_traits.specs.Moments.{Moment, Clock, Rests, Within, Narrows}
 use Rattle.world_traits.specs.Calls.{Looked}
 use Rattle.world_traits.specs.declared.disk.Side.TheVariants.{Left}
 use Rattle.world_traits.proofs.Passing.{since_start, since_then, since_weaker, stays_now}

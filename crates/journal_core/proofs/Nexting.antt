@@ -1,19 +1,18 @@
 -- The next record of an open journal.
-use Rattle.std.proofs.Common.{◌≡◌, ◌≢◌, ℕ, ◌+◌, ◌-◌, ◌≤◌, ◌<◌, ◌^◌, true, IsTrue, List, [], ◌∷◌, ◌++◌, length, get_or, take, drop, slice_index, Option, Some, None, Result, Ok, Err, OnOk, IfOk, refl, sym, ◌∙◌, ap, subst, arith, append_assoc, length-append, length-drop, length-take, take-append-drop, get_or-drop}
-use Rattle.std.specs.Option.{option_to_list}
+use Rattle.std.proofs.Common.{◌≡◌, ℕ, ◌+◌, ◌≤◌, ◌<◌, true, List, [], ◌∷◌, ◌++◌, length, get_or, take, drop, slice_index, Some, None, refl, sym, ◌∙◌, ap, subst, arith, append_assoc, length-append, length-drop, length-take, take-append-drop, get_or-drop}
 use Rattle.std.specs.Int.{w32, to_be_bytes, from_be_bytes}
 use Rattle.std.proofs.lemmas.Nat.{from_be_bytes-to_be_bytes_4}
 use Rattle.std.proofs.lemmas.List.{append-nil, drop_more, drop-drop, take_at, drop_at}
 use Rattle.world_traits.specs.Files.{Files, file_of}
-use Rattle.world_traits.specs.Moments.{Moment, Clock, Rests}
-use Rattle.journal_core.specs.Records.{IsBody, AreBodies, From, open_record, records}
+use Rattle.world_traits.specs.Moments.{Clock}
+use Rattle.journal_core.specs.Records.{IsBody, From, open_record, records}
 use Rattle.journal_core.specs.Sides.{head_of}
 use Rattle.journal_core.specs.Holds.{IsPresent}
 use Rattle.journal_core.specs.Standing.{Standing, IsStill}
 use Rattle.journal_core.specs.Fronts.{IsWhole, FrontIs}
 use Rattle.journal_core.specs.declared.reading.Front.{Front}
 use Rattle.journal_core.specs.declared.reading.Front.TheVariants.{Torn, Whole}
-use Rattle.journal_core.specs.Reading.{HasOpenGate, HasClosedGate, StandsAt, IsTorn, TakesFirst, OnlyLooks, behind}
+use Rattle.journal_core.specs.Reading.{HasClosedGate, StandsAt, IsTorn, TakesFirst, OnlyLooks, behind}
 use Rattle.journal_core.proofs.Lists.{records-push, are_more}
 use Rattle.journal_core.proofs.Looking.{rests_look}
 

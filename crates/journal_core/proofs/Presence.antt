@@ -1,12 +1,12 @@
 -- A side that is the journal stays so while its head and the other side stay.
-use Rattle.std.proofs.Common.{◌≡◌, ℕ, ◌<◌, List, [], ◌∷◌, ◌++◌, length, drop, refl, sym, ◌∙◌, ap, subst, append_assoc}
+use Rattle.std.proofs.Common.{◌≡◌, ℕ, List, [], ◌∷◌, ◌++◌, length, drop, refl, ◌∙◌, ap, subst, append_assoc}
 use Rattle.std.proofs.lemmas.List.{drop_at}
 use Rattle.world_traits.specs.Files.{Files, file_of, other}
 use Rattle.world_traits.specs.declared.disk.Side.{Side}
 use Rattle.world_traits.specs.declared.disk.Side.TheVariants.{Left, Right}
 use Rattle.journal_core.specs.declared.version.Version.{Version}
 use Rattle.journal_core.specs.declared.version.Version.TheVariants.{First}
-use Rattle.journal_core.specs.Records.{AreBodies, From, open_record, records}
+use Rattle.journal_core.specs.Records.{AreBodies, From, records}
 use Rattle.journal_core.specs.Sides.{head_of, IsGeneration, IsSetUp, HasWrongHeader}
 use Rattle.journal_core.specs.Holds.{IsPresent, Holds}
 use Rattle.journal_core.specs.Gates.{IsShut, Beside}

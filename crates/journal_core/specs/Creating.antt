@@ -1,7 +1,6 @@
 -- What setting up a side does at every moment.
 use Rattle.std.specs.Prelude.{◌≡◌, ◌⊎◌, ℕ, ◌+◌, ◌<◌, true, false, List, [], ◌∷◌, ◌++◌, length, Result, OnOk}
 use Rattle.std.specs.List.{AllByRecursion}
-use Rattle.std.specs.Int.{w32, to_be_bytes}
 use Rattle.world_traits.specs.Files.{Files, file_of, other}
 use Rattle.world_traits.specs.Moments.{Clock, Rests, Since, Only, GoesOn, Images, Within}
 use Rattle.world_traits.specs.declared.disk.Side.{Side}

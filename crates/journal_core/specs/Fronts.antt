@@ -1,5 +1,5 @@
 -- What the first bytes of a record say of it.
-use Rattle.std.specs.Prelude.{◌≡◌, ◌≢◌, ℕ, ◌+◌, ◌≤◌, ◌<◌, List, ◌∷◌, length, take, slice_index, ⊤}
+use Rattle.std.specs.Prelude.{◌≡◌, ℕ, ◌+◌, ◌≤◌, ◌<◌, List, ◌∷◌, length, take, ⊤}
 use Rattle.std.specs.Int.{w32, to_be_bytes}
 use Rattle.journal_core.specs.declared.reading.Front.{Front}
 use Rattle.journal_core.specs.declared.reading.Front.TheVariants.{Closed, Torn, Whole}

@@ -1,7 +1,7 @@
 -- What stands behind a gate counts once the gate is open.
-use Rattle.std.specs.Prelude.{◌≡◌, ◌≢◌, ◌⊎◌, ℕ, List, [], ◌∷◌, ◌++◌, length, Result, OnOk}
+use Rattle.std.specs.Prelude.{◌≡◌, ◌≢◌, ◌⊎◌, ℕ, List, ◌∷◌, ◌++◌, length, Result, OnOk}
 use Rattle.world_traits.specs.Files.{Files, file_of, other}
-use Rattle.world_traits.specs.Moments.{Moment, Clock, Images, Rests, GoesOn, Since}
+use Rattle.world_traits.specs.Moments.{Clock, Images, Rests, GoesOn, Since}
 use Rattle.world_traits.specs.declared.disk.Side.{Side}
 
 -- a closed gate behind these bytes, and whatever stands behind the gate

@@ -9,3 +9,4 @@ pub mod Heads
 pub mod Fronts
 pub mod Creating
 pub mod Taken
+pub mod Held

@@ -1,7 +1,7 @@
 -- What opening and reading a journal answer.
-use Rattle.std.specs.Prelude.{◌≡◌, ◌≢◌, ◌⊎◌, ℕ, ◌+◌, ◌<◌, true, false, List, [], ◌∷◌, ◌++◌, length, drop, slice_index, Option, Some, None, Result, Ok, Err, OnOk, ⊤}
+use Rattle.std.specs.Prelude.{◌≡◌, ◌≢◌, ℕ, ◌+◌, true, false, List, [], ◌∷◌, ◌++◌, length, drop, slice_index, Option, Some, None, Result, Ok, Err, ⊤}
 use Rattle.world_traits.specs.Files.{Files, file_of}
-use Rattle.world_traits.specs.Moments.{Moment, Clock, Since}
+use Rattle.world_traits.specs.Moments.{Clock, Since}
 use Rattle.world_traits.specs.declared.disk.Side.{Side}
 use Rattle.journal_core.specs.declared.version.Version.{Version}
 use Rattle.journal_core.specs.declared.fault.Place9.{Place9}

@@ -1,5 +1,5 @@
 -- What a journal in use is seen as.
-use Rattle.std.specs.Prelude.{◌≡◌, ◌≢◌, ℕ, ◌+◌, Bool, IsTrue, List, ◌∷◌, ◌++◌, length}
+use Rattle.std.specs.Prelude.{◌≡◌, ◌≢◌, ℕ, Bool, IsTrue, List, ◌∷◌, ◌++◌, length}
 use Rattle.world_traits.specs.Files.{Files, file_of}
 use Rattle.world_traits.specs.Moments.{Moment, Rests}
 use Rattle.world_traits.specs.declared.disk.Side.{Side}

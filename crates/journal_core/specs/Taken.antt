@@ -1,5 +1,5 @@
 -- Why no journal can be created.
-use Rattle.std.specs.Prelude.{◌≡◌, ℕ}
+use Rattle.std.specs.Prelude.{◌≡◌}
 use Rattle.world_traits.specs.Files.{Files}
 use Rattle.journal_core.specs.Creating.{IsTaken}
 use Rattle.journal_core.specs.Reading.{AnyWrong}

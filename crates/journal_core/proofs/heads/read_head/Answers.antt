@@ -1,4 +1,3 @@
-use Rattle.std.proofs.Common.{subst, sym}
 use Rattle.journal_core.proofs.HeadBytes.{read_head_is}
 use Rattle.journal_core.proofs.Looking.{looks}
 use Rattle.journal_core.proofs.heads.read_head.Goals as goal

@@ -1,4 +1,4 @@
-use Rattle.journal_core.proofs.Looking.{looks, looks_none}
+use Rattle.journal_core.proofs.Looking.{looks}
 use Rattle.journal_core.proofs.reading.read_body.Goals as goal
 
 pub returns-in_err-count-clause-told : goal.returns-in_err-count-clause-told

@@ -1,10 +1,6 @@
-use Rattle.std.proofs.Common.{refl, ap, sym, ◌∙◌, arith, is_some, true, false}
-use Rattle.journal_core.specs.Standing.{Standing}
-use Rattle.journal_core.specs.Records.{AreBodies, records}
-use Rattle.journal_core.specs.Creating.{created, end_of}
+use Rattle.std.proofs.Common.{ap, ◌∙◌, arith, is_some}
 use Rattle.journal_core.proofs.Creation.{narrows_creates, sets_creates, still_created, are_bodies, created_at}
 use Rattle.journal_core.proofs.journal.Journal.create.Goals as goal
-use Rattle.world_traits.specs.declared.disk.Side.TheVariants.{Left}
 use Rattle.journal_core.specs.declared.version.Version.TheVariants.{First}
 
 pub returns-in-Err-clause-told : goal.returns-in-Err-clause-told
