@@ -2,12 +2,13 @@
 
 /// The text of `--help`.
 pub const HELP: &str = "\
-usage: mowerbean flag BOX UID + FLAG    the message is to have the flag
+usage: mowerbean init BOX ..            sets up a journal for 1 to 32 mailboxes
+       mowerbean flag BOX UID + FLAG    the message is to have the flag
        mowerbean flag BOX UID - FLAG    the message is to be without it
        mowerbean --help | --version
 
-FLAG is \\Answered, \\Flagged, \\Deleted, \\Seen or \\Draft. The actions are kept in
-journal.0 of the folder MAIL_DIR (default: the present one).
+FLAG is \\Answered, \\Flagged, \\Deleted, \\Seen or \\Draft. The journal is kept in
+journal.0 and journal.1 of the folder MAIL_DIR (default: the present one).
 ";
 
 /// The text of `--version`.

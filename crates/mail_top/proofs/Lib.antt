@@ -1,6 +1,8 @@
-pub mod Acceptance
+pub mod Additions
 pub mod Beginning
 pub mod Body
+pub mod Creations
 pub mod Endings
-pub mod Tally
+pub mod OneByOne
+pub mod Wholeness
 pub mod Wording

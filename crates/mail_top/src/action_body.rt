@@ -3,7 +3,7 @@
 ghost use Rattle.std.specs.Prelude.{◌≡◌, ◌<◌, ◌+◌, ◌^◌, ◌↔◌, [], ◌∷◌, IsTrue, IsNone, IfSome, take, drop, slice_index};
 ghost use Rattle.std.specs.Int.{w32, from_be_bytes};
 ghost use Rattle.mail_base.specs.BoxName.{IsBoxName};
-ghost use Rattle.action_list.specs.Records.{record_of};
+ghost use Rattle.journal_core.specs.Records.{IsBody, frame_of};
 ghost use Rattle.mail_top.specs.FlagAction.{body_of, key_of, IsLawful};
 
 use crate::{FlagAction, SystemFlag};
@@ -13,21 +13,26 @@ use mail_base::BoxName;
 // The bytes of the largest body: `F`, a name of 128 bytes, the UID, the sign and the longest key.
 const MAX_BODY: usize = 156;
 
-/// The bytes of the largest record: a body behind its length.
-pub const MAX_RECORD: usize = 160;
+/// The bytes of the largest frame: a body behind its length, and a gate.
+pub const MAX_FRAME: usize = 161;
 
 // The letter that a flag action's body begins with.
 const FLAG_LETTER: u8 = b'F';
 
+// The byte of a closed gate.
+const CLOSED: u8 = 0;
+
 impl FlagAction {
-    /// The action's record: its body behind the body's length.
-    pub fn record_bytes(&self) -> ArrayVec<u8, MAX_RECORD>
-        ensures { result.items ≡ record_of (body_of self.now) }
+    /// The action's frame: its body behind the body's length, and the next gate, closed.
+    pub fn frame_bytes(&self) -> ArrayVec<u8, MAX_FRAME>
+        ensures frame { result.items ≡ frame_of (body_of self.now) }
+        ensures size { IsBody (body_of self.now) }
     {
         let body = self.body_bytes();
         let mut bytes = ArrayVec::new();
         let _ = bytes.try_extend_from_slice(&(body.len() as u32).to_be_bytes());
         let _ = bytes.try_extend_from_slice(&body);
+        let _ = bytes.try_push(CLOSED);
         bytes
     }
 

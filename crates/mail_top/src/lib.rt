@@ -4,8 +4,10 @@
 mod accepting;
 mod action_body;
 mod begin;
-mod counting;
+mod creating;
+mod ending;
 mod flag_action;
+mod reading;
 mod running;
 #[cfg(test)]
 mod tests;
@@ -13,6 +15,5 @@ mod words;
 
 pub use accepting::{AcceptFault, MAX_JOURNAL};
 pub use begin::{MAX_NAMES, are_names, begin_body, is_begin};
-pub use counting::count_actions;
 pub use flag_action::{FlagAction, SystemFlag};
 pub use running::run;

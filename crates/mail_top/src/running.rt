@@ -1,42 +1,24 @@
 //! The top call.
 
 ghost use Rattle.std.specs.Prelude.{◌≡◌, ◌≢◌, ◌⊎◌, ◌≤◌, ◌++◌, ◌↔◌, ℕ, List, take, map, string_bytes};
-ghost use Rattle.world_traits.specs.Files.{clean};
 ghost use Rattle.world_traits.specs.Calls.{Rose};
+ghost use Rattle.world_traits.specs.Files.{file_of};
 ghost use Rattle.world_traits.specs.Moments.{Since};
-ghost use Rattle.action_list.specs.Moving.{AllBegin, LeftOnly};
-ghost use Rattle.mail_top.specs.Ending.{Ends, Comes, Prints, HasRoom, status_of, line_of};
-ghost use Rattle.mail_top.specs.FlagAction.{HoldsCount};
-ghost use Rattle.mail_top.specs.Words.{Asks};
+ghost use Rattle.world_traits.specs.declared.disk.Side.{Side};
+ghost use Rattle.journal_core.specs.Creating.{IsFree};
+ghost use Rattle.journal_core.specs.Held.{HeldGrows, KeepsHeld};
+ghost use Rattle.journal_core.specs.Sides.{HasWrongHeader};
+ghost use Rattle.mail_top.specs.Book.{HoldsBook};
+ghost use Rattle.mail_top.specs.Ending.{Ends, OnTheWay, Comes, Prints, HasRoom};
+ghost use Rattle.mail_top.specs.Words.{Asks, AsksInit, AsksNothing};
 
-use crate::AcceptFault;
-use crate::accepting::accept;
-use crate::words::asked;
-use mail_base::{Account, Line, Status};
+use crate::accepting::{MAX_JOURNAL, accept};
+use crate::creating::init;
+use crate::ending::{Ending, ending_of_flag, ending_of_init, ending_of_words};
+use crate::words::{asked, names_asked};
+use mail_base::{Account, Status};
 use std::alloc::Global;
 use world_traits::{Clocked, Disk, Sink, Source, World, WriteFailed};
-
-// How a command ends, before its line is printed.
-#[derive(Drop)]
-struct Ending {
-    status: Status,
-    line: Line,
-}
-
-// The ending for what became of an action.
-fn ending_of(accepted: Result<u64, AcceptFault>) -> Ending
-    ensures status { result.status ≡ status_of accepted }
-    ensures line { result.line ≡ line_of accepted }
-{
-    let (status, line) = match accepted {
-        Ok(number) => (Status::Done, Line::accepted(number)),
-        Err(AcceptFault::Disk) => (Status::Disk, Line::error_disk()),
-        Err(AcceptFault::Memory) => (Status::Memory, Line::error_memory()),
-        Err(AcceptFault::Broken { at }) => (Status::Journal, Line::journal_record(at)),
-        Err(AcceptFault::Full { end }) => (Status::Limit, Line::limit_journal(end)),
-    };
-    Ending { status, line }
-}
 
 // Carries out what the words ask for, up to the printing.
 fn carry_out<D: Disk>(alloc: Global, words: &[String], disk: &mut D) -> Ending
@@ -44,19 +26,19 @@ fn carry_out<D: Disk>(alloc: Global, words: &[String], disk: &mut D) -> Ending
         (D.seen disk.old) (D.seen disk.new) result.status result.line }
     ensures comes { Comes result.status }
     ensures not_output { result.status ≢ Status.Output }
-    ensures words { (result.status ≡ Status.Words) ↔ ((action : _) → Asks (map string_bytes words.now) action → ⊥) }
+    ensures words { (result.status ≡ Status.Words) ↔ AsksNothing (map string_bytes words.now) }
     ensures disk { result.status ≡ Status.Disk → Rose (D.disk_faults disk.old) (D.disk_faults disk.new) }
-    ensures any_moment { D.tells_files → (D.clock disk.old).now.left ≡ clean (D.seen disk.old).left →
-        Since (AllBegin (D.seen disk.old).left) LeftOnly (D.clock disk.old) (D.clock disk.new) }
+    ensures every { D.tells_files → Since (OnTheWay (map string_bytes words.now) (D.clock disk.old).now (D.seen disk.old))
+        KeepsHeld (D.clock disk.old) (D.clock disk.new) }
     ensures link { D.link disk.new ≡ D.link disk.old }
     ensures count { D.disk_faults disk.old ≤ D.disk_faults disk.new }
 {
+    if let Some(texts) = names_asked(words) {
+        return ending_of_init(init(alloc, disk, texts));
+    }
     match asked(words) {
-        None => Ending {
-            status: Status::Words,
-            line: Line::error_words(),
-        },
-        Some(action) => ending_of(accept(alloc, disk, &action)),
+        None => ending_of_words(),
+        Some(action) => ending_of_flag(accept(alloc, disk, &action, MAX_JOURNAL)),
     }
 }
 
@@ -80,11 +62,13 @@ fn say<S: Sink>(out: &mut S, ending: &Ending) -> Status
 
 /// Carries out what the user's words ask for, and prints one line.
 ///
-/// Words are `flag BOX ID SIGN FLAG`. The journal is the left file: it is synced and read, the action's record is written
-/// behind its end and synced, and only then `accepted n` is printed. The account and the input aren't used yet.
+/// The words are `init BOX ..`, which sets up a journal for these mailboxes and prints `ready`, or `flag BOX ID SIGN FLAG`,
+/// which accepts an action: both files are synced and read, the action's record is written behind the journal's last one
+/// and synced, its gate is opened and synced, and only then `accepted n` is printed. The account and the input aren't used
+/// yet.
 ///
-/// Refusals come in this order: the words, the disk and the journal as read, the limit; want of memory may come in
-/// place of any, before the first write.
+/// Refusals come in this order: the words, the disk and the journal as read, the limit; want of memory may come in place
+/// of any, before the first write.
 pub fn run<W: World, I: Source, S: Sink>(
     alloc: Global,
     words: &[String],
@@ -93,26 +77,36 @@ pub fn run<W: World, I: Source, S: Sink>(
     world: &mut W,
     out: &mut S,
 ) -> Status
-    // What the status says of the words, the journal as read, what a stop leaves now, and the line, which is printed.
+    // What the status says of the words, the files as read, what a stop leaves now, and the line, which is printed. Where
+    // `accepted n` was printed, what a stop leaves has the action at place n.
     ensures ends { W.tells_files → (line : List ℕ)
         × Ends (map string_bytes words.now) (W.clock world.old).now (W.clock world.new).now (W.seen world.old) (W.seen world.new) result line
         × (S.tells → Prints result line (S.written out.old) (S.written out.new) (S.sink_faults out.old) (S.sink_faults out.new)) }
 
     // Each answer has its cause, whatever the world tells.
     ensures comes { Comes result }
-    ensures words { (result ≡ Status.Words) ↔ ((action : _) → Asks (map string_bytes words.now) action → ⊥) }
+    ensures words { (result ≡ Status.Words) ↔ AsksNothing (map string_bytes words.now) }
     ensures disk { result ≡ Status.Disk → Rose (W.disk_faults world.old) (W.disk_faults world.new) }
     ensures output { result ≡ Status.Output → Rose (S.sink_faults out.old) (S.sink_faults out.new) }
 
-    // Lawful words, a lawful journal with room and no fault of disk or sink: the action is accepted, or memory is wanting.
-    ensures complete { W.tells_files → (action : _) → Asks (map string_bytes words.now) action →
-        (count : ℕ) → HoldsCount (W.seen world.old).left count → HasRoom (map string_bytes words.now) (W.seen world.old).left →
+    // Lawful words, a journal of a Begin and actions with room, and no fault of disk or sink: the action is accepted, or
+    // memory is wanting.
+    ensures complete_flag { W.tells_files → (action : _) → Asks (map string_bytes words.now) action →
+        (bodies : List (List ℕ)) → HoldsBook bodies (W.seen world.old) → HasRoom (map string_bytes words.now) bodies →
         (Rose (W.disk_faults world.old) (W.disk_faults world.new) → ⊥) → (Rose (S.sink_faults out.old) (S.sink_faults out.new) → ⊥) →
         (result ≡ Status.Done) ⊎ (result ≡ Status.Memory) }
 
-    // Where the journal is on the disk at entry, each moment's images begin with it.
-    ensures any_moment { W.tells_files → (W.clock world.old).now.left ≡ clean (W.seen world.old).left →
-        Since (AllBegin (W.seen world.old).left) LeftOnly (W.clock world.old) (W.clock world.new) }
+    // Lawful names, no side set up, none with a wrong header, and no fault: the journal is set up, or memory is wanting.
+    ensures complete_init { W.tells_files → (texts : List (List ℕ)) → AsksInit (map string_bytes words.now) texts →
+        IsFree (W.seen world.old) → ((side : Side) → HasWrongHeader (file_of side (W.seen world.old)) → ⊥) →
+        (Rose (W.disk_faults world.old) (W.disk_faults world.new) → ⊥) → (Rose (S.sink_faults out.old) (S.sink_faults out.new) → ⊥) →
+        (result ≡ Status.Done) ⊎ (result ≡ Status.Memory) }
+
+    // At every moment a stop leaves what was accepted, and nothing but what the words ask for; no step from one moment to
+    // the next loses a body that all images hold, and so what they hold at entry they hold at the end.
+    ensures every { W.tells_files → Since (OnTheWay (map string_bytes words.now) (W.clock world.old).now (W.seen world.old))
+        KeepsHeld (W.clock world.old) (W.clock world.new) }
+    ensures held { W.tells_files → HeldGrows (W.clock world.old).now (W.clock world.new).now }
 
     // No more of the outside is touched: neither the link nor the input.
     ensures link { W.link world.new ≡ W.link world.old }

@@ -1,12 +1,26 @@
 //! The words of a command.
 
-ghost use Rattle.std.specs.Prelude.{◌≡◌, ◌<◌, ◌^◌, [], ◌∷◌, ◌↔◌, IsTrue, IsNone, IfSome, decimal, string_bytes, map};
+ghost use Rattle.std.specs.Prelude.{◌≡◌, ◌<◌, ◌^◌, ℕ, List, [], ◌∷◌, ◌↔◌, IsTrue, IsNone, IfSome, decimal, string_bytes, map};
 ghost use Rattle.mail_top.specs.FlagAction.{sign_of};
-ghost use Rattle.mail_top.specs.Words.{Asks};
+ghost use Rattle.mail_top.specs.Words.{Asks, AsksInit};
 
-use crate::{FlagAction, SystemFlag};
+use crate::{FlagAction, SystemFlag, are_names};
 use itoa::Buffer;
 use mail_base::{BoxName, read_u32};
+
+/// The texts of the names that the words `init BOX ..` give: 1 to 32 names of mailboxes, no two of them the same. `None`
+/// exactly where the words aren't of this form.
+pub fn names_asked(words: &[String]) -> Option<&[String]>
+    ensures some { IfSome result (λ texts. AsksInit (map string_bytes words.now) (map string_bytes texts.now)) }
+    ensures none { IsNone result → (texts : List (List ℕ)) → AsksInit (map string_bytes words.now) texts → ⊥ }
+{
+    let (command, texts) = words.split_first()?;
+    if command.as_str() == "init" && are_names(texts) {
+        Some(texts)
+    } else {
+        None
+    }
+}
 
 /// What the words `flag BOX ID SIGN FLAG` ask for. `None` exactly where the words aren't of this form.
 ///

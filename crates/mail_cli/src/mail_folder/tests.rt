@@ -3,6 +3,7 @@
 use super::*;
 use mail_base::{Account, Status};
 use mail_top::run;
+use std::alloc::{AllocError, Global};
 use std::test::Fail;
 use std::{env, fs, process};
 use world_traits::{MemSink, MemSource};
@@ -20,25 +21,31 @@ fn empty_folder<R: Files<File = File> + AllocGlobal + std::rt::Env>(
     Ok(path)
 }
 
+// The words of a command, which are parted by spaces.
+fn words_of(alloc: Global, command: &str) -> Result<Vec<String>, AllocError> {
+    let mut words = Vec::new(alloc);
+    for word in command.split(' ') {
+        words.push(String::from_str(alloc, word)?)?;
+    }
+    Ok(words)
+}
+
 #[test]
 fn a_record_reaches_the_real_file(rt: HostRuntime) -> Result<(), Fail> {
     let path = empty_folder(&rt, "record", process::id(rt.process()))?;
     let alloc = rt.alloc();
     let account = Account::new(alloc, "", "")?;
-    let mut words = Vec::new(alloc);
-    for word in ["flag", "INBOX", "42", "+", "\\Seen"] {
-        words.push(String::from_str(alloc, word)?)?;
-    }
     let mut input = MemSource::new(Vec::new(alloc));
     let mut out = MemSink::new(alloc);
-    for _ in 0..2u8 {
+    for command in ["init INBOX Archive", "flag INBOX 42 + \\Seen"] {
+        let words = words_of(alloc, command)?;
         let mut world = MailFolder::new(&rt, Some(path.as_str()));
         let status = run(alloc, &words, &account, &mut input, &mut world, &mut out);
         assert_eq!(rt; (status, world.faults), (Status::Done, 0));
     }
-    assert_eq!(rt; out.bytes(), b"accepted 1\naccepted 2\n".as_slice());
+    assert_eq!(rt; out.bytes(), b"ready\naccepted 1\n".as_slice());
     let file = format!(in alloc; "{path}/journal.0")?;
-    assert_eq!(rt; fs::read(&rt, file.as_str())?.len(), 44);
+    assert_eq!(rt; fs::read(&rt, file.as_str())?.len(), 58);
     fs::remove_dir_all(&rt, path.as_str())?;
     Ok(())
 }

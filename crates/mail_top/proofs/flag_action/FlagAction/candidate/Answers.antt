@@ -1,4 +1,4 @@
-use Rattle.std.proofs.Common.{◌≡◌, ℕ, sym, ◌∙◌, ap, arith, take, drop, refl, ◌+◌}
+use Rattle.std.proofs.Common.{ℕ, sym, ◌∙◌, ap, arith, take, drop, refl, ◌+◌}
 use Rattle.std.specs.Prelude.{◌==◌}
 use Rattle.mail_top.proofs.Body.{name_is, uid_is, sign_is, key_is, one_flag, same_action, plus_is}
 use Rattle.mail_top.proofs.flag_action.FlagAction.candidate.Goals as goal
