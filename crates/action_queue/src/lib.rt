@@ -14,6 +14,8 @@ mod queued;
 mod ready;
 mod rule;
 mod target;
+#[cfg(test)]
+mod tests;
 
 pub use action::Action;
 pub use book::{Book, Known};
