@@ -53,7 +53,7 @@ module _ (place : ℕ) (file : List ℕ) where
       )
 
 -- what stands behind an open record
-behind_record : (place : ℕ) (body rest file : List ℕ) → drop place file ≡ open_record body ++ rest → drop (place + 5 + length body) file ≡ rest
+pub behind_record : (place : ℕ) (body rest file : List ℕ) → drop place file ≡ open_record body ++ rest → drop (place + 5 + length body) file ≡ rest
 behind_record place body rest file is =
     ap (λ (n : ℕ). drop n file) (omega arith)
     ∙ sym (drop-drop (5 + length body) place file)

@@ -10,3 +10,4 @@ pub mod Fronts
 pub mod Creating
 pub mod Taken
 pub mod Held
+pub mod Several

@@ -2,6 +2,7 @@
 #![tactic(auto)]
 
 mod appending;
+mod bodies;
 mod creating;
 mod fault;
 mod gated;
@@ -11,11 +12,13 @@ mod opening;
 mod reading;
 mod setting_up;
 mod settling;
+mod several;
 #[cfg(test)]
 mod tests;
 mod version;
 
 pub use appending::AppendFault;
+pub use bodies::Bodies;
 pub use creating::{CreateFault, MAX_SIDE};
 pub use fault::{OpenFault, Place9};
 pub use journal::Journal;

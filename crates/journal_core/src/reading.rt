@@ -77,7 +77,7 @@ impl Journal {
                 why: Place9::Record { at: self.place },
             }),
             Ok(Front::Whole { size }) => {
-                let body = read_body(alloc, disk, self.side, self.place + 5, size)?;
+                let body = read_up_to(alloc, disk, self.side, self.place + 5, size)?;
                 self.place += size as u64 + 5;
                 Ok(Some(body))
             }
@@ -102,9 +102,9 @@ fn read_front<D: Disk>(disk: &mut D, side: Side, place: u64) -> Result<Front, Di
     Ok(front_in(&bytes[..count], total.saturating_sub(place)))
 }
 
-// What the first bytes of a record say of it, of which at most 5 stand here, where so many bytes
-// stand in the file from the record on.
-fn front_in(bytes: &[u8], left: u64) -> Front
+/// What the first bytes of a record say of it, of which at most 5 stand here, where so many bytes
+/// stand in the file from the record on.
+pub fn front_in(bytes: &[u8], left: u64) -> Front
     ensures value { (rest : List ℕ) → length bytes.now ≡ min 5 (length rest) → left ≡ length rest →
         bytes.now ≡ take (length bytes.now) rest → FrontIs result rest }
     ensures fits { FrontFits 0 (left + 1) result }
@@ -122,8 +122,8 @@ fn front_in(bytes: &[u8], left: u64) -> Front
     Front::Whole { size }
 }
 
-// Reads so many bytes from a place on, or as many as there are.
-fn read_body<D: Disk>(
+/// Reads so many bytes from a place on, or as many as there are.
+pub fn read_up_to<D: Disk>(
     alloc: Global,
     disk: &mut D,
     side: Side,
@@ -131,7 +131,6 @@ fn read_body<D: Disk>(
     size: u32,
 ) -> Result<Bytes, OpenFault>
     ensures value { D.tells_files →
-        at + size ≤ length (file_of side (D.seen disk.old)) →
         IfOk result (λ body. body ≡ take size (drop at (file_of side (D.seen disk.old)))) }
     ensures only { (why : Place9) → IsErrOf result (faults.NotAJournal why) → ⊥ }
     ensures told { D.tells_files → OnlyLooks (D.clock disk.old) (D.clock disk.new)

@@ -1,6 +1,6 @@
 //! Journals in memory: the bytes that stand there, each refusal, and each fault.
 
-ghost use Rattle.std.specs.Prelude.{◌≤◌, ◌^◌};
+ghost use Rattle.std.specs.Prelude.{◌≤◌, ◌<◌, ◌^◌};
 
 use super::*;
 use mail_base::Bytes;
@@ -217,6 +217,29 @@ fn slow_all(alloc: Global, left: &[u8], right: &[u8]) -> Result<(usize, Vec<u8>)
     Ok((count, joined))
 }
 
+// The same by pieces of so many bytes. Each call must give one body at least.
+fn read_pieces<D: Disk>(
+    alloc: Global,
+    disk: &mut D,
+    size: u32,
+) -> Result<(usize, Vec<u8>), OpenFault>
+    requires { 0 < size }
+{
+    let mut journal = Journal::open(disk)?;
+    let mut count: usize = 0;
+    let mut joined = Vec::new(alloc);
+    for _ in 0..100 {
+        let Some(few) = journal.next_within(alloc, disk, size)? else {
+            break;
+        };
+        for at in 0..few.len() {
+            count = count.saturating_add(1);
+            joined.extend_from_slice(few.body(at))?;
+        }
+    }
+    Ok((count, joined))
+}
+
 // A journal of two records.
 fn two_records(alloc: Global) -> Result<Vec<u8>, AllocError> {
     let mut file = FILE.to_vec(alloc)?;
@@ -237,6 +260,43 @@ fn each_cut_is_read_as_a_slow_program_reads_it(rt: HostRuntime) -> Result<(), Fa
         assert_eq!(rt; read_all(alloc, &mut disk), slow_all(alloc, cut, &[]));
         let mut disk = disk_of(alloc, &other, cut)?;
         assert_eq!(rt; read_all(alloc, &mut disk), slow_all(alloc, &other, cut));
+    }
+    Ok(())
+}
+
+#[test]
+fn each_cut_is_read_by_pieces_of_each_size(rt: HostRuntime) -> Result<(), Fail> {
+    let alloc = rt.alloc();
+    let mut file = two_records(alloc)?;
+    file.truncate(42);
+    file.extend_from_slice(b"\x01\x00\x00\x00\x03abc\x00")?;
+    for end in 0..file.len().saturating_add(1) {
+        let cut = &file[..end];
+        for size in [1, 5, 8, 9, 17, 21, 22, 29, 30, 37, 38] {
+            let mut disk = disk_of(alloc, cut, &[])?;
+            let pieces = read_pieces(alloc, &mut disk, size);
+            assert_eq!(rt; pieces, slow_all(alloc, cut, &[]));
+        }
+    }
+    Ok(())
+}
+
+// How many bodies the first piece of so many bytes gives of a journal of two records.
+fn first_few(alloc: Global, size: u32) -> Result<Option<usize>, OpenFault>
+    requires { 0 < size }
+{
+    let mut disk = disk_of(alloc, &two_records(alloc)?, &[])?;
+    let mut journal = Journal::open(&mut disk)?;
+    let few = journal.next_within(alloc, &mut disk, size)?;
+    Ok(few.map(|few| few.len()))
+}
+
+#[test]
+fn a_piece_gives_the_records_that_are_whole_in_it(rt: HostRuntime) -> Result<(), Fail> {
+    let alloc = rt.alloc();
+    // The first record and its next gate have 22 bytes, and the second one has 8 more.
+    for (size, many) in [(1, 1), (21, 1), (22, 1), (29, 1), (30, 2), (65_536, 2)] {
+        assert_eq!(rt; first_few(alloc, size)?, Some(many));
     }
     Ok(())
 }

@@ -1,0 +1,140 @@
+//! Several records of an open journal are read by one call of the disk.
+
+ghost use Rattle.std.specs.Prelude.{◌≡◌, ◌≤◌, ◌+◌, ◌<◌, ◌++◌, [], List, ℕ, length, unwrap_or};
+ghost use Rattle.std.specs.Prelude.{IfNone, IfOk, IfSome, IsErrOf, IsTrue, OnErr};
+ghost use Rattle.world_traits.specs.Calls.{Rose};
+ghost use Rattle.world_traits.specs.Files.{file_of};
+ghost use Rattle.journal_core.specs.Records.{From};
+ghost use Rattle.journal_core.specs.Standing.{IsStill};
+ghost use Rattle.journal_core.specs.Reading.{OnlyLooks};
+ghost use Rattle.journal_core.specs.Several.{NextAre, TakesFew};
+ghost use Rattle.journal_core.specs.declared.fault.OpenFault.TheVariants as faults;
+
+use crate::bodies::is_shut;
+use crate::reading::read_up_to;
+use crate::{Bodies, Journal, OpenFault};
+use std::alloc::Global;
+use world_traits::{Clocked, Disk};
+
+// The bytes that are read by one call.
+const PIECE: u32 = 65_536;
+
+impl Journal {
+    /// Gives the bodies of the next records, one at least, or `None` at the closed gate behind the last one.
+    ///
+    /// It reads 64 KiB at a time, and gives the records that stand whole in them. A longer record is given alone. It
+    /// takes memory for those bytes or for that one body. After a fault the journal is as it was.
+    pub fn next_few<D: Disk>(
+        &mut self,
+        alloc: Global,
+        disk: &mut D,
+    ) -> Result<Option<Bodies>, OpenFault>
+        ensures value { D.tells_files → NextAre self.old (file_of self.old.side (D.seen disk.old))
+            self.new result }
+
+        // The same by all the bodies that stand from the journal's place on, and by those that it
+        // has read.
+        ensures first { D.tells_files → (bodies : List (List ℕ)) →
+            From self.old.place bodies (file_of self.old.side (D.seen disk.old)) →
+            IfOk result (TakesFew bodies (file_of self.old.side (D.seen disk.old)) self.new) }
+        ensures still { D.tells_files → (bodies : List (List ℕ)) →
+            IsStill self.old bodies (D.clock disk.old).now (D.seen disk.old) →
+            IfOk result (λ next. IsStill self.new (bodies ++ unwrap_or next [])
+            (D.clock disk.new).now (D.seen disk.new)) }
+        ensures kept { OnErr result (self.new ≡ self.old) }
+
+        // Whatever the disk tells: there is one body at least, each takes the journal on, and at
+        // none all were read.
+        ensures some { IfOk result (λ next. IfSome next (λ few. 0 < length few)) }
+        ensures advances { IfOk result (λ next. IfSome next (λ few.
+            self.old.place + length few ≤ self.new.place)) }
+        ensures ended { IfOk result (λ next. IfNone next (IsTrue self.new.all_read)) }
+        ensures sound { self.new.failed ≡ self.old.failed }
+        ensures told { D.tells_files → OnlyLooks (D.clock disk.old) (D.clock disk.new)
+            (D.seen disk.old) (D.seen disk.new) }
+        ensures link { D.link disk.new ≡ D.link disk.old }
+        ensures count { D.disk_faults disk.old ≤ D.disk_faults disk.new }
+        ensures cause { IsErrOf result faults.Disk →
+            Rose (D.disk_faults disk.old) (D.disk_faults disk.new) }
+    {
+        self.next_within(alloc, disk, PIECE)
+    }
+
+    /// The same by reads of so many bytes.
+    pub(crate) fn next_within<D: Disk>(
+        &mut self,
+        alloc: Global,
+        disk: &mut D,
+        size: u32,
+    ) -> Result<Option<Bodies>, OpenFault>
+        requires { 0 < size }
+        ensures value { D.tells_files → NextAre self.old (file_of self.old.side (D.seen disk.old))
+            self.new result }
+        ensures first { D.tells_files → (bodies : List (List ℕ)) →
+            From self.old.place bodies (file_of self.old.side (D.seen disk.old)) →
+            IfOk result (TakesFew bodies (file_of self.old.side (D.seen disk.old)) self.new) }
+        ensures still { D.tells_files → (bodies : List (List ℕ)) →
+            IsStill self.old bodies (D.clock disk.old).now (D.seen disk.old) →
+            IfOk result (λ next. IsStill self.new (bodies ++ unwrap_or next [])
+            (D.clock disk.new).now (D.seen disk.new)) }
+        ensures kept { OnErr result (self.new ≡ self.old) }
+        ensures some { IfOk result (λ next. IfSome next (λ few. 0 < length few)) }
+        ensures advances { IfOk result (λ next. IfSome next (λ few.
+            self.old.place + length few ≤ self.new.place)) }
+        ensures ended { IfOk result (λ next. IfNone next (IsTrue self.new.all_read)) }
+        ensures sound { self.new.failed ≡ self.old.failed }
+        ensures told { D.tells_files → OnlyLooks (D.clock disk.old) (D.clock disk.new)
+            (D.seen disk.old) (D.seen disk.new) }
+        ensures link { D.link disk.new ≡ D.link disk.old }
+        ensures count { D.disk_faults disk.old ≤ D.disk_faults disk.new }
+        ensures cause { IsErrOf result faults.Disk →
+            Rose (D.disk_faults disk.old) (D.disk_faults disk.new) }
+    {
+        let piece = read_up_to(alloc, disk, self.side, self.place, size)?;
+        if is_shut(piece.as_slice()) {
+            self.all_read = true;
+            return Ok(None);
+        }
+        let (few, end) = Bodies::cut(alloc, piece)?;
+        if few.len() == 0 || u64::MAX - self.place < end as u64 {
+            return self.next_alone(alloc, disk);
+        }
+        self.place += end as u64;
+        Ok(Some(few))
+    }
+
+    // The next record alone.
+    fn next_alone<D: Disk>(
+        &mut self,
+        alloc: Global,
+        disk: &mut D,
+    ) -> Result<Option<Bodies>, OpenFault>
+        ensures value { D.tells_files → NextAre self.old (file_of self.old.side (D.seen disk.old))
+            self.new result }
+        ensures first { D.tells_files → (bodies : List (List ℕ)) →
+            From self.old.place bodies (file_of self.old.side (D.seen disk.old)) →
+            IfOk result (TakesFew bodies (file_of self.old.side (D.seen disk.old)) self.new) }
+        ensures still { D.tells_files → (bodies : List (List ℕ)) →
+            IsStill self.old bodies (D.clock disk.old).now (D.seen disk.old) →
+            IfOk result (λ next. IsStill self.new (bodies ++ unwrap_or next [])
+            (D.clock disk.new).now (D.seen disk.new)) }
+        ensures kept { OnErr result (self.new ≡ self.old) }
+        ensures some { IfOk result (λ next. IfSome next (λ few. 0 < length few)) }
+        ensures advances { IfOk result (λ next. IfSome next (λ few.
+            self.old.place + length few ≤ self.new.place)) }
+        ensures ended { IfOk result (λ next. IfNone next (IsTrue self.new.all_read)) }
+        ensures sound { self.new.failed ≡ self.old.failed }
+        ensures told { D.tells_files → OnlyLooks (D.clock disk.old) (D.clock disk.new)
+            (D.seen disk.old) (D.seen disk.new) }
+        ensures link { D.link disk.new ≡ D.link disk.old }
+        ensures count { D.disk_faults disk.old ≤ D.disk_faults disk.new }
+        ensures cause { IsErrOf result faults.Disk →
+            Rose (D.disk_faults disk.old) (D.disk_faults disk.new) }
+    {
+        let room = Vec::with_capacity(alloc, 1)?;
+        match self.next(alloc, disk)? {
+            None => Ok(None),
+            Some(body) => Ok(Some(Bodies::one(room, body))),
+        }
+    }
+}
