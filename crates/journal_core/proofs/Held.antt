@@ -91,6 +91,10 @@ held_then l m n p q = record { stays = λ i a h. q.stays i a (p.stays i a h) }
 pub held_later : (P : Moment → Type 0) (k l : Clock) → Since P KeepsHeld k l → HeldGrows k.now l.now
 held_later P k l s = since_now P (λ m. HeldGrows k.now m) KeepsHeld (λ m n p step so_far. held_then k.now m n so_far step.held) k (held_self k.now) l s
 
+-- and what isn't on the disk is as it was
+pub outside_later : (P : Moment → Type 0) (k l : Clock) → Since P KeepsHeld k l → l.now.outside ≡ k.now.outside
+outside_later P k l s = since_now P (λ m. m.outside ≡ k.now.outside) KeepsHeld (λ m n p step so_far. step.outside ∙ so_far) k refl l s
+
 -- moments that narrow are all within the first
 pub narrowed : (k l : Clock) → Narrows k l → Within k.now l.now
 narrowed k l n = since_now (Within k.now) (Within k.now) Within (λ m o p s q. p) k (within_self k.now) l n
