@@ -54,7 +54,7 @@ impl Bodies {
     }
 
     /// One body. It takes the room that there is.
-    pub fn one(room: Vec<Part>, body: Bytes) -> Bodies
+    pub(crate) fn one(room: Vec<Part>, body: Bytes) -> Bodies
         requires empty { vec_len room ≡ 0 }
         requires room { 0 < vec_capacity room }
         ensures { result ≡ body ∷ [] }
@@ -67,7 +67,7 @@ impl Bodies {
 
     /// The bodies of the records that stand whole at the front of a piece, the next gate too, and how many bytes the
     /// records have.
-    pub fn cut(alloc: Global, piece: Bytes) -> Result<(Bodies, usize), AllocError>
+    pub(crate) fn cut(alloc: Global, piece: Bytes) -> Result<(Bodies, usize), AllocError>
         requires { 0 < length piece }
         ensures stand { IfOk result (λ cut. StandFrom 0 cut.0 piece) }
         ensures size { IfOk result (λ cut. cut.1 ≡ length (records cut.0)) }

@@ -1,4 +1,5 @@
 pub mod Additions
+pub mod AtOnce
 pub mod Beginning
 pub mod Body
 pub mod Creations

@@ -92,24 +92,6 @@ missing_behind j k at why m n f g still later same read there is =
 pub reads_none : (bodies : List (List ℕ)) (j : Standing) (m : Moment) (f : Files) → IsStill j bodies m f → ReadsActions bodies j m f 1
 reads_none bodies j m f still = record { actions = []; are = tt; many = refl; still = subst (λ (b : List (List ℕ)). IsStill j b m f) (sym (append-nil bodies)) still }
 
-module _ (bodies : List (List ℕ)) (j k : Standing) (m n : Moment) (f g : Files) where
-  pub reads_more : (number : ℕ) → ReadsActions bodies j m f number → ((b : List (List ℕ)) → IsStill j b m f → ReadsBody due.Action b k n g) → ReadsActions bodies k n g (number + 1)
-  reads_more number so_far step =
-      let r = step (bodies ++ so_far.actions) so_far.still in
-      record {
-        actions = so_far.actions ++ r.body ∷ [];
-        are = all_more so_far.actions r.body so_far.are r.is;
-        many = omega (arith, so_far.many, length-append so_far.actions (r.body ∷ []));
-        still = subst (λ (b : List (List ℕ)). IsStill k b n g) (append_assoc bodies so_far.actions (r.body ∷ [])) r.still;
-      }
-
-  pub reads_end : (number : ℕ) → ReadsActions bodies j m f number → ((b : List (List ℕ)) → IsStill j b m f → IsStill k b n g) → ReadsActions bodies k n g number
-  reads_end number so_far step = record { actions = so_far.actions; are = so_far.are; many = so_far.many; still = step (bodies ++ so_far.actions) so_far.still }
-
-pub broken_later : (bodies : List (List ℕ)) (j : Standing) (m : Moment) (f g : Files) (number : ℕ) (why : Place9) → ReadsActions bodies j m f number → f ≡ g → ((b : List (List ℕ)) → IsStill j b m f → BrokenRecord due.Action b why f) → BrokenLater bodies why g
-broken_later bodies j m f g number why so_far same step =
-    subst (BrokenLater bodies why) same (record { actions = so_far.actions; are = so_far.are; broken = step (bodies ++ so_far.actions) so_far.still })
-
 -- what is no journal holds no Begin and actions
 pub no_journal_broken : (why : Place9) (f : Files) → IsNoJournal why f → IsBroken why f
 no_journal_broken (places.Record at) f not = absurd not

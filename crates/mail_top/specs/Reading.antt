@@ -5,6 +5,8 @@ use Rattle.world_traits.specs.Files.{Files}
 use Rattle.world_traits.specs.Moments.{Moment}
 use Rattle.journal_core.specs.declared.fault.Place9.{Place9}
 use Rattle.journal_core.specs.declared.fault.Place9.TheVariants as places
+use Rattle.journal_core.specs.Records.{records}
+use Rattle.journal_core.specs.Appending.{told_end}
 use Rattle.journal_core.specs.Standing.{Standing, IsStill}
 use Rattle.mail_top.specs.Book.{IsAction, IsDue, AreDue, BrokenBehind}
 use Rattle.mail_top.specs.declared.reading.Due.{Due}
@@ -40,6 +42,17 @@ pub record BrokenLater (bodies : List (List ℕ)) (why : Place9) (files : Files)
   pub actions : List (List ℕ)
   pub are : AllByRecursion IsAction actions
   pub broken : BrokenRecord due.Action (bodies ++ actions) why files
+
+-- One of the bodies is the first that isn't an action's. Where the gate of the first body is at one place, its gate is at
+-- the other.
+pub record OtherAt (at place : ℕ) (bodies : List (List ℕ)) : Type 0 where
+  pub before : List (List ℕ)
+  pub are : AllByRecursion IsAction before
+  pub body : List ℕ
+  pub bad : IsAction body → ⊥
+  pub later : List (List ℕ)
+  pub is : bodies ≡ before ++ body ∷ later
+  pub there : place ≡ told_end (at + length (records before))
 
 -- the journal was read whole: a Begin and actions, and this number is how many bodies they are
 pub record IsRead (journal : Standing) (number : ℕ) (m : Moment) (seen : Files) : Type 0 where

@@ -1,17 +1,19 @@
 //! The journal is read whole: a Begin in the first place, and actions behind it.
 
 ghost use Rattle.std.specs.Prelude.{◌≡◌, ◌≤◌, ◌<◌, ◌↔◌, ℕ, List, [], IsTrue, IfOk, OnOk, IsErrOf, false};
+ghost use Rattle.std.specs.Prelude.{◌+◌, IsNone, IfSome};
+ghost use Rattle.std.specs.List.{AllByRecursion};
 ghost use Rattle.world_traits.specs.Calls.{Rose};
 ghost use Rattle.world_traits.specs.Moments.{Narrows};
 ghost use Rattle.journal_core.specs.Reading.{OnlyLooks};
 ghost use Rattle.journal_core.specs.Standing.{IsStill};
 ghost use Rattle.journal_core.specs.declared.fault.Place9.{Place9};
 ghost use Rattle.journal_core.specs.declared.fault.OpenFault.TheVariants as faults;
-ghost use Rattle.mail_top.specs.Book.{IsDue, IsBroken};
-ghost use Rattle.mail_top.specs.Reading.{ReadsBody, ReadsOne, ReadsActions, BrokenRecord, BrokenLater, IsRead};
+ghost use Rattle.mail_top.specs.Book.{IsAction, IsDue, IsBroken};
+ghost use Rattle.mail_top.specs.Reading.{ReadsBody, ReadsOne, ReadsActions, BrokenRecord, BrokenLater, OtherAt, IsRead};
 
 use crate::{FlagAction, is_begin};
-use journal_core::{Journal, OpenFault, Place9};
+use journal_core::{Bodies, Journal, OpenFault, Place9};
 use std::alloc::Global;
 use world_traits::{Clocked, Disk};
 
@@ -33,7 +35,7 @@ pub struct Book {
     pub next_number: u64,
 }
 
-/// Opens the journal and reads all its records. It takes memory for one record at a time.
+/// Opens the journal and reads all its records. It takes memory for 64 KiB of them at a time, or for one that is longer.
 ///
 /// A journal without records is broken at the place of its first gate, since a Begin is missing there.
 pub fn read_book<D: Disk>(alloc: Global, disk: &mut D) -> Result<Book, OpenFault>
@@ -101,12 +103,58 @@ fn read_actions<D: Disk>(
     let mut count: u64 = 0;
     // Each record takes the journal's place on, and a place is a u64: so the loop ends, and the count fits.
     loop {
-        let _place = journal.place();
-        if !read_one(alloc, disk, journal, Due::Action)? {
+        let _from = journal.place();
+        let many = read_few(alloc, disk, journal)?;
+        let _to = journal.place();
+        if many == 0 {
             return Ok(count + 1);
         }
-        count += 1;
+        count += many;
     }
+}
+
+// Reads the next records, whose bodies must be actions'. Answers how many there were, or 0 behind the last one.
+fn read_few<D: Disk>(alloc: Global, disk: &mut D, journal: &mut Journal) -> Result<u64, OpenFault>
+    ensures actions { D.tells_files → (bodies : List (List ℕ)) →
+        IsStill journal.old bodies (D.clock disk.old).now (D.seen disk.old) →
+        IfOk result (λ many. ReadsActions bodies journal.new (D.clock disk.new).now (D.seen disk.new) (many + 1)) }
+    ensures advances { IfOk result (λ many. 0 < many → journal.old.place + many ≤ journal.new.place) }
+    ensures ended { IfOk result (λ many. many ≡ 0 → IsTrue journal.new.all_read) }
+    ensures sound { journal.new.failed ≡ journal.old.failed }
+    ensures broken { D.tells_files → (bodies : List (List ℕ)) →
+        IsStill journal.old bodies (D.clock disk.old).now (D.seen disk.old) →
+        (why : Place9) → IsErrOf result (faults.NotAJournal why) → BrokenLater bodies why (D.seen disk.old) }
+    ensures told { D.tells_files → OnlyLooks (D.clock disk.old) (D.clock disk.new) (D.seen disk.old) (D.seen disk.new) }
+    ensures link { D.link disk.new ≡ D.link disk.old }
+    ensures count { D.disk_faults disk.old ≤ D.disk_faults disk.new }
+    ensures cause { IsErrOf result faults.Disk → Rose (D.disk_faults disk.old) (D.disk_faults disk.new) }
+{
+    let at = journal.place();
+    let Some(few) = journal.next_few(alloc, disk)? else {
+        return Ok(0);
+    };
+    // Each of their places is below the new one, which is a u64.
+    let _end = journal.place();
+    match first_other(&few, at) {
+        None => Ok(few.len() as u64),
+        Some(place) => Err(broken_at(place)),
+    }
+}
+
+// The place of the first of the bodies that isn't an action's, where the gate of the first body is at this place.
+fn first_other(few: &Bodies, at: u64) -> Option<u64>
+    ensures none { IsNone result → AllByRecursion IsAction few.now }
+    ensures some { IfSome result (λ place. OtherAt at place few.now) }
+{
+    let mut place = at;
+    for index in 0..few.len() {
+        let body = few.body(index);
+        if !is_due(Due::Action, body) {
+            return Some(place);
+        }
+        place = place.saturating_add(5).saturating_add(body.len() as u64);
+    }
+    None
 }
 
 // Reads the next record, whose body must be of the kind that is due. Answers whether there was one.

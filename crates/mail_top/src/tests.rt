@@ -203,19 +203,19 @@ fn with_a_fault(
 #[test]
 fn each_call_of_a_failing_disk_is_told(rt: HostRuntime) -> Result<(), Fail> {
     let alloc = rt.alloc();
-    // `init` makes 11 calls, and `flag` on a journal without actions 13.
+    // `init` makes 11 calls, and `flag` on a journal without actions 12.
     for call in 1..12u64 {
         let (status, _) = with_a_fault(alloc, "init INBOX Archive", &[], call)?;
         assert_eq!(rt; status, Status::Disk);
     }
-    for call in 1..14u64 {
+    for call in 1..13u64 {
         let (status, disk) = with_a_fault(alloc, "flag INBOX 42 + \\Seen", &BEGUN, call)?;
         assert_eq!(rt; status, Status::Disk);
         assert_eq!(rt; disk.bytes(Side::Left).starts_with(&BEGUN[..34]), true);
     }
     let (status, _) = with_a_fault(alloc, "init INBOX Archive", &[], 12)?;
     assert_eq!(rt; status, Status::Done);
-    let (status, _) = with_a_fault(alloc, "flag INBOX 42 + \\Seen", &BEGUN, 14)?;
+    let (status, _) = with_a_fault(alloc, "flag INBOX 42 + \\Seen", &BEGUN, 13)?;
     assert_eq!(rt; status, Status::Done);
     Ok(())
 }

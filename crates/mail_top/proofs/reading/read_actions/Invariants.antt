@@ -4,8 +4,8 @@ use Rattle.journal_core.specs.Reading.{OnlyLooks}
 use Rattle.mail_top.specs.Reading.{ReadsActions}
 use Rattle.mail_top.proofs.reading.read_actions.Given as goal
 
-abbrev pub invariant-loop-count : goal.invariant-loop-count
-invariant-loop-count g l =
+abbrev pub invariant-loop-many : goal.invariant-loop-many
+invariant-loop-many g l =
     let clock = g.D.Clocked.clock in
     let seen = g.D.Disk.seen in
     record {
@@ -17,5 +17,5 @@ invariant-loop-count g l =
       reads : g.D.Clocked.tells_files → (bodies : List (List ℕ)) → IsStill l.fn.journal bodies (clock l.fn.disk).now (seen l.fn.disk) → ReadsActions bodies l.journal (clock l.disk).now (seen l.disk) (l.count + 1);
     }
 
-abbrev pub decreases-loop-count : goal.decreases-loop-count
-decreases-loop-count g l = 2 ^ 64 - l.journal.place
+abbrev pub decreases-loop-many : goal.decreases-loop-many
+decreases-loop-many g l = 2 ^ 64 - l.journal.place
