@@ -105,10 +105,11 @@ pub fn run<W: World, I: Source, S: Sink>(
     // At every moment a stop leaves what was accepted, and nothing but what the words ask for; no step from one moment to
     // the next loses a body that all images hold, and so what they hold at entry they hold at the end.
     ensures every { W.tells_files → Since (OnTheWay (map string_bytes words.now) (W.clock world.old).now (W.seen world.old))
-        KeepsHeld (W.clock world.old) (W.clock world.new) }
+        HeldGrows (W.clock world.old) (W.clock world.new) }
     ensures held { W.tells_files → HeldGrows (W.clock world.old).now (W.clock world.new).now }
 
-    // No more of the outside is touched: neither the link nor the input.
+    // No more of the outside is touched: nothing but the files, neither the link nor the input.
+    ensures outside { W.tells_files → (W.clock world.new).now.outside ≡ (W.clock world.old).now.outside }
     ensures link { W.link world.new ≡ W.link world.old }
     ensures unread { _input.new ≡ _input.old }
 

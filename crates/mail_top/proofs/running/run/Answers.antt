@@ -1,4 +1,5 @@
-use Rattle.journal_core.proofs.Held.{held_later}
+use Rattle.journal_core.proofs.Held.{held_later, outside_later}
+use Rattle.world_traits.proofs.Passing.{since_weaker}
 use Rattle.mail_top.proofs.Endings.{said_ends, said_words, said_disk, completes_flag, completes_init}
 use Rattle.mail_top.proofs.running.run.Goals as goal
 
@@ -24,3 +25,9 @@ returns-clause-complete_init g c tells texts asks free right no_disk no_sink =
 
 pub returns-clause-held : goal.returns-clause-held
 returns-clause-held g c tells = held_later _ _ _ (c.carry_out-ending.ensures.every tells)
+
+pub returns-clause-every : goal.returns-clause-every
+returns-clause-every g c tells = since_weaker _ _ _ _ (λ m on. on) (λ m n step. step.held) _ _ (c.carry_out-ending.ensures.every tells)
+
+pub returns-clause-outside : goal.returns-clause-outside
+returns-clause-outside g c tells = outside_later _ _ _ (c.carry_out-ending.ensures.every tells)
