@@ -1,4 +1,9 @@
-//! What the clauses don't say: a queue as it is played, and each rule broken.
+//! What the clauses don't say: which rule is told, the limits, and a queue as it is played.
+
+mod copies;
+mod limits;
+mod plain;
+mod rules;
 
 use super::*;
 use flag_set::{FlagKey, FlagSet};
@@ -8,17 +13,28 @@ use std::alloc::{AllocError, Global};
 use std::test::Fail;
 use uid_sets::{Uid, UidSet};
 
-// The book of a journal with two mailboxes. None where their names are one.
-fn book_of(alloc: Global, one: &[u8], other: &[u8]) -> Result<Option<Book>, Fail> {
-    let first = BoxName::new(one)?;
-    let second = BoxName::new(other)?;
+// A value of a test isn't what it was meant to be.
+#[derive(Debug, Drop)]
+struct Missing;
+
+// The book of a journal with the mailboxes INBOX and Archive.
+fn begun(alloc: Global) -> Result<Book, Fail> {
+    let first = BoxName::new(b"INBOX")?;
+    let second = BoxName::new(b"Archive")?;
     if second == first {
-        return Ok(None);
+        return Err(Missing)?;
     }
     let mut names = List::new(alloc);
     names.push(first)?;
     names.push(second)?;
-    Ok(Some(Book::new(alloc, names)?))
+    Ok(Book::new(alloc, names)?)
+}
+
+// A journal begins with one mailbox.
+fn begins(alloc: Global) -> Result<Event, Fail> {
+    let mut names = List::new(alloc);
+    names.push(BoxName::new(b"INBOX")?)?;
+    Ok(Event::Begin { names })
 }
 
 // Enters an event, or tells the first rule that it breaks.
@@ -31,84 +47,176 @@ fn enter(alloc: Global, book: &mut Book, event: Event) -> Result<Option<Rule>, A
     Ok(None)
 }
 
+// The same of an event in a test.
+fn told(alloc: Global, book: &mut Book, event: Event) -> Result<Option<Rule>, Fail> {
+    Ok(enter(alloc, book, event)?)
+}
+
+// The book with one more event, which is lawful.
+fn with(alloc: Global, book: Book, event: Event) -> Result<Book, Fail> {
+    let mut book = book;
+    match enter(alloc, &mut book, event)? {
+        None => Ok(book),
+        Some(_) => Err(Missing)?,
+    }
+}
+
+fn number(id: u32) -> Result<ActionId, Fail> {
+    Ok(ActionId::new(id).ok_or(Missing)?)
+}
+
+fn uid_of(uid: u32) -> Result<Uid, Fail> {
+    Ok(Uid::new(uid).ok_or(Missing)?)
+}
+
+fn under(validity: u32) -> Result<Validity, Fail> {
+    Ok(Validity::new(validity).ok_or(Missing)?)
+}
+
+fn mark(modseq: u64) -> Result<ModSeq, Fail> {
+    Ok(ModSeq::new(modseq).ok_or(Missing)?)
+}
+
 // A message of a mailbox, under validity 5.
-fn real(name: &[u8], uid: u32) -> Result<Option<Target>, Fail> {
-    let name = BoxName::new(name)?;
-    let (Some(validity), Some(uid)) = (Validity::new(5), Uid::new(uid)) else {
-        return Ok(None);
-    };
-    Ok(Some(Target::Real {
-        name,
-        validity,
-        uid,
-    }))
+fn real(name: &[u8], uid: u32) -> Result<Target, Fail> {
+    Ok(Target::Real {
+        name: BoxName::new(name)?,
+        validity: under(5)?,
+        uid: uid_of(uid)?,
+    })
+}
+
+// The message that an action makes.
+fn dummy(id: u32) -> Result<Target, Fail> {
+    Ok(Target::Dummy(number(id)?))
 }
 
 // Action `id` moves a message to a mailbox.
-fn moves(id: u32, target: Option<Target>, to: &[u8]) -> Result<Option<Event>, Fail> {
+fn moves(id: u32, target: Target, to: &[u8]) -> Result<Event, Fail> {
     let to = BoxName::new(to)?;
-    let (Some(id), Some(target)) = (ActionId::new(id), target) else {
-        return Ok(None);
-    };
-    Ok(Some(Event::Accept {
-        id,
+    Ok(Event::Accept {
+        id: number(id)?,
         action: Action::Move { target, to },
-    }))
+    })
 }
 
 // Action `id` sees a message.
-fn sees(alloc: Global, id: u32, target: Option<Target>) -> Result<Option<Event>, Fail> {
-    let (Some(id), Some(target)) = (ActionId::new(id), target) else {
-        return Ok(None);
-    };
+fn sees(alloc: Global, id: u32, target: Target) -> Result<Event, Fail> {
     let mut flags = FlagSet::none(alloc);
     flags.add(FlagKey::new(alloc, b"\\Seen")?)?;
-    Ok(Some(Event::Accept {
-        id,
+    Ok(Event::Accept {
+        id: number(id)?,
         action: Action::Flag {
             target,
             add: true,
             flags,
         },
-    }))
+    })
 }
 
-// The message that an action makes.
-fn dummy(id: u32) -> Option<Target> {
-    ActionId::new(id).map(|id| Target::Dummy(id))
+// Action `id` puts a message into a mailbox.
+fn appends(alloc: Global, id: u32, to: &[u8]) -> Result<Event, Fail> {
+    let to = BoxName::new(to)?;
+    let mut text = Bytes::new(alloc);
+    text.extend(b"Message-ID: <a@x>\r\n\r\n")?;
+    let mut name = Bytes::new(alloc);
+    name.extend(b"<a@x>")?;
+    Ok(Event::Accept {
+        id: number(id)?,
+        action: Action::Append {
+            to,
+            flags: FlagSet::none(alloc),
+            text,
+            id: name,
+        },
+    })
+}
+
+// Action `id` is about to store flags of a message of INBOX, which has this mod-sequence.
+fn stores(id: u32, uid: u32, modseq: u64) -> Result<Event, Fail> {
+    Ok(Event::Intend {
+        id: number(id)?,
+        intent: Intent::Store {
+            name: BoxName::new(b"INBOX")?,
+            validity: under(5)?,
+            uid: uid_of(uid)?,
+            modseq: mark(modseq)?,
+        },
+    })
 }
 
 // Action `id` is about to move message 42 of INBOX to a mailbox.
-fn shifts(id: u32, to: &[u8]) -> Result<Option<Event>, Fail> {
-    let from = BoxName::new(b"INBOX")?;
-    let to = BoxName::new(to)?;
-    let (Some(id), Some(validity), Some(uid)) = (ActionId::new(id), Validity::new(5), Uid::new(42))
-    else {
-        return Ok(None);
-    };
-    Ok(Some(Event::Intend {
-        id,
+fn shifts(id: u32, to: &[u8]) -> Result<Event, Fail> {
+    Ok(Event::Intend {
+        id: number(id)?,
         intent: Intent::Shift {
-            from,
-            validity,
-            uid,
-            to,
+            from: BoxName::new(b"INBOX")?,
+            validity: under(5)?,
+            uid: uid_of(42)?,
+            to: BoxName::new(to)?,
         },
-    }))
+    })
+}
+
+// Action `id` is about to put its message into a mailbox.
+fn puts(id: u32, to: &[u8]) -> Result<Event, Fail> {
+    Ok(Event::Intend {
+        id: number(id)?,
+        intent: Intent::Put {
+            to: BoxName::new(to)?,
+            validity: under(5)?,
+            uidnext: uid_of(7)?,
+        },
+    })
 }
 
 // Action `id` ended so.
-fn ends(id: u32, outcome: Outcome) -> Option<Event> {
-    ActionId::new(id).map(|id| Event::Settle { id, outcome })
+fn ends(id: u32, outcome: Outcome) -> Result<Event, Fail> {
+    Ok(Event::Settle {
+        id: number(id)?,
+        outcome,
+    })
 }
 
-// Done at UID 7 under validity 9.
-fn landed() -> Outcome {
-    let place = match (Validity::new(9), Uid::new(7)) {
-        (Some(validity), Some(uid)) => Some(Place { validity, uid }),
-        _ => None,
+// Action `id` ended as a conflict.
+fn fails(id: u32, kind: Kind) -> Result<Event, Fail> {
+    ends(id, Outcome::Conflict(kind))
+}
+
+// Action `id` is done without a place.
+fn done(id: u32) -> Result<Event, Fail> {
+    ends(id, Outcome::Done { place: None })
+}
+
+// Action `id` is done at UID 7 under validity 9.
+fn lands(id: u32) -> Result<Event, Fail> {
+    let place = Place {
+        validity: under(9)?,
+        uid: uid_of(7)?,
     };
-    Outcome::Done { place }
+    ends(id, Outcome::Done { place: Some(place) })
+}
+
+// Action `id` found that the message had changed since it had this mod-sequence.
+fn changed(id: u32, modseq: u64) -> Result<Event, Fail> {
+    fails(id, Kind::FlagsChanged { m: mark(modseq)? })
+}
+
+// Action `id` is about a message that action `by` doesn't make.
+fn orphaned(id: u32, by: u32) -> Result<Event, Fail> {
+    fails(id, Kind::TargetUnknown { k: number(by)? })
+}
+
+// What a mailbox without rows became.
+fn delta_of(alloc: Global, whole: bool, validity: u32, highest: u64) -> Result<Delta, Fail> {
+    Ok(Delta {
+        whole,
+        validity: under(validity)?,
+        highest: mark(highest)?,
+        uidnext: uid_of(7)?,
+        vanished: UidSet::none(alloc),
+        rows: List::new(alloc),
+    })
 }
 
 // A mailbox learns that nothing is in it.
@@ -118,85 +226,23 @@ fn learns(
     whole: bool,
     validity: u32,
     highest: u64,
-) -> Result<Option<Event>, Fail> {
-    let name = BoxName::new(name)?;
-    let (Some(validity), Some(highest), Some(uidnext)) = (
-        Validity::new(validity),
-        ModSeq::new(highest),
-        Uid::new(7),
-    ) else {
-        return Ok(None);
-    };
-    let vanished = UidSet::none(alloc);
-    let rows = List::new(alloc);
-    Ok(Some(Event::Learn {
-        name,
-        delta: Delta {
-            whole,
-            validity,
-            highest,
-            uidnext,
-            vanished,
-            rows,
-        },
-    }))
-}
-
-// The first rule that an event breaks, or None where it was entered.
-fn told(alloc: Global, book: &mut Book, event: Option<Event>) -> Result<Option<Rule>, Fail> {
-    let Some(event) = event else {
-        return Ok(Some(Rule::BeginAgain));
-    };
-    Ok(enter(alloc, book, event.copy(alloc)?)?)
-}
-
-#[test]
-fn actions_are_accepted_in_order(rt: HostRuntime) -> Result<(), Fail> {
-    let alloc = rt.alloc();
-    let mut book = book_of(alloc, b"INBOX", b"Archive")?.expect(&rt, "a book");
-    assert_eq!(rt;
-        told(alloc, &mut book, sees(alloc, 1, real(b"INBOX", 42)?)?)?,
-        None
-    );
-    // Of two rules that are broken at once the first is told.
-    let again = moves(1, real(b"INBOX", 42)?, b"Elsewhere")?;
-    assert_eq!(rt; told(alloc, &mut book, again)?, Some(Rule::WrongNumber));
-    let unknown = moves(2, dummy(7), b"Elsewhere")?;
-    assert_eq!(rt; told(alloc, &mut book, unknown)?, Some(Rule::UnknownBox));
-    let flagged = moves(2, dummy(1), b"Archive")?;
-    assert_eq!(rt; told(alloc, &mut book, flagged)?, Some(Rule::BadTarget));
-    Ok(())
+) -> Result<Event, Fail> {
+    Ok(Event::Learn {
+        name: BoxName::new(name)?,
+        delta: delta_of(alloc, whole, validity, highest)?,
+    })
 }
 
 #[test]
 fn a_move_is_played(rt: HostRuntime) -> Result<(), Fail> {
     let alloc = rt.alloc();
-    let mut book = book_of(alloc, b"INBOX", b"Archive")?.expect(&rt, "a book");
+    let mut book = begun(alloc)?;
     let first = moves(1, real(b"INBOX", 42)?, b"Archive")?;
     assert_eq!(rt; told(alloc, &mut book, first)?, None);
-    assert_eq!(rt;
-        told(alloc, &mut book, ends(1, landed()))?,
-        Some(Rule::NeedsIntent)
-    );
-    assert_eq!(rt;
-        told(alloc, &mut book, shifts(1, b"INBOX")?)?,
-        Some(Rule::WrongIntent)
-    );
     assert_eq!(rt; told(alloc, &mut book, shifts(1, b"Archive")?)?, None);
-    assert_eq!(rt; told(alloc, &mut book, ends(1, landed()))?, None);
-    Ok(())
-}
-
-#[test]
-fn a_mailbox_is_learned_whole_once(rt: HostRuntime) -> Result<(), Fail> {
-    let alloc = rt.alloc();
-    let mut book = book_of(alloc, b"INBOX", b"Archive")?.expect(&rt, "a book");
-    let first = learns(alloc, b"Archive", true, 9, 300)?;
-    assert_eq!(rt; told(alloc, &mut book, first)?, None);
-    let mut copy = book.copy(alloc)?;
-    let again = learns(alloc, b"Archive", true, 8, 200)?;
-    assert_eq!(rt; told(alloc, &mut copy, again)?, Some(Rule::WrongWhole));
-    let lower = learns(alloc, b"Archive", false, 9, 299)?;
-    assert_eq!(rt; told(alloc, &mut copy, lower)?, Some(Rule::LowerMark));
+    assert_eq!(rt; told(alloc, &mut book, lands(1)?)?, None);
+    assert_eq!(rt; book.first_unsettled(), None);
+    let landed = book.resolved(&dummy(1)?);
+    assert!(rt; landed.is_at(&BoxName::new(b"Archive")?, under(9)?, uid_of(7)?));
     Ok(())
 }
