@@ -1,5 +1,5 @@
 -- The first unsettled action of a queue, and what settling it does.
-use Rattle.std.proofs.Common.{rules, slice_set, slice_index_or, ◌≡◌, ℕ, suc, ◌+◌, ◌<◌, ◌≤◌, List, [], ◌∷◌, ◌++◌, length, Option, Some, None, refl, sym, ◌∙◌, ap, subst, arith}
+use Rattle.std.proofs.Common.{rules, slice_set, slice_index_or, ◌≡◌, ℕ, suc, ◌<◌, ◌≤◌, List, [], ◌∷◌, ◌++◌, length, Option, Some, None, refl, sym, ◌∙◌, ap, subst, arith}
 use Rattle.std.specs.Prelude.{IsSome}
 use Rattle.action_queue.specs.Queues.{due, settled_then, accepted, settled, change_first, change_queued, AllSettled, AllOpen, IsInOrder, InOrderThen}
 use Rattle.action_queue.specs.declared.action.Action.{Action}

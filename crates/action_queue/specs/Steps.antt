@@ -1,5 +1,5 @@
 -- How the books that a stop may leave go on, while one event is written: it is begun, made firm, or either is chosen.
-use Rattle.std.specs.Prelude.{◌≡◌, Bool, true, false, Option, Some, None}
+use Rattle.std.specs.Prelude.{◌≡◌, Bool, true, false, Option, Some}
 use Rattle.action_queue.specs.declared.event.Event.{Event}
 use Rattle.action_queue.specs.Book.{Meaning}
 use Rattle.action_queue.specs.Events.{MayCome, next_book}

@@ -1,5 +1,5 @@
 -- What a target resolves to (RFC 9051, section 2.3.1.1): a dummy stands for the message that an earlier move or append makes.
-use Rattle.std.specs.Prelude.{ℕ, ◌-◌, Bool, true, false, ◌&&◌, ◌==◌, List, slice_get, bytes_eq, Option, Some, None}
+use Rattle.std.specs.Prelude.{ℕ, ◌-◌, Bool, false, ◌&&◌, ◌==◌, List, slice_get, bytes_eq, Option, Some, None}
 use Rattle.action_queue.specs.declared.target.Target.{Target}
 use Rattle.action_queue.specs.declared.target.Target.TheVariants as targets
 use Rattle.action_queue.specs.declared.action.Action.{Action}

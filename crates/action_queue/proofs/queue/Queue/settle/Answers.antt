@@ -1,5 +1,5 @@
 -- The action at the number that is kept is the one that is due.
-use Rattle.std.proofs.Common.{◌≡◌, ◌<◌, ◌∙◌, sym, ap, length, arith}
+use Rattle.std.proofs.Common.{◌<◌, sym, ap, length, arith}
 use Rattle.action_queue.specs.Queues.{Entries, due, settled, change_first}
 use Rattle.action_queue.proofs.Queueing.{set_first, due_settled, order_settled, length_change}
 use Rattle.action_queue.proofs.queue.Queue.settle.Goals as goal
