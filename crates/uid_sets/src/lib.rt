@@ -1,6 +1,7 @@
 //! Sets of UIDs, kept as rising ranges (RFC 9051, sections 2.3.1.1 and 9).
 #![tactic(auto)]
 
+mod canonical;
 mod join;
 mod merge;
 mod search;

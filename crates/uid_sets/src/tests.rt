@@ -1,6 +1,6 @@
 //! Rows of calls on sets of UIDs (RFC 9051, section 9, sequence-set), and small sets against lists of members.
 
-use super::{SetFault, Uid, UidSet};
+use super::{SetFault, Uid, UidRange, UidSet};
 use std::alloc::{AllocError, Global};
 use std::test::Fail;
 
@@ -138,6 +138,41 @@ fn sets_are_joined_and_cut(rt: HostRuntime) -> Result<(), Fail> {
     assert_eq!(rt; six.only(), Uid::new(6));
     assert_eq!(rt; set.only(), None);
     assert_eq!(rt; UidSet::none(alloc).only(), None);
+    Ok(())
+}
+
+#[test]
+fn a_list_of_ranges_is_that_of_a_set(rt: HostRuntime) -> Result<(), Fail> {
+    let alloc = rt.alloc();
+    let rows: [(&[(u32, u32)], Option<&[u8]>); 10] = [
+        (&[], Some(b"")),
+        (&[(1, 1)], Some(b"1")),
+        (&[(3, 5), (7, 7)], Some(b"3:5,7")),
+        (
+            &[(1, 4294967293), (4294967295, 4294967295)],
+            Some(b"1:4294967293,4294967295"),
+        ),
+        (&[(0, 3)], None),
+        (&[(5, 3)], None),
+        (&[(3, 5), (6, 7)], None),
+        (&[(3, 5), (5, 7)], None),
+        (&[(7, 7), (3, 5)], None),
+        (&[(1, 4294967295), (1, 1)], None),
+    ];
+    for (ends, text) in rows {
+        let mut ranges = Vec::new(alloc);
+        for (low, high) in ends {
+            ranges.push(UidRange {
+                low: *low,
+                high: *high,
+            })?;
+        }
+        match (UidSet::of(ranges), text) {
+            (Some(set), Some(text)) => assert!(rt; is_text(&set, text)?),
+            (None, None) => {}
+            _ => assert!(rt; false),
+        }
+    }
     Ok(())
 }
 

@@ -7,6 +7,7 @@ ghost use Rattle.uid_sets.specs.Spelling.{set_text};
 ghost use Rattle.uid_sets.specs.declared.uid.UidRange.{UidRange};
 ghost use Rattle.uid_sets.specs.declared.set_fault.SetFault.{SetFault};
 
+use super::canonical::is_canonical;
 use super::join::join;
 use super::merge::{difference_of, rest_of, union_of};
 use super::search::holds;
@@ -39,6 +40,19 @@ impl UidSet {
     {
         UidSet {
             ranges: Vec::new(alloc),
+        }
+    }
+
+    /// The set of these ranges, where they are the list of one: they rise, each of nonzero UIDs with its ends in order, and
+    /// between neighbours there is a UID that neither has. It takes no memory.
+    pub fn of(ranges: Vec<UidRange>) -> Option<UidSet>
+        ensures some { IfSome result (λ set. (set ≡ ranges.items) × IsCanonical ranges.items) }
+        ensures none { IfNone result (¬ IsCanonical ranges.items) }
+    {
+        if is_canonical(&ranges) {
+            Some(UidSet { ranges })
+        } else {
+            None
         }
     }
 
