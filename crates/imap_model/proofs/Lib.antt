@@ -1,5 +1,12 @@
 pub mod Arguments
 pub mod Cutting
+pub mod Effects
+pub mod Evolution
+pub mod Finding
+pub mod Forming
+pub mod Going
 pub mod Joining
 pub mod Listed
+pub mod Possible
+pub mod Rows
 pub mod SameCommand

@@ -1,8 +1,11 @@
 pub mod Astring
+pub mod Carrying
 pub mod Changes
+pub mod Changing
 pub mod Codes
 pub mod CommandParts
 pub mod CommandText
+pub mod Evolving
 pub mod FetchItems
 pub mod FlagLists
 pub mod Lawful
@@ -11,7 +14,9 @@ pub mod Mutating
 pub mod Numbers
 pub mod OneText
 pub mod Others
+pub mod Ours
 pub mod Parts
+pub mod PlainChanges
 pub mod Responses
 pub mod Searches
 pub mod Small

@@ -21,7 +21,7 @@ pub use deed::{Author, Change, Deed};
 pub use ending::Ending;
 pub use fetched::Fetched;
 pub use item::Item;
-pub use laws::one_text;
+pub use laws::{changes_stay_well, one_text, rules_decide};
 pub use limit::Limit;
 pub use mark::Mark;
 pub use response::Response;
