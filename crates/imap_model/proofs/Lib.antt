@@ -1,5 +1,6 @@
 pub mod Arguments
 pub mod Cutting
+pub mod Effect
 pub mod Effects
 pub mod Evolution
 pub mod Finding

@@ -1,4 +1,5 @@
 pub mod Astring
+pub mod CarriedOut
 pub mod Carrying
 pub mod Changes
 pub mod Changing
@@ -17,13 +18,18 @@ pub mod Others
 pub mod Ours
 pub mod Parts
 pub mod PlainChanges
+pub mod Remarks
 pub mod Responses
 pub mod Searches
+pub mod Searching
+pub mod SelectTells
 pub mod Small
 pub mod Strings
 pub mod TagText
 pub mod Tagged
+pub mod Talking
 pub mod TextParts
+pub mod ToldRows
 pub mod Values
 pub mod WellFormed
 pub mod Words

@@ -1,5 +1,10 @@
 //! What holds of the texts of commands (RFC 9051, sections 2.2.1 and 6) and of changes (section 2.3.1.1; RFC 7162, section 3.1).
 
+ghost use Rattle.std.specs.Prelude.{ℕ, List, Option};
+ghost use Rattle.imap_model.specs.CarriedOut.{CarriesOut};
+ghost use Rattle.imap_model.specs.Carrying.{Waiting, Carries};
+ghost use Rattle.imap_model.specs.declared.replies.Replies.{Replies};
+ghost use Rattle.imap_model.specs.declared.server.Server.{Server};
 ghost use Rattle.imap_model.specs.Changing.{ChangesStayWell, BatchesStayWell, RulesDecide};
 ghost use Rattle.imap_model.specs.OneText.{OneText};
 
@@ -18,4 +23,11 @@ pub fn changes_stay_well()
 /// A change of a server that is well formed can be made exactly where it breaks none of the five rules.
 pub fn rules_decide()
     ensures { RulesDecide }
+{}
+
+/// Of the server alone a command that is carried out says this: it is refused and nothing changes, or it has its effect, if
+/// it has one.
+pub fn carried_effect()
+    ensures { (w : Waiting) (s : Server) (r : Replies) (t : Server) (after : Option (List ℕ)) → CarriesOut w s r t after
+        → Carries w s t }
 {}

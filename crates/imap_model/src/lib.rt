@@ -10,6 +10,7 @@ mod item;
 mod laws;
 mod limit;
 mod mark;
+mod replies;
 mod response;
 mod server;
 #[cfg(test)]
@@ -21,8 +22,9 @@ pub use deed::{Author, Change, Deed};
 pub use ending::Ending;
 pub use fetched::Fetched;
 pub use item::Item;
-pub use laws::{changes_stay_well, one_text, rules_decide};
+pub use laws::{carried_effect, changes_stay_well, one_text, rules_decide};
 pub use limit::Limit;
 pub use mark::Mark;
+pub use replies::Replies;
 pub use response::Response;
 pub use server::{Gone, Mailbox, Message, Server};

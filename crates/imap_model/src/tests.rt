@@ -1,8 +1,8 @@
 //! Copies of responses: with memory at hand each is made, and is what it is a copy of.
 
-use crate::{Code, Ending, Fetched, Response};
+use crate::{Code, Ending, Fetched, Replies, Response};
 use flag_set::FlagSet;
-use mail_base::{Bytes, Tag, Validity, Words};
+use mail_base::{Bytes, List, Tag, Validity, Words};
 use std::test::Fail;
 use uid_sets::{Uid, UidSet};
 
@@ -71,5 +71,23 @@ fn capabilities_are_copied(rt: HostRuntime) -> Result<(), Fail> {
     words.push(word)?;
     let copy = Code::Capability(words).copy(rt.alloc())?;
     assert!(rt; offers_move_alone(&copy));
+    Ok(())
+}
+
+#[test]
+fn replies_are_copied(rt: HostRuntime) -> Result<(), Fail> {
+    let mut untagged = List::new(rt.alloc());
+    untagged.push(Response::Exists(2))?;
+    untagged.push(Response::Bye)?;
+    let replies = Replies {
+        untagged,
+        ending: Ending::No,
+        code: Code::Closed,
+    };
+    let copy = replies.copy(rt.alloc())?;
+    assert_eq!(rt; copy.untagged.len(), 2);
+    assert_eq!(rt; copy.ending, Ending::No);
+    assert!(rt; matches!(copy.code, Code::Closed));
+    assert!(rt; matches!(copy.untagged.as_slice().first(), Some(Response::Exists(2))));
     Ok(())
 }
