@@ -1,4 +1,5 @@
 pub mod Arguments
+pub mod Caseless
 pub mod Cutting
 pub mod Effect
 pub mod Effects
@@ -8,6 +9,9 @@ pub mod Forming
 pub mod Going
 pub mod Joining
 pub mod Listed
+pub mod PlainCase
 pub mod Possible
+pub mod Remarking
 pub mod Rows
 pub mod SameCommand
+pub mod SetOf

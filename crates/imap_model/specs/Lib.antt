@@ -18,6 +18,7 @@ pub mod Others
 pub mod Ours
 pub mod Parts
 pub mod PlainChanges
+pub mod PlainServer
 pub mod Remarks
 pub mod Responses
 pub mod Searches
@@ -30,6 +31,7 @@ pub mod Tagged
 pub mod Talking
 pub mod TextParts
 pub mod ToldRows
+pub mod UidLists
 pub mod Values
 pub mod WellFormed
 pub mod Words

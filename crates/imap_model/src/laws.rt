@@ -5,6 +5,10 @@ ghost use Rattle.imap_model.specs.CarriedOut.{CarriesOut};
 ghost use Rattle.imap_model.specs.Carrying.{Waiting, Carries};
 ghost use Rattle.imap_model.specs.declared.replies.Replies.{Replies};
 ghost use Rattle.imap_model.specs.declared.server.Server.{Server};
+ghost use Rattle.mail_base.specs.declared.tag.Tag.{Tag};
+ghost use Rattle.imap_model.specs.PlainServer.{Choices, turn_of};
+ghost use Rattle.imap_model.specs.WellFormed.{IsWellFormed};
+ghost use Rattle.imap_model.specs.declared.command.Command.{Command};
 ghost use Rattle.imap_model.specs.Changing.{ChangesStayWell, BatchesStayWell, RulesDecide};
 ghost use Rattle.imap_model.specs.OneText.{OneText};
 
@@ -30,4 +34,11 @@ pub fn rules_decide()
 pub fn carried_effect()
     ensures { (w : Waiting) (s : Server) (r : Replies) (t : Server) (after : Option (List ℕ)) → CarriesOut w s r t after
         → Carries w s t }
+{}
+
+/// The plain server carries out each command as a lawful server may, whatever it chooses and whatever is selected.
+pub fn plain_server_is_lawful()
+    ensures { (c : Choices) (selected : Option (List ℕ)) (tag : Tag) (command : Command) (s : Server) → IsWellFormed s.boxes
+        → CarriesOut (record { selected = selected; tag = tag; command = command }) s
+        (turn_of c selected tag command s).replies (turn_of c selected tag command s).server (turn_of c selected tag command s).selected }
 {}

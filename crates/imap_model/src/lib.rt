@@ -22,7 +22,7 @@ pub use deed::{Author, Change, Deed};
 pub use ending::Ending;
 pub use fetched::Fetched;
 pub use item::Item;
-pub use laws::{carried_effect, changes_stay_well, one_text, rules_decide};
+pub use laws::{carried_effect, changes_stay_well, one_text, plain_server_is_lawful, rules_decide};
 pub use limit::Limit;
 pub use mark::Mark;
 pub use replies::Replies;
