@@ -1,3 +1,13 @@
 pub mod Counts
 pub mod Cutting
 pub mod OneByOne
+pub mod NameForm
+pub mod Reader
+pub mod KeyOrder
+pub mod Ids
+pub mod Taking
+pub mod Items
+pub mod EventsRead
+pub mod EventsSpelled
+pub mod Lists
+pub mod Verdicts

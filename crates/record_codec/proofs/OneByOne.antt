@@ -33,13 +33,13 @@ use Rattle.record_codec.proofs.Cutting.{byte_same, number_same, long_same, count
 abbrev ended : List ℕ → List ℕ
 ended bytes = bytes ++ []
 
-three : (a b c : List ℕ) → (a ++ b) ++ c ≡ a ++ (b ++ c)
+pub three : (a b c : List ℕ) → (a ++ b) ++ c ≡ a ++ (b ++ c)
 three a b c = append_assoc a b c
 
-four : (a b c d : List ℕ) → ((a ++ b) ++ c) ++ d ≡ a ++ (b ++ (c ++ d))
+pub four : (a b c d : List ℕ) → ((a ++ b) ++ c) ++ d ≡ a ++ (b ++ (c ++ d))
 four a b c d = append_assoc (a ++ b) c d ∙ append_assoc a b (c ++ d)
 
-target_apart : (name : List ℕ) (validity uid : ℕ) (r : List ℕ) → target_field (targets.Real name validity uid) ++ r ≡ 82 ∷ (counted name ++ (to_be_bytes w32 validity ++ (to_be_bytes w32 uid ++ r)))
+pub target_apart : (name : List ℕ) (validity uid : ℕ) (r : List ℕ) → target_field (targets.Real name validity uid) ++ r ≡ 82 ∷ (counted name ++ (to_be_bytes w32 validity ++ (to_be_bytes w32 uid ++ r)))
 target_apart name validity uid r = four (82 ∷ counted name) (to_be_bytes w32 validity) (to_be_bytes w32 uid) r
 
 target_same : (a b : Target) (r s : List ℕ) → IsKeptTarget a → IsKeptTarget b → target_field a ++ r ≡ target_field b ++ s → (a ≡ b) × (r ≡ s)
@@ -78,7 +78,7 @@ id_same text text' id id' same has has' =
     let bodies = ap first_body (sym has.one.1 ∙ ap id_bodies same ∙ has'.one.1) in
     has.value ∙ ap id_of bodies ∙ sym has'.value
 
-text_fits : (to : List ℕ) (flags : List (List ℕ)) (text id : List ℕ) → length (action_fields (actions.Append to flags text id)) ≤ 1073741824 → length text < 2 ^ 32
+pub text_fits : (to : List ℕ) (flags : List (List ℕ)) (text id : List ℕ) → length (action_fields (actions.Append to flags text id)) ≤ 1073741824 → length text < 2 ^ 32
 text_fits to flags text id fits =
     omega (arith, fits, length-append (80 ∷ counted to ++ flag_field flags ++ to_be_bytes w32 (length text)) text)
 

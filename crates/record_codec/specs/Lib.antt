@@ -2,3 +2,7 @@
 pub mod Bodies
 pub mod Fields
 pub mod Spelling
+pub mod Giving
+pub mod Reading
+pub mod Refusing
+pub mod BothWays

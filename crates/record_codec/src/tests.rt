@@ -3,7 +3,9 @@
 ghost use Rattle.std.specs.Prelude.{◌≡◌, ◌≢◌, ◌≤◌, length, IfOk};
 ghost use Rattle.action_queue.specs.Writable.{IsWritable};
 
-use crate::{action_size, encode, encode_outcome, size};
+mod reading;
+
+use crate::{action_size, decode, encode, encode_outcome, size};
 use action_queue::{Action, Event, Intent, Kind, Outcome, Place, Target};
 use flag_set::{FlagKey, FlagSet};
 use mail_base::{ActionId, BoxName, List, ModSeq, Validity};
@@ -31,7 +33,18 @@ fn says(alloc: Global, event: &Event, body: &[u8]) -> Result<bool, Fail>
         return Ok(false);
     }
     let frame = encode(alloc, event)?;
-    Ok(size == body.len() as u64 && is_frame(&frame, body))
+    Ok(size == body.len() as u64 && is_frame(&frame, body) && reads(alloc, body)?)
+}
+
+// Whether a body is read as an event that has this body.
+fn reads(alloc: Global, body: &[u8]) -> Result<bool, Fail> {
+    let event = decode(alloc, body)?;
+    let frame = encode(alloc, &event)?;
+    Ok(
+        frame.ends_with(&[0])
+            && frame.len() == body.len() + 5
+            && frame.split_at(4).1.starts_with(body),
+    )
 }
 
 fn id(number: u32) -> Result<ActionId, Fail> {
