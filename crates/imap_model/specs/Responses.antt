@@ -70,7 +70,7 @@ IsLineOf text parts (responses.Capability words) =
 -- enable-data
 IsLineOf text parts (responses.Enabled words) =
     (rest : List ℕ) × (parts ≡ bytes text) × IsNamed text (codes "ENABLED") rest × EndsInWords rest words
--- message-data: number SP "EXISTS"
+-- mailbox-data: number SP "EXISTS"
 IsLineOf text parts (responses.Exists count) =
     (digits : List ℕ) × (blank : List ℕ) × (parts ≡ bytes text) × IsNumber digits count
     × IsNumbered text digits (codes "EXISTS") blank × AreSpaces blank

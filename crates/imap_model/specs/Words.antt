@@ -58,7 +58,7 @@ IsUntagged line rest = (later : List ℕ) × (line ≡ 42 ∷ later) × Spaced l
 abbrev pub IsNamed : List ℕ → List ℕ → List ℕ → Type 0
 IsNamed line name rest = (later : List ℕ) × IsUntagged line later × Begins later name rest
 
--- an untagged line that begins with digits and this word (message-data)
+-- an untagged line that begins with digits and this word (mailbox-data, message-data)
 abbrev pub IsNumbered : List ℕ → List ℕ → List ℕ → List ℕ → Type 0
 IsNumbered line digits name rest =
     (later : List ℕ) × (behind : List ℕ) × IsUntagged line (digits ++ later) × Spaced later behind × Begins behind name rest
