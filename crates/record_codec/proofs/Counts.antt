@@ -1,6 +1,6 @@
 -- How many ranges there can be, how many bytes they have, and that each row has few flags.
-use Rattle.std.proofs.Common.{◌≡◌, ◌≤◌, ◌<◌, ◌+◌, ◌*◌, ◌^◌, ℕ, zero, suc, List, [], ◌∷◌, length, slice_index_or, refl, sym, ap, ◌∙◌, subst, arith}
-use Rattle.std.specs.List.{flat_map}
+use Rattle.std.proofs.Common.{◌≡◌, ◌≤◌, ◌<◌, ◌+◌, ◌*◌, ◌^◌, ℕ, zero, suc, List, [], ◌∷◌, length, take, slice_index_or, refl, sym, ap, ◌∙◌, subst, arith}
+use Rattle.std.specs.List.{flat_map, AllByRecursion}
 use Rattle.std.proofs.lemmas.List.{length-append}
 use Rattle.std.proofs.lemmas.List.Concat.{flat_map-cons}
 use Rattle.uid_sets.specs.declared.uid.UidRange.{UidRange}
@@ -31,3 +31,9 @@ pub few_at : (rows : List (ℕ × Row)) (at : ℕ) (r : ℕ × Row) → HaveFewF
 few_at [] at r few there is = absurd (omega (arith, there))
 few_at (first ∷ rows) zero r few there is = subst (λ (x : ℕ × Row). length x.1.flags ≤ 1024) (sym is) few.0
 few_at (first ∷ rows) (suc at) r few there is = few_at rows at r few.1 (omega (arith, there)) is
+
+-- what holds of the items so far, and of the next one
+pub all_more : {A : Type 0} (P : A → Type 0) (xs : List A) (at : ℕ) (x : A) → at < length xs → x ≡ slice_index_or xs at x → AllByRecursion P (take at xs) → P x → AllByRecursion P (take (suc at) xs)
+all_more P [] at x there is all p = absurd (omega (arith, there))
+all_more P (y ∷ xs) zero x there is all p = (subst P is p, tt)
+all_more P (y ∷ xs) (suc at) x there is all p = (all.0, all_more P xs at x (omega (arith, there)) is all.1 p)

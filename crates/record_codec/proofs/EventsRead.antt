@@ -1,5 +1,5 @@
 -- Whole events: what is read is spelled so.
-use Rattle.std.proofs.Common.{◌≡◌, ◌<◌, ◌≤◌, ◌⊎◌, inl, inr, ℕ, ◌+◌, ◌^◌, Bool, true, false, ◌&&◌, ◌==◌, List, [], ◌∷◌, ◌++◌, length, Option, Some, None, Result, Ok, Err, nat_le, refl, sym, ap, subst, ◌∙◌, append_assoc, arith, if◌then◌else◌}
+use Rattle.std.proofs.Common.{◌≡◌, ◌≤◌, inl, inr, ℕ, Bool, true, false, ◌&&◌, ◌==◌, List, [], ◌∷◌, ◌++◌, length, Option, Some, None, Result, Ok, Err, nat_le, refl, sym, ap, subst, ◌∙◌, append_assoc, arith, if◌then◌else◌}
 use Rattle.std.specs.Int.{w32, w64, to_be_bytes}
 use Rattle.std.specs.List.{flat_map}
 use Rattle.std.proofs.lemmas.List.{append-nil}
@@ -7,7 +7,6 @@ use Rattle.std.proofs.lemmas.Bool.{and_parts, leb-true}
 use Rattle.mail_header.specs.Identifier.{id_bodies, HasMessageId}
 use Rattle.mail_base.specs.BoxName.{IsBoxName}
 use Rattle.uid_sets.specs.UidSet.{IsCanonical}
-use Rattle.mailbox_cache.specs.declared.delta.Delta.{Delta}
 use Rattle.action_queue.specs.Writable.{IsWritable, IsWritableAction}
 use Rattle.action_queue.specs.declared.target.Target.{Target}
 use Rattle.action_queue.specs.declared.target.Target.TheVariants as targets
@@ -24,12 +23,12 @@ use Rattle.action_queue.specs.declared.event.Event.{Event}
 use Rattle.action_queue.specs.declared.event.Event.TheVariants as events
 use Rattle.record_codec.specs.Fields.{counted, flag_field, target_field, sign, bit}
 use Rattle.record_codec.specs.Bodies.{action_fields, intent_fields, place_fields, kind_fields, outcome_fields, mark_fields, range_fields, row_fields, delta_fields, body_of}
-use Rattle.record_codec.specs.Spelling.{IsNumber, IsModSeq, IsKeptTarget, IsKeptAction, IsKeptIntent, IsKeptPlace, IsKeptKind, IsKeptOutcome, IsKeptDelta, IsKept, Spelled}
-use Rattle.record_codec.specs.Reading.{Reading, ◌>>=◌, AreBytes, Told, Plain, Begin, Accept, Intend, Settle, Learn, told_of, plain, number_at, nonzero_at, modseq_at, name_at, octets_at, real_at, dummy_at, target_at, sign_at, flags_at, the_id, with_id, text_at, flag_at, move_at, append_at, action_at, store_at, shift_at, put_at, intent_at, landed_at, place_at, changed_at, unknown_at, unsure_at, ambiguous_at, kind_by, kind_at, done_at, conflict_at, outcome_at, bit_at, vanished_at, row_list_at, told_at, name_list_at, begin_at, accept_at, intend_at, settle_at, learn_at, plain_at, place_of, all_of, body_at}
+use Rattle.record_codec.specs.Spelling.{IsNumber, IsModSeq, IsKeptTarget, IsKeptAction, IsKeptIntent, IsKeptPlace, IsKeptKind, IsKeptOutcome, IsKept, Spelled}
+use Rattle.record_codec.specs.Reading.{Reading, ◌>>=◌, AreBytes, Told, Plain, Begin, Accept, Intend, Settle, Learn, plain, number_at, nonzero_at, modseq_at, name_at, octets_at, real_at, dummy_at, target_at, sign_at, flags_at, the_id, with_id, text_at, flag_at, move_at, append_at, action_at, store_at, shift_at, put_at, intent_at, landed_at, place_at, changed_at, unknown_at, unsure_at, ambiguous_at, kind_by, kind_at, done_at, conflict_at, outcome_at, bit_at, vanished_at, row_list_at, told_at, name_list_at, begin_at, accept_at, intend_at, settle_at, learn_at, plain_at, place_of, all_of, body_at}
 use Rattle.record_codec.proofs.Ids.{told_id, same-true}
-use Rattle.record_codec.proofs.OneByOne.{three, four, target_apart}
-use Rattle.record_codec.proofs.Taking.{bound, Bound, ok_same, chosen, Sound, Reads, reads_same, sound_by, lettered, Fits32, number_reads, nonzero_reads, modseq_reads, name_reads, octets_reads, sign_reads, bit_reads}
-use Rattle.record_codec.proofs.Items.{IsKeptFlags, flags_reads, vanished_reads, AreKeptRows, row_list_reads, AreKeptNames, name_list_reads}
+use Rattle.record_codec.proofs.OneByOne.{four, target_apart}
+use Rattle.record_codec.proofs.Taking.{bound, ok_same, chosen, Sound, Reads, reads_same, lettered, number_reads, nonzero_reads, modseq_reads, name_reads, octets_reads, sign_reads, bit_reads}
+use Rattle.record_codec.proofs.Items.{flags_reads, vanished_reads, AreKeptRows, row_list_reads, AreKeptNames, name_list_reads}
 
 -- a byte in front of what was read
 front : (b : ℕ) (bytes more : List ℕ) → bytes ≡ more → b ∷ bytes ≡ b ∷ more

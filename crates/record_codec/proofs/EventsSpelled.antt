@@ -1,5 +1,5 @@
 -- Whole events: what is spelled is read.
-use Rattle.std.proofs.Common.{◌≡◌, ◌<◌, ◌≤◌, ℕ, ◌+◌, ◌^◌, Bool, true, false, ◌&&◌, ◌==◌, List, [], ◌∷◌, ◌++◌, length, Option, Some, None, Result, Ok, Err, nat_le, refl, sym, ap, subst, ◌∙◌, append_assoc, arith, if◌then◌else◌}
+use Rattle.std.proofs.Common.{◌≡◌, ◌<◌, ◌≤◌, ℕ, ◌^◌, Bool, List, [], ◌∷◌, ◌++◌, length, Option, Some, None, Ok, Err, refl, sym, ap, subst, ◌∙◌, append_assoc, arith, if◌then◌else◌}
 use Rattle.std.specs.Int.{w32, w64, to_be_bytes}
 use Rattle.std.specs.List.{flat_map}
 use Rattle.std.proofs.lemmas.Bool.{le-leb}
@@ -22,9 +22,9 @@ use Rattle.action_queue.specs.declared.event.Event.{Event}
 use Rattle.action_queue.specs.declared.event.Event.TheVariants as events
 use Rattle.record_codec.specs.Fields.{counted, flag_field, target_field, sign, bit}
 use Rattle.record_codec.specs.Bodies.{action_fields, intent_fields, place_fields, kind_fields, outcome_fields, mark_fields, range_fields, row_fields, delta_fields, body_of}
-use Rattle.record_codec.specs.Spelling.{IsNumber, IsModSeq, IsKeptTarget, IsKeptAction, IsKeptIntent, IsKeptPlace, IsKeptKind, IsKeptOutcome, IsKeptDelta, IsKept, Spelled}
+use Rattle.record_codec.specs.Spelling.{IsKeptTarget, IsKeptAction, IsKeptIntent, IsKeptPlace, IsKeptKind, IsKeptOutcome, IsKeptDelta, IsKept, Spelled}
 use Rattle.record_codec.specs.Reading.{Reading, ◌>>=◌, Told, Plain, Begin, Accept, Intend, Settle, Learn, told_of, plain, byte_at, number_at, nonzero_at, modseq_at, name_at, octets_at, real_at, dummy_at, target_at, sign_at, flags_at, the_id, with_id, text_at, flag_at, move_at, append_at, action_at, store_at, shift_at, put_at, intent_at, landed_at, place_at, changed_at, unknown_at, unsure_at, ambiguous_at, kind_at, done_at, conflict_at, outcome_at, bit_at, vanished_at, row_list_at, told_at, name_list_at, begin_at, accept_at, intend_at, settle_at, learn_at, plain_at, place_of, all_of, body_at}
-use Rattle.record_codec.proofs.Ids.{id_told, and_true}
+use Rattle.record_codec.proofs.Ids.{id_told}
 use Rattle.record_codec.proofs.OneByOne.{four, target_apart, text_fits}
 use Rattle.record_codec.proofs.Taking.{then_by, number_read, nonzero_read, modseq_read, name_read, octets_read, sign_read, bit_read}
 use Rattle.record_codec.proofs.Items.{flags_read, vanished_read, row_list_read, name_list_read}

@@ -1,5 +1,5 @@
 -- Items one behind the other: what is read is spelled so, and what is spelled is read.
-use Rattle.std.proofs.Common.{◌≡◌, ◌≢◌, ◌<◌, ◌≤◌, ℕ, zero, suc, ◌+◌, ◌^◌, Bool, true, false, not, ◌&&◌, ◌||◌, ◌==◌, List, [], ◌∷◌, ◌++◌, length, Option, Some, None, Result, Ok, Err, cond, nat_le, nat_lt, is_none, refl, sym, ap, subst, ◌∙◌, append_assoc, arith}
+use Rattle.std.proofs.Common.{◌≡◌, ◌≢◌, ◌<◌, ◌≤◌, ℕ, zero, suc, ◌+◌, ◌^◌, Bool, true, false, not, ◌&&◌, ◌||◌, List, [], ◌∷◌, ◌++◌, length, Option, Some, None, Result, Ok, cond, nat_le, nat_lt, is_none, refl, sym, ap, subst, ◌∙◌, append_assoc, arith}
 use Rattle.std.specs.Int.{w16, w32, w64, to_be_bytes}
 use Rattle.std.specs.List.{flat_map, list_any, AllByRecursion}
 use Rattle.std.specs.Str.{bytes_eq}
@@ -27,12 +27,12 @@ use Rattle.action_queue.specs.Events.{IsAbsent, AreDistinct, AreNames}
 use Rattle.action_queue.specs.Writable.{HaveFewFlags}
 use Rattle.record_codec.specs.Fields.{counted, flag_field, range_field, row_field}
 use Rattle.record_codec.specs.Bodies.{range_fields, row_fields}
-use Rattle.record_codec.specs.Spelling.{IsNumber, IsModSeq, IsKeptRow}
+use Rattle.record_codec.specs.Spelling.{IsKeptRow}
 use Rattle.record_codec.specs.Reading.{Reading, ◌>>=◌, passing, AreBytes, byte_at, number_at, modseq_at, counted_at, name_at, many_at, stands_behind, is_next_key, key_at, this_key, flags_at, low_at, high_at, range_at, behind_range, vanished_at, row_uid_at, row_at, row_uid, row_list_at, new_name_at, and_name, name_list_at}
 use Rattle.record_codec.proofs.Counts.{few_ranges}
 use Rattle.record_codec.proofs.Ids.{and_true}
 use Rattle.record_codec.proofs.KeyOrder.{less_from}
-use Rattle.record_codec.proofs.Taking.{bound, then_by, ok_same, passed, passes, tested, tests, Sound, Reads, reads_same, sound_by, knowing, lettered, Fits16, Fits32, IsShort, short_reads, number_reads, modseq_reads, counted_reads, name_reads, byte_read, short_read, number_read, modseq_read, counted_read, name_read}
+use Rattle.record_codec.proofs.Taking.{bound, then_by, passed, passes, tested, tests, Reads, reads_same, sound_by, knowing, lettered, IsShort, short_reads, number_reads, modseq_reads, counted_reads, name_reads, byte_read, short_read, number_read, modseq_read, counted_read, name_read}
 
 -- ---- items of any kind
 

@@ -1,15 +1,15 @@
 -- What a reading of ranges and rows tells of them, whatever the numbers among the bytes are.
-use Rattle.std.proofs.Common.{◌≡◌, ◌<◌, ◌≤◌, ℕ, zero, suc, ◌+◌, ◌^◌, Bool, true, false, not, ◌&&◌, List, [], ◌∷◌, ◌++◌, Result, Ok, Err, nat_le, nat_lt, refl, sym, ap, subst, ◌∙◌, arith}
+use Rattle.std.proofs.Common.{◌≡◌, ◌<◌, ◌≤◌, ℕ, zero, suc, ◌+◌, ◌^◌, false, not, List, [], ◌∷◌, ◌++◌, Ok, nat_le, nat_lt, subst}
 use Rattle.std.specs.Int.{w32}
 use Rattle.std.specs.List.{AllByRecursion}
 use Rattle.std.proofs.lemmas.Bool.{and_parts, leb-true, ltb-true, not-true}
 use Rattle.uid_sets.specs.declared.uid.UidRange.{UidRange}
-use Rattle.uid_sets.specs.UidSet.{IsRange, RisesAbove, IsCanonical}
+use Rattle.uid_sets.specs.UidSet.{RisesAbove, IsCanonical}
 use Rattle.mailbox_cache.specs.Rows.{has_uid, Rises, AreApart}
 use Rattle.mailbox_cache.specs.Rows.{RisesAbove as RowsRise}
 use Rattle.mailbox_cache.specs.declared.row.Row.{Row}
-use Rattle.record_codec.specs.Reading.{Reading, ◌>>=◌, passing, number_at, modseq_at, flags_at, many_at, low_at, high_at, range_at, behind_range, row_uid_at, row_at, row_uid, row_list_at}
-use Rattle.record_codec.proofs.Taking.{bound, ok_same, passed, tested}
+use Rattle.record_codec.specs.Reading.{Reading, ◌>>=◌, number_at, modseq_at, flags_at, many_at, low_at, high_at, range_at, behind_range, row_uid_at, row_at, row_uid}
+use Rattle.record_codec.proofs.Taking.{bound, ok_same, tested}
 use Rattle.record_codec.proofs.Items.{Each, uid_fits}
 
 pub all_push : {A : Type 0} (P : A → Type 0) (xs : List A) (x : A) → AllByRecursion P xs → P x → AllByRecursion P (xs ++ x ∷ [])

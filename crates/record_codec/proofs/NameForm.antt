@@ -1,14 +1,14 @@
 -- The test of a mailbox's name says what a name is.
-use Rattle.std.proofs.Common.{◌≡◌, ◌≢◌, ◌≤◌, ◌<◌, ℕ, Bool, true, false, not, ◌&&◌, ◌||◌, ◌==◌, List, [], ◌∷◌, length, map, codes, leb, ltb, refl, sym, ◌∙◌, arith}
+use Rattle.std.proofs.Common.{◌≡◌, ◌≢◌, ◌≤◌, ℕ, Bool, true, false, not, ◌&&◌, ◌||◌, List, length, map, codes, leb, ltb, refl, arith}
 use Rattle.std.specs.Prelude.{All}
 use Rattle.std.specs.Bool.{Decides}
 use Rattle.std.specs.List.{list_all}
 use Rattle.std.specs.Str.{bytes_eq}
 use Rattle.std.specs.Char.{to_ascii_lowercase}
-use Rattle.std.proofs.lemmas.Bool.Decides.{nat_tests, same_from_decides, Decides-like, Decides-and, Decides-or, Decides-not, Decides-ltb, Decides-by_and}
+use Rattle.std.proofs.lemmas.Bool.Decides.{nat_tests, Decides-like, Decides-and, Decides-ltb, Decides-by_and}
 use Rattle.std.proofs.lemmas.Bool.{leb-true, le-leb}
 use Rattle.std.proofs.lemmas.Slice.Eq.{bytes_eq-Decides}
-use Rattle.mail_base.specs.BoxName.{IsNameByte, IsBoxText, IsInbox, IsBoxName}
+use Rattle.mail_base.specs.BoxName.{IsNameByte, IsBoxName}
 use Rattle.record_codec.specs.Reading.{is_name_byte, is_name}
 
 pub Decides-leb : (a b : ℕ) → Decides (leb a b) (a ≤ b)

@@ -1,9 +1,7 @@
 -- What a whole body's reading says.
-use Rattle.std.proofs.Common.{◌≡◌, ◌<◌, ◌≤◌, ℕ, Bool, true, false, ◌&&◌, ◌==◌, List, [], ◌∷◌, length, Result, Ok, Err, leb, nat_le, refl, sym, ap, ◌∙◌, arith, if◌then◌else◌}
+use Rattle.std.proofs.Common.{◌≡◌, ◌<◌, ◌≤◌, ℕ, Bool, true, false, ◌&&◌, ◌==◌, List, [], ◌∷◌, length, Result, Ok, Err, nat_le, refl, ap, ◌∙◌, arith, if◌then◌else◌}
 use Rattle.std.proofs.lemmas.Bool.{le-leb, false_from_ne_true, leb-true}
-use Rattle.action_queue.specs.declared.event.Event.{Event}
-use Rattle.record_codec.specs.Spelling.{Spelled}
-use Rattle.record_codec.specs.Reading.{Reading, Plain, plain, plain_at, place_of, all_of, body_at}
+use Rattle.record_codec.specs.Reading.{Plain, plain, plain_at, place_of, all_of, body_at}
 use Rattle.record_codec.specs.Refusing.{SpellsNone}
 use Rattle.record_codec.proofs.Ids.{same-true}
 use Rattle.record_codec.proofs.EventsSpelled.{spelled_read}

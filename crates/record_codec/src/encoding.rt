@@ -2,13 +2,16 @@
 
 ghost use Rattle.std.specs.Prelude.{◌≡◌, ◌≤◌, ◌++◌, OnOk, IfOk, length};
 ghost use Rattle.std.specs.Int.{w32, to_be_bytes};
-ghost use Rattle.std.specs.List.{flat_map};
+ghost use Rattle.std.specs.List.{flat_map, AllByRecursion};
+ghost use Rattle.mail_base.specs.BoxName.{IsBoxName};
+ghost use Rattle.uid_sets.specs.UidSet.{IsCanonical};
 ghost use Rattle.journal_core.specs.Records.{IsBody, frame_of};
 ghost use Rattle.action_queue.specs.Events.{AreNames};
 ghost use Rattle.action_queue.specs.Writable.{IsWritable, IsWritableAction, HaveFewFlags};
 ghost use Rattle.action_queue.specs.declared.event.Event.TheVariants as events;
 ghost use Rattle.record_codec.specs.Fields.{sign, bit};
 ghost use Rattle.record_codec.specs.Bodies.{body_of, action_fields, intent_fields, outcome_fields, mark_fields, range_fields, row_fields, delta_fields};
+ghost use Rattle.record_codec.specs.Spelling.{IsNumber, IsModSeq, IsKeptAction, IsKeptIntent, IsKeptRow, IsKeptDelta, IsKept, Spelled};
 
 use crate::fields::{
     put_flags, put_name, put_names, put_ranges, put_rows, put_target, put_u32, put_u64,
@@ -31,6 +34,7 @@ pub fn encode(alloc: Global, event: &Event) -> Result<Vec<u8>, AllocError>
     requires fits { length (body_of event.now) ≤ 1073741824 }
     ensures frame { IfOk result (λ frame. frame.items ≡ frame_of (body_of event.now)) }
     ensures body { IsBody (body_of event.now) }
+    ensures spelled { OnOk result (Spelled (body_of event.now) event.now) }
 {
     let size = size(event);
     let mut frame = Vec::with_capacity(alloc, size as usize + 5)?;
@@ -44,7 +48,8 @@ pub fn encode(alloc: Global, event: &Event) -> Result<Vec<u8>, AllocError>
 fn put_body(out: &mut Vec<u8>, event: &Event) -> Result<(), AllocError>
     requires writable { IsWritable event.now }
     requires fits { length (body_of event.now) ≤ 1073741824 }
-    ensures { OnOk result (out.new.items ≡ out.old.items ++ body_of event.now) }
+    ensures wrote { OnOk result (out.new.items ≡ out.old.items ++ body_of event.now) }
+    ensures kept { OnOk result (IsKept event.now) }
 {
     match event {
         Event::Begin { names } => put_begin(out, names.as_slice()),
@@ -74,7 +79,8 @@ fn put_body(out: &mut Vec<u8>, event: &Event) -> Result<(), AllocError>
 // The body that a journal begins with.
 fn put_begin(out: &mut Vec<u8>, names: &[BoxName]) -> Result<(), AllocError>
     requires { AreNames names.now }
-    ensures { OnOk result (out.new.items ≡ out.old.items ++ body_of (events.Begin names.now)) }
+    ensures wrote { OnOk result (out.new.items ≡ out.old.items ++ body_of (events.Begin names.now)) }
+    ensures kept { OnOk result (AllByRecursion IsBoxName names.now) }
 {
     out.push(b'B')?;
     out.push(names.len() as u8)?;
@@ -85,7 +91,8 @@ fn put_begin(out: &mut Vec<u8>, names: &[BoxName]) -> Result<(), AllocError>
 fn put_action(out: &mut Vec<u8>, action: &Action) -> Result<(), AllocError>
     requires writable { IsWritableAction action.now }
     requires fits { length (action_fields action.now) ≤ 1073741824 }
-    ensures { OnOk result (out.new.items ≡ out.old.items ++ action_fields action.now) }
+    ensures wrote { OnOk result (out.new.items ≡ out.old.items ++ action_fields action.now) }
+    ensures kept { OnOk result (IsKeptAction action.now) }
 {
     match action {
         Action::Flag { target, add, flags } => {
@@ -132,7 +139,8 @@ fn put_text(out: &mut Vec<u8>, text: &Bytes) -> Result<(), AllocError>
 
 // What is about to be sent.
 fn put_intent(out: &mut Vec<u8>, intent: &Intent) -> Result<(), AllocError>
-    ensures { OnOk result (out.new.items ≡ out.old.items ++ intent_fields intent.now) }
+    ensures wrote { OnOk result (out.new.items ≡ out.old.items ++ intent_fields intent.now) }
+    ensures kept { OnOk result (IsKeptIntent intent.now) }
 {
     match intent {
         Intent::Store {
@@ -177,7 +185,8 @@ fn put_intent(out: &mut Vec<u8>, intent: &Intent) -> Result<(), AllocError>
 fn put_delta(out: &mut Vec<u8>, delta: &Delta) -> Result<(), AllocError>
     requires few { length delta.now.rows ≤ 200000 }
     requires flags { HaveFewFlags delta.now.rows }
-    ensures { OnOk result (out.new.items ≡ out.old.items ++ delta_fields delta.now) }
+    ensures wrote { OnOk result (out.new.items ≡ out.old.items ++ delta_fields delta.now) }
+    ensures kept { OnOk result (IsKeptDelta delta.now) }
 {
     out.push(bit_of(delta.whole))?;
     put_mark(out, delta)?;
@@ -188,7 +197,8 @@ fn put_delta(out: &mut Vec<u8>, delta: &Delta) -> Result<(), AllocError>
 // The numbers that a mailbox became.
 #[tactic(auto, unfolding(crate::specs::Bodies::mark_fields))]
 fn put_mark(out: &mut Vec<u8>, delta: &Delta) -> Result<(), AllocError>
-    ensures { OnOk result (out.new.items ≡ out.old.items ++ mark_fields delta.now) }
+    ensures wrote { OnOk result (out.new.items ≡ out.old.items ++ mark_fields delta.now) }
+    ensures kept { OnOk result (IsNumber delta.now.validity × IsModSeq delta.now.highest × IsNumber delta.now.uidnext) }
 {
     put_u32(out, delta.validity.number())?;
     put_u64(out, delta.highest.number())?;
@@ -205,7 +215,8 @@ fn bit_of(value: bool) -> u8
 // The vanished ranges behind their count.
 #[tactic(auto, unfolding(crate::specs::Bodies::range_fields))]
 fn put_vanished(out: &mut Vec<u8>, vanished: &UidSet) -> Result<(), AllocError>
-    ensures { OnOk result (out.new.items ≡ out.old.items ++ range_fields vanished.now) }
+    ensures wrote { OnOk result (out.new.items ≡ out.old.items ++ range_fields vanished.now) }
+    ensures kept { OnOk result (IsCanonical vanished.now) }
 {
     put_u32(out, range_count(vanished))?;
     put_ranges(out, vanished.ranges())
@@ -224,7 +235,8 @@ fn range_count(set: &UidSet) -> u32
 fn put_row_list(out: &mut Vec<u8>, rows: &[(Uid, Row)]) -> Result<(), AllocError>
     requires few { length rows.now ≤ 200000 }
     requires flags { HaveFewFlags rows.now }
-    ensures { OnOk result (out.new.items ≡ out.old.items ++ row_fields rows.now) }
+    ensures wrote { OnOk result (out.new.items ≡ out.old.items ++ row_fields rows.now) }
+    ensures kept { OnOk result (AllByRecursion IsKeptRow rows.now) }
 {
     put_u32(out, rows.len() as u32)?;
     put_rows(out, rows)

@@ -2,9 +2,12 @@
 
 ghost use Rattle.std.specs.Prelude.{◌≡◌, ◌≤◌, ◌<◌, ◌^◌, ◌++◌, OnOk, length};
 ghost use Rattle.std.specs.Int.{w16, w32, w64, to_be_bytes};
-ghost use Rattle.std.specs.List.{flat_map};
+ghost use Rattle.std.specs.List.{flat_map, AllByRecursion};
+ghost use Rattle.flag_set.specs.FlagSet.{IsFlagSet};
+ghost use Rattle.mail_base.specs.BoxName.{IsBoxName};
 ghost use Rattle.action_queue.specs.Writable.{HaveFewFlags};
 ghost use Rattle.record_codec.specs.Fields.{counted, flag_field, target_field, range_field, row_field};
+ghost use Rattle.record_codec.specs.Spelling.{IsKeptTarget, IsKeptRow};
 
 use action_queue::Target;
 use flag_set::{FlagKey, FlagSet};
@@ -45,14 +48,16 @@ fn put_counted(out: &mut Vec<u8>, text: &[u8]) -> Result<(), AllocError>
 
 /// A name of a mailbox.
 pub(crate) fn put_name(out: &mut Vec<u8>, name: &BoxName) -> Result<(), AllocError>
-    ensures { OnOk result (out.new.items ≡ out.old.items ++ counted name.now) }
+    ensures wrote { OnOk result (out.new.items ≡ out.old.items ++ counted name.now) }
+    ensures kept { IsBoxName name.now }
 {
     put_counted(out, name.as_bytes())
 }
 
 /// Names, one behind the other.
 pub(crate) fn put_names(out: &mut Vec<u8>, names: &[BoxName]) -> Result<(), AllocError>
-    ensures { OnOk result (out.new.items ≡ out.old.items ++ flat_map counted names.now) }
+    ensures wrote { OnOk result (out.new.items ≡ out.old.items ++ flat_map counted names.now) }
+    ensures kept { OnOk result (AllByRecursion IsBoxName names.now) }
 {
     for name in names {
         put_name(out, name)?;
@@ -80,7 +85,8 @@ fn put_keys(out: &mut Vec<u8>, keys: &[FlagKey]) -> Result<(), AllocError>
 /// Flags behind their count.
 pub(crate) fn put_flags(out: &mut Vec<u8>, flags: &FlagSet) -> Result<(), AllocError>
     requires { length flags.now ≤ 1024 }
-    ensures { OnOk result (out.new.items ≡ out.old.items ++ flag_field flags.now) }
+    ensures wrote { OnOk result (out.new.items ≡ out.old.items ++ flag_field flags.now) }
+    ensures kept { OnOk result (IsFlagSet flags.now) }
 {
     put_u16(out, flags.len() as u16)?;
     put_keys(out, flags.keys())
@@ -88,7 +94,8 @@ pub(crate) fn put_flags(out: &mut Vec<u8>, flags: &FlagSet) -> Result<(), AllocE
 
 /// The message that an action is about.
 pub(crate) fn put_target(out: &mut Vec<u8>, target: &Target) -> Result<(), AllocError>
-    ensures { OnOk result (out.new.items ≡ out.old.items ++ target_field target.now) }
+    ensures wrote { OnOk result (out.new.items ≡ out.old.items ++ target_field target.now) }
+    ensures kept { OnOk result (IsKeptTarget target.now) }
 {
     match target {
         Target::Real {
@@ -130,7 +137,8 @@ pub(crate) fn put_ranges(out: &mut Vec<u8>, ranges: &[UidRange]) -> Result<(), A
 #[tactic(auto, unfolding(crate::specs::Fields::row_field))]
 fn put_row(out: &mut Vec<u8>, uid: Uid, row: &Row) -> Result<(), AllocError>
     requires { length row.now.flags ≤ 1024 }
-    ensures { OnOk result (out.new.items ≡ out.old.items ++ row_field (uid, row.now)) }
+    ensures wrote { OnOk result (out.new.items ≡ out.old.items ++ row_field (uid, row.now)) }
+    ensures kept { OnOk result (IsKeptRow (uid, row.now)) }
 {
     put_u32(out, uid.number())?;
     put_u64(out, row.modseq.number())?;
@@ -140,7 +148,8 @@ fn put_row(out: &mut Vec<u8>, uid: Uid, row: &Row) -> Result<(), AllocError>
 /// Rows, one behind the other.
 pub(crate) fn put_rows(out: &mut Vec<u8>, rows: &[(Uid, Row)]) -> Result<(), AllocError>
     requires { HaveFewFlags rows.now }
-    ensures { OnOk result (out.new.items ≡ out.old.items ++ flat_map row_field rows.now) }
+    ensures wrote { OnOk result (out.new.items ≡ out.old.items ++ flat_map row_field rows.now) }
+    ensures kept { OnOk result (AllByRecursion IsKeptRow rows.now) }
 {
     for (uid, row) in rows {
         put_row(out, *uid, row)?;

@@ -5,6 +5,7 @@ ghost use Rattle.std.specs.Int.{w32, w64, to_be_bytes};
 ghost use Rattle.journal_core.specs.Records.{IsBody, frame_of};
 ghost use Rattle.action_queue.specs.declared.event.Event.TheVariants as events;
 ghost use Rattle.record_codec.specs.Bodies.{body_of, outcome_fields, kind_fields, place_fields};
+ghost use Rattle.record_codec.specs.Spelling.{IsKeptPlace, IsKeptKind, IsKeptOutcome, Spelled};
 
 use action_queue::{Kind, Outcome, Place};
 use arrayvec::ArrayVec;
@@ -19,6 +20,7 @@ pub fn encode_outcome(id: ActionId, outcome: &Outcome) -> ArrayVec<u8, 64>
     ensures frame { result.items ≡ frame_of (body_of (events.Settle id outcome.now)) }
     ensures body { IsBody (body_of (events.Settle id outcome.now)) }
     ensures most { length result.items ≤ 28 }
+    ensures spelled { Spelled (body_of (events.Settle id outcome.now)) (events.Settle id outcome.now) }
 {
     let fields = outcome_bytes(outcome);
     let mut frame = ArrayVec::new();
@@ -32,7 +34,8 @@ pub fn encode_outcome(id: ActionId, outcome: &Outcome) -> ArrayVec<u8, 64>
 
 /// The fields that say how an action ended.
 pub(crate) fn outcome_bytes(outcome: &Outcome) -> ArrayVec<u8, 18>
-    ensures { result.items ≡ outcome_fields outcome.now }
+    ensures wrote { result.items ≡ outcome_fields outcome.now }
+    ensures kept { IsKeptOutcome outcome.now }
 {
     let mut bytes = ArrayVec::new();
     match outcome {
@@ -50,7 +53,8 @@ pub(crate) fn outcome_bytes(outcome: &Outcome) -> ArrayVec<u8, 18>
 
 // Where a message landed, if it did.
 fn place_bytes(place: &Option<Place>) -> ArrayVec<u8, 9>
-    ensures { result.items ≡ place_fields place.now }
+    ensures wrote { result.items ≡ place_fields place.now }
+    ensures kept { IsKeptPlace place.now }
 {
     let mut bytes = ArrayVec::new();
     match place {
@@ -68,7 +72,8 @@ fn place_bytes(place: &Option<Place>) -> ArrayVec<u8, 9>
 
 // Why an action is a conflict.
 fn kind_bytes(kind: &Kind) -> ArrayVec<u8, 17>
-    ensures { result.items ≡ kind_fields kind.now }
+    ensures wrote { result.items ≡ kind_fields kind.now }
+    ensures kept { IsKeptKind kind.now }
 {
     match *kind {
         Kind::MessageGone => code(1),

@@ -1,12 +1,10 @@
 use Rattle.std.proofs.Common.{◌≡◌, ◌<◌, ◌≤◌, ℕ, List, length, Ok, Err, sym, ap, subst, ◌∙◌, arith}
-use Rattle.action_queue.specs.declared.event.Event.{Event}
 use Rattle.record_codec.specs.declared.fault.RecordFault.{RecordFault}
 use Rattle.record_codec.specs.declared.fault.RecordFault.TheVariants as faults
 use Rattle.record_codec.specs.declared.misfit.Misfit.{Misfit}
 use Rattle.record_codec.specs.Giving.{Fails}
 use Rattle.record_codec.specs.Reading.{AreBytes, plain, plain_at, place_of, body_at}
 use Rattle.record_codec.specs.Refusing.{WhyRefused}
-use Rattle.record_codec.specs.Spelling.{Spelled}
 use Rattle.record_codec.proofs.EventsRead.{read_spelled}
 use Rattle.record_codec.proofs.Verdicts.{too_many, too_long, all_read, not_read, none_spelled}
 use Rattle.record_codec.proofs.decoding.decode.Goals as goal

@@ -1,4 +1,4 @@
-use Rattle.std.proofs.Common.{◌≡◌, rules}
+use Rattle.std.proofs.Common.{rules}
 use Rattle.record_codec.proofs.KeyOrder.{put_last}
 use Rattle.record_codec.proofs.reading.Fields.key.Goals as goal
 

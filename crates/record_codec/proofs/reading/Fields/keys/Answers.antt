@@ -1,5 +1,4 @@
-use Rattle.std.proofs.Common.{rules, ◌≡◌, ℕ, List, [], ◌∷◌, ◌++◌, ◌-◌, ◌+◌, Result, Ok, Err, None, Some, Option, sym, ap, subst, ◌∙◌}
-use Rattle.record_codec.specs.declared.misfit.Misfit.{Misfit}
+use Rattle.std.proofs.Common.{rules, ◌≡◌, ℕ, List, [], ◌∷◌, ◌++◌, ◌-◌, Err, None, Option, sym, ap, ◌∙◌}
 use Rattle.record_codec.specs.Reading.{many_at, key_at, this_key, last_key}
 use Rattle.record_codec.proofs.Reader.{onto, many_more, many_fails, many_ends, fails_on}
 use Rattle.record_codec.proofs.KeyOrder.{last_key-last}

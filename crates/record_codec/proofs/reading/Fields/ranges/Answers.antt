@@ -1,5 +1,4 @@
-use Rattle.std.proofs.Common.{rules, ◌≡◌, ℕ, List, [], ◌∷◌, ◌++◌, ◌-◌, ◌+◌, Result, Ok, Err, None, Some, Option, sym, ap, subst, ◌∙◌}
-use Rattle.record_codec.specs.declared.misfit.Misfit.{Misfit}
+use Rattle.std.proofs.Common.{rules, ◌≡◌, ℕ, List, [], ◌∷◌, ◌++◌, ◌-◌, ◌+◌, Err, sym, ap, subst, ◌∙◌}
 use Rattle.record_codec.specs.Reading.{many_at, range_at, behind_range}
 use Rattle.std.specs.List.{AllByRecursion}
 use Rattle.record_codec.proofs.Lists.{HighFits, all_push, ranges_canonical}

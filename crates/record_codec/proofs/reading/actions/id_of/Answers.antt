@@ -1,4 +1,4 @@
-use Rattle.std.proofs.Common.{◌≡◌, ap, sym, ◌∙◌, Some}
+use Rattle.std.proofs.Common.{ap, sym, ◌∙◌, Some}
 use Rattle.record_codec.proofs.Ids.{id_told, none_told}
 use Rattle.record_codec.proofs.reading.actions.id_of.Goals as goal
 

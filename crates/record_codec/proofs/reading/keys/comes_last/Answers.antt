@@ -1,8 +1,7 @@
-use Rattle.std.proofs.Common.{◌≡◌, ◌==◌, ◌∙◌, sym, ap, refl, Bool, true, false, Some, Option, List, ℕ}
+use Rattle.std.proofs.Common.{◌≡◌, ◌==◌, ◌∙◌, sym, ap, refl, true, false, Option, List, ℕ}
 use Rattle.std.specs.Ordering.{match_ordering, ordering_index}
 use Rattle.std.specs.declared.cmp.Ordering.{Ordering}
 use Rattle.std.specs.declared.cmp.Ordering.TheVariants.{Less, Equal, Greater}
-use Rattle.flag_set.specs.FlagSet.{order}
 use Rattle.record_codec.specs.Reading.{last_key, stands_behind}
 use Rattle.record_codec.proofs.KeyOrder.{last_key-last}
 use Rattle.record_codec.proofs.reading.keys.comes_last.Goals as goal
