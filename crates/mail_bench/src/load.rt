@@ -1,7 +1,9 @@
-//! What the words of the program ask for: which stream, and how long (RFC 9051, sections 2.2 and 4.3).
+//! What the words of the program ask for: which stream, and how long (RFC 9051, sections 2.2 and 4.3); or what is done
+//! with a record, and how often.
 
 ghost use Rattle.std.specs.Prelude.{◌≡◌, ◌<◌, ◌≤◌, length, IfOk};
 
+use crate::records::Direction;
 use mail_base::read_u32;
 use std::alloc::{AllocError, Global};
 
@@ -55,20 +57,43 @@ pub struct Load {
     pub size: u64,
 }
 
-/// What `feed CASE NUMBER` asks for. The number counts 1,000,000 bytes each, or 1,000 for the case `bytes`.
-pub fn load_of(words: &[String]) -> Option<Load> {
-    let [feed, case, number] = words else {
+/// What is to be timed.
+#[derive(Clone, Copy, Debug, PartialEq, Eq)]
+pub enum Task {
+    /// A stream is pushed through a feed.
+    Feed(Load),
+    /// A record is written or read so often.
+    Record(Direction, u32),
+}
+
+/// What `feed CASE NUMBER` or `record DIRECTION NUMBER` asks for. The first number counts 1,000,000 bytes each, or 1,000
+/// for the case `bytes`; the second says how often.
+pub fn task_of(words: &[String]) -> Option<Task> {
+    let [what, case, number] = words else {
         return None;
     };
-    if feed.as_str() != "feed" {
-        return None;
-    }
-    let case = case_of(case.as_str())?;
     let number = read_u32(number.as_bytes()).ok()?;
-    Some(Load {
-        case,
-        size: u64::from(number) * case.unit(),
-    })
+    if what.as_str() == "feed" {
+        let case = case_of(case.as_str())?;
+        return Some(Task::Feed(Load {
+            case,
+            size: u64::from(number) * case.unit(),
+        }));
+    }
+    if what.as_str() == "record" {
+        let direction = direction_of(case.as_str())?;
+        return Some(Task::Record(direction, number));
+    }
+    None
+}
+
+// The direction that a word names.
+fn direction_of(word: &str) -> Option<Direction> {
+    match word {
+        "encode" => Some(Direction::Encode),
+        "decode" => Some(Direction::Decode),
+        _ => None,
+    }
 }
 
 // The case that a word names.

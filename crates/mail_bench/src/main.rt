@@ -1,15 +1,18 @@
-//! The program `mail_bench`: pushes a long stream through a feed, and tells how many frames and bytes came. It is there to
-//! be timed.
+//! The program `mail_bench`: pushes a long stream through a feed, and tells how many frames and bytes came; or writes or
+//! reads a large record again and again. It is there to be timed.
 #![tactic(auto)]
 
 mod block;
 mod load;
 mod meter;
+mod records;
 
 use block::Block;
-use load::{Load, load_of, text_of};
+use load::{Load, Task, task_of, text_of};
 use mail_base::{FeedFault, Status};
 use meter::{Meter, measure};
+use record_codec::RecordFault;
+use records::{Direction, learned, repeat};
 use std::env;
 use std::process::ExitCode;
 use std::rt::Env;
@@ -29,9 +32,34 @@ fn answer<R: Env + Print + AllocGlobal>(rt: &R) -> Status {
             return told(rt, "error memory", Status::Memory);
         }
     }
-    let Some(load) = load_of(&words) else {
-        return told(rt, "error words", Status::Words);
+    match task_of(&words) {
+        None => told(rt, "error words", Status::Words),
+        Some(Task::Feed(load)) => feed(rt, load),
+        Some(Task::Record(direction, times)) => record(rt, direction, times),
+    }
+}
+
+// Writes or reads a record so often, and tells its size.
+fn record<R: Print + AllocGlobal>(rt: &R, direction: Direction, times: u32) -> Status {
+    let Ok(body) = learned(rt.alloc()) else {
+        return told(rt, "error memory", Status::Memory);
     };
+    match repeat(rt.alloc(), direction, &body, times) {
+        Ok(()) => {
+            let name = direction.name();
+            let size = body.len();
+            match println!(rt; "{name} {times} times {size} bytes") {
+                Ok(()) => Status::Done,
+                Err(_) => Status::Output,
+            }
+        }
+        Err(RecordFault::Memory) => told(rt, "error memory", Status::Memory),
+        Err(RecordFault::BadForm { .. }) => told(rt, "error reply", Status::Reply),
+    }
+}
+
+// Pushes a stream, and tells how many frames and bytes came.
+fn feed<R: Print + AllocGlobal>(rt: &R, load: Load) -> Status {
     match carried_out(rt, load) {
         Ok(meter) => {
             let case = load.case.name();
