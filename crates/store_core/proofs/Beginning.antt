@@ -1,0 +1,117 @@
+-- A journal that begins with names, as the store's book.
+use Rattle.std.proofs.Common.{◌≡◌, ◌⊎◌, inl, inr, ⊎_elim, true, ℕ, zero, suc, ◌+◌, ◌-◌, ◌*◌, ◌≤◌, ◌<◌, ◌^◌, List, [], ◌∷◌, ◌++◌, length, take, drop, Option, Some, None, refl, sym, ◌∙◌, ap, subst, arith, length-append}
+use Rattle.std.specs.Prelude.{flat_map}
+use Rattle.std.specs.Int.{w32, to_be_bytes}
+use Rattle.std.specs.List.{AllByRecursion}
+use Rattle.std.proofs.lemmas.List.{take_at}
+use Rattle.world_traits.specs.Files.{Files}
+use Rattle.world_traits.specs.Moments.{Moment, Clock, Images, Occurs, Only, AtPhase, GoesOn, Since, Within, Narrows}
+use Rattle.world_traits.proofs.Passing.{since_weaker}
+use Rattle.journal_core.specs.declared.version.Version.TheVariants.{First}
+use Rattle.journal_core.specs.Records.{IsBody, frame_of, open_record, records}
+use Rattle.journal_core.specs.Holds.{Holds}
+use Rattle.journal_core.specs.Creating.{IsFree, CreatesThrough, end_of}
+use Rattle.journal_core.specs.Standing.{Standing, IsStill}
+use Rattle.journal_core.proofs.Aside.{either_as}
+use Rattle.mail_base.specs.BoxName.{IsBoxName}
+use Rattle.action_queue.specs.declared.event.Event.{Event}
+use Rattle.action_queue.specs.declared.event.Event.TheVariants as events
+use Rattle.action_queue.specs.Book.{Meaning, begun}
+use Rattle.action_queue.specs.Events.{AreNames, IsFirst}
+use Rattle.record_codec.specs.Fields.{counted}
+use Rattle.record_codec.specs.Bodies.{body_of}
+use Rattle.record_codec.specs.Spelling.{IsKept, Spelled}
+use Rattle.store_core.specs.Books.{Make, HasBook, HoldsBook}
+use Rattle.store_core.specs.Holding.{Holding, IsAsLeft}
+use Rattle.store_core.specs.Taking.{IsCreating, Creates, BeginsStep}
+use Rattle.store_core.specs.Held.{KeepsActions}
+use Rattle.store_core.proofs.Phases.{step_of}
+use Rattle.store_core.proofs.Holds.{begins_keeps, within_keeps_actions}
+
+-- the body behind a frame's length, without the gate
+pub body_behind : (frame body : List ℕ) → frame ≡ frame_of body → take (length frame - 1 - 4) (drop 4 frame) ≡ body
+body_behind frame body is =
+    ap (λ (f : List ℕ). take (length f - 1 - 4) (drop 4 f)) is
+    ∙ ap (λ (n : ℕ). take n (body ++ 0 ∷ [])) (omega (arith, length-append body (0 ∷ [])))
+    ∙ take_at body (0 ∷ []) (length body) refl
+
+-- names in their bytes are short
+counted_short : (names : List (List ℕ)) → AllByRecursion IsBoxName names → length (flat_map counted names) ≤ 129 * length names
+counted_short [] each = omega arith
+counted_short (n ∷ ns) each = omega (arith, each.0.text.few, counted_short ns each.1, length-append (counted n) (flat_map counted ns))
+
+-- and so is the body of a Begin
+pub fits_first : (e : Event) → IsFirst e → IsKept e → length (body_of e) ≤ 1073741824
+fits_first (events.Begin names) are kept = omega (arith, counted_short names kept, are.few)
+fits_first (events.Accept id action) are kept = absurd are
+fits_first (events.Intend id intent) are kept = absurd are
+fits_first (events.Settle id outcome) are kept = absurd are
+fits_first (events.Learn name delta) are kept = absurd are
+
+-- a step with other words for both kinds of files
+module _ (B A C D : Files → Type 0) (bc : (files : Files) → B files → C files) (ad : (files : Files) → A files → D files) where
+  occurs_as : (P Q : Files → Type 0) → ((files : Files) → P files → Q files) → (m : Moment) → Occurs P m → Occurs Q m
+  occurs_as P Q pq m o = record { files = o.files; leaves = o.leaves; has = pq o.files o.has }
+
+  only_as : (P Q : Files → Type 0) → ((files : Files) → P files → Q files) → (m : Moment) → Only P m → Only Q m
+  only_as P Q pq m o = record { each = record { each = λ files h. pq files (o.each.each files h) }; some = occurs_as P Q pq m o.some }
+
+  phase_as : (n : ℕ) (m : Moment) → AtPhase B A n m → AtPhase C D n m
+  phase_as zero m o = only_as B C bc m o
+  phase_as (suc zero) m o = record { each = either_as B A C D bc ad m o.each; before = occurs_as B C bc m o.before; after = occurs_as A D ad m o.after }
+  phase_as (suc (suc n)) m o = only_as A D ad m o
+
+  goes_as : (m n : Moment) → GoesOn B A m n → GoesOn C D m n
+  goes_as m n s = record { outside = s.outside; from = s.from; to = s.to; at_from = phase_as s.from m s.at_from; at_to = phase_as s.to n s.at_to; forward = s.forward; one = s.one }
+
+module _ (body : List ℕ) (names : List (List ℕ)) (are : AreNames names) (is : Spelled body (events.Begin names)) where
+  pub make_begin : Make (body ∷ []) (Some (begun names))
+  make_begin = record { events = events.Begin names ∷ []; spelled = (is, tt); folds = (are, refl) }
+
+  pub some_begin : 0 < length body
+  some_begin = omega (arith, ap length is.is)
+
+  has_begin : (files : Files) → Holds First (body ∷ []) files → HoldsBook (Some (begun names)) files
+  has_begin files h = record { version = First; bodies = body ∷ []; holds = h; make = make_begin }
+
+  module _ (k l : Clock) (bodies : List (List ℕ)) (one : bodies ≡ body ∷ []) (through : CreatesThrough bodies k l) where
+    through_one : CreatesThrough (body ∷ []) k l
+    through_one = subst (λ (b : List (List ℕ)). CreatesThrough b k l) one through
+
+    pub creates : Creates names k l
+    creates =
+        since_weaker (λ m. Within k.now m ⊎ Images (λ files. IsFree files ⊎ Holds First (body ∷ []) files) m) (IsCreating names k.now)
+        (λ m n. Within m n ⊎ GoesOn IsFree (Holds First (body ∷ [])) m n) (λ m n. Within m n ⊎ GoesOn (HoldsBook None) (HoldsBook (Some (begun names))) m n)
+        (λ m p. ⊎_elim (λ w. inl w) (λ i. inr (either_as IsFree (Holds First (body ∷ [])) (HoldsBook None) (HoldsBook (Some (begun names))) (λ files f. f) has_begin m i)) p)
+        (λ m n s. ⊎_elim (λ w. inl w) (λ g. inr (goes_as IsFree (Holds First (body ∷ [])) (HoldsBook None) (HoldsBook (Some (begun names))) (λ files f. f) has_begin m n g)) s)
+        k l through_one
+
+    pub creates_steps : Since (IsCreating names k.now) (BeginsStep names) k l
+    creates_steps =
+        since_weaker (IsCreating names k.now) (IsCreating names k.now)
+        (λ m n. Within m n ⊎ GoesOn (HoldsBook None) (HoldsBook (Some (begun names))) m n) (BeginsStep names)
+        (λ m p. p) (λ m n s. ⊎_elim (λ w. inl w) (λ g. inr (step_of None (events.Begin names) are m n g)) s) k l creates
+
+    pub creates_held : Since (IsCreating names k.now) KeepsActions k l
+    creates_held =
+        since_weaker (IsCreating names k.now) (IsCreating names k.now)
+        (λ m n. Within m n ⊎ GoesOn (HoldsBook None) (HoldsBook (Some (begun names))) m n) KeepsActions
+        (λ m p. p) (λ m n s. ⊎_elim (λ w. within_keeps_actions m n w) (λ g. begins_keeps (begun names) m n g) s) k l creates
+
+  pub left_begun : (j : Standing) (m : Moment) (f : Files) (bodies : List (List ℕ)) → bodies ≡ body ∷ [] → j.all_read ≡ true → IsStill j bodies m f → (book : Meaning) → book ≡ begun names → IsAsLeft (record { journal = j; book = book }) m f
+  left_begun j m f bodies one read still book becomes = record {
+    bodies = body ∷ [];
+    make = subst (λ (b : Meaning). Make (body ∷ []) (Some b)) (sym becomes) make_begin;
+    still = subst (λ (b : List (List ℕ)). IsStill j b m f) one still;
+    all_read = read;
+  }
+
+one_record : (b : List ℕ) → length (records (b ∷ [])) ≡ 5 + length b
+one_record b = omega (arith, length-append (open_record b) [], length-append (to_be_bytes w32 (length b)) b)
+
+-- a Begin has room
+pub never_over : (body : List ℕ) (names : List (List ℕ)) (bodies : List (List ℕ)) → AreNames names → Spelled body (events.Begin names) → bodies ≡ body ∷ [] → 2 ^ 30 < end_of bodies → ⊥
+never_over body names bodies are is one over =
+    let short = counted_short names is.kept in
+    let long : length (records bodies) ≡ 5 + length body = ap (λ (l : List (List ℕ)). length (records l)) one ∙ one_record body in
+    omega (arith, over, long, short, are.few, ap length is.is)

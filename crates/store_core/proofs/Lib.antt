@@ -1,0 +1,8 @@
+pub mod Beginning
+pub mod Choosing
+pub mod Entering
+pub mod Folding
+pub mod Holds
+pub mod Kept
+pub mod Phases
+pub mod Wholeness

@@ -1,0 +1,8 @@
+pub mod Books
+pub mod Holding
+pub mod Taking
+pub mod Held
+pub mod Room
+pub mod Broken
+pub mod Reading
+pub mod Faults

@@ -1,0 +1,160 @@
+//! An event is recorded: it is on the disk before the book has it.
+
+ghost use Rattle.std.specs.Prelude.{◌≡◌, ◌≤◌, ◌<◌, ◌+◌, ℕ, Some, IsTrue, IsErr, IsErrOf, OnOk, false, true, length};
+ghost use Rattle.world_traits.specs.Calls.{Rose};
+ghost use Rattle.world_traits.specs.Moments.{Since};
+ghost use Rattle.journal_core.specs.Appending.{end_with, told_end};
+ghost use Rattle.journal_core.specs.Records.{frame_of};
+ghost use Rattle.record_codec.specs.Bodies.{body_of};
+ghost use Rattle.action_queue.specs.Book.{after};
+ghost use Rattle.action_queue.specs.Events.{IsLawful};
+ghost use Rattle.action_queue.specs.Writable.{IsWritable};
+ghost use Rattle.action_queue.specs.declared.event.Event.TheVariants as events;
+ghost use Rattle.store_core.specs.Holding.{IsAsLeft};
+ghost use Rattle.store_core.specs.Taking.{IsTaking, Takes, TakesStep};
+ghost use Rattle.store_core.specs.Held.{KeepsActions};
+ghost use Rattle.store_core.specs.Room.{limit_of, end_after};
+ghost use Rattle.store_core.specs.declared.fault.CommitFault.TheVariants as faults;
+
+use crate::keeping::{keeps, keeps_outcome};
+use crate::{CommitFault, Store};
+use action_queue::{Event, Outcome};
+use journal_core::Journal;
+use mail_base::ActionId;
+use record_codec::{encode, encode_outcome, size};
+use std::alloc::Global;
+use world_traits::{Clocked, Disk};
+
+/// The place that an accepted action's record may not end behind, in bytes: room is left to play what was accepted.
+pub const MAX_ACCEPTED: u64 = 536_870_912;
+
+/// The place that no other record may end behind, in bytes.
+pub const MAX_OTHER: u64 = 1_073_741_824;
+
+impl Store {
+    /// Records an event, and enters it into the book.
+    ///
+    /// Memory is taken before the first write. After `Full` and `Memory` the book and the files are as before. After
+    /// `Disk` the event is on the disk or not, and the store isn't used again.
+    pub fn commit<D: Disk>(
+        &mut self,
+        alloc: Global,
+        disk: &mut D,
+        event: Event,
+    ) -> Result<(), CommitFault>
+        requires lawful { IsLawful self.old.book event }
+        requires writable { IsWritable event }
+        requires sound { IsTrue self.old.journal.failed → ⊥ }
+        requires still { D.tells_files → IsAsLeft self.old (D.clock disk.old).now (D.seen disk.old) }
+
+        // At every moment a stop leaves the book before or the one after; the books stay from one moment to the next, or
+        // the event is begun, or made firm; and no action that all images hold is lost.
+        ensures told { D.tells_files → Takes (Some self.old.book) event (D.clock disk.old) (D.clock disk.new) }
+        ensures steps { D.tells_files → Since (IsTaking (Some self.old.book) event) (TakesStep event)
+            (D.clock disk.old) (D.clock disk.new) }
+        ensures held { D.tells_files → Since (IsTaking (Some self.old.book) event) KeepsActions
+            (D.clock disk.old) (D.clock disk.new) }
+
+        // After Ok the book is the one after the event, and the files hold it.
+        ensures value { OnOk result (self.new.book ≡ after self.old.book event) }
+        ensures done { D.tells_files → OnOk result (IsAsLeft self.new (D.clock disk.new).now (D.seen disk.new)) }
+        ensures sound_still { OnOk result (self.new.journal.failed ≡ false) }
+        ensures moved { OnOk result (self.new.journal ≡ record self.old.journal {
+            place = self.old.journal.place + length (frame_of (body_of event)) }) }
+
+        // `Full` comes where the event has no room, and only there.
+        ensures over { limit_of event < end_after event self.old → IsErrOf result
+            (faults.Full (told_end (end_with 0 self.old.journal)) (told_end (end_after event self.old))) }
+        ensures full { (end wanted : ℕ) → IsErrOf result (faults.Full end wanted) →
+            limit_of event < end_after event self.old }
+        ensures stopped { IsErrOf result faults.Disk → (self.new.book ≡ self.old.book) × (self.new.journal.failed ≡ true) }
+        ensures kept { IsErr result → (IsErrOf result faults.Disk → ⊥) →
+            (self.new ≡ self.old) × (disk.new ≡ disk.old) }
+        ensures link { D.link disk.new ≡ D.link disk.old }
+        ensures count { D.disk_faults disk.old ≤ D.disk_faults disk.new }
+        ensures cause { IsErrOf result faults.Disk → Rose (D.disk_faults disk.old) (D.disk_faults disk.new) }
+    {
+        keeps(&event);
+        let limit = limit_of(&event);
+        room_for(&self.journal, size(&event), limit)?;
+        let frame = encode(alloc, &event)?;
+        let ready = self.book.prepare(alloc, event)?;
+        self.journal.append(disk, &frame, limit)?;
+        self.book.enter(ready);
+        Ok(())
+    }
+
+    /// Records how the action that is due ended, and enters it into the book. It takes no memory.
+    ///
+    /// After `Full` the book and the files are as before. After `Disk` the outcome is on the disk or not, and the store
+    /// isn't used again.
+    pub fn settle<D: Disk>(
+        &mut self,
+        disk: &mut D,
+        id: ActionId,
+        outcome: Outcome,
+    ) -> Result<(), CommitFault>
+        requires lawful { IsLawful self.old.book (events.Settle id outcome) }
+        requires sound { IsTrue self.old.journal.failed → ⊥ }
+        requires still { D.tells_files → IsAsLeft self.old (D.clock disk.old).now (D.seen disk.old) }
+
+        // As `commit` says it of this event.
+        ensures told { D.tells_files → Takes (Some self.old.book) (events.Settle id outcome) (D.clock disk.old) (D.clock disk.new) }
+        ensures steps { D.tells_files → Since (IsTaking (Some self.old.book) (events.Settle id outcome))
+            (TakesStep (events.Settle id outcome)) (D.clock disk.old) (D.clock disk.new) }
+        ensures held { D.tells_files → Since (IsTaking (Some self.old.book) (events.Settle id outcome)) KeepsActions
+            (D.clock disk.old) (D.clock disk.new) }
+        ensures value { OnOk result (self.new.book ≡ after self.old.book (events.Settle id outcome)) }
+        ensures done { D.tells_files → OnOk result (IsAsLeft self.new (D.clock disk.new).now (D.seen disk.new)) }
+        ensures sound_still { OnOk result (self.new.journal.failed ≡ false) }
+        ensures moved { OnOk result (self.new.journal ≡ record self.old.journal {
+            place = self.old.journal.place + length (frame_of (body_of (events.Settle id outcome))) }) }
+
+        ensures over { 1073741824 < end_after (events.Settle id outcome) self.old → IsErrOf result
+            (faults.Full (told_end (end_with 0 self.old.journal)) (told_end (end_after (events.Settle id outcome) self.old))) }
+        ensures full { (end wanted : ℕ) → IsErrOf result (faults.Full end wanted) →
+            1073741824 < end_after (events.Settle id outcome) self.old }
+        ensures no_memory { IsErrOf result faults.Memory → ⊥ }
+        ensures stopped { IsErrOf result faults.Disk → (self.new.book ≡ self.old.book) × (self.new.journal.failed ≡ true) }
+        ensures kept { IsErr result → (IsErrOf result faults.Disk → ⊥) →
+            (self.new ≡ self.old) × (disk.new ≡ disk.old) }
+        ensures link { D.link disk.new ≡ D.link disk.old }
+        ensures count { D.disk_faults disk.old ≤ D.disk_faults disk.new }
+        ensures cause { IsErrOf result faults.Disk → Rose (D.disk_faults disk.old) (D.disk_faults disk.new) }
+    {
+        keeps_outcome(id, &outcome);
+        let frame = encode_outcome(id, &outcome);
+        self.journal.append(disk, &frame, MAX_OTHER)?;
+        self.book.settle(id, outcome);
+        Ok(())
+    }
+}
+
+// The place that an event's record may not end behind.
+fn limit_of(event: &Event) -> u64
+    ensures { result ≡ limit_of event.now }
+{
+    match event {
+        Event::Accept { .. } => MAX_ACCEPTED,
+        Event::Begin { .. } | Event::Intend { .. } | Event::Settle { .. } | Event::Learn { .. } => {
+            MAX_OTHER
+        }
+    }
+}
+
+// Whether a journal with a body of so many bytes more ends within the limit.
+fn room_for(journal: &Journal, size: u64, limit: u64) -> Result<(), CommitFault>
+    requires { limit ≤ 1073741824 }
+    ensures within { OnOk result (end_with (size + 5) journal.now ≤ limit) }
+    ensures over { limit < end_with (size + 5) journal.now → IsErrOf result
+        (faults.Full (told_end (end_with 0 journal.now)) (told_end (end_with (size + 5) journal.now))) }
+    ensures full { (end wanted : ℕ) → IsErrOf result (faults.Full end wanted) → limit < end_with (size + 5) journal.now }
+    ensures only { (IsErrOf result faults.Memory → ⊥) × (IsErrOf result faults.Disk → ⊥) }
+{
+    let end = journal.place().saturating_add(1);
+    let wanted = end.saturating_add(size).saturating_add(5);
+    if wanted > limit {
+        return Err(CommitFault::Full { end, wanted });
+    }
+    Ok(())
+}

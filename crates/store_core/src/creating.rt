@@ -1,0 +1,103 @@
+//! A book is begun on a disk without a journal.
+
+ghost use Rattle.std.specs.Prelude.{◌≡◌, ◌≤◌, ℕ, List, IfOk, IsErr, IsErrOf, OnOk, false};
+ghost use Rattle.world_traits.specs.Calls.{Rose};
+ghost use Rattle.world_traits.specs.Moments.{Since, Narrows};
+ghost use Rattle.journal_core.specs.Creating.{IsTaken, IsUnbegun};
+ghost use Rattle.journal_core.specs.Reading.{AnyWrong};
+ghost use Rattle.journal_core.specs.Records.{frame_of};
+ghost use Rattle.journal_core.specs.Appending.{IsFrame};
+ghost use Rattle.journal_core.specs.declared.fault.Place9.{Place9};
+ghost use Rattle.journal_core.specs.declared.fault.Place9.TheVariants as places;
+ghost use Rattle.action_queue.specs.Book.{meaning, begun};
+ghost use Rattle.action_queue.specs.Events.{AreNames, IsFirst, first_book};
+ghost use Rattle.record_codec.specs.Spelling.{Spelled};
+ghost use Rattle.store_core.specs.Holding.{IsAsLeft};
+ghost use Rattle.store_core.specs.Taking.{Creates, IsCreating, BeginsStep};
+ghost use Rattle.store_core.specs.Held.{KeepsActions};
+ghost use Rattle.store_core.specs.declared.fault.StoreFault.TheVariants as faults;
+
+use crate::keeping::keeps;
+use crate::{Store, StoreFault};
+use action_queue::{Book, Event};
+use journal_core::Journal;
+use mail_base::{BoxName, Bytes, List};
+use record_codec::encode;
+use std::alloc::{AllocError, Global};
+use world_traits::{Clocked, Disk};
+
+impl Store {
+    /// Begins the book of these mailboxes, where no side was begun.
+    ///
+    /// Both files are synced first; where a side has a wrong header or a journal is there, they stay as they are. Memory is
+    /// taken before the first write. A stop leaves no journal, or the whole Begin.
+    pub fn init<D: Disk>(
+        alloc: Global,
+        disk: &mut D,
+        names: List<BoxName>,
+    ) -> Result<Store, StoreFault>
+        requires { AreNames names }
+        ensures value { IfOk result (λ store. store.book ≡ begun names) }
+        ensures sound { IfOk result (λ store. store.journal.failed ≡ false) }
+        ensures still { D.tells_files → IfOk result (λ store.
+            IsAsLeft store (D.clock disk.new).now (D.seen disk.new)) }
+
+        // Each refusal has its cause in the files as read. A Begin has room.
+        ensures unbegun { D.tells_files → OnOk result (IsUnbegun (D.seen disk.old)) }
+        ensures header { D.tells_files → (why : Place9) → IsErrOf result (faults.NotAJournal why) →
+            (why ≡ places.Header) × AnyWrong (D.seen disk.old) }
+        ensures already { D.tells_files → IsErrOf result faults.Already → IsTaken (D.seen disk.old) }
+        ensures not_full { (end wanted : ℕ) → IsErrOf result (faults.Full end wanted) → ⊥ }
+
+        // At every moment a stop leaves no book, or that of the names. After the first syncs there is none from one moment to
+        // the next, or the Begin is begun, or made firm; and no action that all images hold is lost.
+        ensures told { D.tells_files → Creates names (D.clock disk.old) (D.clock disk.new) }
+        ensures steps { D.tells_files → Since (IsCreating names (D.clock disk.old).now) (BeginsStep names)
+            (D.clock disk.old) (D.clock disk.new) }
+        ensures held { D.tells_files → Since (IsCreating names (D.clock disk.old).now) KeepsActions
+            (D.clock disk.old) (D.clock disk.new) }
+
+        // But after a failure of the disk, an error leaves the files as they were.
+        ensures kept { D.tells_files → IsErr result → (IsErrOf result faults.Disk → ⊥) →
+            Narrows (D.clock disk.old) (D.clock disk.new) × (D.seen disk.new ≡ D.seen disk.old) }
+        ensures link { D.link disk.new ≡ D.link disk.old }
+        ensures count { D.disk_faults disk.old ≤ D.disk_faults disk.new }
+        ensures cause { IsErrOf result faults.Disk → Rose (D.disk_faults disk.old) (D.disk_faults disk.new) }
+    {
+        let event = Event::Begin { names };
+        let body = begin_body(alloc, &event)?;
+        let book = begun_by(alloc, event)?;
+        let journal = Journal::create(alloc, disk, &[body])?;
+        Ok(Store { journal, book })
+    }
+}
+
+// The body of a Begin's record.
+fn begin_body(alloc: Global, event: &Event) -> Result<Bytes, AllocError>
+    requires { IsFirst event.now }
+    ensures { IfOk result (λ body. Spelled body event.now) }
+{
+    keeps(event);
+    let frame = encode(alloc, event)?;
+    body_in(alloc, &frame)
+}
+
+// The book of a journal that begins so.
+fn begun_by(alloc: Global, event: Event) -> Result<Book, AllocError>
+    requires { IsFirst event }
+    ensures { IfOk result (λ book. meaning book ≡ first_book event) }
+{
+    match event {
+        Event::Begin { names } => Book::new(alloc, names),
+        _ => unreachable!(),
+    }
+}
+
+// The body in a frame: what stands behind the four bytes of its length, but for the gate.
+fn body_in(alloc: Global, frame: &[u8]) -> Result<Bytes, AllocError>
+    requires { IsFrame frame.now }
+    ensures { (body : List ℕ) → frame.now ≡ frame_of body → IfOk result (λ bytes. bytes ≡ body) }
+{
+    let body = frame[4..frame.len() - 1].to_vec(alloc)?;
+    Ok(Bytes::of(body))
+}

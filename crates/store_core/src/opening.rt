@@ -1,0 +1,219 @@
+//! A store is opened: the events of the journal's records are entered one behind the other.
+
+ghost use Rattle.std.specs.Prelude.{◌≡◌, ◌≤◌, ◌<◌, ◌+◌, ◌++◌, ℕ, List, [], Some, None, IfOk, OnOk, IsErrOf, IsTrue, length, true, false};
+ghost use Rattle.world_traits.specs.Calls.{Rose};
+ghost use Rattle.world_traits.specs.Files.{Files};
+ghost use Rattle.world_traits.specs.Moments.{Since, Within, Narrows};
+ghost use Rattle.journal_core.specs.Records.{records};
+ghost use Rattle.journal_core.specs.Reading.{OnlyLooks};
+ghost use Rattle.journal_core.specs.Standing.{IsStill};
+ghost use Rattle.journal_core.specs.declared.fault.Place9.{Place9};
+ghost use Rattle.journal_core.specs.declared.fault.Place9.TheVariants as places;
+ghost use Rattle.action_queue.specs.Book.{Meaning, meaning};
+ghost use Rattle.store_core.specs.Books.{HasBook};
+ghost use Rattle.store_core.specs.Broken.{IsBroken, IsUndue};
+ghost use Rattle.store_core.specs.Reading.{Enters, EntersAll, ReadsBook, UndueAt};
+ghost use Rattle.action_queue.specs.Steps.{Books, Firm};
+ghost use Rattle.store_core.specs.Holding.{IsAsLeft};
+ghost use Rattle.store_core.specs.Taking.{HasBooks, IsOneOf};
+ghost use Rattle.store_core.specs.Held.{KeepsActions};
+ghost use Rattle.store_core.specs.declared.fault.StoreFault.TheVariants as faults;
+
+use crate::{Store, StoreFault};
+use action_queue::{Book, Event, Version};
+use journal_core::{Bodies, Journal, Place9};
+use record_codec::{RecordFault, decode};
+use std::alloc::Global;
+use world_traits::{Clocked, Disk};
+
+impl Store {
+    /// Opens the journal, and makes the book of its events. It takes memory for the book, and for 64 KiB of records at a
+    /// time, or for one that is longer.
+    ///
+    /// Both files are synced before they are read, so a later stop leaves what is read. A journal without records is broken
+    /// at the place of its first gate, since a Begin is missing there.
+    pub fn open<D: Disk>(alloc: Global, disk: &mut D) -> Result<Store, StoreFault>
+        // The book is the fold of what the files hold.
+        ensures value { D.tells_files → IfOk result (λ store. HasBook store.book (D.seen disk.old)) }
+        ensures still { D.tells_files → IfOk result (λ store.
+            IsAsLeft store (D.clock disk.new).now (D.seen disk.new)) }
+        ensures sound { IfOk result (λ store. store.journal.failed ≡ false) }
+
+        // It is one of those that a stop could have left, and from now on each stop leaves it.
+        ensures chosen { D.tells_files → (books : Books) → HasBooks books (D.clock disk.old).now →
+            IfOk result (λ store. IsOneOf (Some store.book) books × HasBooks (Firm (Some store.book)) (D.clock disk.new).now) }
+
+        // It is refused only where the files hold no book; where they hold one it isn't.
+        ensures broken { D.tells_files → (why : Place9) → IsErrOf result (faults.NotAJournal why) →
+            IsBroken why (D.seen disk.old) }
+        ensures whole { D.tells_files → (book : Meaning) → HasBook book (D.seen disk.old) →
+            (why : Place9) → IsErrOf result (faults.NotAJournal why) → ⊥ }
+        ensures only { (IsErrOf result faults.Already → ⊥) × ((end wanted : ℕ) → IsErrOf result (faults.Full end wanted) → ⊥) }
+
+        // Unless the disk failed the files read as before. No moment has another image than before, and no action that
+        // all images hold is lost.
+        ensures seen { D.tells_files → (IsErrOf result faults.Disk → ⊥) → D.seen disk.new ≡ D.seen disk.old }
+        ensures told { D.tells_files → Narrows (D.clock disk.old) (D.clock disk.new) }
+        ensures held { D.tells_files → Since (Within (D.clock disk.old).now) KeepsActions
+            (D.clock disk.old) (D.clock disk.new) }
+        ensures link { D.link disk.new ≡ D.link disk.old }
+        ensures count { D.disk_faults disk.old ≤ D.disk_faults disk.new }
+        ensures cause { IsErrOf result faults.Disk → Rose (D.disk_faults disk.old) (D.disk_faults disk.new) }
+    {
+        let mut journal = Journal::open(disk)?;
+        let mut book = read_begin(alloc, disk, &mut journal)?;
+        read_later(alloc, disk, &mut journal, &mut book)?;
+        Ok(Store { journal, book })
+    }
+}
+
+// Reads the first record, which must be a Begin, and makes its book.
+fn read_begin<D: Disk>(
+    alloc: Global,
+    disk: &mut D,
+    journal: &mut Journal,
+) -> Result<Book, StoreFault>
+    ensures value { D.tells_files → IsStill journal.old [] (D.clock disk.old).now (D.seen disk.old) →
+        IfOk result (λ book. ReadsBook (meaning book) journal.new (D.clock disk.new).now (D.seen disk.new)) }
+    ensures advances { OnOk result (journal.old.place < journal.new.place) }
+    ensures sound { journal.new.failed ≡ journal.old.failed }
+    ensures broken { D.tells_files → IsStill journal.old [] (D.clock disk.old).now (D.seen disk.old) →
+        (why : Place9) → IsErrOf result (faults.NotAJournal why) → IsBroken why (D.seen disk.old) }
+    ensures only { (IsErrOf result faults.Already → ⊥) × ((end wanted : ℕ) → IsErrOf result (faults.Full end wanted) → ⊥) }
+    ensures told { D.tells_files → OnlyLooks (D.clock disk.old) (D.clock disk.new) (D.seen disk.old) (D.seen disk.new) }
+    ensures link { D.link disk.new ≡ D.link disk.old }
+    ensures count { D.disk_faults disk.old ≤ D.disk_faults disk.new }
+    ensures cause { IsErrOf result faults.Disk → Rose (D.disk_faults disk.old) (D.disk_faults disk.new) }
+{
+    let at = journal.place();
+    let Some(body) = journal.next(alloc, disk)? else {
+        return Err(broken_at(at));
+    };
+    begun_by(alloc, body.as_slice(), at)
+}
+
+// The book that a body begins, whose record is at this place.
+fn begun_by(alloc: Global, body: &[u8], at: u64) -> Result<Book, StoreFault>
+    ensures value { IfOk result (λ book. Enters None body.now (meaning book)) }
+    ensures broken { (why : Place9) → IsErrOf result (faults.NotAJournal why) →
+        (why ≡ places.Record at) × IsUndue None body.now }
+    ensures only { (IsErrOf result faults.Already → ⊥) × (IsErrOf result faults.Disk → ⊥)
+        × ((end wanted : ℕ) → IsErrOf result (faults.Full end wanted) → ⊥) }
+{
+    match decode(alloc, body) {
+        Err(RecordFault::Memory) => Err(StoreFault::Memory),
+        Err(RecordFault::BadForm { .. }) => Err(broken_at(at)),
+        Ok(Event::Begin { names }) => {
+            let book = Book::new(alloc, names)?;
+            Ok(book)
+        }
+        Ok(_) => Err(broken_at(at)),
+    }
+}
+
+// Reads the records behind the first one, and enters their events.
+fn read_later<D: Disk>(
+    alloc: Global,
+    disk: &mut D,
+    journal: &mut Journal,
+    book: &mut Book,
+) -> Result<(), StoreFault>
+    ensures value { D.tells_files → ReadsBook (meaning book.old) journal.old (D.clock disk.old).now (D.seen disk.old) →
+        OnOk result (ReadsBook (meaning book.new) journal.new (D.clock disk.new).now (D.seen disk.new)) }
+    ensures all_read { OnOk result (journal.new.all_read ≡ true) }
+    ensures sound { journal.new.failed ≡ journal.old.failed }
+    ensures broken { D.tells_files → ReadsBook (meaning book.old) journal.old (D.clock disk.old).now (D.seen disk.old) →
+        (why : Place9) → IsErrOf result (faults.NotAJournal why) → IsBroken why (D.seen disk.old) }
+    ensures only { (IsErrOf result faults.Already → ⊥) × ((end wanted : ℕ) → IsErrOf result (faults.Full end wanted) → ⊥) }
+    ensures told { D.tells_files → OnlyLooks (D.clock disk.old) (D.clock disk.new) (D.seen disk.old) (D.seen disk.new) }
+    ensures link { D.link disk.new ≡ D.link disk.old }
+    ensures count { D.disk_faults disk.old ≤ D.disk_faults disk.new }
+    ensures cause { IsErrOf result faults.Disk → Rose (D.disk_faults disk.old) (D.disk_faults disk.new) }
+{
+    // Each record takes the journal's place on, and a place is a u64: so the loop ends.
+    loop {
+        let _from = journal.place();
+        let more = read_few(alloc, disk, journal, book)?;
+        let _to = journal.place();
+        if !more {
+            return Ok(());
+        }
+    }
+}
+
+// Reads the next records and enters their events. Answers whether there were any.
+fn read_few<D: Disk>(
+    alloc: Global,
+    disk: &mut D,
+    journal: &mut Journal,
+    book: &mut Book,
+) -> Result<bool, StoreFault>
+    ensures value { D.tells_files → ReadsBook (meaning book.old) journal.old (D.clock disk.old).now (D.seen disk.old) →
+        OnOk result (ReadsBook (meaning book.new) journal.new (D.clock disk.new).now (D.seen disk.new)) }
+    ensures advances { IfOk result (λ more. IsTrue more → journal.old.place < journal.new.place) }
+    ensures ended { IfOk result (λ more. (IsTrue more → ⊥) → journal.new.all_read ≡ true) }
+    ensures sound { journal.new.failed ≡ journal.old.failed }
+    ensures broken { D.tells_files → ReadsBook (meaning book.old) journal.old (D.clock disk.old).now (D.seen disk.old) →
+        (why : Place9) → IsErrOf result (faults.NotAJournal why) → IsBroken why (D.seen disk.old) }
+    ensures only { (IsErrOf result faults.Already → ⊥) × ((end wanted : ℕ) → IsErrOf result (faults.Full end wanted) → ⊥) }
+    ensures told { D.tells_files → OnlyLooks (D.clock disk.old) (D.clock disk.new) (D.seen disk.old) (D.seen disk.new) }
+    ensures link { D.link disk.new ≡ D.link disk.old }
+    ensures count { D.disk_faults disk.old ≤ D.disk_faults disk.new }
+    ensures cause { IsErrOf result faults.Disk → Rose (D.disk_faults disk.old) (D.disk_faults disk.new) }
+{
+    let at = journal.place();
+    let Some(few) = journal.next_few(alloc, disk)? else {
+        return Ok(false);
+    };
+    // Each of their places is below the new one, which is a u64.
+    let _end = journal.place();
+    enter_few(alloc, book, &few, at)?;
+    Ok(true)
+}
+
+// Enters the events of some bodies, whose first record is at this place.
+fn enter_few(alloc: Global, book: &mut Book, few: &Bodies, at: u64) -> Result<(), StoreFault>
+    ensures value { OnOk result (EntersAll (meaning book.old) few.now (meaning book.new)) }
+    ensures broken { (why : Place9) → IsErrOf result (faults.NotAJournal why) →
+        UndueAt (meaning book.old) at why few.now }
+    ensures only { (IsErrOf result faults.Already → ⊥) × (IsErrOf result faults.Disk → ⊥)
+        × ((end wanted : ℕ) → IsErrOf result (faults.Full end wanted) → ⊥) }
+{
+    let mut place = at;
+    for index in 0..few.len() {
+        let body = few.body(index);
+        enter_body(alloc, book, body, place)?;
+        place = place.saturating_add(5).saturating_add(body.len() as u64);
+    }
+    Ok(())
+}
+
+// Enters the event of a body, whose record is at this place.
+fn enter_body(alloc: Global, book: &mut Book, body: &[u8], at: u64) -> Result<(), StoreFault>
+    ensures value { OnOk result (Enters (Some (meaning book.old)) body.now (meaning book.new)) }
+    ensures broken { (why : Place9) → IsErrOf result (faults.NotAJournal why) →
+        (why ≡ places.Record at) × IsUndue (Some (meaning book.old)) body.now }
+    ensures only { (IsErrOf result faults.Already → ⊥) × (IsErrOf result faults.Disk → ⊥)
+        × ((end wanted : ℕ) → IsErrOf result (faults.Full end wanted) → ⊥) }
+{
+    let event = match decode(alloc, body) {
+        Ok(event) => event,
+        Err(RecordFault::Memory) => return Err(StoreFault::Memory),
+        Err(RecordFault::BadForm { .. }) => return Err(broken_at(at)),
+    };
+    if book.allows(&event, Version::First).is_some() {
+        return Err(broken_at(at));
+    }
+    let ready = book.prepare(alloc, event)?;
+    book.enter(ready);
+    Ok(())
+}
+
+// What tells that the record at a place is none that may come there.
+fn broken_at(at: u64) -> StoreFault
+    ensures { result ≡ faults.NotAJournal (places.Record at) }
+{
+    StoreFault::NotAJournal {
+        why: Place9::Record { at },
+    }
+}
