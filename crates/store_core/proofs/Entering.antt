@@ -20,7 +20,8 @@ use Rattle.journal_core.proofs.Presence.{head_long}
 use Rattle.action_queue.specs.declared.event.Event.{Event}
 use Rattle.action_queue.specs.declared.book.Book.{Book}
 use Rattle.action_queue.specs.Book.{Meaning, meaning}
-use Rattle.action_queue.specs.Events.{MayCome, next_book}
+use Rattle.action_queue.specs.Events.{MayCome, IsLawful, next_book}
+use Rattle.action_queue.specs.declared.rule.Rule.{Rule}
 use Rattle.action_queue.specs.Rules.{first_broken}
 use Rattle.action_queue.specs.declared.rule.Version.{Version}
 use Rattle.action_queue.specs.declared.event.Event.TheVariants as events
@@ -195,3 +196,8 @@ narrows_held k l n = since_weaker (Within k.now) (Within k.now) Within KeepsActi
 pub if_reads_first : {E : Type 0} (r : Result Book E) (body : List ℕ) (j : Standing) (m : Moment) (f : Files) → IsStill j (body ∷ []) m f → IfOk r (λ book. Enters None body (meaning book)) → IfOk r (λ book. ReadsBook (meaning book) j m f)
 if_reads_first (Ok book) body j m f still e = reads_first body (meaning book) j m f e still
 if_reads_first (Err fault) body j m f still e = tt
+
+-- what breaks no rule is lawful
+pub lawful_as : (v : Version) (b c : Meaning) → b ≡ c → (e : Event) (r : Option Rule) → r ≡ first_broken v b e → false ≡ is_some r → IsLawful c e
+lawful_as v b c same e None told none = record { version = v; unbroken = subst (λ (x : Meaning). first_broken v x e ≡ None) same (sym told) }
+lawful_as v b c same e (Some rule) told none = absurd cc

@@ -3,6 +3,5 @@ pub mod Choosing
 pub mod Entering
 pub mod Folding
 pub mod Holds
-pub mod Kept
 pub mod Phases
 pub mod Wholeness

@@ -14,9 +14,8 @@ use Rattle.action_queue.specs.declared.event.Event.{Event}
 use Rattle.action_queue.specs.Book.{Meaning, after}
 use Rattle.action_queue.specs.Events.{MayCome, IsLawful, next_book}
 use Rattle.action_queue.specs.Steps.{Books, Firm, Begun, Begins, MakesFirm}
-use Rattle.action_queue.specs.Writable.{IsWritable}
 use Rattle.record_codec.specs.Bodies.{body_of}
-use Rattle.record_codec.specs.Spelling.{IsKept, Spelled}
+use Rattle.record_codec.specs.Spelling.{Spelled}
 use Rattle.store_core.specs.Books.{Make, HasBook, HoldsBook}
 use Rattle.store_core.specs.Holding.{Holding, IsAsLeft}
 use Rattle.store_core.specs.Taking.{TakesStep, IsTaking, Takes}
@@ -60,10 +59,6 @@ module _ (b : Meaning) (e : Event) (may : IsLawful b e) (old new : Clock) where
   -- as steps that lose no action
   pub held_of : Takes (Some b) e old new → Since (IsTaking (Some b) e) KeepsActions old new
   held_of t = since_weaker (IsTaking (Some b) e) (IsTaking (Some b) e) (GoesOn (HoldsBook (Some b)) (HoldsBook (Some (after b e)))) KeepsActions (λ m p. p) (λ m n s. takes_keeps b e m n s) old new t
-
--- the record of an event that can be written is its one spelling
-pub spelled_of : (e : Event) → IsKept e → IsWritable e → IsBody (body_of e) → Spelled (body_of e) e
-spelled_of e kept writable body = record { kept = kept; writable = writable; fits = body.fits; is = refl }
 
 -- An append of an event's frame to a store's journal, as the store's books.
 module _ (now : Holding) (e : Event) (may : IsLawful now.book e) (is : Spelled (body_of e) e) (size : IsBody (body_of e)) (k l : Clock) (f g : Files) (left : IsAsLeft now k.now f) (store : Holding) (same : store ≡ now) {T E : Type 0} (later : Standing) (frame : List ℕ) (framed : frame ≡ frame_of (body_of e)) (r : Result T E) (adds : Appends store.journal later frame k l f g r) where

@@ -16,7 +16,6 @@ ghost use Rattle.store_core.specs.Held.{KeepsActions};
 ghost use Rattle.store_core.specs.Room.{limit_of, end_after};
 ghost use Rattle.store_core.specs.declared.fault.CommitFault.TheVariants as faults;
 
-use crate::keeping::{keeps, keeps_outcome};
 use crate::{CommitFault, Store};
 use action_queue::{Event, Outcome};
 use journal_core::Journal;
@@ -60,7 +59,8 @@ impl Store {
         ensures done { D.tells_files → OnOk result (IsAsLeft self.new (D.clock disk.new).now (D.seen disk.new)) }
         ensures sound_still { OnOk result (self.new.journal.failed ≡ false) }
         ensures moved { OnOk result (self.new.journal ≡ record self.old.journal {
-            place = self.old.journal.place + length (frame_of (body_of event)) }) }
+          place = self.old.journal.place + length (frame_of (body_of event));
+        }) }
 
         // `Full` comes where the event has no room, and only there.
         ensures over { limit_of event < end_after event self.old → IsErrOf result
@@ -74,7 +74,6 @@ impl Store {
         ensures count { D.disk_faults disk.old ≤ D.disk_faults disk.new }
         ensures cause { IsErrOf result faults.Disk → Rose (D.disk_faults disk.old) (D.disk_faults disk.new) }
     {
-        keeps(&event);
         let limit = limit_of(&event);
         room_for(&self.journal, size(&event), limit)?;
         let frame = encode(alloc, &event)?;
@@ -108,7 +107,8 @@ impl Store {
         ensures done { D.tells_files → OnOk result (IsAsLeft self.new (D.clock disk.new).now (D.seen disk.new)) }
         ensures sound_still { OnOk result (self.new.journal.failed ≡ false) }
         ensures moved { OnOk result (self.new.journal ≡ record self.old.journal {
-            place = self.old.journal.place + length (frame_of (body_of (events.Settle id outcome))) }) }
+          place = self.old.journal.place + length (frame_of (body_of (events.Settle id outcome)));
+        }) }
 
         ensures over { 1073741824 < end_after (events.Settle id outcome) self.old → IsErrOf result
             (faults.Full (told_end (end_with 0 self.old.journal)) (told_end (end_after (events.Settle id outcome) self.old))) }
@@ -122,7 +122,6 @@ impl Store {
         ensures count { D.disk_faults disk.old ≤ D.disk_faults disk.new }
         ensures cause { IsErrOf result faults.Disk → Rose (D.disk_faults disk.old) (D.disk_faults disk.new) }
     {
-        keeps_outcome(id, &outcome);
         let frame = encode_outcome(id, &outcome);
         self.journal.append(disk, &frame, MAX_OTHER)?;
         self.book.settle(id, outcome);

@@ -1,7 +1,9 @@
 //! A book is begun on a disk without a journal.
 
 ghost use Rattle.std.specs.Prelude.{◌≡◌, ◌≤◌, ℕ, List, IfOk, IsErr, IsErrOf, OnOk, false};
+ghost use Rattle.std.specs.List.{AllByRecursion};
 ghost use Rattle.world_traits.specs.Calls.{Rose};
+ghost use Rattle.mail_base.specs.BoxName.{IsBoxName};
 ghost use Rattle.world_traits.specs.Moments.{Since, Narrows};
 ghost use Rattle.journal_core.specs.Creating.{IsTaken, IsUnbegun};
 ghost use Rattle.journal_core.specs.Reading.{AnyWrong};
@@ -11,13 +13,12 @@ ghost use Rattle.journal_core.specs.declared.fault.Place9.{Place9};
 ghost use Rattle.journal_core.specs.declared.fault.Place9.TheVariants as places;
 ghost use Rattle.action_queue.specs.Book.{meaning, begun};
 ghost use Rattle.action_queue.specs.Events.{AreNames, IsFirst, first_book};
-ghost use Rattle.record_codec.specs.Spelling.{Spelled};
+ghost use Rattle.record_codec.specs.Spelling.{IsKept, Spelled};
 ghost use Rattle.store_core.specs.Holding.{IsAsLeft};
 ghost use Rattle.store_core.specs.Taking.{Creates, IsCreating, BeginsStep};
 ghost use Rattle.store_core.specs.Held.{KeepsActions};
 ghost use Rattle.store_core.specs.declared.fault.StoreFault.TheVariants as faults;
 
-use crate::keeping::keeps;
 use crate::{Store, StoreFault};
 use action_queue::{Book, Event};
 use journal_core::Journal;
@@ -64,6 +65,7 @@ impl Store {
         ensures count { D.disk_faults disk.old ≤ D.disk_faults disk.new }
         ensures cause { IsErrOf result faults.Disk → Rose (D.disk_faults disk.old) (D.disk_faults disk.new) }
     {
+        are_short(names.as_slice());
         let event = Event::Begin { names };
         let body = begin_body(alloc, &event)?;
         let book = begun_by(alloc, event)?;
@@ -72,12 +74,21 @@ impl Store {
     }
 }
 
+// Names are as their type keeps them, so a Begin is short.
+fn are_short(names: &[BoxName])
+    ensures { AllByRecursion IsBoxName names.now }
+{
+    for name in names {
+        let _name = name.as_bytes();
+    }
+}
+
 // The body of a Begin's record.
 fn begin_body(alloc: Global, event: &Event) -> Result<Bytes, AllocError>
-    requires { IsFirst event.now }
+    requires first { IsFirst event.now }
+    requires short { IsKept event.now }
     ensures { IfOk result (λ body. Spelled body event.now) }
 {
-    keeps(event);
     let frame = encode(alloc, event)?;
     body_in(alloc, &frame)
 }

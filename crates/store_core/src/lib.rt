@@ -4,10 +4,11 @@
 mod committing;
 mod creating;
 mod fault;
-mod keeping;
 mod opening;
 mod store;
+#[cfg(test)]
+mod tests;
 
-pub use fault::{CommitFault, StoreFault};
 pub use committing::MAX_ACCEPTED;
+pub use fault::{CommitFault, StoreFault};
 pub use store::Store;

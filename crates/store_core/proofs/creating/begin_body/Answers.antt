@@ -2,4 +2,4 @@ use Rattle.store_core.proofs.Beginning.{fits_first}
 use Rattle.store_core.proofs.creating.begin_body.Goals as goal
 
 pub encode-requires-clause-fits : goal.encode-requires-clause-fits
-encode-requires-clause-fits c = fits_first c.args.event.now c.requires c.keeps.ensures
+encode-requires-clause-fits c = fits_first c.args.event.now c.requires.first c.requires.short

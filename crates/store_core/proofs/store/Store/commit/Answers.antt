@@ -1,41 +1,41 @@
 use Rattle.std.proofs.Common.{rules, ◌≡◌, ◌∙◌, ap, Some}
 use Rattle.journal_core.specs.Standing.{Standing}
 use Rattle.action_queue.specs.Book.{meaning, after}
-use Rattle.store_core.proofs.Phases.{spelled_of, told, told_steps, told_held, left_after}
+use Rattle.store_core.proofs.Phases.{told, told_steps, told_held, left_after}
 use Rattle.store_core.proofs.store.Store.commit.Goals as goal
 
 pub returns-in_err-append-clause-told : goal.returns-in_err-append-clause-told
 returns-in_err-append-clause-told g c tells =
-    told c.args.self.now c.args.event c.requires.lawful (spelled_of _ c.keeps.ensures c.requires.writable c.in_ok-frame.ensures.body) c.in_ok-frame.ensures.body _ _ _ _ (c.requires.still tells) _ c.self.view_is
+    told c.args.self.now c.args.event c.requires.lawful c.in_ok-frame.ensures.spelled c.in_ok-frame.ensures.body _ _ _ _ (c.requires.still tells) _ c.self.view_is
     _ _ (c.deref.ensures.value ∙ c.in_ok-frame.ensures.frame) _ (c.append.ensures.told tells)
 
 pub returns-in_err-append-clause-steps : goal.returns-in_err-append-clause-steps
 returns-in_err-append-clause-steps g c tells =
-    told_steps c.args.self.now c.args.event c.requires.lawful (spelled_of _ c.keeps.ensures c.requires.writable c.in_ok-frame.ensures.body) c.in_ok-frame.ensures.body _ _ _ _ (c.requires.still tells) _ c.self.view_is
+    told_steps c.args.self.now c.args.event c.requires.lawful c.in_ok-frame.ensures.spelled c.in_ok-frame.ensures.body _ _ _ _ (c.requires.still tells) _ c.self.view_is
     _ _ (c.deref.ensures.value ∙ c.in_ok-frame.ensures.frame) _ (c.append.ensures.told tells)
 
 pub returns-in_err-append-clause-held : goal.returns-in_err-append-clause-held
 returns-in_err-append-clause-held g c tells =
-    told_held c.args.self.now c.args.event c.requires.lawful (spelled_of _ c.keeps.ensures c.requires.writable c.in_ok-frame.ensures.body) c.in_ok-frame.ensures.body _ _ _ _ (c.requires.still tells) _ c.self.view_is
+    told_held c.args.self.now c.args.event c.requires.lawful c.in_ok-frame.ensures.spelled c.in_ok-frame.ensures.body _ _ _ _ (c.requires.still tells) _ c.self.view_is
     _ _ (c.deref.ensures.value ∙ c.in_ok-frame.ensures.frame) _ (c.append.ensures.told tells)
 
 pub returns-clause-told : goal.returns-clause-told
 returns-clause-told g c tells =
-    told c.args.self.now c.args.event c.requires.lawful (spelled_of _ c.keeps.ensures c.requires.writable c.in_ok-frame.ensures.body) c.in_ok-frame.ensures.body _ _ _ _ (c.requires.still tells) _ c.self.view_is
+    told c.args.self.now c.args.event c.requires.lawful c.in_ok-frame.ensures.spelled c.in_ok-frame.ensures.body _ _ _ _ (c.requires.still tells) _ c.self.view_is
     _ _ (c.deref.ensures.value ∙ c.in_ok-frame.ensures.frame) _ (c.append.ensures.told tells)
 
 pub returns-clause-steps : goal.returns-clause-steps
 returns-clause-steps g c tells =
-    told_steps c.args.self.now c.args.event c.requires.lawful (spelled_of _ c.keeps.ensures c.requires.writable c.in_ok-frame.ensures.body) c.in_ok-frame.ensures.body _ _ _ _ (c.requires.still tells) _ c.self.view_is
+    told_steps c.args.self.now c.args.event c.requires.lawful c.in_ok-frame.ensures.spelled c.in_ok-frame.ensures.body _ _ _ _ (c.requires.still tells) _ c.self.view_is
     _ _ (c.deref.ensures.value ∙ c.in_ok-frame.ensures.frame) _ (c.append.ensures.told tells)
 
 pub returns-clause-held : goal.returns-clause-held
 returns-clause-held g c tells =
-    told_held c.args.self.now c.args.event c.requires.lawful (spelled_of _ c.keeps.ensures c.requires.writable c.in_ok-frame.ensures.body) c.in_ok-frame.ensures.body _ _ _ _ (c.requires.still tells) _ c.self.view_is
+    told_held c.args.self.now c.args.event c.requires.lawful c.in_ok-frame.ensures.spelled c.in_ok-frame.ensures.body _ _ _ _ (c.requires.still tells) _ c.self.view_is
     _ _ (c.deref.ensures.value ∙ c.in_ok-frame.ensures.frame) _ (c.append.ensures.told tells)
 
 pub returns-clause-done : goal.returns-clause-done
 returns-clause-done g c tells =
     let becomes : meaning c.enter.new.self ≡ after c.args.self.now.book c.args.event = search rules in
-    left_after c.args.self.now c.args.event c.requires.lawful (spelled_of _ c.keeps.ensures c.requires.writable c.in_ok-frame.ensures.body) c.in_ok-frame.ensures.body _ _ _ _ (c.requires.still tells) _ c.self.view_is
+    left_after c.args.self.now c.args.event c.requires.lawful c.in_ok-frame.ensures.spelled c.in_ok-frame.ensures.body _ _ _ _ (c.requires.still tells) _ c.self.view_is
     _ _ (c.deref.ensures.value ∙ c.in_ok-frame.ensures.frame) _ (c.append.ensures.told tells) _ c.in_ok-append.was (ap (λ (j : Standing). j.all_read) c.in_ok-append.ensures.done ∙ c.self.invariant) _ becomes

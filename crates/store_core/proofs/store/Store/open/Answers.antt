@@ -59,8 +59,7 @@ returns-clause-still g c tells = left_as _ _ _ _ (c.in_ok-read_later.ensures.val
 pub returns-clause-chosen : goal.returns-clause-chosen
 returns-clause-chosen g c tells books have =
     let reads = c.in_ok-read_later.ensures.value tells (c.in_ok-book.ensures.value tells (c.in_ok-journal.ensures.still tells)) in
-    let same = (c.read_later.ensures.told tells).seen_same ∙ (c.read_begin.ensures.told tells).seen_same ∙ c.in_ok-journal.ensures.seen tells (λ e. cc e) in
-    (
+    let same = (c.read_later.ensures.told tells).seen_same ∙ (c.read_begin.ensures.told tells).seen_same ∙ c.in_ok-journal.ensures.seen tells (λ e. cc e) in (
       one_of books _ _ _ (g.met.D.Disk.seen_is c.args.disk.now tells) have (holds_all _ _ _ _ _ same reads c.in_ok-read_later.ensures.all_read),
       only_left _ _ _ (left_as _ _ _ _ reads c.in_ok-read_later.ensures.all_read),
     )
