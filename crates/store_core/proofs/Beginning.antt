@@ -1,14 +1,14 @@
 -- A journal that begins with names, as the store's book.
-use Rattle.std.proofs.Common.{◌≡◌, ◌⊎◌, inl, inr, ⊎_elim, true, ℕ, zero, suc, ◌+◌, ◌-◌, ◌*◌, ◌≤◌, ◌<◌, ◌^◌, List, [], ◌∷◌, ◌++◌, length, take, drop, Option, Some, None, refl, sym, ◌∙◌, ap, subst, arith, length-append}
+use Rattle.std.proofs.Common.{◌≡◌, ◌⊎◌, inl, inr, ⊎_elim, true, ℕ, zero, suc, ◌+◌, ◌-◌, ◌*◌, ◌≤◌, ◌<◌, ◌^◌, List, [], ◌∷◌, ◌++◌, length, take, drop, Some, None, refl, sym, ◌∙◌, ap, subst, arith, length-append}
 use Rattle.std.specs.Prelude.{flat_map}
 use Rattle.std.specs.Int.{w32, to_be_bytes}
 use Rattle.std.specs.List.{AllByRecursion}
 use Rattle.std.proofs.lemmas.List.{take_at}
 use Rattle.world_traits.specs.Files.{Files}
-use Rattle.world_traits.specs.Moments.{Moment, Clock, Images, Occurs, Only, AtPhase, GoesOn, Since, Within, Narrows}
+use Rattle.world_traits.specs.Moments.{Moment, Clock, Images, Occurs, Only, AtPhase, GoesOn, Since, Within}
 use Rattle.world_traits.proofs.Passing.{since_weaker}
 use Rattle.journal_core.specs.declared.version.Version.TheVariants.{First}
-use Rattle.journal_core.specs.Records.{IsBody, frame_of, open_record, records}
+use Rattle.journal_core.specs.Records.{frame_of, open_record, records}
 use Rattle.journal_core.specs.Holds.{Holds}
 use Rattle.journal_core.specs.Creating.{IsFree, CreatesThrough, end_of}
 use Rattle.journal_core.specs.Standing.{Standing, IsStill}
@@ -21,8 +21,8 @@ use Rattle.action_queue.specs.Events.{AreNames, IsFirst}
 use Rattle.record_codec.specs.Fields.{counted}
 use Rattle.record_codec.specs.Bodies.{body_of}
 use Rattle.record_codec.specs.Spelling.{IsKept, Spelled}
-use Rattle.store_core.specs.Books.{Make, HasBook, HoldsBook}
-use Rattle.store_core.specs.Holding.{Holding, IsAsLeft}
+use Rattle.store_core.specs.Books.{Make, HoldsBook}
+use Rattle.store_core.specs.Holding.{IsAsLeft}
 use Rattle.store_core.specs.Taking.{IsCreating, Creates, BeginsStep}
 use Rattle.store_core.specs.Held.{KeepsActions}
 use Rattle.store_core.proofs.Phases.{step_of}

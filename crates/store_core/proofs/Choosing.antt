@@ -1,5 +1,5 @@
 -- Which of the books that a stop could leave an opening finds.
-use Rattle.std.proofs.Common.{◌≡◌, ◌⊎◌, inl, inr, ⊎_elim, Option, Some, None, ap, subst, sym}
+use Rattle.std.proofs.Common.{◌≡◌, inl, inr, ⊎_elim, Option, Some, None, ap}
 use Rattle.world_traits.specs.Files.{Files}
 use Rattle.world_traits.specs.Moments.{Moment, MayLeave, Only}
 use Rattle.world_traits.proofs.Choosing.{rests_only}

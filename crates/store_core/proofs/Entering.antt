@@ -1,5 +1,5 @@
 -- How a journal's events are entered, one behind the other.
-use Rattle.std.proofs.Common.{◌≡◌, ◌≢◌, ℕ, ◌+◌, ◌<◌, ◌≤◌, ◌^◌, Bool, true, false, IsTrue, List, [], ◌∷◌, ◌++◌, length, get_or, take, drop, slice_get, slice_index, Option, Some, None, Result, Ok, Err, IfOk, refl, sym, ◌∙◌, ap, subst, arith, append_assoc, length-append, get_or-drop, take-append-drop}
+use Rattle.std.proofs.Common.{◌≡◌, ℕ, ◌+◌, ◌<◌, ◌≤◌, ◌^◌, true, false, IsTrue, List, [], ◌∷◌, ◌++◌, length, get_or, take, drop, slice_get, Option, Some, None, Result, Ok, Err, IfOk, refl, sym, ◌∙◌, ap, subst, arith, append_assoc, length-append, take-append-drop}
 use Rattle.std.proofs.lemmas.List.{append-nil, drop_at, take_more, drop_more}
 use Rattle.std.proofs.lemmas.Option.{slice_get_within, get_or_from_slice_get}
 use Rattle.world_traits.specs.Files.{Files, file_of}
@@ -20,7 +20,7 @@ use Rattle.journal_core.proofs.Presence.{head_long}
 use Rattle.action_queue.specs.declared.event.Event.{Event}
 use Rattle.action_queue.specs.declared.book.Book.{Book}
 use Rattle.action_queue.specs.Book.{Meaning, meaning}
-use Rattle.action_queue.specs.Events.{MayCome, IsLawful, next_book}
+use Rattle.action_queue.specs.Events.{IsLawful}
 use Rattle.action_queue.specs.declared.rule.Rule.{Rule}
 use Rattle.action_queue.specs.Rules.{first_broken}
 use Rattle.action_queue.specs.declared.rule.Version.{Version}
@@ -32,7 +32,7 @@ use Rattle.journal_core.proofs.Held.{still_holds}
 use Rattle.store_core.specs.Books.{Make, HasBook}
 use Rattle.store_core.specs.Holding.{IsAsLeft}
 use Rattle.store_core.specs.Held.{KeepsActions}
-use Rattle.store_core.specs.Broken.{IsUndue, StandUpTo, IsNotDue, torn, other, missing, BrokenBehind, IsBroken}
+use Rattle.store_core.specs.Broken.{IsUndue, StandUpTo, IsNotDue, torn, other, missing, IsBroken}
 use Rattle.store_core.specs.Reading.{Enters, EntersAll, ReadsBook, UndueAt}
 use Rattle.store_core.proofs.Folding.{make_none, make_more}
 use Rattle.store_core.proofs.Holds.{within_keeps_actions}

@@ -11,7 +11,7 @@ use Rattle.action_queue.specs.declared.event.Event.{Event}
 use Rattle.action_queue.specs.declared.event.Event.TheVariants as events
 use Rattle.action_queue.specs.Queues.{accepted, settled, change_first, change_queued}
 use Rattle.action_queue.specs.Book.{Meaning, after}
-use Rattle.store_core.specs.Books.{HasBook, HoldsBook}
+use Rattle.store_core.specs.Books.{HasBook}
 use Rattle.store_core.specs.Held.{IsNamed, HasAction, HoldsAction, IsHeld, KeepsActions}
 use Rattle.store_core.proofs.Folding.{one_held}
 

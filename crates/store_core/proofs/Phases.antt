@@ -1,7 +1,7 @@
 -- From the bodies that a journal's call leaves to the books of a store's.
-use Rattle.std.proofs.Common.{◌≡◌, ◌⊎◌, inl, inr, ⊎_elim, true, ℕ, zero, suc, ◌+◌, ◌≤◌, List, [], ◌∷◌, ◌++◌, Option, Some, None, refl, sym, ◌∙◌, ap, subst, arith, Result, Ok, OnOk}
+use Rattle.std.proofs.Common.{◌≡◌, inl, inr, true, ℕ, zero, suc, ◌+◌, ◌≤◌, List, [], ◌∷◌, ◌++◌, Option, Some, refl, sym, subst, arith, Result, Ok, OnOk}
 use Rattle.world_traits.specs.Files.{Files}
-use Rattle.world_traits.specs.Moments.{Moment, Clock, Images, AtPhase, GoesOn, Since, Within, Narrows}
+use Rattle.world_traits.specs.Moments.{Moment, Clock, AtPhase, GoesOn, Since}
 use Rattle.world_traits.proofs.Passing.{since_start, since_weaker}
 use Rattle.journal_core.specs.declared.version.Version.{Version}
 use Rattle.journal_core.specs.Holds.{Holds}
@@ -13,15 +13,15 @@ use Rattle.journal_core.proofs.Aside.{passes_as}
 use Rattle.action_queue.specs.declared.event.Event.{Event}
 use Rattle.action_queue.specs.Book.{Meaning, after}
 use Rattle.action_queue.specs.Events.{MayCome, IsLawful, next_book}
-use Rattle.action_queue.specs.Steps.{Books, Firm, Begun, Begins, MakesFirm}
+use Rattle.action_queue.specs.Steps.{Firm, Begun}
 use Rattle.record_codec.specs.Bodies.{body_of}
 use Rattle.record_codec.specs.Spelling.{Spelled}
-use Rattle.store_core.specs.Books.{Make, HasBook, HoldsBook}
+use Rattle.store_core.specs.Books.{Make, HoldsBook}
 use Rattle.store_core.specs.Holding.{Holding, IsAsLeft}
 use Rattle.store_core.specs.Taking.{TakesStep, IsTaking, Takes}
 use Rattle.store_core.specs.Held.{KeepsActions}
 use Rattle.store_core.proofs.Folding.{make_more}
-use Rattle.store_core.proofs.Holds.{takes_keeps, within_keeps_actions}
+use Rattle.store_core.proofs.Holds.{takes_keeps}
 
 -- a step by exact phases is one of those on books
 module _ (b : Option Meaning) (e : Event) (may : MayCome b e) (m n : Moment) (outside : n.outside ≡ m.outside) where

@@ -1,5 +1,5 @@
 -- Files that hold a book aren't broken.
-use Rattle.std.proofs.Common.{◌≡◌, ◌≢◌, ℕ, ◌<◌, List, [], ◌∷◌, ◌++◌, length, drop, slice_index, Option, Some, None, refl, sym, ◌∙◌, ap, subst, arith, append_assoc, get_or-drop}
+use Rattle.std.proofs.Common.{◌≡◌, ◌≢◌, ℕ, List, [], ◌∷◌, ◌++◌, length, drop, slice_index, Option, Some, None, refl, sym, ◌∙◌, ap, subst, arith, append_assoc, get_or-drop}
 use Rattle.std.specs.List.{AllByRecursion}
 use Rattle.std.proofs.lemmas.List.{append-nil, drop-drop, drop_at}
 use Rattle.world_traits.specs.Files.{Files, file_of}
@@ -18,7 +18,7 @@ use Rattle.action_queue.specs.Book.{Meaning}
 use Rattle.action_queue.specs.Events.{MayCome, next_book, Folds}
 use Rattle.record_codec.specs.Spelling.{Spelled}
 use Rattle.store_core.specs.Books.{AreSpelled, Make, HasBook}
-use Rattle.store_core.specs.Broken.{IsUndue, StandUpTo, IsNotDue, torn, other, missing, IsBroken}
+use Rattle.store_core.specs.Broken.{StandUpTo, IsNotDue, torn, other, missing, IsBroken}
 use Rattle.store_core.proofs.Folding.{one_make}
 
 -- records up to a place are the first of all records

@@ -1,5 +1,5 @@
 -- Why files hold no book.
-use Rattle.std.specs.Prelude.{◌≡◌, ℕ, ◌+◌, List, [], ◌∷◌, ◌++◌, length, drop, Option, None}
+use Rattle.std.specs.Prelude.{◌≡◌, ℕ, ◌+◌, List, ◌++◌, length, drop, Option, None}
 use Rattle.world_traits.specs.Files.{Files, file_of}
 use Rattle.world_traits.specs.declared.disk.Side.{Side}
 use Rattle.journal_core.specs.declared.version.Version.{Version}

@@ -1,6 +1,5 @@
 -- How the books that a stop may leave go on while an event is recorded.
 use Rattle.std.specs.Prelude.{◌≡◌, ◌⊎◌, ℕ, List, Option, Some, None}
-use Rattle.world_traits.specs.Files.{Files}
 use Rattle.world_traits.specs.Moments.{Moment, Clock, Images, Only, Both, GoesOn, Since, Within}
 use Rattle.journal_core.specs.Gates.{Passes}
 use Rattle.action_queue.specs.declared.event.Event.{Event}

@@ -1,4 +1,4 @@
-use Rattle.std.proofs.Common.{◌≡◌, ℕ, List, [], None, IfOk, refl, rules, subst, sym}
+use Rattle.std.proofs.Common.{◌≡◌, ℕ, List, [], None, IfOk, refl, rules, subst}
 use Rattle.world_traits.specs.Files.{file_of}
 use Rattle.action_queue.specs.Book.{meaning}
 use Rattle.journal_core.specs.declared.fault.Place9.TheVariants as places

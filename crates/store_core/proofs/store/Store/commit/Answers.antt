@@ -1,4 +1,4 @@
-use Rattle.std.proofs.Common.{rules, ◌≡◌, ◌∙◌, ap, Some}
+use Rattle.std.proofs.Common.{rules, ◌≡◌, ◌∙◌, ap}
 use Rattle.journal_core.specs.Standing.{Standing}
 use Rattle.action_queue.specs.Book.{meaning, after}
 use Rattle.store_core.proofs.Phases.{told, told_steps, told_held, left_after}

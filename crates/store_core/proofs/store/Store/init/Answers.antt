@@ -1,4 +1,4 @@
-use Rattle.std.proofs.Common.{rules, ◌≡◌, refl, ap, arith}
+use Rattle.std.proofs.Common.{rules, refl, ap, arith}
 use Rattle.journal_core.specs.Standing.{Standing}
 use Rattle.store_core.proofs.Beginning.{some_begin, creates, creates_steps, creates_held, left_begun, never_over}
 use Rattle.store_core.proofs.store.Store.init.Goals as goal

@@ -1,6 +1,5 @@
 use Rattle.std.proofs.Common.{◌∙◌, rules, subst}
 use Rattle.journal_core.proofs.Looking.{looks_then, narrows_look}
-use Rattle.action_queue.specs.Book.{meaning}
 use Rattle.store_core.specs.Broken.{IsBroken}
 use Rattle.store_core.proofs.Wholeness.{never_both}
 use Rattle.store_core.proofs.Choosing.{one_of, only_left}

@@ -1,6 +1,4 @@
-use Rattle.std.proofs.Common.{◌≡◌, ◌∙◌, ℕ, None, false, sym, ap, subst}
-use Rattle.std.specs.Option.{is_some}
-use Rattle.action_queue.specs.Book.{meaning}
+use Rattle.std.proofs.Common.{◌≡◌, ◌∙◌, ℕ, sym, subst}
 use Rattle.action_queue.specs.Events.{IsLawful}
 use Rattle.action_queue.specs.declared.event.Event.TheVariants as events
 use Rattle.action_queue.specs.declared.rule.Version.TheVariants.{First}
