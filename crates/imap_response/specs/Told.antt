@@ -1,0 +1,8 @@
+-- What an item tells, where its flags are few (this client's profile).
+use Rattle.imap_model.specs.Small.{AreFew}
+use Rattle.imap_response.specs.declared.fetch.Told.{Told}
+use Rattle.imap_response.specs.declared.fetch.Told.TheVariants as tellings
+
+abbrev pub IsSmallTold : Told → Type 0
+IsSmallTold (tellings.Flags flags excess) = AreFew flags
+IsSmallTold told = Unit {0}

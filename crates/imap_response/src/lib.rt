@@ -1,0 +1,27 @@
+//! Reads a frame as the response that it spells (RFC 9051, section 9; RFC 7162, section 7).
+#![tactic(auto)]
+
+mod code;
+mod fault;
+mod fetch;
+mod flags;
+mod leaf;
+mod line;
+mod other;
+mod rest;
+mod runs;
+mod search;
+mod strings;
+mod tag;
+#[cfg(test)]
+mod tests;
+mod text_part;
+#[cfg(test)]
+mod transcripts;
+#[cfg(test)]
+mod value_tests;
+mod values;
+mod word_list;
+
+pub use fault::ResponseFault;
+pub use line::read;
