@@ -1,4 +1,5 @@
 pub mod Closings
+pub mod Keeping
 pub mod LoopLemmas
 pub mod NumberLemmas
 pub mod NumberSets
