@@ -7,3 +7,4 @@ pub mod RunLemmas
 pub mod SetLemmas
 pub mod Steps
 pub mod TurnLemmas
+pub mod spelling
