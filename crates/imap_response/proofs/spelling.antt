@@ -39,5 +39,6 @@ pub mod TokenReads
 pub mod Tokens
 pub mod Values
 pub mod ValueReads
+pub mod Whole
 pub mod WordLists
 pub mod Words

@@ -7,6 +7,7 @@ pub mod Leaf
 pub mod Left
 pub mod Lines
 pub mod Numbers
+pub mod OneResponse
 pub mod Reading
 pub mod Reads
 pub mod Searches

@@ -5,6 +5,7 @@ mod code;
 mod fault;
 mod fetch;
 mod flags;
+mod laws;
 mod leaf;
 mod line;
 mod other;
@@ -24,4 +25,5 @@ mod values;
 mod word_list;
 
 pub use fault::ResponseFault;
+pub use laws::one_response;
 pub use line::read;
