@@ -224,8 +224,11 @@ with_flags gathered flags excess = with_told gathered (tellings.Flags flags exce
 
 told_kept : (w k : Gathered) (told other : Told) → KeptGathered w k → KeptTold told other → KeptGathered (with_told w told) (with_told k other)
 told_kept w k (tellings.Flags flags excess) other r t =
-    rw t.1 (ap (λ o. option_or o excess) r.0, λ e. let nones = both_none w.excess excess e in
-    ap (λ g. with_flags g t.0 excess) (r.1 nones.0) ∙ ap (λ rest. with_flags w rest excess) (t.2 nones.1))
+    rw t.1 (
+      ap (λ o. option_or o excess) r.0,
+      λ e. let nones = both_none w.excess excess e in
+          ap (λ g. with_flags g t.0 excess) (r.1 nones.0) ∙ ap (λ rest. with_flags w rest excess) (t.2 nones.1),
+    )
 told_kept w k (tellings.Uid uid) other r t = rw t (r.0, λ e. ap (λ g. with_told g (tellings.Uid uid)) (r.1 e))
 told_kept w k (tellings.ModSeq modseq) other r t = rw t (r.0, λ e. ap (λ g. with_told g (tellings.ModSeq modseq)) (r.1 e))
 told_kept w k (tellings.Ids ids) other r t = rw t (r.0, λ e. ap (λ g. with_told g (tellings.Ids ids)) (r.1 e))
@@ -245,8 +248,8 @@ behind_kept : (n : ℕ) (w k : Gathered) (x y : Told × Left) → KeptGathered w
 behind_kept n w k x y r t more =
     let told = told_kept w k x.0 y.0 r t.0 in
     let here : Alike (Beside KeptGathered) (behind_item whole n w x) (behind_item kept n k (y.0, x.1)) =
-        alike_or (Beside KeptGathered) (mark_at 41 x.1.text) _ _ _ _ (λ end. ok_gathered (with_told w x.0) (with_told k y.0) (at_left x.1 end) told)
-        (alike_after (Beside KeptGathered) (gap_at x.1.text) _ _ (λ after. more (with_told w x.0) (with_told k y.0) (at_left x.1 after) told)) in
+    alike_or (Beside KeptGathered) (mark_at 41 x.1.text) _ _ _ _ (λ end. ok_gathered (with_told w x.0) (with_told k y.0) (at_left x.1 end) told)
+    (alike_after (Beside KeptGathered) (gap_at x.1.text) _ _ (λ after. more (with_told w x.0) (with_told k y.0) (at_left x.1 after) told)) in
     subst (λ left. Alike (Beside KeptGathered) (behind_item whole n w x) (behind_item kept n k (y.0, left))) (sym t.1) here
 
 items_from_kept : (n : ℕ) (w k : Gathered) (left : Left) → KeptGathered w k → Alike (Beside KeptGathered) (items_from whole n w left) (items_from kept n k left)
@@ -295,7 +298,7 @@ ended_items : (x y : Gathered × Left) → Beside KeptGathered x y
     → Alike KeptSaid (end_at x.1.text >>= λ end. Ok (said_by (responses.Fetch x.0.fetched) x.0.excess)) (end_at y.1.text >>= λ end. Ok (said_by (responses.Fetch y.0.fetched) y.0.excess))
 ended_items x y r =
     let here : Alike KeptSaid (end_at x.1.text >>= λ end. Ok (said_by (responses.Fetch x.0.fetched) x.0.excess)) (end_at x.1.text >>= λ end. Ok (said_by (responses.Fetch y.0.fetched) y.0.excess)) =
-        alike_after KeptSaid (end_at x.1.text) _ _ (λ end. ok_fetch x.0 y.0 r.0) in
+    alike_after KeptSaid (end_at x.1.text) _ _ (λ end. ok_fetch x.0 y.0 r.0) in
     subst (λ left. Alike KeptSaid (end_at x.1.text >>= λ end. Ok (said_by (responses.Fetch x.0.fetched) x.0.excess)) (end_at left.text >>= λ end. Ok (said_by (responses.Fetch y.0.fetched) y.0.excess))) (sym r.1) here
 
 fetch_kept : (left : Left) → Alike KeptSaid (fetch_at whole left) (fetch_at kept left)

@@ -1,3 +1,4 @@
+pub mod Answered
 pub mod Closings
 pub mod Keeping
 pub mod LoopLemmas

@@ -1,7 +1,10 @@
 //! The lines of a server (RFC 9051, section 9, response).
 
-ghost use Rattle.std.specs.Prelude.{◌≡◌, ◌≤◌, ℕ, length, IfErr, IfOk};
+ghost use Rattle.std.specs.Prelude.{◌≡◌, ◌≤◌, ℕ, length, IfErr, IfOk, IsErrOf};
+ghost use Rattle.imap_model.specs.Responses.{Spells};
 ghost use Rattle.imap_model.specs.Small.{IsSmall};
+ghost use Rattle.imap_model.specs.declared.limit.Limit.{Limit};
+ghost use Rattle.imap_model.specs.declared.response.Response.{Response};
 ghost use Rattle.imap_response.specs.Faults.{IsPlaced};
 ghost use Rattle.imap_response.specs.Flags.{kept};
 ghost use Rattle.imap_response.specs.Leaf.{gap_at};
@@ -41,6 +44,25 @@ pub(crate) struct Said {
 pub fn read(alloc: Global, frame: &Frame) -> Result<Response, ResponseFault>
     ensures small { IfOk result IsSmall }
     ensures within { IfErr result (IsPlaced (length frame.now.bytes)) }
+
+    // What is read is spelled so.
+    ensures spelled { IfOk result (Spells frame.now) }
+
+    // What is spelled so, and nothing else, is read.
+    ensures alone { (response : Response) → Spells frame.now response → IfOk result (λ read. read ≡ response) }
+    ensures bad_form { (at : ℕ) → IsErrOf result (ResponseFault.BadForm at) → (response : Response) → ¬ (Spells frame.now response) }
+    ensures too_large { (limit : Limit) (number : ℕ) → IsErrOf result (ResponseFault.TooLarge limit number)
+        → (response : Response) × Spells frame.now response }
+
+    // Which answer it is, with its place or its limit; want of memory alone may come in place of it.
+    ensures exact { Answers (answer_to (length frame.now.bytes) (reading kept frame.now)) result }
+{
+    answered(alloc, frame)
+}
+
+// The same, as the reading on lists has it.
+fn answered(alloc: Global, frame: &Frame) -> Result<Response, ResponseFault>
+    ensures small { IfOk result IsSmall }
     ensures exact { Answers (answer_to (length frame.now.bytes) (reading kept frame.now)) result }
 {
     let text = frame.bytes.as_slice();
