@@ -1,3 +1,4 @@
+pub mod Agreeing
 pub mod Brackets
 pub mod Choices
 pub mod Codes
@@ -5,10 +6,12 @@ pub mod CodeRows
 pub mod Endings
 pub mod Extended
 pub mod ExtendedLines
+pub mod FlagLimits
 pub mod Flags
 pub mod Headers
 pub mod IdFields
 pub mod IdSections
+pub mod ItemAgreeing
 pub mod ItemLists
 pub mod ItemReads
 pub mod Items

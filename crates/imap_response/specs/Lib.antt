@@ -17,4 +17,5 @@ pub mod Tags
 pub mod TextParts
 pub mod Told
 pub mod Values
+pub mod Within
 pub mod WordLists

@@ -1,6 +1,6 @@
 -- What holds of the definition of responses (RFC 9051, sections 2.2 and 4.3): a frame spells one response at most, and no line that
 -- spells one is the front of another.
-use Rattle.std.specs.Prelude.{◌≡◌, ◌↔◌, ℕ, List, [], ◌∷◌, ◌++◌, Ok}
+use Rattle.std.specs.Prelude.{◌≡◌, ◌↔◌, ℕ, List, [], ◌∷◌, ◌++◌, None, Ok}
 use Rattle.mail_base.specs.declared.frame.Frame.{Frame}
 use Rattle.mail_base.specs.Frames.{IsNext}
 use Rattle.imap_model.specs.declared.response.Response.{Response}
@@ -8,6 +8,7 @@ use Rattle.imap_model.specs.Responses.{Spells}
 use Rattle.imap_response.specs.declared.line.Said.{Said}
 use Rattle.imap_response.specs.Flags.{whole}
 use Rattle.imap_response.specs.Reading.{reading}
+use Rattle.imap_response.specs.Within.{SpellsWithin}
 
 -- the frame is read as this response, whatever the size of its flags
 abbrev pub IsReadAs : Frame → Response → Type 0
@@ -16,6 +17,10 @@ IsReadAs frame response = (said : Said) × (reading whole frame ≡ Ok said) × 
 -- what is read is spelled so, and what is spelled so is read
 abbrev pub ReadsAsSpelled : Type 0
 ReadsAsSpelled = (frame : Frame) (response : Response) → Spells frame response ↔ IsReadAs frame response
+
+-- it is given without an excess exactly where each set of flags in the line keeps this client's limits
+abbrev pub GivesWithin : Type 0
+GivesWithin = (frame : Frame) (response : Response) → SpellsWithin frame response ↔ (reading whole frame ≡ Ok (record { response = response; excess = None }))
 
 abbrev pub OneResponse : Type 0
 OneResponse = (frame : Frame) (one other : Response) → Spells frame one → Spells frame other → one ≡ other

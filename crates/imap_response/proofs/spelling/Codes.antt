@@ -41,7 +41,7 @@ capable words done = Ok (codings.Capability words.0)
 abbrev some_words : Words → Result Code ℕ
 some_words words = cond (length words.0 == 0) (Err (length words.1)) (closed_at words.1 >>= capable words)
 
-capability_spells : (text : List ℕ) (code : Code) → capability_at text ≡ Ok code → (words : List (List ℕ)) × (words ≢ []) × AreWords text words [] × (codings.Capability words ≡ code)
+pub capability_spells : (text : List ℕ) (code : Code) → capability_at text ≡ Ok code → (words : List (List ℕ)) × (words ≢ []) × AreWords text words [] × (codings.Capability words ≡ code)
 unfolding capability_at
 capability_spells text code is =
     let words = ok_bind (words_at text) some_words code is in
@@ -66,7 +66,7 @@ behind_validity validity = gap_at validity.1 >>= CodeRows.one_at nonzero_at (app
 abbrev numbers_at : List ℕ → Result Code ℕ
 numbers_at first = nonzero_at first >>= behind_validity
 
-append_uid_spells : (text : List ℕ) (code : Code) → append_uid_at text ≡ Ok code
+pub append_uid_spells : (text : List ℕ) (code : Code) → append_uid_at text ≡ Ok code
     → (argument : List ℕ) × (first : List ℕ) × (validity : ℕ) × (later : List ℕ) × (second : List ℕ) × (uid : ℕ)
     × Spaced text (first ++ later) × IsNonzero first validity × Spaced later second × IsNonzero second uid × (codings.AppendUid validity uid ≡ code)
 unfolding append_uid_at
@@ -113,7 +113,7 @@ pub record IsCopied (text : List ℕ) (validity : ℕ) (source target : List Uid
   pub spaced_target : Spaced last third
   pub spells_target : Spells third target
 
-copy_uid_spells : (text : List ℕ) (code : Code) → copy_uid_at text ≡ Ok code
+pub copy_uid_spells : (text : List ℕ) (code : Code) → copy_uid_at text ≡ Ok code
     → (validity : ℕ) × (source : List UidRange) × (target : List UidRange) × IsCopied text validity source target × (codings.CopyUid validity source target ≡ code)
 unfolding copy_uid_at
 copy_uid_spells text code is =
@@ -155,16 +155,16 @@ copy_uid_reads text validity source target w =
 abbrev Give : Type 0
 Give = Listed × List ℕ
 
-abbrev coded : Listed → Coded
+abbrev pub coded : Listed → Coded
 coded found = record { code = codings.PermanentFlags found.flags found.any; excess = found.excess }
 
-abbrev behind_flags : Give → Unit {0} → Result Coded ℕ
+abbrev pub behind_flags : Give → Unit {0} → Result Coded ℕ
 behind_flags flags done = Ok (coded flags.0)
 
-abbrev closing : Give → Result Coded ℕ
+abbrev pub closing : Give → Result Coded ℕ
 closing flags = closed_at flags.1 >>= behind_flags flags
 
-abbrev listing : List ℕ → Result Coded ℕ
+abbrev pub listing : List ℕ → Result Coded ℕ
 listing after = permanent_at whole after >>= closing
 
 permanent_flags_spells : (text : List ℕ) (read : Coded) → permanent_flags_at whole text ≡ Ok read
@@ -216,12 +216,12 @@ split_cut inner word argument split = record { all = split.wide; ends = name_end
 abbrev Row : Type 0
 Row = List ℕ × Result Code ℕ
 
-abbrev rows : List ℕ → List Row
+abbrev pub rows : List ℕ → List Row
 rows text = (codes "CAPABILITY", capability_at text) ∷ (codes "UIDNEXT", uid_next_at text) ∷ (codes "UIDVALIDITY", uid_validity_at text)
     ∷ (codes "HIGHESTMODSEQ", highest_modseq_at text) ∷ (codes "NOMODSEQ", bare_at codings.NoModSeq text) ∷ (codes "UIDNOTSTICKY", bare_at codings.UidNotSticky text)
     ∷ (codes "CLOSED", bare_at codings.Closed text) ∷ (codes "APPENDUID", append_uid_at text) ∷ (codes "COPYUID", copy_uid_at text) ∷ (codes "MODIFIED", modified_at text) ∷ []
 
-plain_is : (name text : List ℕ) → plain_code_at name text ≡ choose name (rows text) (Ok codings.Other)
+pub plain_is : (name text : List ℕ) → plain_code_at name text ≡ choose name (rows text) (Ok codings.Other)
 unfolding plain_code_at
 plain_is name text = refl
 
@@ -271,10 +271,10 @@ other_spells inner not_flags none = (
   of_none known_codes (wide_at inner).0 (none.0, (none.1.0, (none.1.1.0, (not_flags, none.1.1.1)))),
 )
 
-abbrev plain_coded : Code → Result Coded ℕ
+abbrev pub plain_coded : Code → Result Coded ℕ
 plain_coded code = Ok (plainly code)
 
-code_is : (inner : List ℕ) → code_at whole inner ≡ cond (same_word (wide_at inner).0 (codes "PERMANENTFLAGS")) (permanent_flags_at whole (wide_at inner).1) (plain_code_at (wide_at inner).0 (wide_at inner).1 >>= plain_coded)
+pub code_is : (inner : List ℕ) → code_at whole inner ≡ cond (same_word (wide_at inner).0 (codes "PERMANENTFLAGS")) (permanent_flags_at whole (wide_at inner).1) (plain_code_at (wide_at inner).0 (wide_at inner).1 >>= plain_coded)
 unfolding code_at
 code_is inner = refl
 

@@ -69,7 +69,7 @@ list_inside [] all = tt
 list_inside (b ∷ text) all = pieces_inside (b ∷ text) all
 
 -- two tests of flags
-all_flags : (flags : List (List ℕ)) → list_all is_flag flags ≡ true → AllByRecursion (λ flag. is_flag flag ≡ true) flags
+pub all_flags : (flags : List (List ℕ)) → list_all is_flag flags ≡ true → AllByRecursion (λ flag. is_flag flag ≡ true) flags
 all_flags [] all = tt
 all_flags (flag ∷ flags) all = let both = and_parts (is_flag flag) (list_all is_flag flags) all in (both.0, all_flags flags both.1)
 
@@ -84,10 +84,10 @@ flags_in : (flags : List (List ℕ)) → AllByRecursion (λ flag. is_flag flag �
 flags_in [] all = tt
 flags_in (flag ∷ flags) all = (flag_inside flag all.0, flags_in flags all.1)
 
-abbrev may_stand : List ℕ → Bool
+abbrev pub may_stand : List ℕ → Bool
 may_stand flag = is_any flag || is_flag flag
 
-abbrev MayStand : List ℕ → Type 0
+abbrev pub MayStand : List ℕ → Type 0
 MayStand flag = (is_flag flag ≡ true) ⊎ (is_any flag ≡ true)
 
 or_cases : (x y : Bool) → (x || y) ≡ true → (y ≡ true) ⊎ (x ≡ true)
@@ -99,7 +99,7 @@ cases_or true y either = refl
 cases_or false y (inl is) = is
 cases_or false y (inr is) = absurd cc
 
-all_stand : (flags : List (List ℕ)) → list_all may_stand flags ≡ true → AllByRecursion MayStand flags
+pub all_stand : (flags : List (List ℕ)) → list_all may_stand flags ≡ true → AllByRecursion MayStand flags
 all_stand [] all = tt
 all_stand (flag ∷ flags) all =
     let both = and_parts (may_stand flag) (list_all may_stand flags) all in
@@ -128,17 +128,17 @@ IsListed text list rest = text ≡ 40 ∷ (list ++ 41 ∷ rest)
 abbrev pub Give : Type 0
 Give = Listed × List ℕ
 
-abbrev behind_list : Listed → List ℕ → Result Give ℕ
+abbrev pub behind_list : Listed → List ℕ → Result Give ℕ
 behind_list found rest = Ok (found, rest)
 
-abbrev behind_test : (List ℕ → Listed) → List ℕ → Unit {0} → Result Give ℕ
+abbrev pub behind_test : (List ℕ → Listed) → List ℕ → Unit {0} → Result Give ℕ
 behind_test of inside done = mark_at 41 (drop (list_len inside) inside) >>= behind_list (of (list_text inside))
 
-abbrev behind_mark : (List ℕ → Bool) → Bool → (List ℕ → Listed) → List ℕ → Result Give ℕ
+abbrev pub behind_mark : (List ℕ → Bool) → Bool → (List ℕ → Listed) → List ℕ → Result Give ℕ
 behind_mark test permanent of inside = fits_list (test (list_text inside)) permanent inside >>= behind_test of inside
 
 -- lists in parentheses, by whatever test and whatever they are read as
-list_spells : (test : List ℕ → Bool) (permanent : Bool) (of : List ℕ → Listed) (text : List ℕ) (read : Give)
+pub list_spells : (test : List ℕ → Bool) (permanent : Bool) (of : List ℕ → Listed) (text : List ℕ) (read : Give)
     → (mark_at 40 text >>= behind_mark test permanent of) ≡ Ok read → (list : List ℕ) × IsListed text list read.1 × (test list ≡ true) × (read.0 ≡ of list)
 list_spells test permanent of text read is =
     let open_ = ok_bind (mark_at 40 text) (behind_mark test permanent of) read is in
@@ -166,10 +166,10 @@ list_reads test permanent of text list rest is all passes =
     (ap (λ (l : List ℕ). Ok (of l, rest)) front)))
 
 -- flags
-abbrev test_flags : List ℕ → Bool
+abbrev pub test_flags : List ℕ → Bool
 test_flags list = list_all is_flag (flags_of list)
 
-abbrev of_flags : List ℕ → Listed
+abbrev pub of_flags : List ℕ → Listed
 of_flags list = listed whole (flags_of list)
 
 pub flags_spells : (text : List ℕ) (read : Give) → flags_at whole text ≡ Ok read → (list : List ℕ) × IsListed text list read.1 × IsFlags list read.0.flags
@@ -184,10 +184,10 @@ flags_reads text list rest keys is flags =
     (of_flags list, list_reads test_flags false of_flags text list rest is (list_inside list (flags_in (flags_of list) flags.each)) (flags_all (flags_of list) flags.each), sym flags.set)
 
 -- flags and stars
-abbrev test_permanent : List ℕ → Bool
+abbrev pub test_permanent : List ℕ → Bool
 test_permanent list = list_all may_stand (flags_of list)
 
-abbrev of_permanent : List ℕ → Listed
+abbrev pub of_permanent : List ℕ → Listed
 of_permanent list = listed_permanent whole (flags_of list)
 
 pub permanent_spells : (text : List ℕ) (read : Give) → permanent_at whole text ≡ Ok read → (list : List ℕ) × IsListed text list read.1 × ArePermanent list read.0.flags read.0.any

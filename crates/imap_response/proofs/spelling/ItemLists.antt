@@ -1,6 +1,7 @@
 -- The items of a message together: what is read, and what is spelled.
-use Rattle.std.proofs.Common.{◌≡◌, ℕ, zero, suc, ◌≤◌, List, [], ◌∷◌, ◌++◌, length, refl, ap, sym, ◌∙◌, subst, inl, inr, arith, append_assoc, append-nil, length-append, Result, Ok, Err}
+use Rattle.std.proofs.Common.{◌≡◌, ℕ, zero, suc, ◌≤◌, List, [], ◌∷◌, ◌++◌, length, refl, ap, sym, ◌∙◌, subst, inl, inr, arith, append_assoc, append-nil, length-append, Option, None, Result, Ok, Err}
 use Rattle.std.specs.Prelude.{fold}
+use Rattle.flag_set.specs.declared.flag_fault.FlagFault.{FlagFault}
 use Rattle.imap_model.specs.declared.fetched.Fetched.{Fetched}
 use Rattle.imap_model.specs.declared.response.Response.TheVariants as responses
 use Rattle.imap_model.specs.Parts.{Part, bytes}
@@ -19,7 +20,11 @@ use Rattle.imap_response.specs.Flags.{whole}
 use Rattle.imap_response.specs.Left.{Left, at_left, mark_in}
 use Rattle.imap_response.specs.Items.{is_atom, item_at, nothing, with_told, items_from, items_at}
 use Rattle.imap_response.specs.Lines.{fetch_at}
+use Rattle.std.specs.List.{AllByRecursion}
+use Rattle.imap_response.specs.Within.{IsToldWithin}
+use Rattle.imap_response.proofs.spelling.Agreeing.{Agrees}
 use Rattle.imap_response.proofs.spelling.IdSections.{gap_wide}
+use Rattle.imap_response.proofs.spelling.ItemAgreeing.{ToldAgrees, item_agrees, one_agrees}
 use Rattle.imap_response.proofs.spelling.Items.{told_of, IsItemFront, item_spells, item_is, by_section, by_name, atom_is}
 use Rattle.imap_response.proofs.spelling.ItemReads.{Gives, item_reads, wide_solid}
 use Rattle.imap_response.proofs.spelling.Passing.{Passes, Fits, text_of, bytes_pass, pass_bytes, pass_left, split, joined, fits_behind, bytes_joined}
@@ -35,6 +40,23 @@ told_more gathered (tellings.Flags flags excess) = refl
 told_more gathered (tellings.ModSeq modseq) = refl
 told_more gathered (tellings.Ids ids) = refl
 told_more gathered tellings.Nothing = refl
+
+-- no excess so far, and each set within the limits
+abbrev IsWithin : Gathered → List model.Told → Type 0
+IsWithin gathered told = (gathered.excess ≡ None) × AllByRecursion IsToldWithin told
+
+one_within : (gathered : Gathered) (told : Told) → ToldAgrees told → Agrees (with_told gathered told).excess (IsWithin gathered (told_of told ∷ []))
+one_within gathered told agrees =
+    let one = one_agrees gathered told agrees in
+    record { to = λ none. (let both = one.to none in (both.0, (both.1, tt))); from = λ within. one.from (within.0, within.1.0) }
+
+more_within : (excess : Option FlagFault) (gathered : Gathered) (told : Told) (later : List model.Told) → ToldAgrees told → Agrees excess (IsWithin (with_told gathered told) later) → Agrees excess (IsWithin gathered (told_of told ∷ later))
+more_within excess gathered told later agrees rest =
+    let one = one_agrees gathered told agrees in
+    record {
+      to = λ none. (let more = rest.to none in let both = one.to more.0 in (both.0, (both.1, more.1)));
+      from = λ within. rest.from (one.from (within.0, within.1.0), within.1.1);
+    }
 
 abbrev Item : Type 0
 Item = Told × Left
@@ -67,9 +89,10 @@ pub record IsItemsFront (gathered : Gathered) (left : Left) (items : Items) : Ty
   pub are : AreItems parts (first ∷ later)
   pub passes : Passes left (parts ++ bytes (41 ∷ [])) items.1
   pub told : items.0.fetched ≡ fold model.with_told gathered.fetched (first ∷ later)
+  pub agrees : Agrees items.0.excess (IsWithin gathered (first ∷ later))
 
-last_item : (gathered : Gathered) (left : Left) (item : Item) (end : List ℕ) → IsItemFront left item → mark_at 41 item.1.text ≡ Ok end → IsItemsFront gathered left (with_told gathered item.0, at_left item.1 end)
-last_item gathered left item end front marked =
+last_item : (gathered : Gathered) (left : Left) (item : Item) (end : List ℕ) → ToldAgrees item.0 → IsItemFront left item → mark_at 41 item.1.text ≡ Ok end → IsItemsFront gathered left (with_told gathered item.0, at_left item.1 end)
+last_item gathered left item end agrees front marked =
     let close = mark_front 41 item.1 end (fits_behind left front.parts item.1 front.passes) marked in
     record {
       first = told_of item.0;
@@ -78,10 +101,11 @@ last_item gathered left item end front marked =
       are = front.item;
       passes = joined left front.parts item.1 (bytes (41 ∷ [])) (at_left item.1 end) front.passes close;
       told = told_more gathered item.0;
+      agrees = one_within gathered item.0 agrees;
     }
 
-more_items : (gathered : Gathered) (left : Left) (item : Item) (after : List ℕ) (items : Items) → IsItemFront left item → gap_at item.1.text ≡ Ok after → IsItemsFront (with_told gathered item.0) (at_left item.1 after) items → IsItemsFront gathered left items
-more_items gathered left item after items front gapped rest =
+more_items : (gathered : Gathered) (left : Left) (item : Item) (after : List ℕ) (items : Items) → ToldAgrees item.0 → IsItemFront left item → gap_at item.1.text ≡ Ok after → IsItemsFront (with_told gathered item.0) (at_left item.1 after) items → IsItemsFront gathered left items
+more_items gathered left item after items agrees front gapped rest =
     let gap = gap_front item.1 after (fits_behind left front.parts item.1 front.passes) gapped in
     let before = joined left front.parts item.1 (bytes gap.gap) (at_left item.1 after) front.passes gap.passes in
     record {
@@ -92,6 +116,7 @@ more_items gathered left item after items front gapped rest =
       passes = repart left items.1 ((front.parts ++ bytes gap.gap) ++ (rest.parts ++ bytes (41 ∷ []))) ((front.parts ++ bytes gap.gap ++ rest.parts) ++ bytes (41 ∷ [])) (sym (append_assoc (front.parts ++ bytes gap.gap) rest.parts (bytes (41 ∷ []))))
           (joined left (front.parts ++ bytes gap.gap) (at_left item.1 after) (rest.parts ++ bytes (41 ∷ [])) items.1 before rest.passes);
       told = rest.told ∙ ap (λ (f : Fetched). fold model.with_told (model.with_told f rest.first) rest.later) (told_more gathered item.0);
+      agrees = more_within items.0.excess gathered item.0 (rest.first ∷ rest.later) agrees rest.agrees;
     }
 
 pub items_spells : (n : ℕ) (gathered : Gathered) (left : Left) (items : Items) → Fits left → items_from whole n gathered left ≡ Ok items → IsItemsFront gathered left items
@@ -100,11 +125,11 @@ items_spells (suc more) gathered left items fits is =
     let item = ok_bind (item_at whole left) (behind_item more gathered) items (sym (items_is more gathered left) ∙ is) in
     let front = item_spells left item.0 fits item.1 in
     elim (ok_or_else (mark_at 41 item.0.1.text) (item_end gathered item.0) (gap_at item.0.1.text >>= item_next more gathered item.0) items item.2) [
-      | inl end ↦ subst (IsItemsFront gathered left) (ok_is (with_told gathered item.0.0, at_left item.0.1 end.0) items end.2) (last_item gathered left item.0 end.0 front end.1)
+      | inl end ↦ subst (IsItemsFront gathered left) (ok_is (with_told gathered item.0.0, at_left item.0.1 end.0) items end.2) (last_item gathered left item.0 end.0 (item_agrees left item.0 item.1) front end.1)
       | inr next ↦
           let after = ok_bind (gap_at item.0.1.text) (item_next more gathered item.0) items next.2 in
           let gap = gap_front item.0.1 after.0 (fits_behind left front.parts item.0.1 front.passes) after.1 in
-          more_items gathered left item.0 after.0 items front after.1
+          more_items gathered left item.0 after.0 items (item_agrees left item.0 item.1) front after.1
           (items_spells more (with_told gathered item.0.0) (at_left item.0.1 after.0) items (fits_behind item.0.1 (bytes gap.gap) (at_left item.0.1 after.0) gap.passes) after.2)
     ]
 
@@ -123,6 +148,7 @@ pub record ItemsRead (n : ℕ) (gathered : Gathered) (left behind : Left) (told 
   pub result : Gathered
   pub read : items_from whole n gathered left ≡ Ok (result, behind)
   pub fetched : result.fetched ≡ fold model.with_told gathered.fetched told
+  pub agrees : Agrees result.excess (IsWithin gathered told)
 
 last_read : (more : ℕ) (gathered : Gathered) (left mid behind : Left) (told : model.Told) → Gives left told mid → Passes mid (bytes (41 ∷ [])) behind → ItemsRead (suc more) gathered left behind (told ∷ [])
 last_read more gathered left mid behind told given close = record {
@@ -131,6 +157,7 @@ last_read more gathered left mid behind told given close = record {
       (or_else_ok (mark_at 41 mid.text) (item_end gathered (given.0, mid)) (gap_at mid.text >>= item_next more gathered (given.0, mid)) behind.text (mark_there 41 mid behind close)
       ∙ ap (λ (l : Left). Ok (with_told gathered given.0, l)) (pass_left mid (41 ∷ []) behind close));
   fetched = told_more gathered given.0 ∙ ap (model.with_told gathered.fetched) given.2;
+  agrees = subst (λ (t : model.Told). Agrees (with_told gathered given.0).excess (IsWithin gathered (t ∷ []))) given.2 (one_within gathered given.0 (item_agrees left (given.0, mid) given.1));
 }
 
 no_close : (gap : List ℕ) (mid next : Left) → IsGap gap → mid.text ≡ gap ++ next.text → (rest : List ℕ) → mark_at 41 mid.text ≡ Ok rest → ⊥
@@ -146,6 +173,7 @@ more_read more gathered left mid next behind told later gap spaces spaced solid 
       ∙ bind_ok (gap_at mid.text) (item_next more gathered (given.0, mid)) next.text (rest.result, behind) (gap_there mid next gap spaces solid spaced)
       (ap (λ (l : Left). items_from whole more (with_told gathered given.0) l) (pass_left mid gap next spaced) ∙ rest.read));
   fetched = rest.fetched ∙ ap (λ (f : Fetched). fold model.with_told f later) (told_more gathered given.0 ∙ ap (model.with_told gathered.fetched) given.2);
+  agrees = subst (λ (t : model.Told). Agrees rest.result.excess (IsWithin gathered (t ∷ later))) given.2 (more_within rest.result.excess gathered given.0 later (item_agrees left (given.0, mid) given.1) rest.agrees);
 }
 
 some_gap : (left mid next : Left) (item : List Part) (gap : List ℕ) (more : ℕ) → Passes left item mid → IsGap gap → Passes mid (bytes gap) next → length left.text ≤ suc more → length next.text ≤ more
@@ -236,6 +264,7 @@ pub record IsFetchFront (left : Left) (said : Said) : Type 0 where
   pub passes : Passes left later end
   pub none : end.text ≡ []
   pub is : said.response ≡ responses.Fetch fetched
+  pub within : said.excess ≡ None → AllByRecursion IsToldWithin fetch.told
 
 fetch_parts : (gap : List ℕ) (items : List Part) (blank : List ℕ) → (bytes gap ++ bytes (40 ∷ [])) ++ (items ++ bytes (41 ∷ [])) ++ bytes blank ≡ bytes (gap ++ 40 ∷ []) ++ items ++ bytes (41 ∷ blank)
 fetch_parts gap items blank =
@@ -267,9 +296,10 @@ fetch_spells left said fits is =
       passes = repart left (at_left items.0.1 []) _ _ (fetch_parts gap.gap list.parts items.0.1.text) all;
       none = refl;
       is = ap (λ (s : Said). s.response) (sym (ok_is (said_of items.0.0) said done.2));
+      within = λ none. (list.agrees.to (ap (λ (s : Said). s.excess) (ok_is (said_of items.0.0) said done.2) ∙ none)).1;
     }
 
-pub fetch_reads : (left end : Left) (later : List Part) (fetched : Fetched) → IsFetch left later fetched → Passes left later end → end.text ≡ [] → (said : Said) × (fetch_at whole left ≡ Ok said) × (said.response ≡ responses.Fetch fetched)
+pub fetch_reads : (left end : Left) (later : List Part) (fetched : Fetched) (fetch : IsFetch left later fetched) → Passes left later end → end.text ≡ [] → (said : Said) × (fetch_at whole left ≡ Ok said) × (said.response ≡ responses.Fetch fetched) × (AllByRecursion IsToldWithin fetch.told → said.excess ≡ None)
 fetch_reads left end later fetched fetch passes none =
     let all = repart left end later ((bytes fetch.gap ++ bytes (40 ∷ [])) ++ (fetch.items ++ bytes (41 ∷ [])) ++ bytes fetch.blank) (fetch.whole_is ∙ sym (fetch_parts fetch.gap fetch.items fetch.blank)) passes in
     let last = split left ((bytes fetch.gap ++ bytes (40 ∷ [])) ++ (fetch.items ++ bytes (41 ∷ []))) (bytes fetch.blank) end all in
@@ -285,4 +315,5 @@ fetch_reads left end later fetched fetch passes none =
           (bind_ok (items_at whole (at_left left front.0.text)) behind_items (list.result, last.0) (said_of list.result) items
           (bind_ok (end_at last.0.text) (behind_end (list.result, last.0)) tt (said_of list.result) (end_reads last.0.text spaces) refl)),
       ap (λ (f : Fetched). responses.Fetch f) (list.fetched ∙ sym fetch.tells),
+      (λ all. list.agrees.from (refl, all)),
     )

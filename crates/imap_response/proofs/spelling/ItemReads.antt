@@ -169,16 +169,16 @@ three left behind a b c passes =
     record { one = first.0; two = last.0; first = first.1; second = first.2; third = last.2 }
 
 -- the rows of the items without a section
-abbrev rows_of : Left → List (List ℕ × Result Read ℕ)
+abbrev pub rows_of : Left → List (List ℕ × Result Read ℕ)
 rows_of left = (codes "UID", (nonzero_at left.text >>= λ uid. Ok (tellings.Uid uid.0, at_left left uid.1)))
     ∷ (codes "FLAGS", (flags_at whole left.text >>= λ flags. Ok (tellings.Flags flags.0.flags flags.0.excess, at_left left flags.1)))
     ∷ (codes "MODSEQ", (mark_at 40 left.text >>= λ inside. modseq_at inside >>= λ modseq. mark_at 41 modseq.1 >>= λ behind. Ok (tellings.ModSeq modseq.0, at_left left behind)))
     ∷ []
 
-abbrev value_of : Left → Result Read ℕ
+abbrev pub value_of : Left → Result Read ℕ
 value_of left = value_at left >>= told_nothing
 
-items_are : (name : List ℕ) (left : Left) → named_item_at whole name left ≡ choose name (rows_of left) (value_of left)
+pub items_are : (name : List ℕ) (left : Left) → named_item_at whole name left ≡ choose name (rows_of left) (value_of left)
 unfolding named_item_at
 items_are name left = refl
 

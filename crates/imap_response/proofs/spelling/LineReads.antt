@@ -1,5 +1,5 @@
 -- A line: what is spelled is read so.
-use Rattle.std.proofs.Common.{◌≡◌, ◌≢◌, ℕ, true, false, cond, List, [], ◌∷◌, ◌++◌, length, codes, None, refl, ap, sym, ◌∙◌, subst, inl, inr, arith, append-nil, Result, Ok, Err}
+use Rattle.std.proofs.Common.{◌≡◌, ◌≢◌, ℕ, true, false, cond, List, [], ◌∷◌, ◌++◌, length, codes, Option, None, refl, ap, sym, ◌∙◌, subst, inl, inr, arith, append-nil, Result, Ok, Err}
 use Rattle.std.proofs.lemmas.Bool.{cases_Bool}
 use Rattle.std.proofs.lemmas.Bool.Decides.{nat_tests}
 use Rattle.std.proofs.lemmas.List.{append_cancel_left}
@@ -8,6 +8,7 @@ use Rattle.std.specs.List.{AllByRecursion, list_all}
 use Rattle.std.specs.Char.{is_ascii_digit}
 use Rattle.std.specs.Str.{bytes_eq}
 use Rattle.std.specs.Str.Parse.{IsNumeral}
+use Rattle.flag_set.specs.declared.flag_fault.FlagFault.{FlagFault}
 use Rattle.uid_sets.specs.declared.uid.UidRange.{UidRange}
 use Rattle.mail_base.specs.declared.tag.Tag.{Tag}
 use Rattle.imap_model.specs.declared.code.Code.{Code}
@@ -37,6 +38,8 @@ use Rattle.imap_response.specs.TextParts.{text_at}
 use Rattle.imap_response.specs.Left.{Left, at_left}
 use Rattle.imap_response.specs.Searches.{found_at, extended_at}
 use Rattle.imap_response.specs.Lines.{simply, ending_of, fits_tag, done_at, tagged_at, other_at, capability_line_at, enabled_at, vanished_at, named_line_at, status_at, fetch_at, exists_at, second_word, numbered_at, ended_at, untagged_at, line_at}
+use Rattle.imap_response.specs.Within.{IsCodeWithin, IsToldWithin, IsLineWithin}
+use Rattle.imap_response.proofs.spelling.Agreeing.{text_agrees}
 use Rattle.imap_response.proofs.spelling.Choices.{choose, choose_same, choose_none, same_test, none_of}
 use Rattle.imap_response.proofs.spelling.CodeRows.{spaced_ends}
 use Rattle.imap_response.proofs.spelling.Endings.{ending_reads, begins_with_word, begins_cut, word_same, second_is}
@@ -59,12 +62,13 @@ use Rattle.imap_response.proofs.spelling.TextParts.{part_reads}
 use Rattle.imap_response.proofs.spelling.WordLists.{IsWordCut, word_front, word_behind}
 use Rattle.imap_response.proofs.spelling.Words.{gap_spells, gap_reads, end_reads}
 
--- the line is read, as this response
-abbrev pub Said_as : Result Said ℕ → Response → Type 0
-Said_as read response = (said : Said) × (read ≡ Ok said) × (said.response ≡ response)
+-- the line is read, as this response: without an excess where P says so
+abbrev Said_as : Result Said ℕ → Type 0 → Response → Type 0
+Said_as read P response = (said : Said) × (read ≡ Ok said) × (said.response ≡ response) × (P → said.excess ≡ None)
 
-by_equal : (read other : Result Said ℕ) (response : Response) → read ≡ other → Said_as other response → Said_as read response
-by_equal read other response same w = (w.0, same ∙ w.1, w.2)
+-- a code within the limits tells no excess
+code_within : (rest : List ℕ) (code : Code) (coded : Coded) → text_at whole rest ≡ Ok coded → coded.code ≡ code → IsCodeWithin code → coded.excess ≡ None
+code_within rest code coded read is within = (text_agrees rest coded read).from (subst IsCodeWithin (sym is) within)
 
 -- an untagged line
 star_reads : (left : Left) (after : List ℕ) → IsUntagged left.text after → line_at whole left ≡ untagged_at whole (at_left left after)
@@ -116,7 +120,7 @@ ending_name endings.Ok = record { some = λ e. cc; solid = refl; wide = refl; no
 ending_name endings.No = record { some = λ e. cc; solid = refl; wide = refl; not_nil = refl; not_digits = refl }
 ending_name endings.Bad = record { some = λ e. cc; solid = refl; wide = refl; not_nil = refl; not_digits = refl }
 
-ending_line : (left : Left) (ending : Ending) (code : Code) (rest : List ℕ) → HasWord left.text (ending_word ending) rest → IsTextPart rest code → Said_as (line_at whole left) (responses.Untagged ending code)
+ending_line : (left : Left) (ending : Ending) (code : Code) (rest : List ℕ) → HasWord left.text (ending_word ending) rest → IsTextPart rest code → Said_as (line_at whole left) (IsCodeWithin code) (responses.Untagged ending code)
 ending_line left ending code rest h part =
     let coded = part_reads rest code part in (
       record { response = responses.Untagged ending coded.0.code; excess = coded.0.excess },
@@ -124,6 +128,7 @@ ending_line left ending code rest h part =
           ∙ ap (ended_at whole h.2.word (at_left left h.0) rest) (ending_reads h.2.word ending h.2.same)
           ∙ bind_ok (text_at whole rest) (ended ending) coded.0 (record { response = responses.Untagged ending coded.0.code; excess = coded.0.excess }) coded.1 refl,
       ap (responses.Untagged ending) coded.2,
+      code_within rest code coded.0 coded.1 coded.2,
     )
 
 -- another name: no ending
@@ -153,22 +158,24 @@ status_reads left name rest h is a b c =
     ∙ ap (ended_at whole h.2.word (at_left left h.0) rest) (none_is h.2.word (same_test h.2.word name (codes "OK") h.2.same ∙ a) (same_test h.2.word name (codes "NO") h.2.same ∙ b) (same_test h.2.word name (codes "BAD") h.2.same ∙ c))
     ∙ status_is (at_left left h.0) h.2.word rest ∙ choose_same h.2.word name (status_rows rest) (status_other (at_left left h.0) h.2.word rest) h.2.same
 
-bye_line : (left : Left) (rest : List ℕ) (code : Code) → HasWord left.text (codes "BYE") rest → IsTextPart rest code → Said_as (line_at whole left) responses.Bye
+bye_line : (left : Left) (rest : List ℕ) (code : Code) → HasWord left.text (codes "BYE") rest → IsTextPart rest code → Said_as (line_at whole left) (IsCodeWithin code) responses.Bye
 bye_line left rest code h part =
     let coded = part_reads rest code part in (
       record { response = responses.Bye; excess = coded.0.excess },
       status_reads left (codes "BYE") rest h (record { some = λ e. cc; solid = refl; wide = refl; not_nil = refl; not_digits = refl }) refl refl refl
           ∙ bind_ok (text_at whole rest) bye coded.0 (record { response = responses.Bye; excess = coded.0.excess }) coded.1 refl,
       refl,
+      code_within rest code coded.0 coded.1 coded.2,
     )
 
-preauth_line : (left : Left) (rest : List ℕ) (code : Code) → HasWord left.text (codes "PREAUTH") rest → IsTextPart rest code → Said_as (line_at whole left) (responses.Preauth code)
+preauth_line : (left : Left) (rest : List ℕ) (code : Code) → HasWord left.text (codes "PREAUTH") rest → IsTextPart rest code → Said_as (line_at whole left) (IsCodeWithin code) (responses.Preauth code)
 preauth_line left rest code h part =
     let coded = part_reads rest code part in (
       record { response = responses.Preauth coded.0.code; excess = coded.0.excess },
       status_reads left (codes "PREAUTH") rest h (record { some = λ e. cc; solid = refl; wide = refl; not_nil = refl; not_digits = refl }) refl refl refl
           ∙ bind_ok (text_at whole rest) preauth coded.0 (record { response = responses.Preauth coded.0.code; excess = coded.0.excess }) coded.1 refl,
       ap (λ (c : Code). responses.Preauth c) coded.2,
+      code_within rest code coded.0 coded.1 coded.2,
     )
 
 -- the other rows by a word
@@ -184,7 +191,7 @@ unfolding named_line_at
 rows_are left word rest = refl
 
 row_line : (left : Left) (name rest : List ℕ) (response : Response) (h : HasWord left.text name rest) → IsName name → same_word name (codes "OK") ≡ false → same_word name (codes "NO") ≡ false → same_word name (codes "BAD") ≡ false
-    → same_word name (codes "BYE") ≡ false → same_word name (codes "PREAUTH") ≡ false → choose name (line_rows (at_left left h.0) rest) (other_row (at_left left h.0)) ≡ Ok response → Said_as (line_at whole left) response
+    → same_word name (codes "BYE") ≡ false → same_word name (codes "PREAUTH") ≡ false → choose name (line_rows (at_left left h.0) rest) (other_row (at_left left h.0)) ≡ Ok response → Said_as (line_at whole left) (Unit {0}) response
 row_line left name rest response h is a b c d e row =
     let start : Left = at_left left h.0 in
     let named : named_line_at h.2.word (at_left left h.0) rest ≡ Ok response = rows_are (at_left left h.0) h.2.word rest ∙ choose_same h.2.word name (line_rows (at_left left h.0) rest) (other_row (at_left left h.0)) h.2.same ∙ row in (
@@ -192,6 +199,7 @@ row_line left name rest response h is a b c d e row =
       status_reads left name rest h is a b c ∙ choose_none name (status_rows rest) (status_other (at_left left h.0) h.2.word rest) (d, (e, tt))
           ∙ bind_ok (named_line_at h.2.word (at_left left h.0) rest) to_simply response (simply response) named refl,
       refl,
+      (λ w. refl),
     )
 
 found_row : (rest : List ℕ) (uids : List UidRange) → TellsSearch rest uids → (found_at rest >>= to_found) ≡ Ok (responses.Found uids)
@@ -290,7 +298,7 @@ exists_row text digits later blank count is number ends spaces =
     bind_ok (number_at text) (count_end blank) (count, later) (simply (responses.Exists count)) (number_at_reads text count later (record { run = digits; spells = number; whole = is; ends = ends }))
     (bind_ok (end_at blank) (counted (count, later)) tt (simply (responses.Exists count)) (end_reads blank spaces) refl)
 
-exists_line : (left : Left) (digits blank : List ℕ) (count : ℕ) → IsNumber digits count → IsNumbered left.text digits (codes "EXISTS") blank → AreSpaces blank → Said_as (line_at whole left) (responses.Exists count)
+exists_line : (left : Left) (digits blank : List ℕ) (count : ℕ) → IsNumber digits count → IsNumbered left.text digits (codes "EXISTS") blank → AreSpaces blank → Said_as (line_at whole left) (Unit {0}) (responses.Exists count)
 exists_line left digits blank count number n spaces =
     let second = second_pair n.0 n.1 (codes "EXISTS") blank n.3 n.4 (record { some = λ e. cc; solid = refl; wide = refl; not_nil = refl; not_digits = refl }) in
     let test = is_same n.4.word (codes "EXISTS") n.4.same in (
@@ -298,9 +306,11 @@ exists_line left digits blank count number n spaces =
       number_reads left digits n.0 n.2 number.digits (spaced_stops n.0 n.1 n.3) ∙ ap (number_rows (at_left left (digits ++ n.0))) second
           ∙ rw test (exists_row (digits ++ n.0) digits n.0 blank count refl number (spaced_ends n.0 n.1 n.3) spaces),
       refl,
+      (λ w. refl),
     )
 
-fetch_line : (left end : Left) (parts later : List Part) (fetched : Fetched) → IsFetchLine left.text parts later → IsFetch left later fetched → Passes left parts end → end.text ≡ [] → Said_as (line_at whole left) (responses.Fetch fetched)
+fetch_line : (left end : Left) (parts later : List Part) (fetched : Fetched) → IsFetchLine left.text parts later → (fetch : IsFetch left later fetched) → Passes left parts end → end.text ≡ []
+    → Said_as (line_at whole left) (AllByRecursion IsToldWithin fetch.told) (responses.Fetch fetched)
 fetch_line left end parts later fetched line fetch passes none =
     let n = line.numbered in
     let passes' = behind_front left end line.front line.rest later line.fronted (repart left end parts (bytes line.front ++ later) line.whole passes) in
@@ -314,6 +324,7 @@ fetch_line left end parts later fetched line fetch passes none =
       number_reads left line.digits n.0 n.2 line.nonzero.0.digits (spaced_stops n.0 n.1 n.3) ∙ ap (number_rows (at_left left (line.digits ++ n.0))) second
           ∙ rw (other, test) (bind_ok (nonzero_at (line.digits ++ n.0)) (fetched_by (at_left left (line.digits ++ n.0)) line.rest) (line.number, n.0) said.0 (nonzero_at_reads (line.digits ++ n.0) line.number n.0 front) said.1),
       said.2,
+      said.3,
     )
 
 -- lines without a meaning here
@@ -325,16 +336,17 @@ second_other : (later name : List ℕ) → name ≢ [] → (GoesOnWith later nam
 second_other later name some none = is_other (second_word (gap_at later)).0 name (λ same. none (begins_second later (gap_at later) name refl some same))
 
 other_number : (left : Left) (word later : List ℕ) → IsUntagged left.text (word ++ later) → Stops later → IsNumeral 10 word → (GoesOnWith later (codes "EXISTS") → ⊥) → (GoesOnWith later (codes "FETCH") → ⊥) → other_at (at_left left (word ++ later)) ≡ Ok tt
-    → Said_as (line_at whole left) responses.Other
+    → Said_as (line_at whole left) (Unit {0}) responses.Other
 other_number left word later u stops numeral exists fetch passed =
     let one = second_other later (codes "EXISTS") (λ e. cc) exists in
     let two = second_other later (codes "FETCH") (λ e. cc) fetch in (
       simply responses.Other,
       number_reads left word later u numeral stops ∙ rw (one, two) (bind_ok (other_at (at_left left (word ++ later))) said_other tt (simply responses.Other) passed refl),
       refl,
+      (λ w. refl),
     )
 
-other_word : (left : Left) (word later : List ℕ) → IsUntagged left.text (word ++ later) → IsWord word → Stops later → (IsNumeral 10 word → ⊥) → is_known_word word ≡ false → other_at (at_left left (word ++ later)) ≡ Ok tt → Said_as (line_at whole left) responses.Other
+other_word : (left : Left) (word later : List ℕ) → IsUntagged left.text (word ++ later) → IsWord word → Stops later → (IsNumeral 10 word → ⊥) → is_known_word word ≡ false → other_at (at_left left (word ++ later)) ≡ Ok tt → Said_as (line_at whole left) (Unit {0}) responses.Other
 other_word left word later u is_word stops plain unknown passed =
     let n = none_of known_words word unknown in
     let cut : IsWordCut (word ++ later) word later = record { is_word = is_word; stops = stops; whole = refl } in
@@ -349,9 +361,10 @@ other_word left word later u is_word stops plain unknown passed =
           ∙ choose_none word (status_rows later) (status_other (at_left left (word ++ later)) word later) (n.1.1.1.0, (n.1.1.1.1.0, tt))
           ∙ bind_ok (named_line_at word (at_left left (word ++ later)) later) to_simply responses.Other (simply responses.Other) row refl,
       refl,
+      (λ w. refl),
     )
 
-strange_line : (left : Left) (word later : List ℕ) → IsUntagged left.text (word ++ later) → IsWord word → Stops later → IsStrange word later → other_at (at_left left (word ++ later)) ≡ Ok tt → Said_as (line_at whole left) responses.Other
+strange_line : (left : Left) (word later : List ℕ) → IsUntagged left.text (word ++ later) → IsWord word → Stops later → IsStrange word later → other_at (at_left left (word ++ later)) ≡ Ok tt → Said_as (line_at whole left) (Unit {0}) responses.Other
 strange_line left word later u is_word stops (inl number) passed = other_number left word later u stops number.0 number.1 number.2 passed
 strange_line left word later u is_word stops (inr plain) passed = other_word left word later u is_word stops plain.0 plain.1 passed
 
@@ -367,7 +380,7 @@ tag_fits text [] tag = absurd (tag.0 refl)
 tag_fits text (b ∷ word) tag = ap (fits_tag text (b ∷ word)) (tag_reads (b ∷ word) 0 0 tag.1)
 
 done_line : (left : Left) (tag : Tag) (ending : Ending) (code : Code) (word later behind rest : List ℕ) → IsTag word → left.text ≡ word ++ later → NamesTag word tag → Spaced later behind → Begins behind (ending_word ending) rest → IsTextPart rest code
-    → Said_as (line_at whole left) (responses.Done tag ending code)
+    → Said_as (line_at whole left) (IsCodeWithin code) (responses.Done tag ending code)
 unfolding tagged_at
 done_line left tag ending code word later behind rest is_tag text names spaced begins part =
     let cut : IsWordCut left.text word later = record { is_word = (is_tag.0, tag_word word is_tag.1); stops = spaced_stops later behind spaced; whole = text } in
@@ -390,6 +403,7 @@ done_line left tag ending code word later behind rest is_tag text names spaced b
       line_is left ∙ rw (star, plus) (bind_ok (fits_tag left.text (word_at left.text).0 (tag_misfit 0 0 (word_at left.text).0)) (by_tag left.text) tt (record { response = responses.Done (tag_of word) ending coded.0.code; excess = coded.0.excess }) fits
           (bind_ok (gap_at (word_at left.text).1) (by_ending left.text) behind (record { response = responses.Done (tag_of word) ending coded.0.code; excess = coded.0.excess }) (ap gap_at back ∙ gap_reads later behind spaced) done)),
       ap (λ (t : Tag). responses.Done t ending coded.0.code) (tag_of_reads word tag names) ∙ ap (responses.Done tag ending) coded.2,
+      code_within rest code coded.0 coded.1 coded.2,
     )
 
 -- a continuation
@@ -397,7 +411,7 @@ part_stops : (rest : List ℕ) (code : Code) → IsTextPart rest code → Stops 
 part_stops rest code (inl none) = subst Stops (sym none.0) tt
 part_stops rest code (inr some) = spaced_stops rest some.0 some.1
 
-go_line : (left : Left) (rest : List ℕ) (code : Code) → left.text ≡ 43 ∷ rest → IsTextPart rest code → Said_as (line_at whole left) responses.Go
+go_line : (left : Left) (rest : List ℕ) (code : Code) → left.text ≡ 43 ∷ rest → IsTextPart rest code → Said_as (line_at whole left) (IsCodeWithin code) responses.Go
 go_line left rest code text part =
     let cut : IsWordCut left.text (43 ∷ []) rest = record { is_word = ((λ e. cc), (refl, tt)); stops = part_stops rest code part; whole = text } in
     let front = word_front left.text (43 ∷ []) rest cut in
@@ -408,29 +422,69 @@ go_line left rest code text part =
       record { response = responses.Go; excess = coded.0.excess },
       line_is left ∙ rw (star, plus) (bind_ok (text_at whole (word_at left.text).1) go coded.0 (record { response = responses.Go; excess = coded.0.excess }) (ap (text_at whole) back ∙ coded.1) refl),
       refl,
+      code_within rest code coded.0 coded.1 coded.2,
     )
 
-pub line_reads : (left end : Left) (parts : List Part) (response : Response) → IsLineOf left.text parts response → Passes left parts end → end.text ≡ [] → Said_as (line_at whole left) response
-line_reads left end parts (responses.Done tag ending code) line passes none = done_line left tag ending code line.0 line.1 line.2 line.3 line.5 line.6 line.7 line.8 line.9 line.10
-line_reads left end parts (responses.Untagged ending code) line passes none = ending_line left ending code line.0 line.2 line.3
-line_reads left end parts responses.Bye line passes none = bye_line left line.0 line.1 line.3 line.4
-line_reads left end parts (responses.Preauth code) line passes none = preauth_line left line.0 code line.2 line.3
-line_reads left end parts responses.Go line passes none = go_line left line.0 line.1 line.3 line.4
-line_reads left end parts (responses.Capability words) line passes none =
+-- the sets of flags in a line keep the limits
+abbrev Within : (text : List ℕ) (parts : List Part) (response : Response) → IsLineOf text parts response → Type 0
+Within text parts (responses.Done tag ending code) line = IsCodeWithin code
+Within text parts (responses.Untagged ending code) line = IsCodeWithin code
+Within text parts (responses.Preauth code) line = IsCodeWithin code
+Within text parts responses.Bye line = IsCodeWithin line.1
+Within text parts responses.Go line = IsCodeWithin line.1
+Within text parts (responses.Fetch fetched) line = AllByRecursion IsToldWithin line.3
+Within text parts response line = Unit {0}
+
+line_said : (left end : Left) (parts : List Part) (response : Response) (line : IsLineOf left.text parts response) → Passes left parts end → end.text ≡ [] → Said_as (line_at whole left) (Within left.text parts response line) response
+line_said left end parts (responses.Done tag ending code) line passes none = done_line left tag ending code line.0 line.1 line.2 line.3 line.5 line.6 line.7 line.8 line.9 line.10
+line_said left end parts (responses.Untagged ending code) line passes none = ending_line left ending code line.0 line.2 line.3
+line_said left end parts responses.Bye line passes none = bye_line left line.0 line.1 line.3 line.4
+line_said left end parts (responses.Preauth code) line passes none = preauth_line left line.0 code line.2 line.3
+line_said left end parts responses.Go line passes none = go_line left line.0 line.1 line.3 line.4
+line_said left end parts (responses.Capability words) line passes none =
     row_line left (codes "CAPABILITY") line.0 (responses.Capability words) line.2 (record { some = λ e. cc; solid = refl; wide = refl; not_nil = refl; not_digits = refl }) refl refl refl refl refl (capability_reads line.0 words line.3 line.4)
-line_reads left end parts (responses.Enabled words) line passes none =
+line_said left end parts (responses.Enabled words) line passes none =
     row_line left (codes "ENABLED") line.0 (responses.Enabled words) line.2 (record { some = λ e. cc; solid = refl; wide = refl; not_nil = refl; not_digits = refl }) refl refl refl refl refl (enabled_reads line.0 words line.3)
-line_reads left end parts (responses.Exists count) line passes none = exists_line left line.0 line.1 count line.3 line.4 line.5
-line_reads left end parts (responses.Fetch fetched) line passes none =
+line_said left end parts (responses.Exists count) line passes none = exists_line left line.0 line.1 count line.3 line.4 line.5
+line_said left end parts (responses.Fetch fetched) line passes none =
     fetch_line left end parts line.0 fetched line.5 (record { gap = line.1; items = line.2; told = line.3; blank = line.4; gap_spaces = line.6; are = line.7; blank_spaces = line.8; whole_is = line.9; tells = line.10 }) passes none
-line_reads left end parts (responses.Vanished false uids) line passes none =
+line_said left end parts (responses.Vanished false uids) line passes none =
     row_line left (codes "VANISHED") line.0 (responses.Vanished false uids) line.4 (record { some = λ e. cc; solid = refl; wide = refl; not_nil = refl; not_digits = refl }) refl refl refl refl refl (vanished_reads line.0 false uids (line.1, line.2, line.5, line.6, line.7))
-line_reads left end parts (responses.Vanished true uids) line passes none =
+line_said left end parts (responses.Vanished true uids) line passes none =
     row_line left (codes "VANISHED") line.0 (responses.Vanished true uids) line.6 (record { some = λ e. cc; solid = refl; wide = refl; not_nil = refl; not_digits = refl }) refl refl refl refl refl (vanished_reads line.0 true uids (line.1, line.2, line.3, line.4, line.7, line.8, line.9, line.10, line.11))
-line_reads left end parts (responses.Found uids) (inl line) passes none =
+line_said left end parts (responses.Found uids) (inl line) passes none =
     row_line left (codes "SEARCH") line.0 (responses.Found uids) line.2 (record { some = λ e. cc; solid = refl; wide = refl; not_nil = refl; not_digits = refl }) refl refl refl refl refl (found_row line.0 uids line.3)
-line_reads left end parts (responses.Found uids) (inr line) passes none =
+line_said left end parts (responses.Found uids) (inr line) passes none =
     row_line left (codes "ESEARCH") line.1.rest (responses.Found uids) line.1.named (record { some = λ e. cc; solid = refl; wide = refl; not_nil = refl; not_digits = refl }) refl refl refl refl refl
     (extended_row (at_left left line.1.rest) end line.0 uids line.2 (behind_front left end line.1.front line.1.rest line.0 line.1.fronted (repart left end parts (bytes line.1.front ++ line.0) line.1.whole passes)) none)
-line_reads left end parts responses.Other line passes none =
+line_said left end parts responses.Other line passes none =
     strange_line left line.word line.later line.untagged line.is_word line.ends line.strange (other_there left end parts (line.word ++ line.later) line.untagged line.quiet line.closed passes none)
+
+pub line_reads : (left end : Left) (parts : List Part) (response : Response) → IsLineOf left.text parts response → Passes left parts end → end.text ≡ [] → (said : Said) × (line_at whole left ≡ Ok said) × (said.response ≡ response)
+line_reads left end parts response line passes none = let w = line_said left end parts response line passes none in (w.0, w.1, w.2)
+
+pub within_line : (text : List ℕ) (parts : List Part) (response : Response) → IsLineWithin text parts response → (line : IsLineOf text parts response) × Within text parts response line
+within_line text parts (responses.Done tag ending code) line = line
+within_line text parts (responses.Untagged ending code) line = line
+within_line text parts (responses.Preauth code) line = line
+within_line text parts responses.Bye line = ((line.0, line.1, line.2, line.3, line.4), line.5)
+within_line text parts responses.Go line = ((line.0, line.1, line.2, line.3, line.4), line.5)
+within_line text parts (responses.Fetch fetched) line = ((line.0, line.1, line.2, line.3, line.4, line.5, line.6, line.7, line.8, line.9, line.10), line.11)
+within_line text parts (responses.Capability words) line = (line, tt)
+within_line text parts (responses.Enabled words) line = (line, tt)
+within_line text parts (responses.Exists count) line = (line, tt)
+within_line text parts (responses.Vanished earlier uids) line = (line, tt)
+within_line text parts (responses.Found uids) line = (line, tt)
+within_line text parts responses.Other line = (line, tt)
+
+abbrev as_said : Response → Option FlagFault → Result Said ℕ
+as_said response excess = Ok (record { response = response; excess = excess })
+
+without_excess : (read : Result Said ℕ) (said : Said) (response : Response) → read ≡ Ok said → said.response ≡ response → said.excess ≡ None → read ≡ Ok (record { response = response; excess = None })
+without_excess read said response is same none = is ∙ ap (λ (r : Response). as_said r said.excess) same ∙ ap (as_said response) none
+
+pub line_within : (left end : Left) (parts : List Part) (response : Response) → IsLineWithin left.text parts response → Passes left parts end → end.text ≡ [] → line_at whole left ≡ Ok (record { response = response; excess = None })
+line_within left end parts response within passes none =
+    let line = within_line left.text parts response within in
+    let w = line_said left end parts response line.0 passes none in
+    without_excess (line_at whole left) w.0 response w.1 w.2 (w.3 line.1)

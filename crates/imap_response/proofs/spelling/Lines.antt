@@ -12,7 +12,7 @@ use Rattle.imap_model.specs.declared.response.Response.TheVariants as responses
 use Rattle.imap_model.specs.Numbers.{IsNumber, IsNonzero}
 use Rattle.imap_model.specs.Others.{IsQuiet, known_words, is_known_word, GoesOnWith}
 use Rattle.imap_model.specs.Parts.{Part, bytes}
-use Rattle.imap_model.specs.Responses.{ending_word, IsLineOf}
+use Rattle.imap_model.specs.Responses.{IsFetchLine, ending_word, IsLineOf}
 use Rattle.imap_model.specs.Tagged.{IsTag}
 use Rattle.imap_model.specs.Values.{is_wide_byte}
 use Rattle.imap_model.specs.Words.{SameWord, AreSpaces, Spaced, Begins, IsUntagged, IsNamed as HasWord, IsNumbered, is_word_byte}
@@ -28,6 +28,9 @@ use Rattle.imap_response.specs.TextParts.{text_at}
 use Rattle.imap_response.specs.Left.{Left, at_left}
 use Rattle.imap_response.specs.Searches.{found_at, extended_at}
 use Rattle.imap_response.specs.Lines.{simply, ending_of, fits_tag, done_at, tagged_at, other_at, capability_line_at, enabled_at, vanished_at, named_line_at, status_at, fetch_at, exists_at, second_word, numbered_at, ended_at, untagged_at, line_at}
+use Rattle.flag_set.specs.declared.flag_fault.FlagFault.{FlagFault}
+use Rattle.imap_response.specs.Within.{IsLineWithin}
+use Rattle.imap_response.proofs.spelling.Agreeing.{text_agrees}
 use Rattle.imap_response.proofs.spelling.Choices.{choose, Chosen, IsNone, choice, of_none}
 use Rattle.imap_response.proofs.spelling.Endings.{IsEnding, named, other, ending_cases, begins_with_word, begins_cut, word_same, second_is}
 use Rattle.imap_response.proofs.spelling.ExtendedLines.{IsExtendedFront, extended_spells}
@@ -46,20 +49,22 @@ use Rattle.imap_response.proofs.spelling.WordLists.{IsWordCut, word_cuts, word_f
 use Rattle.imap_response.proofs.spelling.Words.{gap_spells, end_spells}
 
 -- the line spells this
-pub record IsLineFront (left : Left) (response : Response) : Type 0 where
+pub record IsLineFront (left : Left) (excess : Option FlagFault) (response : Response) : Type 0 where
   pub parts : List Part
   pub end : Left
   pub passes : Passes left parts end
   pub none : end.text ≡ []
   pub line : IsLineOf left.text parts response
+  pub within : excess ≡ None → IsLineWithin left.text parts response
 
-plain_line : (left : Left) (response : Response) → Fits left → IsLineOf left.text (bytes left.text) response → IsLineFront left response
-plain_line left response fits line = record {
+plain_line : (left : Left) (excess : Option FlagFault) (response : Response) → Fits left → IsLineOf left.text (bytes left.text) response → (excess ≡ None → IsLineWithin left.text (bytes left.text) response) → IsLineFront left excess response
+plain_line left excess response fits line within = record {
   parts = bytes left.text;
   end = at_left left [];
   passes = bytes_pass left left.text [] fits (sym (append-nil left.text));
   none = refl;
   line = line;
+  within = within;
 }
 
 abbrev pub to_done : Unit {0} → Result Response ℕ
@@ -127,18 +132,21 @@ module _ (left : Left) (fits : Fits left) (after : List ℕ) (u : IsUntagged lef
     untagged_again = subst (IsUntagged left.text) word_is.whole u
 
     -- words, sets and searches
-    vanished_line : (earlier : Bool) (uids : List UidRange) → SameWord word (codes "VANISHED") → IsVanished rest earlier uids → IsLineFront left (responses.Vanished earlier uids)
-    vanished_line false uids same v = plain_line left (responses.Vanished false uids) fits (rest, v.0, v.1, refl, has_word (codes "VANISHED") same, v.2, v.3, v.4)
-    vanished_line true uids same v = plain_line left (responses.Vanished true uids) fits (rest, v.0, v.1, v.2, v.3, refl, has_word (codes "VANISHED") same, v.4, v.5, v.6, v.7, v.8)
+    vanished_line : (earlier : Bool) (uids : List UidRange) → SameWord word (codes "VANISHED") → IsVanished rest earlier uids → IsLineFront left None (responses.Vanished earlier uids)
+    vanished_line false uids same v = plain_line left None (responses.Vanished false uids) fits (rest, v.0, v.1, refl, has_word (codes "VANISHED") same, v.2, v.3, v.4) (λ e. (rest, v.0, v.1, refl, has_word (codes "VANISHED") same, v.2, v.3, v.4))
+    vanished_line true uids same v = plain_line left None (responses.Vanished true uids) fits (rest, v.0, v.1, v.2, v.3, refl, has_word (codes "VANISHED") same, v.4, v.5, v.6, v.7, v.8) (λ e. (rest, v.0, v.1, v.2, v.3, refl, has_word (codes "VANISHED") same, v.4, v.5, v.6, v.7, v.8))
 
-    extended_line : (uids : List UidRange) → SameWord word (codes "ESEARCH") → IsExtendedFront (at_left left rest) uids → IsLineFront left (responses.Found uids)
-    extended_line uids same w = record {
-      parts = bytes (star ++ word) ++ w.parts;
-      end = w.end;
-      passes = joined left (bytes (star ++ word)) (at_left left rest) w.parts w.end word_passes w.passes;
-      none = w.none;
-      line = inr (w.parts, record { front = star ++ word; rest = rest; named = has_word (codes "ESEARCH") same; fronted = word_text; whole = refl }, w.tells);
-    }
+    extended_line : (uids : List UidRange) → SameWord word (codes "ESEARCH") → IsExtendedFront (at_left left rest) uids → IsLineFront left None (responses.Found uids)
+    extended_line uids same w =
+        let line : IsLineOf left.text (bytes (star ++ word) ++ w.parts) (responses.Found uids) = inr (w.parts, record { front = star ++ word; rest = rest; named = has_word (codes "ESEARCH") same; fronted = word_text; whole = refl }, w.tells) in
+        record {
+          parts = bytes (star ++ word) ++ w.parts;
+          end = w.end;
+          passes = joined left (bytes (star ++ word)) (at_left left rest) w.parts w.end word_passes w.passes;
+          none = w.none;
+          line = line;
+          within = λ e. line;
+        }
 
     abbrev line_rows : List (List ℕ × Result Response ℕ)
     line_rows = (codes "CAPABILITY", capability_line_at rest) ∷ (codes "ENABLED", enabled_at rest) ∷ (codes "VANISHED", vanished_at rest)
@@ -151,44 +159,47 @@ module _ (left : Left) (fits : Fits left) (after : List ℕ) (u : IsUntagged lef
     unfolding named_line_at
     lines_are = refl
 
-    line_row : (response : Response) → Chosen word line_rows response → IsLineFront left response
+    line_row : (response : Response) → Chosen word line_rows response → IsLineFront left None response
     line_row response (inl row) =
         let w = capability_spells rest response row.1 in
-        subst (IsLineFront left) w.3 (plain_line left (responses.Capability w.0) fits (rest, refl, has_word (codes "CAPABILITY") row.0, w.1, w.2))
+        subst (IsLineFront left None) w.3 (plain_line left None (responses.Capability w.0) fits (rest, refl, has_word (codes "CAPABILITY") row.0, w.1, w.2) (λ e. (rest, refl, has_word (codes "CAPABILITY") row.0, w.1, w.2)))
     line_row response (inr (inl row)) =
         let w = enabled_spells rest response row.1 in
-        subst (IsLineFront left) w.2 (plain_line left (responses.Enabled w.0) fits (rest, refl, has_word (codes "ENABLED") row.0, w.1))
+        subst (IsLineFront left None) w.2 (plain_line left None (responses.Enabled w.0) fits (rest, refl, has_word (codes "ENABLED") row.0, w.1) (λ e. (rest, refl, has_word (codes "ENABLED") row.0, w.1)))
     line_row response (inr (inr (inl row))) =
         let w = vanished_spells rest response row.1 in
-        subst (IsLineFront left) w.3 (vanished_line w.0 w.1 row.0 w.2)
+        subst (IsLineFront left None) w.3 (vanished_line w.0 w.1 row.0 w.2)
     line_row response (inr (inr (inr (inl row)))) =
         let uids = ok_bind (found_at rest) to_found response row.1 in
-        subst (IsLineFront left) (ok_is (responses.Found uids.0) response uids.2)
-        (plain_line left (responses.Found uids.0) fits (inl (rest, refl, has_word (codes "SEARCH") row.0, found_spells rest uids.0 uids.1)))
+        subst (IsLineFront left None) (ok_is (responses.Found uids.0) response uids.2)
+        (plain_line left None (responses.Found uids.0) fits (inl (rest, refl, has_word (codes "SEARCH") row.0, found_spells rest uids.0 uids.1)) (λ e. (inl (rest, refl, has_word (codes "SEARCH") row.0, found_spells rest uids.0 uids.1))))
     line_row response (inr (inr (inr (inr (inl row))))) =
         let uids = ok_bind (extended_at (at_left left rest)) to_found response row.1 in
-        subst (IsLineFront left) (ok_is (responses.Found uids.0) response uids.2)
+        subst (IsLineFront left None) (ok_is (responses.Found uids.0) response uids.2)
         (extended_line uids.0 row.0 (extended_spells (at_left left rest) uids.0 (fits_behind left (bytes (star ++ word)) (at_left left rest) word_passes) uids.1))
     line_row response (inr (inr (inr (inr (inr row))))) = absurd row
 
     -- a line without a meaning here
-    strange_line : IsOtherFront (at_left left after) → (IsNumeral 10 word × (GoesOnWith rest (codes "EXISTS") → ⊥) × (GoesOnWith rest (codes "FETCH") → ⊥)) ⊎ ((IsNumeral 10 word → ⊥) × (is_known_word word ≡ false)) → IsLineFront left responses.Other
-    strange_line w strange = record {
-      parts = bytes star ++ w.parts;
-      end = w.end;
-      passes = joined left (bytes star) (at_left left after) w.parts w.end star_passes w.passes;
-      none = w.none;
-      line = record {
-        word = word;
-        later = rest;
-        untagged = untagged_again;
-        is_word = word_is.is_word;
-        ends = word_is.stops;
-        strange = strange;
-        quiet = quiet_joined (bytes star) w.parts star_quiet w.quiet;
-        closed = w.closed star star_brace;
-      };
-    }
+    strange_line : IsOtherFront (at_left left after) → (IsNumeral 10 word × (GoesOnWith rest (codes "EXISTS") → ⊥) × (GoesOnWith rest (codes "FETCH") → ⊥)) ⊎ ((IsNumeral 10 word → ⊥) × (is_known_word word ≡ false)) → IsLineFront left None responses.Other
+    strange_line w strange =
+        let line : IsLineOf left.text (bytes star ++ w.parts) responses.Other = record {
+          word = word;
+          later = rest;
+          untagged = untagged_again;
+          is_word = word_is.is_word;
+          ends = word_is.stops;
+          strange = strange;
+          quiet = quiet_joined (bytes star) w.parts star_quiet w.quiet;
+          closed = w.closed star star_brace;
+        } in
+        record {
+          parts = bytes star ++ w.parts;
+          end = w.end;
+          passes = joined left (bytes star) (at_left left after) w.parts w.end star_passes w.passes;
+          none = w.none;
+          line = line;
+          within = λ e. line;
+        }
 
     -- a status response
     abbrev bye : Coded → Result Said ℕ
@@ -207,51 +218,54 @@ module _ (left : Left) (fits : Fits left) (after : List ℕ) (u : IsUntagged lef
     unfolding status_at
     status_are = refl
 
-    by_said : (said : Said) (response : Response) → response ≡ said.response → IsLineFront left response → IsLineFront left said.response
-    by_said said response same line = subst (IsLineFront left) same line
+    by_said : (said told : Said) → told ≡ said → IsLineFront left told.excess told.response → IsLineFront left said.excess said.response
+    by_said said told same line = subst (λ (s : Said). IsLineFront left s.excess s.response) same line
 
-    status_row : (said : Said) → Chosen word status_rows said → IsLineFront left said.response
+    status_row : (said : Said) → Chosen word status_rows said → IsLineFront left said.excess said.response
     status_row said (inl row) =
         let coded = ok_bind (text_at whole rest) bye said row.1 in
-        by_said said responses.Bye (ap (λ (s : Said). s.response) (ok_is (record { response = responses.Bye; excess = coded.0.excess }) said coded.2))
-        (plain_line left responses.Bye fits (rest, coded.0.code, refl, has_word (codes "BYE") row.0, part_spells rest coded.0 coded.1))
+        by_said said (record { response = responses.Bye; excess = coded.0.excess }) (ok_is (record { response = responses.Bye; excess = coded.0.excess }) said coded.2)
+        (plain_line left coded.0.excess responses.Bye fits (rest, coded.0.code, refl, has_word (codes "BYE") row.0, part_spells rest coded.0 coded.1)
+        (λ e. (rest, coded.0.code, refl, has_word (codes "BYE") row.0, part_spells rest coded.0 coded.1, (text_agrees rest coded.0 coded.1).to e)))
     status_row said (inr (inl row)) =
         let coded = ok_bind (text_at whole rest) preauth said row.1 in
-        by_said said (responses.Preauth coded.0.code) (ap (λ (s : Said). s.response) (ok_is (record { response = responses.Preauth coded.0.code; excess = coded.0.excess }) said coded.2))
-        (plain_line left (responses.Preauth coded.0.code) fits (rest, refl, has_word (codes "PREAUTH") row.0, part_spells rest coded.0 coded.1))
+        by_said said (record { response = responses.Preauth coded.0.code; excess = coded.0.excess }) (ok_is (record { response = responses.Preauth coded.0.code; excess = coded.0.excess }) said coded.2)
+        (plain_line left coded.0.excess (responses.Preauth coded.0.code) fits (rest, refl, has_word (codes "PREAUTH") row.0, part_spells rest coded.0 coded.1)
+        (λ e. ((rest, refl, has_word (codes "PREAUTH") row.0, part_spells rest coded.0 coded.1), (text_agrees rest coded.0 coded.1).to e)))
     status_row said (inr (inr row)) = absurd row
 
     named_row : (response : Response) → same_word word (codes "OK") ≡ false → same_word word (codes "NO") ≡ false → same_word word (codes "BAD") ≡ false → IsNone word status_rows → (IsNumeral 10 word → ⊥)
-        → named_line_at word (at_left left after) rest ≡ Ok response → IsLineFront left response
+        → named_line_at word (at_left left after) rest ≡ Ok response → IsLineFront left None response
     named_row response ok no_ bad none numeral is = elim (choice word line_rows other_row response (sym lines_are ∙ is)) [
       | inl row ↦ line_row response row
       | inr rows ↦
           let w = ok_bind (other_at (at_left left after)) to_done response rows.1 in
           let n = rows.0 in
-          subst (IsLineFront left) (ok_is responses.Other response w.2)
+          subst (IsLineFront left None) (ok_is responses.Other response w.2)
           (strange_line (other_spells (at_left left after) (fits_behind left (bytes star) (at_left left after) star_passes) w.1)
           (inr (numeral, of_none known_words word (ok, (no_, (bad, (none.0, (none.1.0, (n.0, (n.1.0, (n.1.1.0, (n.1.1.1.0, (n.1.1.1.1.0, tt)))))))))))))
     ]
 
     status_line : (said : Said) → same_word word (codes "OK") ≡ false → same_word word (codes "NO") ≡ false → same_word word (codes "BAD") ≡ false → (IsNumeral 10 word → ⊥)
-        → status_at whole word (at_left left after) rest ≡ Ok said → IsLineFront left said.response
+        → status_at whole word (at_left left after) rest ≡ Ok said → IsLineFront left said.excess said.response
     status_line said ok no_ bad numeral is = elim (choice word status_rows status_other said (sym status_are ∙ is)) [
       | inl row ↦ status_row said row
       | inr none ↦
           let response = ok_bind (named_line_at word (at_left left after) rest) to_simply said none.1 in
-          by_said said response.0 (ap (λ (s : Said). s.response) (ok_is (simply response.0) said response.2)) (named_row response.0 ok no_ bad none.0 numeral response.1)
+          by_said said (simply response.0) (ok_is (simply response.0) said response.2) (named_row response.0 ok no_ bad none.0 numeral response.1)
     ]
 
     abbrev ended : Ending → Coded → Result Said ℕ
     ended ending coded = Ok (record { response = responses.Untagged ending coded.code; excess = coded.excess })
 
-    ended_line : (said : Said) (ending : Ending) → SameWord word (ending_word ending) → (text_at whole rest >>= ended ending) ≡ Ok said → IsLineFront left said.response
+    ended_line : (said : Said) (ending : Ending) → SameWord word (ending_word ending) → (text_at whole rest >>= ended ending) ≡ Ok said → IsLineFront left said.excess said.response
     ended_line said ending same is =
         let coded = ok_bind (text_at whole rest) (ended ending) said is in
-        by_said said (responses.Untagged ending coded.0.code) (ap (λ (s : Said). s.response) (ok_is (record { response = responses.Untagged ending coded.0.code; excess = coded.0.excess }) said coded.2))
-        (plain_line left (responses.Untagged ending coded.0.code) fits (rest, refl, has_word (ending_word ending) same, part_spells rest coded.0 coded.1))
+        by_said said (record { response = responses.Untagged ending coded.0.code; excess = coded.0.excess }) (ok_is (record { response = responses.Untagged ending coded.0.code; excess = coded.0.excess }) said coded.2)
+        (plain_line left coded.0.excess (responses.Untagged ending coded.0.code) fits (rest, refl, has_word (ending_word ending) same, part_spells rest coded.0 coded.1)
+        (λ e. ((rest, refl, has_word (ending_word ending) same, part_spells rest coded.0 coded.1), (text_agrees rest coded.0 coded.1).to e)))
 
-    ending_line : (said : Said) → IsEnding word → (IsNumeral 10 word → ⊥) → ended_at whole word (at_left left after) rest (ending_of word) ≡ Ok said → IsLineFront left said.response
+    ending_line : (said : Said) → IsEnding word → (IsNumeral 10 word → ⊥) → ended_at whole word (at_left left after) rest (ending_of word) ≡ Ok said → IsLineFront left said.excess said.response
     ending_line said (named ending same is) numeral read = ended_line said ending same (sym (ap (ended_at whole word (at_left left after) rest) is) ∙ read)
     ending_line said (other ok no_ bad is) numeral read = status_line said ok no_ bad numeral (sym (ap (ended_at whole word (at_left left after) rest) is) ∙ read)
 
@@ -284,21 +298,20 @@ module _ (left : Left) (fits : Fits left) (after : List ℕ) (u : IsUntagged lef
     abbrev count_end : ℕ × List ℕ → Result Said ℕ
     count_end count = end_at (second_word (gap_at rest)).1 >>= counted count
 
-    exists_line : (said : Said) → IsNumeral 10 word → SameWord (second_word (gap_at rest)).0 (codes "EXISTS") → exists_at after (second_word (gap_at rest)).1 ≡ Ok said → IsLineFront left said.response
+    exists_line : (said : Said) → IsNumeral 10 word → SameWord (second_word (gap_at rest)).0 (codes "EXISTS") → exists_at after (second_word (gap_at rest)).1 ≡ Ok said → IsLineFront left said.excess said.response
     unfolding exists_at
     exists_line said numeral same is =
         let count = ok_bind (number_at after) count_end said is in
         let done = ok_bind (end_at (second_word (gap_at rest)).1) (counted count.0) said count.2 in
         let front = number_at_spells after count.0.0 count.0.1 count.1 in
         let digits = run_is front.run count.0.1 numeral front.spells.digits front.whole front.ends in
-        by_said said (responses.Exists count.0.0) (ap (λ (s : Said). s.response) (ok_is (simply (responses.Exists count.0.0)) said done.2))
-        (plain_line left (responses.Exists count.0.0) fits
-        (word, (second_word (gap_at rest)).1, refl, subst (λ (d : List ℕ). IsNumber d count.0.0) digits front.spells, numbered (codes "EXISTS") (λ e. cc) same, end_spells (second_word (gap_at rest)).1 done.1))
+        by_said said (simply (responses.Exists count.0.0)) (ok_is (simply (responses.Exists count.0.0)) said done.2)
+        (plain_line left None (responses.Exists count.0.0) fits (word, (second_word (gap_at rest)).1, refl, subst (λ (d : List ℕ). IsNumber d count.0.0) digits front.spells, numbered (codes "EXISTS") (λ e. cc) same, end_spells (second_word (gap_at rest)).1 done.1) (λ e. (word, (second_word (gap_at rest)).1, refl, subst (λ (d : List ℕ). IsNumber d count.0.0) digits front.spells, numbered (codes "EXISTS") (λ e. cc) same, end_spells (second_word (gap_at rest)).1 done.1)))
 
     abbrev fetched_by : ℕ × List ℕ → Result Said ℕ
     fetched_by number = fetch_at whole (at_left (at_left left after) (second_word (gap_at rest)).1)
 
-    fetch_line : (said : Said) → IsNumeral 10 word → SameWord (second_word (gap_at rest)).0 (codes "FETCH") → (nonzero_at after >>= fetched_by) ≡ Ok said → IsLineFront left said.response
+    fetch_line : (said : Said) → IsNumeral 10 word → SameWord (second_word (gap_at rest)).0 (codes "FETCH") → (nonzero_at after >>= fetched_by) ≡ Ok said → IsLineFront left said.excess said.response
     fetch_line said numeral same is =
         let tail : List ℕ = (second_word (gap_at rest)).1 in
         let number = ok_bind (nonzero_at after) fetched_by said is in
@@ -313,33 +326,23 @@ module _ (left : Left) (fits : Fits left) (after : List ℕ) (u : IsUntagged lef
         let passes = bytes_pass left (((star ++ word) ++ gap.gap) ++ second.2.word) (second_word (gap_at rest)).1 fits text in
         let w = fetch_spells (at_left left (second_word (gap_at rest)).1) said (fits_behind left (bytes (((star ++ word) ++ gap.gap) ++ second.2.word)) (at_left left (second_word (gap_at rest)).1) passes) number.2 in
         let f = w.fetch in
-        by_said said (responses.Fetch w.fetched) (sym w.is) (record {
+        let line : IsFetchLine left.text (bytes (((star ++ word) ++ gap.gap) ++ second.2.word) ++ w.later) w.later = record {
+          digits = word;
+          number = number.0.0;
+          nonzero = subst (λ (d : List ℕ). IsNonzero d number.0.0) digits front.spells;
+          front = ((star ++ word) ++ gap.gap) ++ second.2.word;
+          rest = (second_word (gap_at rest)).1;
+          numbered = (rest, second.0, untagged_again, gap, second.2);
+          fronted = text;
+          whole = refl;
+        } in
+        subst (IsLineFront left said.excess) (sym w.is) (record {
           parts = bytes (((star ++ word) ++ gap.gap) ++ second.2.word) ++ w.later;
           end = w.end;
           passes = joined left (bytes (((star ++ word) ++ gap.gap) ++ second.2.word)) (at_left left (second_word (gap_at rest)).1) w.later w.end passes w.passes;
           none = w.none;
-          line = (
-            w.later,
-            f.gap,
-            f.items,
-            f.told,
-            f.blank,
-            record {
-              digits = word;
-              number = number.0.0;
-              nonzero = subst (λ (d : List ℕ). IsNonzero d number.0.0) digits front.spells;
-              front = ((star ++ word) ++ gap.gap) ++ second.2.word;
-              rest = (second_word (gap_at rest)).1;
-              numbered = (rest, second.0, untagged_again, gap, second.2);
-              fronted = text;
-              whole = refl;
-            },
-            f.gap_spaces,
-            f.are,
-            f.blank_spaces,
-            f.whole_is,
-            f.tells,
-          );
+          line = (w.later, f.gap, f.items, f.told, f.blank, line, f.gap_spaces, f.are, f.blank_spaces, f.whole_is, f.tells);
+          within = λ e. (w.later, f.gap, f.items, f.told, f.blank, line, f.gap_spaces, f.are, f.blank_spaces, f.whole_is, f.tells, w.within e);
         })
 
     abbrev said_other : Unit {0} → Result Said ℕ
@@ -354,7 +357,7 @@ module _ (left : Left) (fits : Fits left) (after : List ℕ) (u : IsUntagged lef
     unfolding numbered_at
     numbers_are = refl
 
-    number_line : (said : Said) → IsNumeral 10 word → numbered_at whole (at_left left after) ≡ Ok said → IsLineFront left said.response
+    number_line : (said : Said) → IsNumeral 10 word → numbered_at whole (at_left left after) ≡ Ok said → IsLineFront left said.excess said.response
     number_line said numeral is = elim (ok_either (same_word (second_word (gap_at rest)).0 (codes "EXISTS")) (exists_at after (second_word (gap_at rest)).1)
         (cond (same_word (second_word (gap_at rest)).0 (codes "FETCH")) (nonzero_at after >>= fetched_by) (other_at (at_left left after) >>= said_other)) said (sym numbers_are ∙ is)) [
           | inl exists ↦ exists_line said numeral (same_is (second_word (gap_at rest)).0 (codes "EXISTS") exists.0) exists.1
@@ -362,7 +365,7 @@ module _ (left : Left) (fits : Fits left) (after : List ℕ) (u : IsUntagged lef
             | inl fetch ↦ fetch_line said numeral (same_is (second_word (gap_at rest)).0 (codes "FETCH") fetch.0) fetch.1
             | inr none ↦
                 let w = ok_bind (other_at (at_left left after)) said_other said none.1 in
-                by_said said responses.Other (ap (λ (s : Said). s.response) (ok_is (simply responses.Other) said w.2))
+                by_said said (simply responses.Other) (ok_is (simply responses.Other) said w.2)
                 (strange_line (other_spells (at_left left after) (fits_behind left (bytes star) (at_left left after) star_passes) w.1)
                 (inl (numeral, goes_on (codes "EXISTS") refl (λ e. cc) later.0, goes_on (codes "FETCH") refl (λ e. cc) none.0)))
           ]
@@ -371,7 +374,7 @@ module _ (left : Left) (fits : Fits left) (after : List ℕ) (u : IsUntagged lef
     no_digits : is_digits word ≡ false → IsNumeral 10 word → ⊥
     no_digits test numeral = let is = is_numeral word numeral in cc
 
-    word_line : (said : Said) → cond (is_digits word) (numbered_at whole (at_left left after)) (ended_at whole word (at_left left after) rest (ending_of word)) ≡ Ok said → IsLineFront left said.response
+    word_line : (said : Said) → cond (is_digits word) (numbered_at whole (at_left left after)) (ended_at whole word (at_left left after) rest (ending_of word)) ≡ Ok said → IsLineFront left said.excess said.response
     word_line said is = elim (ok_either (is_digits word) (numbered_at whole (at_left left after)) (ended_at whole word (at_left left after) rest (ending_of word)) said is) [
       | inl digits ↦ number_line said (numeral_is word digits.0) digits.1
       | inr plain ↦ ending_line said (ending_cases word) (no_digits plain.0) plain.1
@@ -381,7 +384,7 @@ module _ (left : Left) (fits : Fits left) (after : List ℕ) (u : IsUntagged lef
   unfolding untagged_at
   untagged_is = refl
 
-  pub untagged_line : (said : Said) → untagged_at whole (at_left left after) ≡ Ok said → IsLineFront left said.response
+  pub untagged_line : (said : Said) → untagged_at whole (at_left left after) ≡ Ok said → IsLineFront left said.excess said.response
   untagged_line said is =
       let some = ok_second (length (word_at after).0 == 0) (length after) (cond (is_digits (word_at after).0) (numbered_at whole (at_left left after)) (ended_at whole (word_at after).0 (at_left left after) (word_at after).1 (ending_of (word_at after).0))) said (sym untagged_is ∙ is) in
       word_line (len_some (word_at after).0 some.0) said some.1
@@ -407,17 +410,17 @@ abbrev pub by_tag : List ℕ → Unit {0} → Result Said ℕ
 by_tag text fits = gap_at (word_at text).1 >>= by_ending text
 
 done_ending : (left : Left) (fits : Fits left) (after : List ℕ) (said : Said) → IsWordCut left.text (word_at left.text).0 (word_at left.text).1 → IsTag (word_at left.text).0 → Spaced (word_at left.text).1 after → IsEnding (word_at after).0
-    → by_ending left.text after ≡ Ok said → IsLineFront left said.response
+    → by_ending left.text after ≡ Ok said → IsLineFront left said.excess said.response
 done_ending left fits after said cut tag spaced (named ending same is) read =
     let coded = ok_bind (text_at whole (word_at after).1) (done_by ending (word_at left.text).0) said (sym (ap (done_at whole (word_at left.text).0 after (word_at after).1) is) ∙ read) in
     let some = word_same after (ending_word ending) (ending_some ending) same in
-    subst (IsLineFront left) (ap (λ (s : Said). s.response) (ok_is (record { response = responses.Done (tag_of (word_at left.text).0) ending coded.0.code; excess = coded.0.excess }) said coded.2))
-    (plain_line left (responses.Done (tag_of (word_at left.text).0) ending coded.0.code) fits
-    ((word_at left.text).0, (word_at left.text).1, after, (word_at after).1, refl, tag, cut.whole, tag_of_spells (word_at left.text).0, spaced, begins_with_word after (ending_word ending) some same, part_spells (word_at after).1 coded.0 coded.1))
+    subst (λ (s : Said). IsLineFront left s.excess s.response) (ok_is (record { response = responses.Done (tag_of (word_at left.text).0) ending coded.0.code; excess = coded.0.excess }) said coded.2)
+    (plain_line left coded.0.excess (responses.Done (tag_of (word_at left.text).0) ending coded.0.code) fits ((word_at left.text).0, (word_at left.text).1, after, (word_at after).1, refl, tag, cut.whole, tag_of_spells (word_at left.text).0, spaced, begins_with_word after (ending_word ending) some same, part_spells (word_at after).1 coded.0 coded.1)
+    (λ e. (((word_at left.text).0, (word_at left.text).1, after, (word_at after).1, refl, tag, cut.whole, tag_of_spells (word_at left.text).0, spaced, begins_with_word after (ending_word ending) some same, part_spells (word_at after).1 coded.0 coded.1), (text_agrees (word_at after).1 coded.0 coded.1).to e)))
 done_ending left fits after said cut tag spaced (other ok no_ bad is) read =
     absurd (err_not (length after) said (sym (ap (done_at whole (word_at left.text).0 after (word_at after).1) is) ∙ read))
 
-tagged_line : (left : Left) (said : Said) → Fits left → tagged_at whole left.text ≡ Ok said → IsLineFront left said.response
+tagged_line : (left : Left) (said : Said) → Fits left → tagged_at whole left.text ≡ Ok said → IsLineFront left said.excess said.response
 unfolding tagged_at
 tagged_line left said fits is =
     let word : List ℕ = (word_at left.text).0 in
@@ -443,13 +446,13 @@ first_word text b is =
     let cut = reading_cuts is_word_byte text in
     cut.whole ∙ ap (λ (w : List ℕ). w ++ (word_at text).1) is
 
-go_line : (left : Left) (said : Said) → Fits left → (word_at left.text).0 ≡ 43 ∷ [] → (text_at whole (word_at left.text).1 >>= go) ≡ Ok said → IsLineFront left said.response
+go_line : (left : Left) (said : Said) → Fits left → (word_at left.text).0 ≡ 43 ∷ [] → (text_at whole (word_at left.text).1 >>= go) ≡ Ok said → IsLineFront left said.excess said.response
 go_line left said fits is read =
     let coded = ok_bind (text_at whole (word_at left.text).1) go said read in
-    subst (IsLineFront left) (ap (λ (s : Said). s.response) (ok_is (record { response = responses.Go; excess = coded.0.excess }) said coded.2))
-    (plain_line left responses.Go fits ((word_at left.text).1, coded.0.code, refl, first_word left.text 43 is, part_spells (word_at left.text).1 coded.0 coded.1))
+    subst (λ (s : Said). IsLineFront left s.excess s.response) (ok_is (record { response = responses.Go; excess = coded.0.excess }) said coded.2)
+    (plain_line left coded.0.excess responses.Go fits ((word_at left.text).1, coded.0.code, refl, first_word left.text 43 is, part_spells (word_at left.text).1 coded.0 coded.1) (λ e. ((word_at left.text).1, coded.0.code, refl, first_word left.text 43 is, part_spells (word_at left.text).1 coded.0 coded.1, (text_agrees (word_at left.text).1 coded.0 coded.1).to e)))
 
-pub line_spells : (left : Left) (said : Said) → Fits left → line_at whole left ≡ Ok said → IsLineFront left said.response
+pub line_spells : (left : Left) (said : Said) → Fits left → line_at whole left ≡ Ok said → IsLineFront left said.excess said.response
 line_spells left said fits is =
     elim (ok_either (bytes_eq (word_at left.text).0 (42 ∷ [])) (gap_at (word_at left.text).1 >>= by_star left) (cond (bytes_eq (word_at left.text).0 (43 ∷ [])) (text_at whole (word_at left.text).1 >>= go) (tagged_at whole left.text)) said (sym (line_is left) ∙ is)) [
       | inl star ↦

@@ -82,7 +82,7 @@ text_reads text is =
     ap (misfit_by (length text) (plain_len text)) start ∙ ap (λ (n : ℕ). misfit_by (length text) n None) len ∙ rw less_not refl
 
 -- the code
-within_ok : {A : Type 0} (size behind : ℕ) (r : Result A ℕ) (x : A) → within size behind r ≡ Ok x → r ≡ Ok x
+pub within_ok : {A : Type 0} (size behind : ℕ) (r : Result A ℕ) (x : A) → within size behind r ≡ Ok x → r ≡ Ok x
 within_ok size behind (Ok y) x is = is
 within_ok size behind (Err left) x is = absurd (err_not _ x is)
 
@@ -117,11 +117,11 @@ up_to_spells more (Some k) coded found is =
     let read = within_ok (length (take k more)) (length (drop k more)) (code_at whole (take k more)) coded is in
     inr (w.inner, (more, w.stretches, w.rest, refl, w.encloses), subst (λ (i : List ℕ). IsCode i coded.code) front (code_spells (take k more) coded read))
 
-code_in_is : (b : ℕ) (more : List ℕ) → code_in whole (b ∷ more) ≡ cond (b == 91) (code_up_to whole more (closing_from 0 0 more)) (Ok (plainly codings.None))
+pub code_in_is : (b : ℕ) (more : List ℕ) → code_in whole (b ∷ more) ≡ cond (b == 91) (code_up_to whole more (closing_from 0 0 more)) (Ok (plainly codings.None))
 unfolding code_in
 code_in_is b more = refl
 
-code_in_none : code_in whole [] ≡ Ok (plainly codings.None)
+pub code_in_none : code_in whole [] ≡ Ok (plainly codings.None)
 unfolding code_in
 code_in_none = refl
 
@@ -170,7 +170,7 @@ code_in_reads text code (inl none) = gives_none (code_in whole text) code (none_
 code_in_reads text code (inr some) = inner_reads text some.0 code some.1 some.2
 
 -- all that stands behind the word
-misfit_ok : (o : Option ℕ) (r : Result Coded ℕ) (coded : Coded) → with_misfit o r ≡ Ok coded → (o ≡ None) × (r ≡ Ok coded)
+pub misfit_ok : (o : Option ℕ) (r : Result Coded ℕ) (coded : Coded) → with_misfit o r ≡ Ok coded → (o ≡ None) × (r ≡ Ok coded)
 misfit_ok None r coded is = (refl, is)
 misfit_ok (Some left) (Ok x) coded is = absurd (err_not _ coded is)
 misfit_ok (Some left) (Err earlier) coded is = elim (cases_Bool (nat_lt left earlier)) [
@@ -178,14 +178,14 @@ misfit_ok (Some left) (Err earlier) coded is = elim (cases_Bool (nat_lt left ear
   | inr test ↦ absurd (err_not left coded (sym (rw test refl) ∙ is))
 ]
 
-abbrev behind : List ℕ → Result Coded ℕ
+abbrev pub behind : List ℕ → Result Coded ℕ
 behind text = with_misfit (text_misfit text) (code_in whole text)
 
-text_at_is : (b : ℕ) (more : List ℕ) → text_at whole (b ∷ more) ≡ (gap_at (b ∷ more) >>= behind)
+pub text_at_is : (b : ℕ) (more : List ℕ) → text_at whole (b ∷ more) ≡ (gap_at (b ∷ more) >>= behind)
 unfolding text_at
 text_at_is b more = refl
 
-text_at_none : text_at whole [] ≡ Ok (plainly codings.None)
+pub text_at_none : text_at whole [] ≡ Ok (plainly codings.None)
 unfolding text_at
 text_at_none = refl
 

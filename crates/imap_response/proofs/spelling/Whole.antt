@@ -1,5 +1,5 @@
 -- The laws of the definition: what is read is spelled so, what is spelled is read so, and so a frame spells one response at most.
-use Rattle.std.proofs.Common.{◌≡◌, ℕ, List, [], ◌∷◌, ◌++◌, ap, sym, ◌∙◌, subst, append_assoc, append-nil, arith, Result, Ok, Err}
+use Rattle.std.proofs.Common.{◌≡◌, ℕ, List, [], ◌∷◌, ◌++◌, ap, sym, ◌∙◌, subst, append_assoc, append-nil, None, refl, arith, Result, Ok, Err}
 use Rattle.mail_base.specs.declared.frame.Frame.{Frame}
 use Rattle.mail_base.specs.Frames.{Opening, IsLine, line_text, literals_from, BeginsWith}
 use Rattle.mail_base.proofs.Frames.{one_whole}
@@ -8,8 +8,8 @@ use Rattle.imap_model.specs.Responses.{IsLineOf, Spells}
 use Rattle.imap_response.specs.declared.line.Said.{Said}
 use Rattle.imap_response.specs.Flags.{whole}
 use Rattle.imap_response.specs.Reading.{whole_of, reading}
-use Rattle.imap_response.specs.OneResponse.{IsReadAs, ReadsAsSpelled, OneResponse, whole_line, NoFront}
-use Rattle.imap_response.proofs.spelling.LineReads.{line_reads}
+use Rattle.imap_response.specs.OneResponse.{IsReadAs, ReadsAsSpelled, GivesWithin, OneResponse, whole_line, NoFront}
+use Rattle.imap_response.proofs.spelling.LineReads.{line_reads, line_within}
 use Rattle.imap_response.proofs.spelling.Lines.{line_spells}
 use Rattle.imap_response.proofs.spelling.Passing.{Fits, frame_passes, passes_frame}
 
@@ -30,6 +30,15 @@ reading_reads frame response spells =
 
 pub reads_as_spelled : ReadsAsSpelled
 reads_as_spelled frame response = (reading_reads frame response, λ read. subst (Spells frame) read.2 (reading_spells frame read.0 read.1))
+
+-- what is given without an excess is spelled within the limits, and what is spelled within them is given so
+pub within_gives : GivesWithin
+within_gives frame response = (
+  λ spells. let w = frame_passes frame spells.0 spells.1 in line_within (whole_of frame) w.0 spells.0 response spells.2 w.1 w.2,
+  λ read.
+      let w = line_spells (whole_of frame) (record { response = response; excess = None }) (whole_fits frame) read in
+      (w.parts, passes_frame frame w.parts w.end w.passes w.none, w.within refl),
+)
 
 -- where nothing is read, nothing is spelled
 pub nothing_spelled : (frame : Frame) (left : ℕ) (response : Response) → reading whole frame ≡ Err left → Spells frame response → ⊥
