@@ -13,8 +13,9 @@ use Rattle.imap_response.specs.declared.fault.ResponseFault.TheVariants as fault
 use Rattle.imap_response.specs.declared.line.Said.{Said}
 use Rattle.imap_response.specs.Flags.{kept, whole}
 use Rattle.imap_response.specs.Reading.{Answers, answer_to, reading, said_whole, too_large}
+use Rattle.imap_response.specs.Within.{SpellsWithin}
 use Rattle.imap_response.proofs.Keeping.{Alike, KeptSaid, reading_kept}
-use Rattle.imap_response.proofs.spelling.Whole.{reading_spells, nothing_spelled, one_response}
+use Rattle.imap_response.proofs.spelling.Whole.{reading_spells, within_gives, nothing_spelled, one_response}
 
 abbrev is_bad : Result Response ResponseFault → Bool
 is_bad (Ok response) = false
@@ -38,6 +39,10 @@ large_not_bad (flag_faults.TooLong length) = refl
 large_not_bad (flag_faults.TooMany count) = refl
 large_not_bad (flag_faults.BadFlag at) = refl
 large_not_bad flag_faults.Memory = refl
+
+abbrev excess_of : Option FlagFault → Result Said ℕ → Option FlagFault
+excess_of other (Ok said) = said.excess
+excess_of other (Err left) = other
 
 -- a response is given where nothing is too large
 ok_excess : (excess : Option FlagFault) (said response : Response) → said_whole said excess ≡ Ok response → (excess ≡ None) × (said ≡ response)
@@ -73,11 +78,26 @@ module _ (size : ℕ) where
   large_by (Err left) (Ok k) limit number alike is = absurd alike.is
   large_by (Err left) (Err right) limit number alike is = absurd (true≢false (sym (ap is_large is)))
 
+  -- no limit is told where the whole reading gives no excess
+  none_large : (w k : Result Said ℕ) (response : Response) (limit : Limit) (number : ℕ) → Alike KeptSaid w k → answer_to size k ≡ Err (faults.TooLarge limit number) → w ≡ Ok (record { response = response; excess = None }) → ⊥
+  none_large (Ok w) (Ok k) response limit number alike is whole_is =
+      let none : k.excess ≡ None = alike.is.0 ∙ ap (excess_of None) whole_is in
+      true≢false (ap is_ok (ap (said_whole k.response) (sym none) ∙ is))
+  none_large (Ok w) (Err right) response limit number alike is whole_is = absurd alike.is
+  none_large (Err left) k response limit number alike is whole_is = true≢false (sym (ap is_ok whole_is))
+
 module _ (frame : Frame) (size : ℕ) (result : Result Response ResponseFault) (answer : Answers (answer_to size (reading kept frame)) result) where
+  -- what is given the whole reading gives without an excess
+  given_whole : (response : Response) → result ≡ Ok response → reading whole frame ≡ Ok (record { response = response; excess = None })
+  given_whole response is = ok_by size (reading whole frame) (reading kept frame) response (reading_kept frame) (subst (Answers (answer_to size (reading kept frame))) is answer)
+
   -- what is given is spelled
   spelled_ok : (response : Response) → result ≡ Ok response → Spells frame response
-  spelled_ok response is = reading_spells frame (record { response = response; excess = None })
-      (ok_by size (reading whole frame) (reading kept frame) response (reading_kept frame) (subst (Answers (answer_to size (reading kept frame))) is answer))
+  spelled_ok response is = reading_spells frame (record { response = response; excess = None }) (given_whole response is)
+
+  -- it is within the limits
+  within_ok : (response : Response) → result ≡ Ok response → SpellsWithin frame response
+  within_ok response is = (within_gives frame response).1 (given_whole response is)
 
   -- where a place is told nothing is spelled
   pub none_spelled : (at : ℕ) → result ≡ Err (faults.BadForm at) → (response : Response) → Spells frame response → ⊥
@@ -90,6 +110,15 @@ module _ (frame : Frame) (size : ℕ) (result : Result Response ResponseFault) (
   some_spelled limit number is =
       let said = large_by size (reading whole frame) (reading kept frame) limit number (reading_kept frame) (subst (Answers (answer_to size (reading kept frame))) is answer) in
       (said.0.response, reading_spells frame said.0 said.1)
+
+  -- where a limit is told nothing within the limits is spelled
+  pub none_within : (limit : Limit) (number : ℕ) → result ≡ Err (faults.TooLarge limit number) → (response : Response) → SpellsWithin frame response → ⊥
+  none_within limit number is response within =
+      none_large size (reading whole frame) (reading kept frame) response limit number (reading_kept frame) (subst (Answers (answer_to size (reading kept frame))) is answer) ((within_gives frame response).0 within)
+
+pub given_within : (frame : Frame) (size : ℕ) (result : Result Response ResponseFault) → Answers (answer_to size (reading kept frame)) result → IfOk result (SpellsWithin frame)
+given_within frame size (Ok response) answer = within_ok frame size (Ok response) answer response refl
+given_within frame size (Err fault) answer = tt
 
 pub given_spelled : (frame : Frame) (size : ℕ) (result : Result Response ResponseFault) → Answers (answer_to size (reading kept frame)) result → IfOk result (Spells frame)
 given_spelled frame size (Ok response) answer = spelled_ok frame size (Ok response) answer response refl

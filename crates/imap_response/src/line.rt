@@ -13,6 +13,7 @@ ghost use Rattle.imap_response.specs.Lines.{simply, ending_of, fits_tag, tagged_
 ghost use Rattle.imap_response.specs.Reading.{Answers, answer_to, reading, said_whole, too_large};
 ghost use Rattle.imap_response.specs.Reads.{Gives};
 ghost use Rattle.imap_response.specs.Tags.{tag_misfit};
+ghost use Rattle.imap_response.specs.Within.{SpellsWithin};
 
 use crate::fault::{Misfit, ResponseFault};
 use crate::fetch::items;
@@ -47,12 +48,15 @@ pub fn read(alloc: Global, frame: &Frame) -> Result<Response, ResponseFault>
 
     // What is read is spelled so.
     ensures spelled { IfOk result (Spells frame.now) }
+    ensures limited { IfOk result (SpellsWithin frame.now) }
 
     // What is spelled so, and nothing else, is read.
     ensures alone { (response : Response) → Spells frame.now response → IfOk result (λ read. read ≡ response) }
     ensures bad_form { (at : ℕ) → IsErrOf result (ResponseFault.BadForm at) → (response : Response) → ¬ (Spells frame.now response) }
     ensures too_large { (limit : Limit) (number : ℕ) → IsErrOf result (ResponseFault.TooLarge limit number)
         → (response : Response) × Spells frame.now response }
+    ensures none_within { (limit : Limit) (number : ℕ) → IsErrOf result (ResponseFault.TooLarge limit number)
+        → (response : Response) → ¬ (SpellsWithin frame.now response) }
 
     // Which answer it is, with its place or its limit; want of memory alone may come in place of it.
     ensures exact { Answers (answer_to (length frame.now.bytes) (reading kept frame.now)) result }
