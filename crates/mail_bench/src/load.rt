@@ -55,36 +55,46 @@ impl Case {
 pub struct Load {
     pub case: Case,
     pub size: u64,
+    /// Whether each frame is read as its response.
+    pub reads: bool,
 }
 
 /// What is to be timed.
 #[derive(Clone, Copy, Debug, PartialEq, Eq)]
 pub enum Task {
-    /// A stream is pushed through a feed.
+    /// A stream is pushed through a feed, and perhaps read.
     Feed(Load),
     /// A record is written or read so often.
     Record(Direction, u32),
 }
 
-/// What `feed CASE NUMBER` or `record DIRECTION NUMBER` asks for. The first number counts 1,000,000 bytes each, or 1,000
-/// for the case `bytes`; the second says how often.
+/// What `feed CASE NUMBER`, `read CASE NUMBER` or `record DIRECTION NUMBER` asks for. The first two numbers count 1,000,000
+/// bytes each, or 1,000 for the case `bytes`; the third says how often.
 pub fn task_of(words: &[String]) -> Option<Task> {
     let [what, case, number] = words else {
         return None;
     };
     let number = read_u32(number.as_bytes()).ok()?;
     if what.as_str() == "feed" {
-        let case = case_of(case.as_str())?;
-        return Some(Task::Feed(Load {
-            case,
-            size: u64::from(number) * case.unit(),
-        }));
+        return Some(Task::Feed(load_for(case_of(case.as_str())?, number, false)));
+    }
+    if what.as_str() == "read" {
+        return Some(Task::Feed(load_for(case_of(case.as_str())?, number, true)));
     }
     if what.as_str() == "record" {
         let direction = direction_of(case.as_str())?;
         return Some(Task::Record(direction, number));
     }
     None
+}
+
+// The stream of a case of so many units.
+fn load_for(case: Case, number: u32, reads: bool) -> Load {
+    Load {
+        case,
+        size: u64::from(number) * case.unit(),
+        reads,
+    }
 }
 
 // The direction that a word names.

@@ -1,13 +1,16 @@
-//! The program `mail_bench`: pushes a long stream through a feed, and tells how many frames and bytes came; or writes or
-//! reads a large record again and again. It is there to be timed.
+//! The program `mail_bench`: pushes a long stream through a feed, reads its frames where that is asked for, and tells how many
+//! frames and bytes came; or writes or reads a large record again and again. It is there to be timed.
 #![tactic(auto)]
 
 mod block;
+mod fault;
 mod load;
 mod meter;
 mod records;
 
 use block::Block;
+use fault::MeterFault;
+use imap_response::ResponseFault;
 use load::{Load, Task, task_of, text_of};
 use mail_base::{FeedFault, Status};
 use meter::{Meter, measure};
@@ -69,20 +72,18 @@ fn feed<R: Print + AllocGlobal>(rt: &R, load: Load) -> Status {
                 Err(_) => Status::Output,
             }
         }
-        Err(FeedFault::Memory) => told(rt, "error memory", Status::Memory),
+        Err(MeterFault::Feed(FeedFault::Memory) | MeterFault::Response(ResponseFault::Memory)) => {
+            told(rt, "error memory", Status::Memory)
+        }
         Err(_) => told(rt, "error reply", Status::Reply),
     }
 }
 
 // Makes the stream of a load and pushes it.
-fn carried_out<R: AllocGlobal>(rt: &R, load: Load) -> Result<Meter, FeedFault> {
-    let Ok(text) = text_of(rt.alloc(), load.case) else {
-        return Err(FeedFault::Memory);
-    };
-    let Ok(block) = Block::new(rt.alloc(), &text, load.case.piece()) else {
-        return Err(FeedFault::Memory);
-    };
-    measure(rt.alloc(), &block, load.size)
+fn carried_out<R: AllocGlobal>(rt: &R, load: Load) -> Result<Meter, MeterFault> {
+    let text = text_of(rt.alloc(), load.case)?;
+    let block = Block::new(rt.alloc(), &text, load.case.piece())?;
+    measure(rt.alloc(), &block, load.size, load.reads)
 }
 
 // Prints a line, and hands the status on.
