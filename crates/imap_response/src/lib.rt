@@ -12,6 +12,10 @@ mod other;
 mod rest;
 mod runs;
 mod search;
+#[cfg(test)]
+mod slow;
+#[cfg(test)]
+mod slow_tests;
 mod strings;
 mod tag;
 #[cfg(test)]
