@@ -1,7 +1,6 @@
 -- The flags between parentheses (RFC 9051, section 9, flag-list and flag-perm), whatever their number and their length.
-use Rattle.std.specs.Prelude.{◌≡◌, ◌⊎◌, ℕ, Bool, IsTrue, not, List, codes}
-use Rattle.std.specs.List.{AllByRecursion, filter, list_any}
-use Rattle.std.specs.Str.{bytes_eq}
+use Rattle.std.specs.Prelude.{◌≡◌, ◌⊎◌, ℕ, Bool, IsTrue, List}
+use Rattle.std.specs.List.{AllByRecursion, list_any}
 use Rattle.flag_set.specs.Flag.{is_flag}
 use Rattle.flag_set.specs.FlagList.{flags_alone, flags_of, is_any, set_of}
 

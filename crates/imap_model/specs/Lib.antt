@@ -9,7 +9,9 @@ pub mod CommandText
 pub mod Evolving
 pub mod FetchItems
 pub mod FlagLists
+pub mod Held
 pub mod Lawful
+pub mod Lines
 pub mod Lookups
 pub mod Mutating
 pub mod Numbers

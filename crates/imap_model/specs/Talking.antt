@@ -1,38 +1,20 @@
 -- One connection to a server, as the server has it (RFC 9051, sections 2.2, 3, 4.3 and 7.1.5): what it has told, what is
 -- selected, the text that is arriving, and the command that waits.
 use Rattle.std.specs.Prelude.{◌≡◌, ◌≢◌, ℕ, Bool, true, false, List, [], ◌∷◌, ◌++◌, Option, Some, None}
-use Rattle.mail_base.specs.Frames.{AreFrames}
-use Rattle.mail_base.specs.declared.frame.Frame.{Frame}
 use Rattle.mail_base.specs.declared.tag.Tag.{Tag}
 use Rattle.imap_model.specs.CarriedOut.{CarriesOut, SaysRemarks, told_in}
 use Rattle.imap_model.specs.Carrying.{Waiting}
 use Rattle.imap_model.specs.Changes.{Batch}
-use Rattle.imap_model.specs.CommandText.{IsWritable, parts_of}
+use Rattle.imap_model.specs.CommandText.{parts_of}
+use Rattle.imap_model.specs.Held.{IsSent}
+use Rattle.imap_model.specs.Lines.{AreLines}
 use Rattle.imap_model.specs.Remarks.{selected_box, MayCode}
-use Rattle.imap_model.specs.Responses.{Spells}
 use Rattle.imap_model.specs.declared.command.Command.{Command}
 use Rattle.imap_model.specs.declared.ending.Ending.TheVariants as endings
 use Rattle.imap_model.specs.declared.replies.Replies.{Replies}
 use Rattle.imap_model.specs.declared.response.Response.{Response}
 use Rattle.imap_model.specs.declared.response.Response.TheVariants as responses
 use Rattle.imap_model.specs.declared.server.Server.{Server}
-
--- each frame spells the response in its place, and there are as many of both
-abbrev pub AllSpell : List Frame → List Response → Type 0
-AllSpell [] [] = Unit {0}
-AllSpell (frame ∷ frames) (response ∷ told) = Spells frame response × AllSpell frames told
-AllSpell frames told = ⊥
-
--- the bytes are a line for each of the responses, and nothing more
-pub record AreLines (told : List Response) (stream : List ℕ) : Type 0 where
-  pub frames : List Frame
-  pub cut : AreFrames 0 stream frames []
-  pub spelled : AllSpell frames told
-
--- the bytes received are a front of the lines of what was told
-pub record Received (told : List Response) (received : List ℕ) : Type 0 where
-  pub rest : List ℕ
-  pub lines : AreLines told (received ++ rest)
 
 -- Parts of a text have arrived whole, and the text isn't complete: its tag, those parts, and whether the next was asked for.
 pub record Arriving : Type 0 where
@@ -96,7 +78,7 @@ pub data Connecting (p : Peer) : Peer → Type 0 where
 
 -- a part of a command's text, with the parts before it and behind it
 pub record IsPartOf (tag : Tag) (command : Command) (before : List (List ℕ)) (part : List ℕ) (behind : List (List ℕ)) : Type 0 where
-  pub writable : IsWritable tag command
+  pub sent : IsSent tag command
   pub text : parts_of tag command ≡ before ++ part ∷ behind
 
 -- These parts of a text have arrived, and the next one is awaited. Where there are none, nothing waits, and a text may begin.
