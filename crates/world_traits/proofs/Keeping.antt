@@ -1,7 +1,8 @@
 -- What holds of each image with the server is kept by disk calls and by link calls.
 use Rattle.std.proofs.Common.{◌≡◌, ◌⊎◌, inl, inr, List, [], ◌∷◌, refl, sym, ◌∙◌, subst}
+use Rattle.imap_model.specs.Talking.{Peer}
 use Rattle.world_traits.specs.Files.{Files}
-use Rattle.world_traits.specs.Moments.{Moment, Outside, Clock, grow, Chain, Since, Images, GoesOn, Keeps}
+use Rattle.world_traits.specs.Moments.{Moment, Clock, grow, Chain, Since, Images, GoesOn, Keeps}
 use Rattle.world_traits.proofs.Passing.{since_weaker}
 
 -- what holds at the start and is handed on by each step holds of each added moment and now
@@ -21,14 +22,14 @@ module _ (P Q : Moment → Type 0) (S : Moment → Moment → Type 0) (hand_on :
   since_now new s = subst (λ (k : Clock). Q k.now) (sym s.grown) (chain_now s.added s.each)
 
 -- Disk calls that take the files from B to A keep what holds of both with the outside of entry.
-module _ (B A : Files → Type 0) (Good : Files → Outside → Type 0) (old : Clock) (before : (files : Files) → B files → Good files old.now.outside) (after : (files : Files) → A files → Good files old.now.outside) where
+module _ (B A : Files → Type 0) (Good : Files → Peer → Type 0) (old : Clock) (before : (files : Files) → B files → Good files old.now.outside) (after : (files : Files) → A files → Good files old.now.outside) where
   abbrev Passes : Moment → Type 0
   Passes = Images (λ (files : Files). B files ⊎ A files)
 
   abbrev pub Outer : Moment → Type 0
   Outer m = m.outside ≡ old.now.outside
 
-  good : (o : Outside) → o ≡ old.now.outside → (files : Files) → B files ⊎ A files → Good files o
+  good : (o : Peer) → o ≡ old.now.outside → (files : Files) → B files ⊎ A files → Good files o
   good o same files (inl b) = subst (Good files) (sym same) (before files b)
   good o same files (inr a) = subst (Good files) (sym same) (after files a)
 

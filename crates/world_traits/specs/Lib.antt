@@ -1,5 +1,6 @@
 pub mod Files
 pub mod Moments
+pub mod Nobody
 pub mod Calls
 pub mod LinkState
 pub mod Sound

@@ -1,19 +1,15 @@
 -- Moments of a world, and the list of them, which only grows.
 use Rattle.std.specs.Prelude.{◌≡◌, ◌⊎◌, ℕ, zero, suc, ◌+◌, ◌≤◌, List, [], ◌∷◌}
+use Rattle.imap_model.specs.Talking.{Peer}
 use Rattle.world_traits.specs.Files.{Stored, MayHold, Files, clean}
 use Rattle.world_traits.specs.declared.disk.Side.{Side}
 use Rattle.world_traits.specs.declared.disk.Side.TheVariants.{Left, Right}
 
--- What isn't on the disk: nothing, before there is a server. (A data type and not an empty record, all of whose values
--- are one by computing: a proof could rest on that, and it would fail once there is a server.)
-pub data Outside : Type 0 where
-  nothing : Outside
-
--- what a stop would find: the two files, each between two syncs, and what isn't on the disk
+-- what a stop would find: the two files, each between two syncs, and the server with its connection, which a stop leaves
 pub record Moment : Type 0 where
   pub left : Stored
   pub right : Stored
-  pub outside : Outside
+  pub outside : Peer
 
 -- the file on one side
 abbrev pub stored : Side → Moment → Stored
@@ -103,7 +99,7 @@ pub record GoesOn (B A : Files → Type 0) (m n : Moment) : Type 0 where
   pub one : to ≤ from + 1
 
 -- each image of the moment is good with the moment's outside
-pub record Keeps (Good : Files → Outside → Type 0) (m : Moment) : Type 0 where
+pub record Keeps (Good : Files → Peer → Type 0) (m : Moment) : Type 0 where
   pub each : (files : Files) → MayLeave m files → Good files m.outside
 
 -- each image of n is one of m, and the outside is the same

@@ -1,7 +1,8 @@
 -- What a disk in memory has become by its calls.
 use Rattle.std.specs.Prelude.{ℕ, List, [], ◌∷◌}
 use Rattle.world_traits.specs.Files.{Files, clean, put, file_of, with_file}
-use Rattle.world_traits.specs.Moments.{nothing, Clock, tick}
+use Rattle.world_traits.specs.Nobody.{nobody}
+use Rattle.world_traits.specs.Moments.{Clock, tick}
 use Rattle.world_traits.specs.Calls.{written, settled}
 use Rattle.world_traits.specs.declared.call.Did.{Did}
 use Rattle.world_traits.specs.declared.call.Did.TheVariants.{Wrote, Synced}
@@ -14,7 +15,7 @@ pub record State : Type 0 where
 -- at first both files are on the disk, and nothing came before
 abbrev pub start : List ℕ → List ℕ → State
 start left right = record {
-  clock = record { now = record { left = clean left; right = clean right; outside = nothing }; past = [] };
+  clock = record { now = record { left = clean left; right = clean right; outside = nobody }; past = [] };
   files = record { left = left; right = right };
 }
 
