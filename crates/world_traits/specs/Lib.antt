@@ -3,6 +3,9 @@ pub mod Moments
 pub mod Nobody
 pub mod Calls
 pub mod LinkState
+pub mod Links
+pub mod Sends
+pub mod Connected
 pub mod Sound
 pub mod Counts
 pub mod Content

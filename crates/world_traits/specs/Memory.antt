@@ -1,5 +1,6 @@
 -- What contracts see of a disk in memory.
 use Rattle.std.specs.Prelude.{ℕ}
+use Rattle.world_traits.specs.LinkState.{LinkState, failed_link}
 use Rattle.world_traits.specs.Replay.{State, start, replay}
 use Rattle.world_traits.specs.declared.memory.MemDisk.{MemDisk}
 
@@ -10,3 +11,7 @@ state_of disk = replay disk.calls.items (start disk.files.given.left disk.files.
 -- how often it was refused room
 abbrev pub refused_of : MemDisk → ℕ
 refused_of disk = disk.refused
+
+-- its link, which has no server
+abbrev pub link_of : MemDisk → LinkState
+link_of disk = failed_link disk.link

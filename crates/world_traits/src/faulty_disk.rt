@@ -3,11 +3,12 @@
 ghost use Rattle.std.specs.Prelude.{◌≡◌, ◌≤◌, ◌+◌, ◌-◌, ◌^◌, min, length, take, drop};
 
 use crate::fail_plan::FailPlan;
-use crate::{Clocked, Disk, DiskFailed, MemDisk, Side, World};
+use crate::{Clocked, Disk, DiskFailed, Link, LinkFailed, MemDisk, NoLink, Side, World};
 
-/// A `MemDisk` whose calls are numbered from 1, and fail where their number is planned to.
+/// A `MemDisk` whose calls are numbered from 1, and fail where their number is planned to. It has no
+/// server, so each call of the link fails.
 ///
-/// Each call of the traits counts, and no other. A call fails exactly where its number is planned
+/// Each call of the disk counts, and no other. A call fails exactly where its number is planned
 /// or it is refused room. A planned failure changes nothing else. A number stands still at 2^64 -
 /// 1.
 #[derive(Drop)]
@@ -15,6 +16,7 @@ pub struct FaultyDisk {
     disk: MemDisk,
     plan: FailPlan,
     faults: u64,
+    link: NoLink,
 }
 
 impl FaultyDisk {
@@ -23,7 +25,8 @@ impl FaultyDisk {
     ghost use Rattle.world_traits.specs.Replay.{start};
     ghost use Rattle.world_traits.specs.Counts.{counted, unbegun};
     ghost use Rattle.world_traits.specs.Memory.{state_of, refused_of};
-    ghost use Rattle.world_traits.specs.Faulty.{disk_of, plan_of, faults_of};
+    ghost use Rattle.world_traits.specs.LinkState.{failed_link};
+    ghost use Rattle.world_traits.specs.Faulty.{disk_of, plan_of, faults_of, link_beside};
 
     /// A disk with these files, which count as synced. The calls with these numbers fail. It takes
     /// no memory.
@@ -32,11 +35,13 @@ impl FaultyDisk {
         ensures refused { refused_of (disk_of result) ≡ 0 }
         ensures plan { plan_of result ≡ unbegun fails.items }
         ensures faults { faults_of result ≡ 0 }
+        ensures link { link_beside result ≡ failed_link 0 }
     {
         FaultyDisk {
             disk: MemDisk::new(left, right),
             plan: FailPlan::new(fails),
             faults: 0,
+            link: NoLink::new(),
         }
     }
 
@@ -60,6 +65,7 @@ impl FaultyDisk {
         ensures disk { disk_of self.new ≡ disk_of self.old }
         ensures plan { plan_of self.new ≡ plan_of self.old }
         ensures faults { faults_of self.new ≡ counted (faults_of self.old) }
+        ensures link { link_beside self.new ≡ link_beside self.old }
         ensures count { faults_of self.old ≤ faults_of self.new }
     {
         self.faults = self.faults.saturating_add(1);
@@ -68,9 +74,8 @@ impl FaultyDisk {
 }
 
 impl Clocked for FaultyDisk {
-    ghost use Rattle.world_traits.specs.LinkState.{unused};
     ghost use Rattle.world_traits.specs.Memory.{state_of};
-    ghost use Rattle.world_traits.specs.Faulty.{disk_of, faults_of};
+    ghost use Rattle.world_traits.specs.Faulty.{disk_of, faults_of, link_beside};
 
     ghost tells_files = { Unit {0} };
 
@@ -82,7 +87,7 @@ impl Clocked for FaultyDisk {
 
     ghost disk_faults = { λ faulty. faults_of faulty };
 
-    ghost link = { λ faulty. unused };
+    ghost link = { λ faulty. link_beside faulty };
 }
 
 impl Disk for FaultyDisk {
@@ -92,7 +97,8 @@ impl Disk for FaultyDisk {
     ghost use Rattle.world_traits.specs.Counts.{CountsFailure, FailsAsPlanned};
     ghost use Rattle.world_traits.specs.Counts.{IsPlanned, next_call};
     ghost use Rattle.world_traits.specs.Memory.{state_of, refused_of};
-    ghost use Rattle.world_traits.specs.Faulty.{disk_of, plan_of, faults_of, faulty_sound};
+    ghost use Rattle.world_traits.specs.Faulty.{disk_of, plan_of, faults_of, link_beside};
+    ghost use Rattle.world_traits.specs.Faulty.{faulty_sound};
 
     ghost seen = { λ faulty. (state_of (disk_of faulty)).files };
 
@@ -106,6 +112,7 @@ impl Disk for FaultyDisk {
         ensures next { plan_of self.new ≡ next_call (plan_of self.old) }
         ensures exact { IsErr result ↔ IsPlanned (plan_of self.new) }
         ensures faults { CountsFailure result (faults_of self.old) (faults_of self.new) }
+        ensures link { link_beside self.new ≡ link_beside self.old }
         ensures count { faults_of self.old ≤ faults_of self.new }
         ensures cause { OnErr result (Rose (faults_of self.old) (faults_of self.new)) }
     {
@@ -126,6 +133,7 @@ impl Disk for FaultyDisk {
         ensures next { plan_of self.new ≡ next_call (plan_of self.old) }
         ensures exact { IsErr result ↔ IsPlanned (plan_of self.new) }
         ensures faults { CountsFailure result (faults_of self.old) (faults_of self.new) }
+        ensures link { link_beside self.new ≡ link_beside self.old }
         ensures count { faults_of self.old ≤ faults_of self.new }
         ensures cause { OnErr result (Rose (faults_of self.old) (faults_of self.new)) }
     {
@@ -147,6 +155,7 @@ impl Disk for FaultyDisk {
         ensures exact { FailsAsPlanned (plan_of self.new) result
             refused_of (disk_of self.old) (disk_of self.new) }
         ensures faults { CountsFailure result (faults_of self.old) (faults_of self.new) }
+        ensures link { link_beside self.new ≡ link_beside self.old }
         ensures count { faults_of self.old ≤ faults_of self.new }
         ensures cause { OnErr result (Rose (faults_of self.old) (faults_of self.new)) }
     {
@@ -170,6 +179,7 @@ impl Disk for FaultyDisk {
         ensures exact { FailsAsPlanned (plan_of self.new) result
             refused_of (disk_of self.old) (disk_of self.new) }
         ensures faults { CountsFailure result (faults_of self.old) (faults_of self.new) }
+        ensures link { link_beside self.new ≡ link_beside self.old }
         ensures count { faults_of self.old ≤ faults_of self.new }
         ensures cause { OnErr result (Rose (faults_of self.old) (faults_of self.new)) }
     {
@@ -180,6 +190,61 @@ impl Disk for FaultyDisk {
             return Err(self.fail());
         }
         Ok(())
+    }
+}
+
+impl Link for FaultyDisk {
+    ghost use Rattle.std.specs.Prelude.{◌≡◌, ◌≤◌, IsErr};
+    ghost use Rattle.world_traits.specs.Calls.{Rose};
+    ghost use Rattle.world_traits.specs.Counts.{counted};
+    ghost use Rattle.world_traits.specs.LinkState.{failed_link};
+    ghost use Rattle.world_traits.specs.Faulty.{disk_of, plan_of, faults_of, link_beside};
+
+    ghost honest = { λ faulty tells c is. absurd tells };
+
+    /// It fails, and only the count of the link's faults goes on.
+    fn connect(&mut self) -> Result<(), LinkFailed>
+        ensures failed { IsErr result }
+        ensures disk { disk_of self.new ≡ disk_of self.old }
+        ensures plan { plan_of self.new ≡ plan_of self.old }
+        ensures faults { faults_of self.new ≡ faults_of self.old }
+        ensures link { link_beside self.new ≡ failed_link (counted (link_beside self.old).faults) }
+        ensures count { (link_beside self.old).faults ≤ (link_beside self.new).faults }
+        ensures cause { Rose (link_beside self.old).faults (link_beside self.new).faults }
+    {
+        Err(self.link.fail())
+    }
+
+    /// It fails, and only the count of the link's faults goes on.
+    fn send(&mut self, _bytes: &[u8]) -> Result<(), LinkFailed>
+        ensures failed { IsErr result }
+        ensures disk { disk_of self.new ≡ disk_of self.old }
+        ensures plan { plan_of self.new ≡ plan_of self.old }
+        ensures faults { faults_of self.new ≡ faults_of self.old }
+        ensures link { link_beside self.new ≡ failed_link (counted (link_beside self.old).faults) }
+        ensures count { (link_beside self.old).faults ≤ (link_beside self.new).faults }
+        ensures cause { Rose (link_beside self.old).faults (link_beside self.new).faults }
+    {
+        Err(self.link.fail())
+    }
+
+    /// It fails, and only the count of the link's faults goes on.
+    fn recv(&mut self, _into: &mut [u8]) -> Result<usize, LinkFailed>
+        ensures failed { IsErr result }
+        ensures disk { disk_of self.new ≡ disk_of self.old }
+        ensures plan { plan_of self.new ≡ plan_of self.old }
+        ensures faults { faults_of self.new ≡ faults_of self.old }
+        ensures link { link_beside self.new ≡ failed_link (counted (link_beside self.old).faults) }
+        ensures count { (link_beside self.old).faults ≤ (link_beside self.new).faults }
+        ensures cause { Rose (link_beside self.old).faults (link_beside self.new).faults }
+    {
+        Err(self.link.fail())
+    }
+
+    /// It changes nothing: there is no connection.
+    fn close(&mut self)
+        ensures { self.new ≡ self.old }
+    {
     }
 }
 

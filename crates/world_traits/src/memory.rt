@@ -6,10 +6,11 @@ ghost use Rattle.world_traits.specs.Replay.{replay, start};
 
 use crate::call::Did;
 use crate::mem_files::MemFiles;
-use crate::{Clocked, Disk, DiskFailed, Side, World};
+use crate::{Clocked, Disk, DiskFailed, Link, LinkFailed, NoLink, Side, World};
 use std::alloc::{AllocError, Global};
 
-/// Two files in memory. It fails only where it is refused room.
+/// Two files in memory. A call of the disk fails only where it is refused room. It has no server,
+/// so each call of the link fails.
 ///
 /// The first write to a file copies it; each further one costs the bytes that it is given and the
 /// gap before them. It remembers each write and each sync, so it grows by each.
@@ -18,6 +19,7 @@ pub struct MemDisk {
     files: MemFiles,
     calls: Vec<Did>,
     refused: u64,
+    link: NoLink,
     ghost files_are: { files.now
         ≡ (replay calls.items (start files.given.left files.given.right)).files },
 }
@@ -26,18 +28,21 @@ impl MemDisk {
     ghost use Rattle.std.specs.Prelude.{OnOk, OnErr};
     ghost use Rattle.world_traits.specs.Files.{file_of};
     ghost use Rattle.world_traits.specs.Replay.{step};
-    ghost use Rattle.world_traits.specs.Memory.{state_of, refused_of};
+    ghost use Rattle.world_traits.specs.LinkState.{failed_link};
+    ghost use Rattle.world_traits.specs.Memory.{state_of, refused_of, link_of};
 
     /// A disk with these files, which count as synced. It takes no memory.
     pub fn new(left: Vec<u8>, right: Vec<u8>) -> MemDisk
         ensures state { state_of result ≡ start left.items right.items }
         ensures refused { refused_of result ≡ 0 }
+        ensures link { link_of result ≡ failed_link 0 }
     {
         let alloc: Global = *left.allocator();
         MemDisk {
             files: MemFiles::new(left, right),
             calls: Vec::new(alloc),
             refused: 0,
+            link: NoLink::new(),
         }
     }
 
@@ -63,6 +68,7 @@ impl MemDisk {
             × (state_of self.new ≡ step (Did.Wrote side at own) (state_of self.old))) }
         ensures failed { OnErr result (state_of self.new ≡ state_of self.old) }
         ensures refused { refused_of self.new ≡ refused_of self.old }
+        ensures link { link_of self.new ≡ link_of self.old }
     {
         let own = bytes.to_vec(*self.calls.allocator())?;
         self.calls.reserve(1)?;
@@ -81,6 +87,7 @@ impl MemDisk {
             (state_of self.new ≡ step (Did.Synced side) (state_of self.old)) }
         ensures failed { OnErr result (state_of self.new ≡ state_of self.old) }
         ensures refused { refused_of self.new ≡ refused_of self.old }
+        ensures link { link_of self.new ≡ link_of self.old }
     {
         self.calls.reserve(1)?;
         self.calls.push_reserved(Did::Synced { side });
@@ -89,8 +96,7 @@ impl MemDisk {
 }
 
 impl Clocked for MemDisk {
-    ghost use Rattle.world_traits.specs.LinkState.{unused};
-    ghost use Rattle.world_traits.specs.Memory.{state_of, refused_of};
+    ghost use Rattle.world_traits.specs.Memory.{state_of, refused_of, link_of};
 
     ghost tells_files = { Unit {0} };
 
@@ -102,7 +108,7 @@ impl Clocked for MemDisk {
 
     ghost disk_faults = { λ disk. refused_of disk };
 
-    ghost link = { λ disk. unused };
+    ghost link = { λ disk. link_of disk };
 }
 
 impl Disk for MemDisk {
@@ -110,7 +116,7 @@ impl Disk for MemDisk {
     ghost use Rattle.world_traits.specs.Files.{file_of};
     ghost use Rattle.world_traits.specs.Calls.{Rose, Looked, Wrote, Synced};
     ghost use Rattle.world_traits.specs.Counts.{CountsFailure};
-    ghost use Rattle.world_traits.specs.Memory.{state_of, refused_of};
+    ghost use Rattle.world_traits.specs.Memory.{state_of, refused_of, link_of};
     ghost use Rattle.world_traits.specs.Replayed.{sound};
 
     ghost seen = { λ disk. (state_of disk).files };
@@ -155,6 +161,7 @@ impl Disk for MemDisk {
         ensures count { refused_of self.old ≤ refused_of self.new }
         ensures cause { OnErr result (Rose (refused_of self.old) (refused_of self.new)) }
         ensures exact { CountsFailure result (refused_of self.old) (refused_of self.new) }
+        ensures link { link_of self.new ≡ link_of self.old }
     {
         if self.write(side, at, bytes).is_err() {
             self.refused = self.refused.saturating_add(1);
@@ -172,12 +179,65 @@ impl Disk for MemDisk {
         ensures count { refused_of self.old ≤ refused_of self.new }
         ensures cause { OnErr result (Rose (refused_of self.old) (refused_of self.new)) }
         ensures exact { CountsFailure result (refused_of self.old) (refused_of self.new) }
+        ensures link { link_of self.new ≡ link_of self.old }
     {
         if self.settle(side).is_err() {
             self.refused = self.refused.saturating_add(1);
             return Err(DiskFailed);
         }
         Ok(())
+    }
+}
+
+impl Link for MemDisk {
+    ghost use Rattle.std.specs.Prelude.{◌≡◌, ◌≤◌, IsErr};
+    ghost use Rattle.world_traits.specs.Calls.{Rose};
+    ghost use Rattle.world_traits.specs.Counts.{counted};
+    ghost use Rattle.world_traits.specs.LinkState.{failed_link};
+    ghost use Rattle.world_traits.specs.Memory.{state_of, refused_of, link_of};
+
+    ghost honest = { λ disk tells c is. absurd tells };
+
+    /// It fails, and only the count of the link's faults goes on.
+    fn connect(&mut self) -> Result<(), LinkFailed>
+        ensures failed { IsErr result }
+        ensures state { state_of self.new ≡ state_of self.old }
+        ensures refused { refused_of self.new ≡ refused_of self.old }
+        ensures link { link_of self.new ≡ failed_link (counted (link_of self.old).faults) }
+        ensures count { (link_of self.old).faults ≤ (link_of self.new).faults }
+        ensures cause { Rose (link_of self.old).faults (link_of self.new).faults }
+    {
+        Err(self.link.fail())
+    }
+
+    /// It fails, and only the count of the link's faults goes on.
+    fn send(&mut self, _bytes: &[u8]) -> Result<(), LinkFailed>
+        ensures failed { IsErr result }
+        ensures state { state_of self.new ≡ state_of self.old }
+        ensures refused { refused_of self.new ≡ refused_of self.old }
+        ensures link { link_of self.new ≡ failed_link (counted (link_of self.old).faults) }
+        ensures count { (link_of self.old).faults ≤ (link_of self.new).faults }
+        ensures cause { Rose (link_of self.old).faults (link_of self.new).faults }
+    {
+        Err(self.link.fail())
+    }
+
+    /// It fails, and only the count of the link's faults goes on.
+    fn recv(&mut self, _into: &mut [u8]) -> Result<usize, LinkFailed>
+        ensures failed { IsErr result }
+        ensures state { state_of self.new ≡ state_of self.old }
+        ensures refused { refused_of self.new ≡ refused_of self.old }
+        ensures link { link_of self.new ≡ failed_link (counted (link_of self.old).faults) }
+        ensures count { (link_of self.old).faults ≤ (link_of self.new).faults }
+        ensures cause { Rose (link_of self.old).faults (link_of self.new).faults }
+    {
+        Err(self.link.fail())
+    }
+
+    /// It changes nothing: there is no connection.
+    fn close(&mut self)
+        ensures { self.new ≡ self.old }
+    {
     }
 }
 

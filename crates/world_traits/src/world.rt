@@ -1,7 +1,8 @@
 //! The whole outside of the client.
 
-use crate::{Clocked, Disk};
+use crate::{Clocked, Disk, Link};
 
-/// All that a command works on beside its input and its output: the disk, and the link to a server
-/// once there is one, with one list of moments for both.
-pub trait World: Disk {}
+/// All that a command works on beside its input and its output: the disk, and the link to a server,
+/// with one list of moments for both. What others change at the server while a call of the disk
+/// lasts is told at the next call of the link.
+pub trait World: Disk + Link {}

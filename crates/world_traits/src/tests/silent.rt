@@ -1,12 +1,14 @@
 //! A world that tells nothing of content, and counts its faults: the form of the real edge.
 
-use crate::{Clocked, Disk, DiskFailed, Side, World};
+use crate::{Clocked, Disk, DiskFailed, Link, LinkFailed, NoLink, Side, World};
 use std::test::Fail;
 
-// A disk whose lengths and writes fail, and of whose reads and syncs nothing is known.
+// A disk whose lengths and writes fail, and of whose reads and syncs nothing is known, and a link that makes a
+// connection, gives a byte, and fails to send.
 #[derive(Drop)]
 struct SilentDisk {
     faults: u64,
+    link: NoLink,
 }
 
 impl SilentDisk {
@@ -24,7 +26,7 @@ impl SilentDisk {
 
 impl Clocked for SilentDisk {
     ghost use Rattle.std.specs.Prelude.{[]};
-    ghost use Rattle.world_traits.specs.LinkState.{unused};
+    ghost use Rattle.world_traits.specs.LinkState.{failed_link};
     ghost use Rattle.world_traits.specs.Replay.{start};
 
     ghost tells_files = { ⊥ };
@@ -37,7 +39,7 @@ impl Clocked for SilentDisk {
 
     ghost disk_faults = { λ disk. disk.faults };
 
-    ghost link = { λ disk. unused };
+    ghost link = { λ disk. failed_link disk.link };
 }
 
 impl Disk for SilentDisk {
@@ -66,7 +68,35 @@ impl Disk for SilentDisk {
     }
 }
 
+impl Link for SilentDisk {
+    ghost honest = { λ disk tells c is. absurd tells };
+
+    fn connect(&mut self) -> Result<(), LinkFailed> {
+        Ok(())
+    }
+
+    fn send(&mut self, _bytes: &[u8]) -> Result<(), LinkFailed> {
+        Err(self.link.fail())
+    }
+
+    fn recv(&mut self, into: &mut [u8]) -> Result<usize, LinkFailed> {
+        into[0] = b'*';
+        Ok(1)
+    }
+
+    fn close(&mut self) {}
+}
+
 impl World for SilentDisk {}
+
+// Calls everything of a link once.
+fn call_all<L: Link>(link: &mut L) -> (bool, bool, bool) {
+    let connected = link.connect().is_ok();
+    let received = link.recv(&mut [0, 0]).is_ok();
+    let sent = link.send(b"C1 NOOP\r\n").is_ok();
+    link.close();
+    (connected, received, sent)
+}
 
 // Asks for everything once.
 fn ask_all<W: World>(world: &mut W) -> (bool, bool, bool, bool) {
@@ -78,8 +108,12 @@ fn ask_all<W: World>(world: &mut W) -> (bool, bool, bool, bool) {
 
 #[test]
 fn the_traits_can_be_met_at_the_edge(rt: HostRuntime) -> Result<(), Fail> {
-    let mut disk = SilentDisk { faults: 0 };
+    let mut disk = SilentDisk {
+        faults: 0,
+        link: NoLink::new(),
+    };
     assert_eq!(rt; ask_all(&mut disk), (false, true, false, true));
-    assert_eq!(rt; disk.faults, 2);
+    assert_eq!(rt; call_all(&mut disk), (true, true, false));
+    assert_eq!(rt; (disk.faults, disk.link.faults()), (2, 1));
     Ok(())
 }
