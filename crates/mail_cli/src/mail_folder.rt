@@ -1,4 +1,5 @@
-//! The user's folder as a world: the real disk. It counts its faults and tells nothing of content.
+//! The user's folder as a world: the real disk, and a link that always fails, since the program has no sessions yet. It
+//! counts its faults and tells nothing of content.
 
 ghost use Rattle.std.specs.Prelude.{◌≤◌, length, IfOk};
 
@@ -6,19 +7,20 @@ use crate::open_files::{OpenFiles, read_fully};
 use std::fs::{File, Files};
 use std::io;
 use std::os::unix::fs::FileExt;
-use world_traits::{Clocked, Disk, DiskFailed, Side, World};
+use world_traits::{Clocked, Disk, DiskFailed, Link, LinkFailed, NoLink, Side, World};
 
 #[cfg(test)]
 mod tests;
 
 /// The folder with the journal's two files. A file is opened, or made, at the first call that needs it; a failure there is
-/// a fault of that call.
+/// a fault of that call. Each call of the link fails.
 #[derive(Drop)]
 pub struct MailFolder<'a, R: Files<File = File> + AllocGlobal> {
     rt: &'a R,
     folder: Option<&'a str>,
     files: OpenFiles,
     faults: u64,
+    link: NoLink,
 }
 
 impl<'a, R: Files<File = File> + AllocGlobal> MailFolder<'a, R> {
@@ -27,13 +29,15 @@ impl<'a, R: Files<File = File> + AllocGlobal> MailFolder<'a, R> {
 
     /// The folder at a path. It opens nothing yet. At `None` each call fails.
     pub fn new(rt: &'a R, folder: Option<&'a str>) -> MailFolder<'a, R>
-        ensures { result.faults ≡ 0 }
+        ensures faults { result.faults ≡ 0 }
+        ensures link { result.link ≡ 0 }
     {
         MailFolder {
             rt,
             folder,
             files: OpenFiles::new(),
             faults: 0,
+            link: NoLink::new(),
         }
     }
 
@@ -48,7 +52,7 @@ impl<'a, R: Files<File = File> + AllocGlobal> MailFolder<'a, R> {
 
 impl<'a, R: Files<File = File> + AllocGlobal> Clocked for MailFolder<'a, R> {
     ghost use Rattle.std.specs.Prelude.{[]};
-    ghost use Rattle.world_traits.specs.LinkState.{unused};
+    ghost use Rattle.world_traits.specs.LinkState.{failed_link};
     ghost use Rattle.world_traits.specs.Replay.{start};
 
     ghost tells_files = { ⊥ };
@@ -61,7 +65,7 @@ impl<'a, R: Files<File = File> + AllocGlobal> Clocked for MailFolder<'a, R> {
 
     ghost disk_faults = { λ disk. disk.faults };
 
-    ghost link = { λ _. unused };
+    ghost link = { λ world. failed_link world.link };
 }
 
 impl<'a, R: Files<File = File> + AllocGlobal> Disk for MailFolder<'a, R> {
@@ -110,6 +114,24 @@ impl<'a, R: Files<File = File> + AllocGlobal> Disk for MailFolder<'a, R> {
             }
         }
     }
+}
+
+impl<'a, R: Files<File = File> + AllocGlobal> Link for MailFolder<'a, R> {
+    ghost honest = { λ world tells c is. absurd tells };
+
+    fn connect(&mut self) -> Result<(), LinkFailed> {
+        Err(self.link.fail())
+    }
+
+    fn send(&mut self, _bytes: &[u8]) -> Result<(), LinkFailed> {
+        Err(self.link.fail())
+    }
+
+    fn recv(&mut self, _into: &mut [u8]) -> Result<usize, LinkFailed> {
+        Err(self.link.fail())
+    }
+
+    fn close(&mut self) {}
 }
 
 impl<'a, R: Files<File = File> + AllocGlobal> World for MailFolder<'a, R> {}

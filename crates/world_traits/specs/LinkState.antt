@@ -15,6 +15,10 @@ pub record LinkState : Type 0 where
   pub faults : ℕ
   pub connection : Option Connection
 
+-- a link that was never used
+abbrev pub unused : LinkState
+unused = record { faults = 0; connection = None }
+
 -- a link to no server, which has failed so often
 abbrev pub failed_link : ℕ → LinkState
 failed_link faults = record { faults = faults; connection = None }

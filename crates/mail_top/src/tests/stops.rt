@@ -1,7 +1,7 @@
 //! A stop after each call of the disk: what it may leave is read again.
 
 use super::*;
-use world_traits::{Clocked, Disk, DiskFailed};
+use world_traits::{Clocked, Disk, DiskFailed, Link, LinkFailed, NoLink};
 
 // A disk that stops after some calls: each later one fails. It keeps what the left file was at its last sync, and counts
 // its writes and its syncs. It tells nothing.
@@ -14,6 +14,7 @@ struct StoppingDisk {
     writes: u64,
     syncs: u64,
     faults: u64,
+    link: NoLink,
 }
 
 impl StoppingDisk {
@@ -30,6 +31,7 @@ impl StoppingDisk {
             writes: 0,
             syncs: 0,
             faults: 0,
+            link: NoLink::new(),
         })
     }
 
@@ -78,7 +80,7 @@ impl StoppingDisk {
 
 impl Clocked for StoppingDisk {
     ghost use Rattle.std.specs.Prelude.{[]};
-    ghost use Rattle.world_traits.specs.LinkState.{unused};
+    ghost use Rattle.world_traits.specs.LinkState.{failed_link};
     ghost use Rattle.world_traits.specs.Replay.{start};
 
     ghost tells_files = { ⊥ };
@@ -91,7 +93,7 @@ impl Clocked for StoppingDisk {
 
     ghost disk_faults = { λ disk. disk.faults };
 
-    ghost link = { λ disk. unused };
+    ghost link = { λ disk. failed_link disk.link };
 }
 
 impl Disk for StoppingDisk {
@@ -139,6 +141,24 @@ impl Disk for StoppingDisk {
         self.syncs = self.syncs.saturating_add(1);
         Ok(())
     }
+}
+
+impl Link for StoppingDisk {
+    ghost honest = { λ disk tells c is. absurd tells };
+
+    fn connect(&mut self) -> Result<(), LinkFailed> {
+        Err(self.link.fail())
+    }
+
+    fn send(&mut self, _bytes: &[u8]) -> Result<(), LinkFailed> {
+        Err(self.link.fail())
+    }
+
+    fn recv(&mut self, _into: &mut [u8]) -> Result<usize, LinkFailed> {
+        Err(self.link.fail())
+    }
+
+    fn close(&mut self) {}
 }
 
 impl World for StoppingDisk {}
