@@ -45,6 +45,7 @@ impl<'a, R: Files<File = File> + AllocGlobal> MailFolder<'a, R> {
     fn fail(&mut self)
         ensures grows { self.old.faults ≤ self.new.faults }
         ensures rose { Rose self.old.faults self.new.faults }
+        ensures link { self.new.link ≡ self.old.link }
     {
         self.faults = self.faults.saturating_add(1);
     }

@@ -7,5 +7,6 @@ pub mod Resting
 pub mod Narrowing
 pub mod Choosing
 pub mod OneSide
+pub mod Greeting
 mod Putting
 mod Remembered

@@ -79,3 +79,14 @@ fn a_folder_that_is_not_there_is_a_counted_fault(rt: HostRuntime) -> Result<(), 
     assert_eq!(rt; unnamed.faults, 1);
     Ok(())
 }
+
+#[test]
+fn each_call_of_the_link_is_a_counted_fault(rt: HostRuntime) -> Result<(), Fail> {
+    let mut world = MailFolder::new(&rt, None);
+    assert_eq!(rt; world.connect(), Err(LinkFailed));
+    assert_eq!(rt; world.send(b"C1 CAPABILITY\r\n"), Err(LinkFailed));
+    assert_eq!(rt; world.recv(&mut [0]), Err(LinkFailed));
+    world.close();
+    assert_eq!(rt; (world.faults, world.link.faults()), (0, 3));
+    Ok(())
+}

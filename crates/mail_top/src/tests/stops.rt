@@ -39,6 +39,7 @@ impl StoppingDisk {
     fn fail(&mut self) -> DiskFailed
         ensures grows { self.old.faults ≤ self.new.faults }
         ensures rose { Rose self.old.faults self.new.faults }
+        ensures link { self.new.link ≡ self.old.link }
     {
         self.faults = self.faults.saturating_add(1);
         DiskFailed
@@ -46,7 +47,8 @@ impl StoppingDisk {
 
     // Whether the disk has stopped before this call.
     fn has_stopped(&mut self) -> bool
-        ensures { self.new.faults ≡ self.old.faults }
+        ensures faults { self.new.faults ≡ self.old.faults }
+        ensures link { self.new.link ≡ self.old.link }
     {
         if self.left_calls == 0 {
             return true;

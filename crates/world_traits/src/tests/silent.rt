@@ -12,13 +12,14 @@ struct SilentDisk {
 }
 
 impl SilentDisk {
-    ghost use Rattle.std.specs.Prelude.{◌≤◌};
+    ghost use Rattle.std.specs.Prelude.{◌≡◌, ◌≤◌};
     ghost use Rattle.world_traits.specs.Calls.{Rose};
 
     // Counts a fault, up to the last value of the count.
     fn fail(&mut self)
         ensures grows { self.old.faults ≤ self.new.faults }
         ensures rose { Rose self.old.faults self.new.faults }
+        ensures link { self.new.link ≡ self.old.link }
     {
         self.faults = self.faults.saturating_add(1);
     }
@@ -89,13 +90,13 @@ impl Link for SilentDisk {
 
 impl World for SilentDisk {}
 
-// Calls everything of a link once.
-fn call_all<L: Link>(link: &mut L) -> (bool, bool, bool) {
-    let connected = link.connect().is_ok();
-    let received = link.recv(&mut [0, 0]).is_ok();
-    let sent = link.send(b"C1 NOOP\r\n").is_ok();
+// Connects, receives a piece of the greeting, sends a line, and closes.
+fn talk_once<L: Link>(link: &mut L) -> Result<usize, LinkFailed> {
+    link.connect()?;
+    let count = link.recv(&mut [0, 0])?;
+    link.send(b"C1 CAPABILITY\r\n")?;
     link.close();
-    (connected, received, sent)
+    Ok(count)
 }
 
 // Asks for everything once.
@@ -113,7 +114,7 @@ fn the_traits_can_be_met_at_the_edge(rt: HostRuntime) -> Result<(), Fail> {
         link: NoLink::new(),
     };
     assert_eq!(rt; ask_all(&mut disk), (false, true, false, true));
-    assert_eq!(rt; call_all(&mut disk), (true, true, false));
+    assert_eq!(rt; talk_once(&mut disk), Err(LinkFailed));
     assert_eq!(rt; (disk.faults, disk.link.faults()), (2, 1));
     Ok(())
 }
