@@ -1,7 +1,7 @@
 -- What is known of a connection that was just made.
 use Rattle.std.proofs.Common.{◌≡◌, ℕ, List, [], ◌∷◌, ◌++◌, length, Option, Some, IfSome, sym, ap, subst, arith, length-append}
 use Rattle.imap_model.specs.Lines.{AreLines}
-use Rattle.imap_model.specs.Talking.{Peer, Talk, IsDue, greeted}
+use Rattle.imap_model.specs.Talking.{Peer, Talk, IsDue}
 use Rattle.imap_model.specs.declared.response.Response.{Response}
 use Rattle.world_traits.specs.Connected.{IsGreeted, IsReplyDue}
 use Rattle.world_traits.specs.LinkState.{Connection, fresh}

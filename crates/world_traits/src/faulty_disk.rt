@@ -244,8 +244,7 @@ impl Link for FaultyDisk {
     /// It changes nothing: there is no connection.
     fn close(&mut self)
         ensures { self.new ≡ self.old }
-    {
-    }
+    {}
 }
 
 impl World for FaultyDisk {}

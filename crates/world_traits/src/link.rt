@@ -60,7 +60,7 @@ pub trait Link: Clocked {
             IsPartOf tag command before bytes.now behind →
             Awaits tag before (Self.clock self.old).now.outside →
             Sent tag command before bytes.now behind
-                (Self.clock self.old) (Self.clock self.new) result }
+            (Self.clock self.old) (Self.clock self.new) result }
         ensures sent { Self.tells_server → OnOk result (IfSome (Self.link self.old).connection (λ c.
             (Self.link self.new).connection ≡ Some (record c { sent = c.sent ++ bytes.now }))) }
         ensures lost { Self.tells_server →
@@ -86,7 +86,7 @@ pub trait Link: Clocked {
         ensures received { Self.tells_server →
             IfOk result (λ n. IfSome (Self.link self.old).connection (λ c.
             (Self.link self.new).connection
-                ≡ Some (record c { received = c.received ++ take n into.new }))) }
+            ≡ Some (record c { received = c.received ++ take n into.new }))) }
         ensures lost { Self.tells_server →
             OnErr result ((Self.link self.new).connection ≡ None) }
         ensures count { (Self.link self.old).faults ≤ (Self.link self.new).faults }

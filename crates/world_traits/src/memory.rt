@@ -237,8 +237,7 @@ impl Link for MemDisk {
     /// It changes nothing: there is no connection.
     fn close(&mut self)
         ensures { self.new ≡ self.old }
-    {
-    }
+    {}
 }
 
 impl World for MemDisk {}
