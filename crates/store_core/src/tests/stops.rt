@@ -292,6 +292,20 @@ fn a_stop_leaves_the_book_before_or_after(rt: HostRuntime) -> Result<(), Fail> {
     Ok(())
 }
 
+#[test]
+fn each_call_that_fails_while_a_book_is_begun(rt: HostRuntime) -> Result<(), Fail> {
+    let alloc = rt.alloc();
+    for call in 1..13u64 {
+        let fails = [call].to_vec(alloc)?;
+        let mut disk = FaultyDisk::new(Vec::new(alloc), Vec::new(alloc), fails);
+        let fault = Store::init(alloc, &mut disk, two_names(alloc)?).err();
+        assert_eq!(rt; fault, (call < 12).then_some(StoreFault::Disk));
+        let book = opened(alloc, disk.bytes(Side::Left))?;
+        assert!(rt; book == Some(plain_after(0)) || (book.is_none() && call < 12));
+    }
+    Ok(())
+}
+
 // Whether each single call that fails in the recording of the event of this index is told, and leaves the book before or
 // after.
 fn faults_right(alloc: Global, index: u8) -> Result<bool, Fail> {
