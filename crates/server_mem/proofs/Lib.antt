@@ -1,0 +1,15 @@
+pub mod Checked
+pub mod Counting
+pub mod Denying
+pub mod Fielding
+pub mod Lasting
+pub mod Leaving
+pub mod Making
+pub mod MessagePlacing
+pub mod Placing
+pub mod Ruling
+pub mod Setting
+pub mod Telling
+pub mod TurnWell
+pub mod Vanishing
+pub mod Welling
