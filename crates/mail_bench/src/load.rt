@@ -1,9 +1,10 @@
-//! What the words of the program ask for: which stream, and how long (RFC 9051, sections 2.2 and 4.3); or what is done
-//! with a record, and how often.
+//! What the words of the program ask for: which stream, and how long (RFC 9051, sections 2.2 and 4.3); what is done with a
+//! record, and how often; or with a journal, and how long it is.
 
 ghost use Rattle.std.specs.Prelude.{◌≡◌, ◌<◌, ◌≤◌, length, IfOk};
 
 use crate::records::Direction;
+use crate::stores::Part;
 use mail_base::read_u32;
 use std::alloc::{AllocError, Global};
 
@@ -66,10 +67,12 @@ pub enum Task {
     Feed(Load),
     /// A record is written or read so often.
     Record(Direction, u32),
+    /// A journal of so many times 1,000,000 bytes is made, and perhaps opened.
+    Store(Part, u32),
 }
 
-/// What `feed CASE NUMBER`, `read CASE NUMBER` or `record DIRECTION NUMBER` asks for. The first two numbers count 1,000,000
-/// bytes each, or 1,000 for the case `bytes`; the third says how often.
+/// What `feed CASE NUMBER`, `read CASE NUMBER`, `record DIRECTION NUMBER` or `store PART NUMBER` asks for. A number counts
+/// 1,000,000 bytes each, or 1,000 for the case `bytes`; that of a record says how often.
 pub fn task_of(words: &[String]) -> Option<Task> {
     let [what, case, number] = words else {
         return None;
@@ -84,6 +87,10 @@ pub fn task_of(words: &[String]) -> Option<Task> {
     if what.as_str() == "record" {
         let direction = direction_of(case.as_str())?;
         return Some(Task::Record(direction, number));
+    }
+    if what.as_str() == "store" {
+        let part = part_of(case.as_str())?;
+        return Some(Task::Store(part, number));
     }
     None
 }
@@ -102,6 +109,15 @@ fn direction_of(word: &str) -> Option<Direction> {
     match word {
         "encode" => Some(Direction::Encode),
         "decode" => Some(Direction::Decode),
+        _ => None,
+    }
+}
+
+// The part that a word names.
+fn part_of(word: &str) -> Option<Part> {
+    match word {
+        "make" => Some(Part::Make),
+        "open" => Some(Part::Open),
         _ => None,
     }
 }

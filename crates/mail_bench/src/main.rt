@@ -1,5 +1,6 @@
 //! The program `mail_bench`: pushes a long stream through a feed, reads its frames where that is asked for, and tells how many
-//! frames and bytes came; or writes or reads a large record again and again. It is there to be timed.
+//! frames and bytes came; writes or reads a large record again and again; or makes a long journal and opens it. It is there to
+//! be timed.
 #![tactic(auto)]
 
 mod block;
@@ -7,6 +8,7 @@ mod fault;
 mod load;
 mod meter;
 mod records;
+mod stores;
 
 use block::Block;
 use fault::MeterFault;
@@ -19,6 +21,8 @@ use records::{Direction, learned, repeat};
 use std::env;
 use std::process::ExitCode;
 use std::rt::Env;
+use store_core::StoreFault;
+use stores::{Part, actions_in, journal, settled_in};
 
 fn main(rt: HostRuntime) -> ExitCode {
     ExitCode::from(answer(&rt).code())
@@ -39,6 +43,7 @@ fn answer<R: Env + Print + AllocGlobal>(rt: &R) -> Status {
         None => told(rt, "error words", Status::Words),
         Some(Task::Feed(load)) => feed(rt, load),
         Some(Task::Record(direction, times)) => record(rt, direction, times),
+        Some(Task::Store(part, megabytes)) => store(rt, part, megabytes),
     }
 }
 
@@ -58,6 +63,31 @@ fn record<R: Print + AllocGlobal>(rt: &R, direction: Direction, times: u32) -> S
         }
         Err(RecordFault::Memory) => told(rt, "error memory", Status::Memory),
         Err(RecordFault::BadForm { .. }) => told(rt, "error reply", Status::Reply),
+    }
+}
+
+// Makes a journal of so many times 1,000,000 bytes, opens it where that is asked for, and tells how many actions and bytes it
+// has.
+fn store<R: Print + AllocGlobal>(rt: &R, part: Part, megabytes: u32) -> Status {
+    let actions = actions_in(megabytes);
+    let Ok(file) = journal(rt.alloc(), actions) else {
+        return told(rt, "error memory", Status::Memory);
+    };
+    let size = file.len();
+    let counted = match part {
+        Part::Make => Ok(actions as usize),
+        Part::Open => settled_in(rt.alloc(), file),
+    };
+    match counted {
+        Ok(actions) => {
+            let name = part.name();
+            match println!(rt; "{name} {actions} actions {size} bytes") {
+                Ok(()) => Status::Done,
+                Err(_) => Status::Output,
+            }
+        }
+        Err(StoreFault::Memory | StoreFault::Disk) => told(rt, "error memory", Status::Memory),
+        Err(_) => told(rt, "error journal", Status::Journal),
     }
 }
 

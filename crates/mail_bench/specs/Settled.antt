@@ -1,0 +1,16 @@
+-- What is counted of a journal in memory.
+use Rattle.std.specs.Prelude.{◌≡◌, ℕ, List, []}
+use Rattle.world_traits.specs.Files.{Files}
+use Rattle.action_queue.specs.Book.{Meaning}
+use Rattle.action_queue.specs.Queues.{due}
+use Rattle.store_core.specs.Books.{HasBook}
+
+-- the files of which the left one has these bytes, and the right one none
+abbrev pub left_alone : List ℕ → Files
+left_alone bytes = record { left = bytes; right = [] }
+
+-- so many actions of the book in the left file are settled
+pub record HasSettled (bytes : List ℕ) (count : ℕ) : Type 0 where
+  pub book : Meaning
+  pub holds : HasBook book (left_alone bytes)
+  pub settled : count ≡ due book.queue
