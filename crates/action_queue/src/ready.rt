@@ -1,17 +1,20 @@
 //! An event is made ready before it is written, and entered without memory once it is on the disk.
 
-ghost use Rattle.std.specs.Prelude.{◌≡◌, IfOk, bytes_eq};
+ghost use Rattle.std.specs.Prelude.{◌≡◌, ◌<◌, ◌∷◌, ◌++◌, [], length, slice_get, slice_set, IfOk, OnOk, Some, None, bytes_eq};
 ghost use Rattle.std.specs.List.{position};
-ghost use Rattle.action_queue.specs.Book.{meaning, after, learned, cache_at, put_cache};
+ghost use Rattle.action_queue.specs.Book.{meaning, after, learned, cache_at, cache_of, put_cache};
+ghost use Rattle.action_queue.specs.declared.book.Known.{Known};
 ghost use Rattle.action_queue.specs.Events.{IsLawful};
+ghost use Rattle.action_queue.specs.Queues.{accepted};
 ghost use Rattle.action_queue.specs.Readiness.{IsReady, AtHand};
 ghost use Rattle.action_queue.specs.Rules.{delta_of};
 ghost use Rattle.action_queue.specs.declared.event.Event.TheVariants as events;
 
-use crate::{Book, Event, Known, Outcome};
-use mail_base::{ActionId, BoxName};
+use crate::{Action, Book, Event, Known, Outcome};
+use mail_base::{ActionId, BoxName, List};
 use mailbox_cache::{Cache, Delta};
 use std::alloc::{AllocError, Global};
+use std::mem;
 
 /// An event with what it needs to be entered: for a resynchronised mailbox its new cache.
 #[derive(Drop)]
@@ -97,6 +100,56 @@ impl Book {
         self.pending = None;
     }
 
+    /// Enters an event that stands in the journal already, and moves what it holds. For want of memory, which alone
+    /// fails it, the book is no more that of the events, and is to be given up.
+    pub fn follow(&mut self, alloc: Global, event: Event) -> Result<(), AllocError>
+        requires { IsLawful (meaning self.old) event }
+        ensures { OnOk result (meaning self.new ≡ after (meaning self.old) event) }
+    {
+        match event {
+            Event::Begin { names: _names } => Ok(()),
+            Event::Accept { id: _id, action } => self.follow_action(action),
+            Event::Intend { id: _id, intent } => {
+                self.pending = Some(intent);
+                Ok(())
+            }
+            Event::Settle { id, outcome } => {
+                self.settle(id, outcome);
+                Ok(())
+            }
+            Event::Learn { name, delta } => self.follow_delta(alloc, &name, delta),
+        }
+    }
+
+    // Puts an action behind the others.
+    fn follow_action(&mut self, action: Action) -> Result<(), AllocError>
+        requires few { length self.old.queue.items < 1000000 }
+        ensures queue { OnOk result (self.new.queue.items ≡ self.old.queue.items ++ accepted action ∷ []) }
+        ensures boxes { self.new.boxes ≡ self.old.boxes }
+        ensures pending { self.new.pending ≡ self.old.pending }
+    {
+        self.queue.reserve()?;
+        self.queue.accept(action);
+        Ok(())
+    }
+
+    // Changes a mailbox's cache by a delta.
+    fn follow_delta(
+        &mut self,
+        alloc: Global,
+        name: &BoxName,
+        delta: Delta,
+    ) -> Result<(), AllocError>
+        requires { delta_of (cache_at name.now self.old.boxes) delta ≡ None }
+        ensures boxes { OnOk result (self.new.boxes ≡ put_cache name.now (Some (learned (cache_at name.now self.old.boxes) delta)) self.old.boxes) }
+        ensures queue { self.new.queue ≡ self.old.queue }
+        ensures pending { self.new.pending ≡ self.old.pending }
+    {
+        let boxes = mem::replace(&mut self.boxes, List::new(alloc));
+        self.boxes = with_delta(alloc, boxes, name, delta)?;
+        Ok(())
+    }
+
     // Puts a mailbox's new cache in place of its old one.
     fn learn(&mut self, name: &BoxName, cache: Option<Cache>)
         ensures boxes { self.new.boxes ≡ put_cache name.now cache self.old.boxes }
@@ -123,6 +176,49 @@ fn learned_by(alloc: Global, cache: &Option<Cache>, delta: &Delta) -> Result<Cac
     match cache {
         Some(cache) => cache.apply(alloc, delta),
         None => Cache::first(alloc, delta),
+    }
+}
+
+// The mailboxes with the cache of this name after a delta.
+fn with_delta(
+    alloc: Global,
+    boxes: List<Known>,
+    name: &BoxName,
+    delta: Delta,
+) -> Result<List<Known>, AllocError>
+    requires { delta_of (cache_at name.now boxes) delta ≡ None }
+    ensures { IfOk result (λ new. new ≡ put_cache name.now (Some (learned (cache_at name.now boxes) delta)) boxes) }
+{
+    let Some(at) = place_of(boxes.as_slice(), name) else {
+        return Ok(boxes);
+    };
+    let mut content = boxes.into_vec();
+    let old = take_cache(&mut content, at);
+    let cache = Some(moved_by(alloc, old, delta)?);
+    let name = name.copy();
+    let mut boxes = List::of(content);
+    boxes.put(at, Known { name, cache });
+    Ok(boxes)
+}
+
+// Takes the cache of the mailbox at this place.
+fn take_cache(boxes: &mut Vec<Known>, at: usize) -> Option<Cache>
+    requires { at < length boxes.old.items }
+    ensures value { result ≡ cache_of (slice_get boxes.old.items at) }
+    ensures others { (known : Known) → slice_set boxes.new.items at known ≡ slice_set boxes.old.items at known }
+    ensures len { length boxes.new.items ≡ length boxes.old.items }
+{
+    boxes[at].cache.take()
+}
+
+// The cache after a delta, where there is one or none, which are given up.
+fn moved_by(alloc: Global, cache: Option<Cache>, delta: Delta) -> Result<Cache, AllocError>
+    requires { delta_of cache delta ≡ None }
+    ensures { IfOk result (λ new. new ≡ learned cache delta) }
+{
+    match cache {
+        Some(cache) => cache.after(delta),
+        None => Cache::of(alloc, delta),
     }
 }
 

@@ -12,14 +12,18 @@ ghost use Rattle.flag_set.specs.Flag.{is_atom_byte, is_flag, is_keyword, misfit,
 ghost use Rattle.flag_set.specs.FlagKey.{IsKey, key_of, recent};
 
 use crate::flag_fault::{FlagFault, MAX_FLAG};
+use smallvec::SmallVec;
 use std::alloc::{AllocError, Global};
 use std::cmp::Ordering;
 use std::marker::Model;
 
-/// The key of a flag: its text in lower case, at most `MAX_FLAG` bytes.
+// The bytes of the longest key that takes no memory of its own: all system flags and nearly all keywords in use are shorter.
+const SHORT: usize = 24;
+
+/// The key of a flag: its text in lower case, at most `MAX_FLAG` bytes. One of up to 24 bytes lies in the value itself.
 #[derive(Debug, Drop)]
 pub struct FlagKey {
-    bytes: Vec<u8>,
+    bytes: SmallVec<u8, SHORT>,
 }
 
 impl Model for FlagKey {
@@ -65,8 +69,13 @@ impl FlagKey {
         ensures { IfOk result (λ key. key ≡ self.now) }
     {
         Ok(FlagKey {
-            bytes: self.bytes.clone()?,
+            bytes: SmallVec::from_slice(self.allocator(), self.bytes.as_slice())?,
         })
+    }
+
+    // The allocator of the bytes.
+    pub(crate) fn allocator(&self) -> Global {
+        *self.bytes.allocator()
     }
 
     /// The key's bytes: a flag in lower case.
@@ -74,14 +83,14 @@ impl FlagKey {
         ensures value { result.now ≡ self.now }
         ensures key { IsKey self.now }
     {
-        &self.bytes
+        self.bytes.as_slice()
     }
 
     /// Whether the flag is a keyword: it has no backslash.
     pub fn is_keyword(&self) -> bool
         ensures { result ≡ is_keyword self.now }
     {
-        is_keyword(&self.bytes)
+        is_keyword(self.bytes.as_slice())
     }
 
     /// The flag as it is written: one of the five system flags that a client may set as the standard spells it, any
@@ -89,7 +98,7 @@ impl FlagKey {
     pub fn spelling(&self) -> &[u8]
         ensures { result.now ≡ spelling self.now }
     {
-        system_flag(&self.bytes).unwrap_or(&self.bytes)
+        system_flag(self.bytes.as_slice()).unwrap_or(self.bytes.as_slice())
     }
 
     /// Whether the flag is `\Recent`, which servers of IMAP4rev1 set (RFC 9051, section 2.3.2).
@@ -164,7 +173,7 @@ fn lowered(alloc: Global, text: &[u8]) -> Result<FlagKey, AllocError>
     Ok(FlagKey { bytes })
 }
 
-fn lower_case(alloc: Global, text: &[u8]) -> Result<Vec<u8>, AllocError>
+fn lower_case(alloc: Global, text: &[u8]) -> Result<SmallVec<u8, SHORT>, AllocError>
     ensures { IfOk result (λ key. key.items ≡ key_of text.now) }
 {
     text.iter()
@@ -212,7 +221,8 @@ fn name_of(text: &[u8]) -> &[u8]
 fn is_atom_byte(byte: u8) -> bool
     ensures { result ≡ is_atom_byte byte }
 {
-    matches!(byte, 33..=126) && !b"(){%*\"\\]".contains(&byte)
+    matches!(byte, 33..=126)
+        && !matches!(byte, b'(' | b')' | b'{' | b'%' | b'*' | b'"' | b'\\' | b']')
 }
 
 fn is_keyword(text: &[u8]) -> bool

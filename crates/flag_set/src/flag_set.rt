@@ -13,22 +13,23 @@ ghost use Rattle.flag_set.specs.FlagText.{list_text};
 use crate::flag_fault::{FlagFault, MAX_FLAGS};
 use crate::flag_key::FlagKey;
 use crate::flag_list::first_flag;
-use crate::key_runs::{copied, joined, lacking, merged};
+use crate::key_list::KeyList;
+use crate::key_runs::{joined, lacking, merged};
 use std::alloc::{AllocError, Global};
 use std::marker::Model;
 
 /// A set of flags, seen as the list of its keys, which rises by their bytes.
 #[derive(Debug, Drop)]
 pub struct FlagSet {
-    keys: Vec<FlagKey>,
+    keys: KeyList,
 }
 
 impl Model for FlagSet {
     ghost Value = { List (List ℕ) };
 
-    ghost view = { λ set. set.keys.items };
+    ghost view = { λ set. set.keys };
 
-    ghost invariant = { λ set. IsFlagSet set.keys.items };
+    ghost invariant = { λ set. IsFlagSet set.keys };
 }
 
 impl FlagSet {
@@ -37,7 +38,7 @@ impl FlagSet {
         ensures { result ≡ [] }
     {
         FlagSet {
-            keys: Vec::new(alloc),
+            keys: KeyList::new(alloc),
         }
     }
 
@@ -93,21 +94,21 @@ impl FlagSet {
         ensures value { result.now ≡ self.now }
         ensures set { IsFlagSet self.now }
     {
-        &self.keys
+        self.keys.as_slice()
     }
 
     /// How many keys the set has.
     pub fn len(&self) -> usize
         ensures { result ≡ length self.now }
     {
-        self.keys.len()
+        self.keys.as_slice().len()
     }
 
     /// Whether the set has no key.
     pub fn is_empty(&self) -> bool
         ensures { IsTrue result ↔ (self.now ≡ []) }
     {
-        self.keys.is_empty()
+        self.keys.as_slice().is_empty()
     }
 
     /// Whether the set has the key: a binary search.
@@ -164,7 +165,7 @@ impl FlagSet {
             (k : List ℕ) → Contains set k ↔ (Contains self.now k ⊎ Contains other.now k)) }
     {
         Ok(FlagSet {
-            keys: merged(*self.keys.allocator(), &self.keys, &other.keys)?,
+            keys: KeyList::of(merged(self.keys.allocator(), self.keys(), other.keys())?),
         })
     }
 
@@ -176,7 +177,7 @@ impl FlagSet {
             (k : List ℕ) → Contains set k ↔ (Contains self.now k × (¬ Contains other.now k))) }
     {
         Ok(FlagSet {
-            keys: lacking(*self.keys.allocator(), &self.keys, other)?,
+            keys: KeyList::of(lacking(self.keys.allocator(), self.keys(), other)?),
         })
     }
 
@@ -189,7 +190,7 @@ impl FlagSet {
         ensures again { IfOk result (λ text. set_of (flags_of text.items) ≡ minus self.now (recent ∷ [])) }
         ensures readable { length self.now ≤ MAX_FLAGS → IfOk result (λ text. HasNoFault (flags_of text.items)) }
     {
-        joined(*self.keys.allocator(), &self.keys)
+        joined(self.keys.allocator(), self.keys())
     }
 
     /// A set with the same keys. Fails for want of memory alone.
@@ -197,7 +198,7 @@ impl FlagSet {
         ensures { IfOk result (λ set. set ≡ self.now) }
     {
         Ok(FlagSet {
-            keys: copied(*self.keys.allocator(), &self.keys)?,
+            keys: self.keys.copy()?,
         })
     }
 
@@ -207,7 +208,7 @@ impl FlagSet {
         ensures gap { IfErr result (IsGap self.now key.now) }
         ensures set { IsFlagSet self.now }
     {
-        self.keys.binary_search(key)
+        self.keys.as_slice().binary_search(key)
     }
 }
 

@@ -6,6 +6,7 @@ mod flag_key;
 mod flag_list;
 mod flag_perm;
 mod flag_set;
+mod key_list;
 mod key_runs;
 #[cfg(test)]
 mod tests;

@@ -87,3 +87,29 @@ strangers_kept us (r ∷ new) rows p =
 pub length_after : (us : List UidRange) (new rows : List (ℕ × Row)) → Rises new → AreApart us new → Rises rows →
     length (put_rows new (without_uids us rows)) ≡ strangers new rows + length (without_uids us rows)
 length_after us new rows n p a = puts_longer new (without_uids us rows) n (without_rises us rows a) ∙ ap (λ (k : ℕ). k + length (without_uids us rows)) (strangers_kept us new rows p)
+
+put_within : (new : ℕ × Row) (rows : List (ℕ × Row)) → length (put_row new rows) ≤ 1 + length rows
+put_within new [] = omega arith
+put_within new (r ∷ rows) =
+    let k : length (put_row new rows) ≤ 1 + length rows = put_within new rows in
+    cond_both (eqb r.0 new.0) (new ∷ rows) (cond (ltb new.0 r.0) (new ∷ r ∷ rows) (r ∷ put_row new rows)) (λ (l : List (ℕ × Row)). length l ≤ 1 + length (r ∷ rows))
+    (λ t. omega arith)
+    (λ f. cond_both (ltb new.0 r.0) (new ∷ r ∷ rows) (r ∷ put_row new rows) (λ (l : List (ℕ × Row)). length l ≤ 1 + length (r ∷ rows))
+    (λ t. omega arith)
+    (λ g. omega (arith, k)))
+
+without_within : (us : List UidRange) (rows : List (ℕ × Row)) → length (without_uids us rows) ≤ length rows
+without_within us [] = omega arith
+without_within us (r ∷ rows) =
+    let k : length (without_uids us rows) ≤ length rows = without_within us rows in
+    cond_both (has_uid us r.0) (without_uids us rows) (r ∷ without_uids us rows) (λ (l : List (ℕ × Row)). length l ≤ length (r ∷ rows))
+    (λ t. omega (arith, k))
+    (λ f. omega (arith, k))
+
+-- the rows after a delta are those of both at most
+pub length_within : (us : List UidRange) (new rows : List (ℕ × Row)) → length (put_rows new (without_uids us rows)) ≤ length rows + length new
+length_within us [] rows = let k : length (without_uids us rows) ≤ length rows = without_within us rows in omega (arith, k)
+length_within us (r ∷ new) rows =
+    let k : length (put_rows new (without_uids us rows)) ≤ length rows + length new = length_within us new rows in
+    let p : length (put_row r (put_rows new (without_uids us rows))) ≤ 1 + length (put_rows new (without_uids us rows)) = put_within r (put_rows new (without_uids us rows)) in
+    omega (arith, k, p)

@@ -1,5 +1,6 @@
 -- Rows that rise, and what is put, taken and counted among them.
-use Rattle.std.proofs.Common.{◌≡◌, ℕ, ◌<◌, ◌≤◌, cond, eqb, ltb, true, false, List, [], ◌∷◌, ◌++◌, refl, sym, ◌∙◌, ap, subst, arith, append_assoc}
+use Rattle.std.proofs.Common.{◌≡◌, ℕ, ◌<◌, ◌≤◌, cond, eqb, ltb, true, false, List, [], ◌∷◌, ◌++◌, refl, sym, ◌∙◌, ap, subst, arith, append_assoc, filter}
+use Rattle.std.specs.Prelude.{not}
 use Rattle.std.specs.Ordering.{nat_cmp}
 use Rattle.std.specs.declared.cmp.Ordering.TheVariants.{Less}
 use Rattle.std.specs.List.Sorted.{IsStrictlySortedBy}
@@ -96,6 +97,11 @@ put_among_none (r ∷ rows) a = ap (put_row r) (put_among_none rows (above_rises
 pub without_none : (rows : List (ℕ × Row)) → without_uids [] rows ≡ rows
 without_none [] = refl
 without_none (r ∷ rows) = ap (λ (l : List (ℕ × Row)). r ∷ l) (without_none rows)
+
+-- the rows that a test keeps which asks for the ranges
+pub without_filter : (ranges : List UidRange) (rows : List (ℕ × Row)) → filter (λ e. not (has_uid ranges e.0)) rows ≡ without_uids ranges rows
+without_filter ranges [] = refl
+without_filter ranges (r ∷ rows) = grind (arith, without_filter ranges rows)
 
 push_above : (floor : ℕ) (r : ℕ × Row) (rows : List (ℕ × Row)) (new : ℕ × Row) → last_uid (r ∷ rows) < new.0 → RisesAbove floor (r ∷ rows) → RisesAbove floor (r ∷ rows ++ new ∷ [])
 push_above floor r [] new h a = (a.0, (h, tt))

@@ -71,6 +71,29 @@ pub(crate) fn put_rows(rows: &mut BTreeMap<Uid, Row>, new: &[(Uid, Row)]) -> Res
     Ok(())
 }
 
+/// The same of rows that are given up.
+pub(crate) fn move_rows(
+    rows: &mut BTreeMap<Uid, Row>,
+    mut new: Vec<(Uid, Row)>,
+) -> Result<(), AllocError>
+    ensures { OnOk result (rows.new.entries ≡ put_rows new.items rows.old.entries) }
+{
+    while let Some((uid, row)) = new.pop() {
+        put_row(rows, uid, row)?;
+    }
+    Ok(())
+}
+
+/// Removes the rows whose UIDs are among the vanished ones: one pass, where there are any of these.
+pub(crate) fn remove_uids(rows: &mut BTreeMap<Uid, Row>, vanished: &UidSet)
+    ensures { rows.new.entries ≡ without_uids vanished.now rows.old.entries }
+{
+    if vanished.is_empty() {
+        return;
+    }
+    rows.retain(|uid, _| !has_uid(vanished, *uid));
+}
+
 /// How many rows have UIDs that aren't among the vanished ones.
 pub(crate) fn kept_len(rows: &BTreeMap<Uid, Row>, vanished: &UidSet) -> usize
     ensures rising { Rises rows.now.entries }

@@ -7,6 +7,7 @@ pub mod KeyOrder
 pub mod Ids
 pub mod Taking
 pub mod Items
+pub mod SameFlags
 pub mod EventsRead
 pub mod EventsSpelled
 pub mod Lists

@@ -21,6 +21,7 @@ use Rattle.action_queue.specs.declared.event.Event.{Event}
 use Rattle.action_queue.specs.declared.event.Event.TheVariants as events
 use Rattle.action_queue.specs.Writable.{IsWritable}
 use Rattle.record_codec.specs.Bodies.{body_of}
+use Rattle.record_codec.specs.Fields.{flag_field}
 
 -- a nonzero number of 32 bits: a UID, a UIDVALIDITY or an action's number
 abbrev pub IsNumber : ℕ → Type 0
@@ -64,6 +65,12 @@ IsKeptKind _ = ⊤
 abbrev pub IsKeptOutcome : Outcome → Type 0
 IsKeptOutcome (outcomes.Done place) = IsKeptPlace place
 IsKeptOutcome (outcomes.Conflict kind) = IsKeptKind kind
+
+-- the bytes are the field of these flags, which can be written
+pub record SpellFlags (text : List ℕ) (flags : List (List ℕ)) : Type 0 where
+  pub spelled : text ≡ flag_field flags
+  pub set : IsFlagSet flags
+  pub few : length flags ≤ 1024
 
 -- a row as its type keeps it
 pub record IsKeptRow (r : ℕ × Row) : Type 0 where

@@ -1,5 +1,6 @@
 pub mod Beginning
 pub mod Choosing
+pub mod Unless
 pub mod Entering
 pub mod Folding
 pub mod Holds

@@ -204,8 +204,7 @@ fn enter_body(alloc: Global, book: &mut Book, body: &[u8], at: u64) -> Result<()
     if book.allows(&event, Version::First).is_some() {
         return Err(broken_at(at));
     }
-    let ready = book.prepare(alloc, event)?;
-    book.enter(ready);
+    book.follow(alloc, event)?;
     Ok(())
 }
 

@@ -1,12 +1,14 @@
 //! Reads what a mailbox became.
 
-ghost use Rattle.std.specs.Prelude.{◌≡◌, ◌<◌, ◌^◌, IfOk};
+ghost use Rattle.std.specs.Prelude.{◌≡◌, ◌<◌, ◌^◌, IfOk, OnOk};
 ghost use Rattle.uid_sets.specs.UidSet.{IsCanonical};
 ghost use Rattle.mailbox_cache.specs.Rows.{has_uid, Rises, AreApart};
 ghost use Rattle.record_codec.specs.Reading.{many_at, low_at, high_at, range_at, behind_range, vanished_at, row_uid_at, row_at, row_uid, row_list_at, bit_at, told_of, told_at};
+ghost use Rattle.record_codec.specs.Spelling.{SpellFlags};
 ghost use Rattle.record_codec.specs.Giving.{Gives};
 
 use super::Fields;
+use super::keys::LastFlags;
 use crate::misfit::Misfit;
 use mail_base::List;
 use mailbox_cache::{Delta, Row};
@@ -118,7 +120,9 @@ impl Fields<'_> {
         }
         Ok(high)
     }
+}
 
+impl<'a> Fields<'a> {
     // At most 200,000 rows, none of which is vanished.
     #[tactic(auto, unfolding(crate::specs::Reading::row_list_at))]
     fn row_list(&mut self, alloc: Global, vanished: &UidSet) -> Result<List<(Uid, Row)>, Misfit>
@@ -144,11 +148,14 @@ impl Fields<'_> {
     ) -> Result<Vec<(Uid, Row)>, Misfit>
         ensures { Gives (λ x. x.items) result self.new.rest.now (many_at (row_at vanished.now) row_uid count 0 self.old.rest.now) }
     {
-        let mut rows = Vec::new(alloc);
+        // A row has 14 bytes at least, so that a count that is too high takes no room.
+        let room = (count as usize).min(self.rest.len() / 14);
+        let mut rows = Vec::with_capacity(alloc, room)?;
+        let mut last = LastFlags::none(alloc);
         let mut floor = 0;
         let mut left = count;
         while left > 0 {
-            let (uid, row) = self.row(alloc, vanished, floor)?;
+            let (uid, row) = self.row(alloc, vanished, floor, &mut last)?;
             floor = uid.number();
             rows.push((uid, row))?;
             left -= 1;
@@ -158,12 +165,20 @@ impl Fields<'_> {
 
     // A row whose UID is above floor.
     #[tactic(auto, unfolding(crate::specs::Reading::row_at))]
-    fn row(&mut self, alloc: Global, vanished: &UidSet, floor: u32) -> Result<(Uid, Row), Misfit>
-        ensures { Gives (λ x. x) result self.new.rest.now (row_at vanished.now floor self.old.rest.now) }
+    fn row(
+        &mut self,
+        alloc: Global,
+        vanished: &UidSet,
+        floor: u32,
+        last: &mut LastFlags<'a>,
+    ) -> Result<(Uid, Row), Misfit>
+        requires { SpellFlags last.old.text.now last.old.flags }
+        ensures read { Gives (λ x. x) result self.new.rest.now (row_at vanished.now floor self.old.rest.now) }
+        ensures last { OnOk result (SpellFlags last.new.text.now last.new.flags) }
     {
         let uid = self.row_uid(vanished, floor)?;
         let modseq = self.modseq()?;
-        let flags = self.flags(alloc, 0)?;
+        let flags = self.flags_like(alloc, last)?;
         Ok((uid, Row { flags, modseq }))
     }
 

@@ -1,11 +1,12 @@
 //! Reads flags: keys behind their count, which rise.
 
-ghost use Rattle.std.specs.Prelude.{◌≡◌, ◌&&◌, None, IfOk, IfErr, IfSome, is_some, is_none, true, OnOk, ◌∷◌, ◌++◌, []};
+ghost use Rattle.std.specs.Prelude.{◌≡◌, ◌&&◌, ◌-◌, length, take, None, IfOk, IfErr, IfSome, is_some, is_none, true, OnOk, ◌∷◌, ◌++◌, []};
 ghost use Rattle.std.specs.Str.{bytes_eq};
 ghost use Rattle.flag_set.specs.Flag.{refusal};
 ghost use Rattle.flag_set.specs.FlagKey.{key_of};
 ghost use Rattle.flag_set.specs.FlagSet.{IsFlagSet, put};
-ghost use Rattle.record_codec.specs.Reading.{many_at, key_at, last_key, this_key, stands_behind, flags_at};
+ghost use Rattle.record_codec.specs.Reading.{AreBytes, many_at, key_at, last_key, this_key, stands_behind, flags_at};
+ghost use Rattle.record_codec.specs.Spelling.{SpellFlags};
 ghost use Rattle.record_codec.specs.Giving.{Gives};
 
 use super::Fields;
@@ -13,6 +14,50 @@ use crate::misfit::Misfit;
 use flag_set::{FlagFault, FlagKey, FlagSet};
 use std::alloc::Global;
 use std::cmp::Ordering;
+
+/// The flags that were read last, and the bytes that spell them.
+#[derive(Drop)]
+pub(crate) struct LastFlags<'a> {
+    text: &'a [u8],
+    flags: FlagSet,
+}
+
+impl LastFlags<'_> {
+    /// No flags.
+    pub(crate) fn none(alloc: Global) -> Self
+        ensures { SpellFlags result.text.now result.flags }
+    {
+        LastFlags {
+            text: b"\x00\x00",
+            flags: FlagSet::none(alloc),
+        }
+    }
+}
+
+impl<'a> Fields<'a> {
+    /// At most 1,024 flags. Where the same bytes come again, as in most rows of a mailbox, the set is copied and its keys
+    /// aren't read.
+    pub(crate) fn flags_like(
+        &mut self,
+        alloc: Global,
+        last: &mut LastFlags<'a>,
+    ) -> Result<FlagSet, Misfit>
+        requires { SpellFlags last.old.text.now last.old.flags }
+        ensures read { Gives (λ x. x) result self.new.rest.now (flags_at 0 self.old.rest.now) }
+        ensures last { OnOk result (SpellFlags last.new.text.now last.new.flags) }
+    {
+        if let Some(rest) = self.rest.strip_prefix(last.text) {
+            let flags = last.flags.copy()?;
+            self.rest = rest;
+            return Ok(flags);
+        }
+        let from = self.rest;
+        let flags = self.flags(alloc, 0)?;
+        last.text = in_front(from, self.rest.len());
+        last.flags = flags.copy()?;
+        Ok(flags)
+    }
+}
 
 impl Fields<'_> {
     /// At least so many flags, and at most 1,024.
@@ -61,6 +106,14 @@ impl Fields<'_> {
         }
         Ok(key)
     }
+}
+
+// The bytes in front of the last ones, of which there are so many.
+fn in_front(bytes: &[u8], left: usize) -> &[u8]
+    ensures value { result.now ≡ take (length bytes.now - left) bytes.now }
+    ensures bytes { AreBytes bytes.now }
+{
+    bytes.split_at(bytes.len().saturating_sub(left)).0
 }
 
 // The key that is kept as these bytes, if one is.

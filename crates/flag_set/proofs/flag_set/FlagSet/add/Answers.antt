@@ -8,7 +8,7 @@ use Rattle.flag_set.proofs.flag_set.FlagSet.add.Goals as goal
 
 pub returns-in_ok-insert-clause-value : goal.returns-in_ok-insert-clause-value
 returns-in_ok-insert-clause-value c =
-    c.in_ok-insert.ensures.items ∙ ap (λ keys. insert keys c.in-Err.at c.args.key) c.self.view_is ∙ sym c.in-Err.ensures.gap.goes
+    c.in_ok-insert.ensures.done ∙ ap (λ keys. insert keys c.in-Err.at c.args.key) c.self.view_is ∙ sym c.in-Err.ensures.gap.goes
 
 pub invariant_of-self : goal.invariant_of-self
 invariant_of-self c =

@@ -7,14 +7,15 @@ use Rattle.flag_set.proofs.flag_set.FlagSet.with.Goals as goal
 
 pub returns-clause-value : goal.returns-clause-value
 returns-clause-value c =
-    c.in_ok-merged.ensures
-    ∙ ap (λ keys. union keys c.deref-2.result.now) (c.deref.ensures.value ∙ c.self.view_is)
-    ∙ ap (union c.args.self.now) (c.deref-2.ensures.value ∙ c.other.view_is)
+    c.of.ensures
+    ∙ c.in_ok-merged.ensures
+    ∙ ap (λ keys. union keys c.keys-2.result.now) c.keys.ensures.value
+    ∙ ap (union c.args.self.now) c.keys-2.ensures.value
 
 pub invariant_of-result : goal.invariant_of-result
 invariant_of-result c =
     subst IsFlagSet (sym (returns-clause-value c))
-    (set_union _ _ (subst IsFlagSet c.self.view_is c.self.invariant) (subst IsFlagSet c.other.view_is c.other.invariant))
+    (set_union _ _ c.keys.ensures.set c.keys-2.ensures.set)
 
 pub returns-clause-members : goal.returns-clause-members
 returns-clause-members c k =

@@ -5,7 +5,7 @@ use Rattle.flag_set.proofs.Members.{members_minus, set_minus}
 use Rattle.flag_set.proofs.flag_set.FlagSet.without.Goals as goal
 
 pub returns-clause-value : goal.returns-clause-value
-returns-clause-value c = c.in_ok-lacking.ensures ∙ ap (λ keys. minus keys c.args.other.now) (c.deref.ensures.value ∙ c.self.view_is)
+returns-clause-value c = c.of.ensures ∙ c.in_ok-lacking.ensures ∙ ap (λ keys. minus keys c.args.other.now) c.keys.ensures.value
 
 pub invariant_of-result : goal.invariant_of-result
 invariant_of-result c =

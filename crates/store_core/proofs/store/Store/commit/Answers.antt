@@ -1,6 +1,8 @@
-use Rattle.std.proofs.Common.{rules, ◌≡◌, ◌∙◌, ap}
+use Rattle.std.proofs.Common.{rules, ◌≡◌, ◌∙◌, ap, Err}
 use Rattle.journal_core.specs.Standing.{Standing}
 use Rattle.action_queue.specs.Book.{meaning, after}
+use Rattle.store_core.specs.Faults.{of_adding}
+use Rattle.store_core.proofs.Unless.{unless_disk}
 use Rattle.store_core.proofs.Phases.{told, told_steps, told_held, left_after}
 use Rattle.store_core.proofs.store.Store.commit.Goals as goal
 
@@ -18,6 +20,12 @@ pub returns-in_err-append-clause-held : goal.returns-in_err-append-clause-held
 returns-in_err-append-clause-held g c tells =
     told_held c.args.self.now c.args.event c.requires.lawful c.in_ok-frame.ensures.spelled c.in_ok-frame.ensures.body _ _ _ _ (c.requires.still tells) _ c.self.view_is
     _ _ (c.deref.ensures.value ∙ c.in_ok-frame.ensures.frame) _ (c.append.ensures.told tells)
+
+pub returns-in_err-append-clause-kept : goal.returns-in_err-append-clause-kept
+returns-in_err-append-clause-kept g c err no_disk =
+    let was : c.from_residual-in_err-append.result ≡ Err (of_adding c.in_err-append.field-0.0) = search rules in
+    let kept = unless_disk c.in_err-append.field-0.0 _ was no_disk (λ end wanted is. c.in_err-append.ensures.kept end wanted (ap Err is)) in
+    (rw (kept.0, c.in_ok-ready.ensures.same) c.self.view_is, kept.1)
 
 pub returns-clause-told : goal.returns-clause-told
 returns-clause-told g c tells =
