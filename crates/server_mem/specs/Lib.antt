@@ -1,7 +1,14 @@
+pub mod Answered
 pub mod Checks
 pub mod Denied
+pub mod Falling
+pub mod Greeting
+pub mod Hearing
 pub mod IdFields
+pub mod Offers
 pub mod Places
+pub mod SelectedMessages
 pub mod States
 pub mod Turns
+pub mod TwoPieces
 pub mod Well

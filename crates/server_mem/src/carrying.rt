@@ -3,12 +3,13 @@
 ghost use Rattle.std.specs.Prelude.{◌≡◌, IfOk, OnOk, OnErr};
 ghost use Rattle.imap_model.specs.CarriedOut.{CarriesOut, told_in};
 ghost use Rattle.server_mem.specs.States.{turn_at, after_turn};
+ghost use Rattle.server_mem.specs.Turns.{after};
 ghost use Rattle.server_mem.specs.Well.{Well};
 
 use crate::MemServer;
-use crate::turn::Turn;
-use imap_model::{Command, Replies, Response};
-use mail_base::Tag;
+use crate::turn::{Made, Turn};
+use imap_model::{Command, Mailbox, Replies, Response};
+use mail_base::{BoxName, Tag};
 use std::alloc::AllocError;
 
 // All that is told in a reply.
@@ -25,25 +26,63 @@ fn told_in(tag: Tag, replies: Replies) -> Result<Vec<Response>, AllocError>
     Ok(told)
 }
 
+/// What a command comes to, before anything changes: all that is told, the change that it makes, if any, and what is
+/// selected then.
+#[derive(Drop)]
+pub(crate) struct Outcome {
+    pub told: Vec<Response>,
+    pub made: Option<Made>,
+    pub selected: Option<BoxName>,
+}
+
 impl MemServer {
-    // Carries out one command.
-    fn carried(&mut self, tag: Tag, command: &Command) -> Result<Vec<Response>, AllocError>
-        ensures told { IfOk result (λ told. told.items ≡ told_in tag (turn_at self.old tag command.now).replies) }
-        ensures done { OnOk result (self.new ≡ after_turn self.old (turn_at self.old tag command.now)) }
-        ensures well { OnOk result (Well self.old.server.boxes) }
-        ensures kept { OnErr result (self.new ≡ self.old) }
+    /// What a command comes to.
+    pub(crate) fn outcome(&self, tag: Tag, command: &Command) -> Result<Outcome, AllocError>
+        ensures told { IfOk result (λ o. o.told.items ≡ told_in tag (turn_at self.now tag command.now).replies) }
+        ensures server { IfOk result (λ o. after o.made self.now.server ≡ (turn_at self.now tag command.now).server) }
+        ensures selected { IfOk result (λ o. o.selected ≡ (turn_at self.now tag command.now).selected) }
+        ensures well { IfOk result (λ o. Well self.now.server.boxes) }
     {
+        // What the server keeps true is known once it is read.
+        let _server = &self.server;
         let Turn {
             replies,
             made,
             selected,
         } = self.turn(tag, command)?;
         let told = told_in(tag, replies)?;
+        Ok(Outcome {
+            told,
+            made,
+            selected,
+        })
+    }
+
+    /// The mailboxes behind a change, if one is made.
+    pub(crate) fn boxes_behind<'a>(&'a self, made: &'a Option<Made>) -> &'a [Mailbox]
+        ensures { result.now ≡ (after made.now self.now.server).boxes }
+    {
+        match made {
+            None => self.server.boxes.as_slice(),
+            Some(made) => made.boxes.as_slice(),
+        }
+    }
+
+    /// Takes the change that a command makes, and what is selected behind it.
+    pub(crate) fn enter(
+        &mut self,
+        made: Option<Made>,
+        selected: Option<BoxName>,
+    ) -> Result<(), AllocError>
+        requires { Well (after made self.old.server).boxes }
+        ensures done { OnOk result (self.new ≡ record self.old { server = after made self.old.server; selected = selected }) }
+        ensures kept { OnErr result (self.new ≡ self.old) }
+    {
         if let Some(made) = made {
             self.commit(made)?;
         }
         self.selected = selected;
-        Ok(told)
+        Ok(())
     }
 
     /// Carries out one command, and gives what is told: the untagged responses, and the completion. Any account is accepted,
@@ -57,7 +96,12 @@ impl MemServer {
             (turn_at self.old tag command.now).replies self.new.server self.new.selected) }
         ensures kept { OnErr result (self.new ≡ self.old) }
     {
-        let told = self.carried(tag, command)?;
+        let Outcome {
+            told,
+            made,
+            selected,
+        } = self.outcome(tag, command)?;
+        self.enter(made, selected)?;
         Ok(told)
     }
 }

@@ -1,14 +1,22 @@
 //! A lawful server in memory (RFC 9051; RFC 7162): it carries out commands as one plain program does.
 #![tactic(auto)]
 
+mod answering;
 mod carrying;
 mod changing;
 mod checking;
+#[cfg(test)]
+mod exchange_tests;
 mod headers;
+#[cfg(test)]
+mod hear_tests;
 mod laws;
 mod lookups;
 mod mem_server;
+mod offering;
+mod outcome;
 mod questions;
+mod refusing;
 mod replying;
 mod rows;
 mod rules;
@@ -16,9 +24,11 @@ mod selecting;
 mod sets;
 #[cfg(test)]
 mod tests;
+mod told_lines;
 mod turn;
 mod turning;
 
 pub use checking::is_well_formed;
-pub use laws::denies_exactly;
+pub use laws::{denies_exactly, two_pieces};
 pub use mem_server::{ForeignFault, MemServer};
+pub use outcome::{Answer, Answered};

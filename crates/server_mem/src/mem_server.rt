@@ -5,18 +5,20 @@ ghost use Rattle.imap_model.specs.Changes.{Changes, deed_of, receiver};
 ghost use Rattle.imap_model.specs.Lookups.{box_at, validity_of};
 ghost use Rattle.imap_model.specs.Lawful.{broken_rule};
 ghost use Rattle.imap_model.specs.PlainChanges.{with_change};
-ghost use Rattle.server_mem.specs.States.{usual_flags, fresh};
+ghost use Rattle.server_mem.specs.Offers.{AreAtoms, AreAtoms-prop, atoms};
+ghost use Rattle.server_mem.specs.States.{usual_flags, fresh, disconnected};
 ghost use Rattle.server_mem.specs.Turns.{after};
 ghost use Rattle.imap_model.specs.WellFormed.{IsWellFormed};
 ghost use Rattle.server_mem.specs.Well.{Well, Well-prop};
 ghost use Rattle.imap_model.specs.declared.deed.Author.TheVariants.{Other};
 
 use crate::lookups::box_of;
+use crate::offering::atoms;
 use crate::rules::broken_rule;
 use crate::turn::Made;
 use flag_set::FlagSet;
 use imap_model::{Author, Change, Deed, Mailbox, Server};
-use mail_base::{BoxName, List, Validity, Words};
+use mail_base::{BoxName, Bytes, List, Validity, Words};
 use std::alloc::{AllocError, Global};
 use std::marker::Model;
 use thiserror::Error;
@@ -54,7 +56,14 @@ pub struct MemServer {
     pub(crate) flags: FlagSet,
     pub(crate) any: bool,
     pub(crate) closed: Option<BoxName>,
+    /// The whole parts of the text that is arriving.
+    pub(crate) parts: List<Bytes>,
+    /// The bytes behind them.
+    pub(crate) begun: Bytes,
+    /// Memory was wanting in the midst of what came.
+    pub(crate) failed: bool,
     ghost well: { Well server.boxes } by { Well-prop server.boxes },
+    ghost offered: { AreAtoms offers } by { AreAtoms-prop offers },
 }
 
 impl Model for MemServer {
@@ -66,6 +75,9 @@ impl Model for MemServer {
       choices = record { offers = m.offers; flags = m.flags; any = m.any; closed = m.closed };
       selected = m.selected;
       server = m.server;
+      parts = m.parts;
+      begun = m.begun;
+      failed = m.failed;
     } };
 }
 
@@ -124,10 +136,11 @@ fn usual_flags(alloc: Global) -> Result<FlagSet, AllocError>
 }
 
 impl MemServer {
-    /// A server of these mailboxes, with an empty history and nothing selected, that offers this.
+    /// A server of these mailboxes, with an empty history and nothing selected, that offers those of the names that are atoms:
+    /// no line can tell another (RFC 9051, section 9, capability).
     pub fn new(alloc: Global, boxes: Vec<Mailbox>, offers: Words) -> Result<MemServer, AllocError>
         requires { IsWellFormed boxes.items }
-        ensures { IfOk result (λ m. m ≡ fresh boxes.items offers) }
+        ensures { IfOk result (λ m. m ≡ fresh boxes.items (atoms offers)) }
     {
         Ok(MemServer {
             alloc,
@@ -136,10 +149,13 @@ impl MemServer {
                 history: List::new(alloc),
             },
             selected: None,
-            offers,
+            offers: atoms(alloc, offers.as_slice())?,
             flags: usual_flags(alloc)?,
             any: true,
             closed: None,
+            parts: List::new(alloc),
+            begun: Bytes::new(alloc),
+            failed: false,
         })
     }
 
@@ -167,11 +183,22 @@ impl MemServer {
         self.closed = Some(name);
     }
 
-    /// Ends the present connection: in the next one nothing is selected. It takes no memory.
+    /// Ends the present connection: in the next one nothing is selected, and what has come of a text that isn't complete
+    /// is dropped. It takes no memory.
     pub fn lose(&mut self)
-        ensures { self.new ≡ record self.old { selected = None } }
+        ensures { self.new ≡ disconnected self.old }
     {
         self.selected = None;
+        self.drop_text();
+        self.failed = false;
+    }
+
+    // Drops what has come of a text.
+    pub(crate) fn drop_text(&mut self)
+        ensures { self.new ≡ record self.old { parts = []; begun = [] } }
+    {
+        self.parts = List::new(self.alloc);
+        self.begun = Bytes::new(self.alloc);
     }
 
     // Takes the mailboxes and the deed of a change.

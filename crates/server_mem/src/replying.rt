@@ -76,7 +76,7 @@ impl MemServer {
     }
 
     // The mailbox that is selected.
-    fn selected_box(&self) -> Option<&Mailbox>
+    pub(crate) fn selected_box(&self) -> Option<&Mailbox>
         ensures none { IfNone result (selected_box self.now.selected self.now.server.boxes ≡ None) }
         ensures some { IfSome result (λ mailbox. selected_box self.now.selected self.now.server.boxes ≡ Some mailbox.now) }
     {

@@ -348,7 +348,7 @@ impl MemServer {
     }
 
     // Whether nothing is appended to a mailbox.
-    fn is_closed(&self, name: &BoxName) -> bool
+    pub(crate) fn is_closed(&self, name: &BoxName) -> bool
         ensures { result ≡ plain.is_closed self.now.choices.closed name.now }
     {
         match &self.closed {

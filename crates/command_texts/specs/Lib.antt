@@ -1,0 +1,10 @@
+pub mod Arguments
+pub mod AwaitedParts
+pub mod Cutting
+pub mod DueOctets
+pub mod FirstWord
+pub mod HeardAs
+pub mod HeardParts
+pub mod Renumbered
+pub mod Stands
+pub mod TextLaws

@@ -1,0 +1,14 @@
+pub mod LineCodes
+pub mod LineFetch
+pub mod LineFlags
+pub mod LineFound
+pub mod LineIds
+pub mod LineLists
+pub mod LineNumbers
+pub mod LineOther
+pub mod LineRows
+pub mod LineSpelled
+pub mod PlainLines
+pub mod TextChains
+pub mod TurnTells
+pub mod WriteSteps

@@ -1,0 +1,6 @@
+use Rattle.response_lines.proofs.LineSpelled.{bye_spelled}
+use Rattle.response_lines.proofs.WriteSteps.{on_ok}
+use Rattle.response_lines.proofs.line.put_bye.Goals as goal
+
+pub returns-clause-spelled : goal.returns-clause-spelled
+returns-clause-spelled c = on_ok c.put.result _ bye_spelled

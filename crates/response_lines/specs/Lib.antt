@@ -1,0 +1,4 @@
+pub mod Bracketed
+pub mod LineTexts
+pub mod Tellable
+pub mod Written
