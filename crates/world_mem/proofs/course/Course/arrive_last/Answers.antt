@@ -1,0 +1,28 @@
+use Rattle.std.proofs.Common.{rules, ◌∙◌}
+use Rattle.world_mem.specs.Memory.{run_of}
+use Rattle.world_mem.proofs.Sending.{begun_with, cut_off, heard_or_linked, heard_there, sent_failed}
+use Rattle.world_mem.proofs.course.Course.arrive_last.Goals as goal
+
+pub returns-in_err-hear-clause-told : goal.returns-in_err-hear-clause-told
+returns-in_err-hear-clause-told c = λ tag command before behind is awaits.
+    let w = c.args.self.now in
+    let mid = c.take_in.new.self in
+    let bytes = c.args.bytes.now in
+    let cut = cut_off w c.requires tag command before bytes behind is awaits mid c.in_ok-take_in.ensures.phase c.take_in.ensures.run c.texts_are_cut.ensures in
+    let all = c.in_ok-take_in.ensures.begun ∙ begun_with w c.requires tag command before bytes behind is awaits bytes in
+    sent_failed tag command before bytes behind (run_of w).clock (run_of c.hear.new.self).clock c.from_residual-in_err-hear.result c.in_err-hear.field-0.0 (search rules)
+    (heard_or_linked w c.requires tag command before bytes behind is awaits mid c.in_ok-take_in.ensures.phase c.take_in.ensures.run c.no_text_is_a_front.ensures c.first_parts_tell_tags.ensures (run_of c.hear.new.self)
+    (c.in_err-hear.ensures.one bytes cut all).failed)
+
+pub returns-clause-told : goal.returns-clause-told
+returns-clause-told c = λ tag command before behind is awaits.
+    let w = c.args.self.now in
+    let mid = c.take_in.new.self in
+    let bytes = c.args.bytes.now in
+    let cut = cut_off w c.requires tag command before bytes behind is awaits mid c.in_ok-take_in.ensures.phase c.take_in.ensures.run c.texts_are_cut.ensures in
+    let all = c.in_ok-take_in.ensures.begun ∙ begun_with w c.requires tag command before bytes behind is awaits bytes in
+    record {
+      done = heard_there w c.requires tag command before bytes behind is awaits mid c.in_ok-take_in.ensures.phase c.take_in.ensures.run c.no_text_is_a_front.ensures c.first_parts_tell_tags.ensures (run_of c.hear.new.self)
+          (c.in_ok-hear.ensures.one bytes cut all).done;
+      failed = tt;
+    }

@@ -1,0 +1,58 @@
+use Rattle.std.proofs.Common.{◌≡◌, ℕ, List, [], ◌∷◌, ◌++◌, Option, Some, IfSome, sym, ◌∙◌, ap, subst}
+use Rattle.imap_model.specs.Talking.{arrived}
+use Rattle.command_texts.specs.HeardParts.{IsWhole}
+use Rattle.world_traits.specs.Links.{Linked, AnyStep}
+use Rattle.world_traits.specs.Sends.{Arrives}
+use Rattle.world_mem.specs.Image.{bytes_of}
+use Rattle.world_mem.specs.Memory.{run_of}
+use Rattle.world_mem.specs.Running.{Run, start}
+use Rattle.world_mem.specs.Standing.{Stands}
+use Rattle.world_mem.specs.declared.course.Phase.TheVariants as phases
+use Rattle.world_mem.specs.declared.did.Did.{Did}
+use Rattle.world_mem.specs.declared.did.Did.TheVariants as did
+use Rattle.world_mem.specs.declared.did.Held.{Held}
+use Rattle.world_mem.proofs.Answering.{one_step}
+use Rattle.world_mem.proofs.Doing.{one_did}
+use Rattle.world_mem.proofs.Hearing.{phase_stands}
+use Rattle.world_mem.proofs.Sending.{waited_stands, waits_there}
+use Rattle.world_mem.proofs.course.Course.arrive_waiting.Goals as goal
+
+pub invariant_of-self-2 : goal.invariant_of-self-2
+invariant_of-self-2 c =
+    let w = c.args.self.now in
+    let found = c.in-Some.held in
+    let x : Held = record { part = found.part; tag = found.tag; command = found.command; carried = c.args.carried } in
+    let none : w.unfinished ≡ 0 = subst (λ (o : Option Held). IfSome o (λ h. w.unfinished ≡ 0)) c.in-Some.is c.in_ok-held.ensures.ends in
+    let part : found.part ≡ c.args.bytes.now = subst (λ (o : Option Held). IfSome o (λ h. h.part ≡ c.args.bytes.now)) c.in-Some.is c.in_ok-held.ensures.part in
+    let whole : IsWhole found.tag found.command (w.parts ++ c.args.bytes.now ∷ []) = subst (λ (o : Option Held). IfSome o (λ h. IsWhole h.tag h.command (w.parts ++ c.args.bytes.now ∷ []))) c.in-Some.is c.in_ok-held.ensures.whole in
+    let own : c.in_ok-own.own ≡ x = c.in_ok-own.ensures in
+    let log : c.push_reserved.new.self.items ≡ w.log.items ++ did.Waited x ∷ [] = c.push_reserved.ensures.items ∙ ap (λ (l : List Did). l ++ did.Waited c.in_ok-own.own ∷ []) c.reserve.ensures.items ∙ ap (λ (h : Held). w.log.items ++ did.Waited h ∷ []) own in
+    let h = phase_stands w.files w.server w.phase phases.On w.held w.parts w.unfinished w.lines.items w.received (run_of w) w.stands c.requires in
+    record {
+      stands = subst (λ (y : Run). Stands w.files w.server phases.Waiting (Some x) w.parts w.unfinished w.lines.items w.received y) (sym (one_did w.log.items c.push_reserved.new.self.items (did.Waited x) (start (bytes_of w.given) w.began.value w.began_held.value) log))
+          (waited_stands w.files w.server w.held w.parts w.unfinished w.lines.items w.received (run_of w) h x none (subst (λ (b : List ℕ). IsWhole found.tag found.command (w.parts ++ b ∷ [])) (sym part) whole));
+    }
+
+pub returns-clause-files : goal.returns-clause-files
+returns-clause-files c =
+    let w = c.args.self.now in
+    let found = c.in-Some.held in
+    let x : Held = record { part = found.part; tag = found.tag; command = found.command; carried = c.args.carried } in
+    let own : c.in_ok-own.own ≡ x = c.in_ok-own.ensures in
+    let log : c.push_reserved.new.self.items ≡ w.log.items ++ did.Waited x ∷ [] = c.push_reserved.ensures.items ∙ ap (λ (l : List Did). l ++ did.Waited c.in_ok-own.own ∷ []) c.reserve.ensures.items ∙ ap (λ (h : Held). w.log.items ++ did.Waited h ∷ []) own in
+    subst (λ (y : Run). Linked AnyStep (run_of w).clock y.clock) (sym (one_did w.log.items c.push_reserved.new.self.items (did.Waited x) (start (bytes_of w.given) w.began.value w.began_held.value) log))
+    (one_step AnyStep (arrived x.tag x.command [] [] []) (run_of w).clock tt)
+
+pub returns-clause-told : goal.returns-clause-told
+returns-clause-told c = λ tag command before behind is awaits.
+    let w = c.args.self.now in
+    let found = c.in-Some.held in
+    let x : Held = record { part = found.part; tag = found.tag; command = found.command; carried = c.args.carried } in
+    let whole : IsWhole found.tag found.command (w.parts ++ c.args.bytes.now ∷ []) = subst (λ (o : Option Held). IfSome o (λ h. IsWhole h.tag h.command (w.parts ++ c.args.bytes.now ∷ []))) c.in-Some.is c.in_ok-held.ensures.whole in
+    let own : c.in_ok-own.own ≡ x = c.in_ok-own.ensures in
+    let log : c.push_reserved.new.self.items ≡ w.log.items ++ did.Waited x ∷ [] = c.push_reserved.ensures.items ∙ ap (λ (l : List Did). l ++ did.Waited c.in_ok-own.own ∷ []) c.reserve.ensures.items ∙ ap (λ (h : Held). w.log.items ++ did.Waited h ∷ []) own in
+    record {
+      done = subst (λ (y : Run). Arrives tag command before c.args.bytes.now behind (run_of w).clock y.clock) (sym (one_did w.log.items c.push_reserved.new.self.items (did.Waited x) (start (bytes_of w.given) w.began.value w.began_held.value) log))
+          (waits_there w c.requires tag command before c.args.bytes.now behind is awaits c.no_text_is_a_front.ensures x.tag x.command whole);
+      failed = tt;
+    }

@@ -1,0 +1,41 @@
+use Rattle.std.proofs.Common.{◌≡◌, IfOk, Option, rules, subst}
+use Rattle.world_mem.specs.Image.{bytes_of}
+use Rattle.world_mem.specs.Memory.{run_of, line_of}
+use Rattle.world_mem.specs.Restarting.{no_line}
+use Rattle.world_mem.specs.Running.{Run}
+use Rattle.world_mem.specs.declared.course.Phase.TheVariants as phases
+use Rattle.world_mem.specs.declared.did.Held.{Held}
+use Rattle.world_mem.proofs.Doing.{waiting_whole, waiting_sound, waiting_ends}
+use Rattle.world_mem.proofs.Restarting.{waits_on, no_held, without}
+use Rattle.world_mem.proofs.course.Course.restarted.Goals as goal
+
+pub begun-requires : goal.begun-requires
+begun-requires c =
+    let w = c.args.self in
+    let waits : w.phase ≡ phases.Waiting = search rules in
+    record {
+      whole = waiting_whole w.files w.server w.phase w.held w.parts w.unfinished w.lines.items w.received (run_of w) w.stands waits;
+      sound = waiting_sound w.files w.server w.phase w.held w.parts w.unfinished w.lines.items w.received (run_of w) w.stands waits;
+      ends = waiting_ends w.files w.server w.phase w.held w.parts w.unfinished w.lines.items w.received (run_of w) w.stands waits;
+    }
+
+pub returns-then-eq-clause-run : goal.returns-then-eq-clause-run
+returns-then-eq-clause-run c =
+    let w = c.args.self in
+    let waits : w.phase ≡ phases.Waiting = search (rules, c.if-eq.ensures) in
+    subst (λ (r : Run). IfOk c.begun.result (λ course. run_of course ≡ r))
+    (waits_on (bytes_of c.args.files) w.files w.server w.phase w.held w.parts w.unfinished w.lines.items w.received (run_of w) w.stands waits) c.begun.ensures.run
+
+pub returns-clause-run : goal.returns-clause-run
+returns-clause-run c =
+    let w = c.args.self in
+    let not_waiting : w.phase ≡ phases.Waiting → ⊥ = search rules in
+    subst (λ (r : Run). IfOk c.begun-2.result (λ course. run_of course ≡ r))
+    (without (bytes_of c.args.files) w.files w.server w.phase w.held w.parts w.unfinished w.lines.items w.received (run_of w) w.stands not_waiting c.lose.new.self c.lose.ensures) c.begun-2.ensures.run
+
+pub returns-clause-line : goal.returns-clause-line
+returns-clause-line c =
+    let w = c.args.self in
+    let not_waiting : w.phase ≡ phases.Waiting → ⊥ = search rules in
+    subst (λ (x : Option Held). IfOk c.begun-2.result (λ course. line_of course ≡ no_line x))
+    (no_held (bytes_of c.args.files) w.files w.server w.phase w.held w.parts w.unfinished w.lines.items w.received (run_of w) w.stands not_waiting) c.begun-2.ensures.line

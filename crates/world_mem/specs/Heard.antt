@@ -1,0 +1,54 @@
+-- One part is answered, of what has come.
+use Rattle.std.specs.Prelude.{◌≡◌, ◌⊎◌, ℕ, Bool, true, false, List, [], ◌∷◌, ◌++◌, Result, OnOk, OnErr}
+use Rattle.imap_model.specs.declared.command.Command.{Command}
+use Rattle.mail_base.specs.declared.tag.Tag.{Tag}
+use Rattle.server_mem.specs.declared.outcome.Answered.{Answered}
+use Rattle.server_mem.specs.declared.outcome.Answered.TheVariants as answers
+use Rattle.imap_model.specs.WellFormed.{IsWellFormed}
+use Rattle.server_mem.specs.Answered.{IsAnswer, IsAnswered}
+use Rattle.command_texts.specs.Cutting.{NoPart}
+use Rattle.server_mem.specs.States.{State}
+use Rattle.server_mem.specs.declared.outcome.Answer.{Answer}
+use Rattle.world_mem.specs.Running.{Run, step}
+use Rattle.world_mem.specs.declared.did.Did.TheVariants as did
+
+pub record HearsOne (server : State) (old : Run) (server' : State) (new : Run) : Type 0 where
+  pub answer : Answer
+  pub answers : IsAnswer server answer server'
+  pub run : new ≡ step (did.Heard answer.part answer.answered) old
+  pub well : IsWellFormed server.server.boxes
+
+-- this part alone is answered
+pub record HearsPart (part : List ℕ) (server : State) (old new : Run) : Type 0 where
+  pub answered : Answered
+  pub may : IsAnswered server (server.parts ++ part ∷ []) answered
+  pub run : new ≡ step (did.Heard part answered) old
+  pub well : IsWellFormed server.server.boxes
+
+-- so it is, or memory was wanting before it or behind it
+pub record HearsOnly {T E : Type 0} (part : List ℕ) (server : State) (old new : Run) (result : Result T E) : Type 0 where
+  pub done : OnOk result (HearsPart part server old new)
+  pub failed : OnErr result ((new ≡ old) ⊎ HearsPart part server old new)
+
+-- a command was carried out
+abbrev pub is_carried : Answered → Bool
+is_carried (answers.Carried tag command) = true
+is_carried _ = false
+
+-- no command is carried out: no part has come, or one that doesn't end a text
+pub record AnswersElse (server : State) : Type 0 where
+  pub answer : Answer
+  pub after : State
+  pub is : IsAnswer server answer after
+  pub other : is_carried answer.answered ≡ false
+
+abbrev pub CarriesNone : State → Type 0
+CarriesNone server = NoPart server.parts server.begun ⊎ AnswersElse server
+
+-- that part ends the text of a command, which is carried out
+pub record CarriesOne (server server' : State) : Type 0 where
+  pub answer : Answer
+  pub tag : Tag
+  pub command : Command
+  pub is : IsAnswer server answer server'
+  pub carried : answer.answered ≡ answers.Carried tag command

@@ -1,0 +1,16 @@
+pub mod Draws
+pub mod Torn
+pub mod Unsynced
+pub mod Both
+pub mod Image
+pub mod Planned
+pub mod Running
+pub mod Standing
+pub mod Memory
+pub mod Seen
+pub mod Restarting
+pub mod Numbered
+pub mod Others
+pub mod Heard
+pub mod Worlds
+pub mod Honest

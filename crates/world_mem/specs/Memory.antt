@@ -1,0 +1,45 @@
+-- A world in memory as contracts see it.
+use Rattle.std.specs.Prelude.{ℕ, List, [], ◌++◌, Option, take, drop, if◌then◌else◌}
+use Rattle.world_traits.specs.LinkState.{Connection}
+use Rattle.world_mem.specs.Image.{bytes_of}
+use Rattle.world_mem.specs.Running.{Run, run, start}
+use Rattle.world_mem.specs.Standing.{is_on, connection_in}
+use Rattle.world_mem.specs.declared.course.Course.{Course}
+use Rattle.world_mem.specs.declared.course.Phase.{Phase}
+
+-- the world as it was at the first moment
+abbrev pub start_of : Course → Run
+start_of course = start (bytes_of course.given) course.began.value course.began_held.value
+
+-- the world as what was done left it
+abbrev pub run_of : Course → Run
+run_of course = run course.log.items (start_of course)
+
+-- the connection: how it stands, what was sent, the lines that were told in it, and how many bytes of them were received
+pub record Line : Type 0 where
+  pub phase : Phase
+  pub sent : List ℕ
+  pub lines : List ℕ
+  pub received : ℕ
+
+abbrev pub line_of : Course → Line
+line_of course = record { phase = course.phase; sent = course.sent.items; lines = course.lines.items; received = course.received }
+
+-- what was sent, and what was received
+abbrev pub had_in : Line → Connection
+had_in l = record { sent = l.sent; received = take l.received l.lines }
+
+-- these bytes were sent besides
+abbrev pub sending : List ℕ → Connection → Connection
+sending bytes c = record c { sent = c.sent ++ bytes }
+
+-- the connection as a link tells it
+abbrev pub told_line : Line → Option Connection
+told_line l = connection_in (is_on l.phase) l.sent l.lines l.received
+
+abbrev pub connection_of : Course → Option Connection
+connection_of course = told_line (line_of course)
+
+-- what waits to be received
+abbrev pub waits_in : Line → List ℕ
+waits_in l = if is_on l.phase then drop l.received l.lines else []

@@ -1,0 +1,51 @@
+-- What contracts see of a world in memory.
+use Rattle.std.specs.Prelude.{◌≡◌, ◌⊎◌, ℕ, Some, Result, IsErr}
+use Rattle.world_traits.specs.Counts.{CountsFailure}
+use Rattle.world_traits.specs.LinkState.{LinkState}
+use Rattle.world_traits.specs.Moments.{MayLeave}
+use Rattle.world_mem.specs.Image.{bytes_of}
+use Rattle.world_mem.specs.Memory.{run_of, connection_of}
+use Rattle.world_mem.specs.Planned.{Planned, IsStopped, loss_in}
+use Rattle.world_mem.specs.Seen.{run_seen}
+use Rattle.world_mem.specs.declared.course.Course.{Course}
+use Rattle.world_mem.specs.declared.mem_world.MemWorld.{MemWorld}
+use Rattle.world_mem.specs.declared.plan.Loss.{Loss}
+
+-- what it holds, and what was done
+abbrev pub course_of : MemWorld → Course
+course_of world = world.course
+
+-- its plan, and how many calls there were
+abbrev pub planned_of : MemWorld → Planned
+planned_of world = world.schedule
+
+-- how often it was refused room, its disk failed, and its link failed
+abbrev pub refused_of : MemWorld → ℕ
+refused_of world = world.refused
+
+abbrev pub disk_faults_of : MemWorld → ℕ
+disk_faults_of world = world.disk_faults
+
+abbrev pub link_faults_of : MemWorld → ℕ
+link_faults_of world = world.link_faults
+
+-- its link
+abbrev pub link_of : MemWorld → LinkState
+link_of world = record { faults = world.link_faults; connection = connection_of world.course }
+
+-- A call fails for this reason, and else exactly where it was refused room.
+pub record FailsExactly {T E : Type 0} (reason : Type 0) (result : Result T E) (before after : ℕ) : Type 0 where
+  pub planned : reason → IsErr result
+  pub others : (reason → ⊥) → CountsFailure result before after
+
+-- the last call was one of the link in which the connection is lost
+pub record IsLost (s : Planned) : Type 0 where
+  pub loss : Loss
+  pub is : loss_in s.plan.link_fails s.link ≡ Some loss
+
+abbrev pub LinkIsToFail : Planned → Type 0
+LinkIsToFail s = IsStopped s ⊎ IsLost s
+
+-- what it reads as is one of the images of its moment
+pub seen_sound : (course : Course) → MayLeave (run_of course).clock.now (run_of course).seen
+seen_sound course = run_seen course.log.items (bytes_of course.given) course.began.value course.began_held.value
