@@ -7,8 +7,65 @@ use super::{
 use std::alloc::AllocError;
 use std::test::Fail;
 
+// The calls stand in helpers that answer a plain value: what holds a set or a key at an assert is dear to prove.
+
 fn set(rt: &HostRuntime, text: &[u8]) -> Result<FlagSet, FlagFault> {
     FlagSet::read_list(rt.alloc(), text)
+}
+
+// Why a text is refused as a list.
+fn list_fault(rt: &HostRuntime, text: &[u8]) -> Option<FlagFault> {
+    FlagSet::read_list(rt.alloc(), text).err()
+}
+
+// Why a text is refused as a flag.
+fn fault_of(rt: &HostRuntime, text: &[u8]) -> Option<FlagFault> {
+    FlagKey::new(rt.alloc(), text).err()
+}
+
+// Why a text is refused as a flag that a user names.
+fn asked_fault(rt: &HostRuntime, text: &[u8]) -> Option<FlagFault> {
+    FlagKey::asked(rt.alloc(), text).err()
+}
+
+// Whether a key's copy is that key.
+fn is_copied(key: &FlagKey) -> bool {
+    match key.copy() {
+        Ok(copy) => copy == *key,
+        Err(_) => false,
+    }
+}
+
+// Whether a text is a flag with this key.
+fn is_key(rt: &HostRuntime, text: &[u8], key: &[u8], keyword: bool) -> bool {
+    match FlagKey::new(rt.alloc(), text) {
+        Ok(read) => { read.as_bytes() == key && read.is_keyword() == keyword && is_copied(&read) }
+        Err(_) => false,
+    }
+}
+
+// Whether a user names the flag of this key by a text.
+fn is_asked(rt: &HostRuntime, text: &[u8], key: &[u8]) -> bool {
+    match FlagKey::asked(rt.alloc(), text) {
+        Ok(read) => read.as_bytes() == key,
+        Err(_) => false,
+    }
+}
+
+// Whether a set is written as this text.
+fn is_text(flags: &FlagSet, text: &[u8]) -> bool {
+    match flags.text() {
+        Ok(written) => written.as_slice() == text,
+        Err(_) => false,
+    }
+}
+
+// Whether a list is read and then written as this text.
+fn is_read_as(rt: &HostRuntime, read: &[u8], written: &[u8]) -> bool {
+    match set(rt, read) {
+        Ok(flags) => is_text(&flags, written),
+        Err(_) => false,
+    }
 }
 
 #[test]
@@ -21,10 +78,7 @@ fn a_key_is_the_text_in_lower_case(rt: HostRuntime) -> Result<(), Fail> {
         (b"NonJunk-[1", b"nonjunk-[1", true),
     ];
     for (text, key, keyword) in rows {
-        let read = FlagKey::new(rt.alloc(), text)?;
-        assert_eq!(rt; read.as_bytes(), key);
-        assert_eq!(rt; read.is_keyword(), keyword);
-        assert!(rt; read.copy()? == read);
+        assert!(rt; is_key(&rt, text, key, keyword));
     }
     Ok(())
 }
@@ -46,13 +100,10 @@ fn a_flag_is_refused_at_the_first_byte_that_does_not_fit(rt: HostRuntime) -> Res
         (b"ab\xc3\xa9", 2),
     ];
     for (text, at) in rows {
+        let fault = Some(FlagFault::BadFlag { at });
         assert_eq!(rt;
-            FlagKey::new(rt.alloc(), text).err(),
-            Some(FlagFault::BadFlag { at })
-        );
-        assert_eq!(rt;
-            FlagKey::asked(rt.alloc(), text).err(),
-            Some(FlagFault::BadFlag { at })
+            (fault_of(&rt, text), asked_fault(&rt, text)),
+            (fault, fault)
         );
     }
     Ok(())
@@ -61,14 +112,13 @@ fn a_flag_is_refused_at_the_first_byte_that_does_not_fit(rt: HostRuntime) -> Res
 #[test]
 fn a_flag_has_at_most_255_bytes(rt: HostRuntime) -> Result<(), Fail> {
     let longest = [b'a'; MAX_FLAG];
-    assert_eq!(rt;
-        FlagKey::new(rt.alloc(), &longest)?.as_bytes(),
-        longest.as_slice()
+    assert!(rt; is_key(&rt, &longest, &longest, true));
+    let long = Some(FlagFault::TooLong { length: 256 });
+    assert!(rt;
+        fault_of(&rt, &[b'a'; 256]) == long
+            && asked_fault(&rt, &[b' '; 256]) == long
+            && list_fault(&rt, &[b'a'; 256]) == long
     );
-    let long = FlagFault::TooLong { length: 256 };
-    assert_eq!(rt; FlagKey::new(rt.alloc(), &[b'a'; 256]).err(), Some(long));
-    assert_eq!(rt; FlagKey::asked(rt.alloc(), &[b' '; 256]).err(), Some(long));
-    assert_eq!(rt; set(&rt, &[b'a'; 256]).err(), Some(long));
     Ok(())
 }
 
@@ -83,14 +133,11 @@ fn a_user_names_keywords_and_five_system_flags(rt: HostRuntime) -> Result<(), Fa
         (b"\\Draft", b"\\draft"),
     ];
     for (text, key) in rows {
-        assert_eq!(rt; FlagKey::asked(rt.alloc(), text)?.as_bytes(), key);
+        assert!(rt; is_asked(&rt, text, key));
     }
     let unknown: [&[u8]; 3] = [b"\\Recent", b"\\Seen2", b"\\x"];
     for text in unknown {
-        assert_eq!(rt;
-            FlagKey::asked(rt.alloc(), text).err(),
-            Some(FlagFault::BadFlag { at: 0 })
-        );
+        assert_eq!(rt; asked_fault(&rt, text), Some(FlagFault::BadFlag { at: 0 }));
     }
     Ok(())
 }
@@ -108,7 +155,7 @@ fn a_list_is_written_as_it_is_read(rt: HostRuntime) -> Result<(), Fail> {
         ),
     ];
     for (read, written) in rows {
-        assert_eq!(rt; set(&rt, read)?.text()?.as_slice(), written);
+        assert!(rt; is_read_as(&rt, read, written));
     }
     Ok(())
 }
@@ -125,107 +172,178 @@ fn the_first_flag_that_is_refused_is_told(rt: HostRuntime) -> Result<(), Fail> {
         (b"\\*", 1),
     ];
     for (text, at) in rows {
-        assert_eq!(rt; set(&rt, text).err(), Some(FlagFault::BadFlag { at }));
+        assert_eq!(rt; list_fault(&rt, text), Some(FlagFault::BadFlag { at }));
     }
     Ok(())
 }
 
-// So many flags of two letters or digits, one space between.
-fn many_flags(rt: &HostRuntime, count: usize) -> Result<Vec<u8>, AllocError> {
+// So many flags of two letters or digits, at most 1296, one space between, and then these bytes.
+fn many_flags(rt: &HostRuntime, count: usize, end: &[u8]) -> Result<Vec<u8>, AllocError> {
     let digits = b"abcdefghijklmnopqrstuvwxyz0123456789";
     let mut text = Vec::new(rt.alloc());
-    let mut made = 0;
-    for first in digits {
-        for second in digits {
-            if made < count {
-                if made > 0 {
-                    text.push(b' ')?;
-                }
-                text.push(*first)?;
-                text.push(*second)?;
-                made += 1;
-            }
-        }
+    for made in 0..count {
+        text.extend_from_slice(&[digits[made / 36 % 36], digits[made % 36], b' '])?;
     }
+    let _ = text.pop();
+    text.extend_from_slice(end)?;
     Ok(text)
+}
+
+// How many keys are read of a full list that ends so.
+fn keys_of_full(rt: &HostRuntime, end: &[u8]) -> Result<usize, FlagFault> {
+    let text = many_flags(rt, MAX_FLAGS, end)?;
+    match set(rt, &text) {
+        Ok(flags) => Ok(flags.len()),
+        Err(fault) => Err(fault),
+    }
 }
 
 #[test]
 fn a_list_has_at_most_1024_keys(rt: HostRuntime) -> Result<(), Fail> {
-    let mut full = many_flags(&rt, MAX_FLAGS)?;
-    full.extend_from_slice(b" AA \\Recent aB")?;
-    assert_eq!(rt; set(&rt, &full)?.len(), MAX_FLAGS);
-
-    let mut bad = many_flags(&rt, MAX_FLAGS)?;
-    bad.extend_from_slice(b" a( \\Seen")?;
-    assert_eq!(rt; set(&rt, &bad).err(), Some(FlagFault::BadFlag { at: 1 }));
-
-    let mut many = many_flags(&rt, MAX_FLAGS)?;
-    many.extend_from_slice(b" \\Seen a(")?;
-    assert_eq!(rt;
-        set(&rt, &many).err(),
-        Some(FlagFault::TooMany { count: 1025 })
-    );
+    let rows: [(&[u8], Result<usize, FlagFault>); 3] = [
+        (b" AA \\Recent aB", Ok(MAX_FLAGS)),
+        (b" a( \\Seen", Err(FlagFault::BadFlag { at: 1 })),
+        (b" \\Seen a(", Err(FlagFault::TooMany { count: 1025 })),
+    ];
+    for (end, read) in rows {
+        assert_eq!(rt; keys_of_full(&rt, end), read);
+    }
     Ok(())
+}
+
+// A set with one more key.
+fn with_key(set: FlagSet, key: FlagKey) -> Result<FlagSet, AllocError> {
+    let mut flags = set;
+    flags.add(key)?;
+    Ok(flags)
+}
+
+// The set of the one key that a user names.
+fn set_alone(rt: &HostRuntime, name: &[u8]) -> Result<FlagSet, FlagFault> {
+    let key = FlagKey::asked(rt.alloc(), name)?;
+    Ok(with_key(FlagSet::none(rt.alloc()), key)?)
+}
+
+#[test]
+fn a_key_is_added(rt: HostRuntime) -> Result<(), Fail> {
+    assert!(rt; FlagSet::none(rt.alloc()).is_empty());
+    assert!(rt; is_text(&set_alone(&rt, b"Work")?, b"work"));
+    Ok(())
+}
+
+// Whether a set that was made is written as this text.
+fn is_made(made: Result<FlagSet, AllocError>, text: &[u8]) -> bool {
+    match made {
+        Ok(flags) => is_text(&flags, text),
+        Err(_) => false,
+    }
+}
+
+// Whether a set's copy is that set.
+fn is_set_copied(flags: &FlagSet) -> bool {
+    match flags.copy() {
+        Ok(copy) => copy == *flags,
+        Err(_) => false,
+    }
+}
+
+// Whether `work` and `\Seen` make a set of both, from which `work` is taken again.
+fn are_joined(work: &FlagSet, seen: &FlagSet) -> bool {
+    match work.with(seen) {
+        Ok(both) => {
+            is_text(&both, b"\\Seen work")
+                && is_made(both.without(work), b"\\Seen")
+                && is_set_copied(&both)
+                && both != *work
+                && both.keys().len() == 2
+        }
+        Err(_) => false,
+    }
 }
 
 #[test]
 fn sets_are_joined_and_parted(rt: HostRuntime) -> Result<(), Fail> {
-    let mut flags = FlagSet::none(rt.alloc());
-    assert!(rt; flags.is_empty());
-    flags.add(FlagKey::asked(rt.alloc(), b"Work")?)?;
-    assert_eq!(rt; flags.text()?.as_slice(), b"work".as_slice());
-
-    let both = flags.with(&set(&rt, b"\\Seen")?)?;
-    assert_eq!(rt; both.text()?.as_slice(), b"\\Seen work".as_slice());
-    assert_eq!(rt;
-        both.without(&flags)?.text()?.as_slice(),
-        b"\\Seen".as_slice()
-    );
-    assert!(rt; both.copy()? == both);
-    assert!(rt; both != flags);
-    assert_eq!(rt; both.keys().len(), 2);
+    let work = set_alone(&rt, b"Work")?;
+    let seen = set(&rt, b"\\Seen")?;
+    assert!(rt; are_joined(&work, &seen));
     Ok(())
+}
+
+// The set of a key and `\Recent`, which no list would hold.
+fn with_recent(rt: &HostRuntime, name: &[u8]) -> Result<FlagSet, FlagFault> {
+    let recent = FlagKey::new(rt.alloc(), b"\\Recent")?;
+    Ok(with_key(set_alone(rt, name)?, recent)?)
 }
 
 #[test]
 fn a_recent_key_that_was_added_is_not_read_again(rt: HostRuntime) -> Result<(), Fail> {
-    let mut flags = set(&rt, b"a")?;
-    flags.add(FlagKey::new(rt.alloc(), b"\\Recent")?)?;
-    assert_eq!(rt; flags.text()?.as_slice(), b"\\recent a".as_slice());
-    assert!(rt; set(&rt, &flags.text()?)? == set(&rt, b"a")?);
+    let flags = with_recent(&rt, b"a")?;
+    assert!(rt; is_text(&flags, b"\\recent a") && is_read_as(&rt, b"\\recent a", b"a"));
     Ok(())
 }
 
-const NAMES: [&[u8]; 4] = [b"\\Seen", b"a", b"aa", b"b"];
+// Names with a bit for each, falling.
+const NAMES: [(u8, &[u8]); 4] = [(8, b"b"), (4, b"aa"), (2, b"a"), (1, b"\\Seen")];
 
-// The names whose places in `NAMES` the number has as bits.
+// Adds a name to a set.
+fn add_name(rt: &HostRuntime, flags: &mut FlagSet, name: &[u8]) -> Result<(), FlagFault> {
+    let key = FlagKey::new(rt.alloc(), name)?;
+    Ok(flags.add(key)?)
+}
+
+// The set of the names whose bits the number has.
 fn some_names(rt: &HostRuntime, bits: u8) -> Result<FlagSet, FlagFault> {
     let mut flags = FlagSet::none(rt.alloc());
-    for (at, name) in NAMES.iter().enumerate().rev() {
-        if bits >> at & 1 == 1 {
-            flags.add(FlagKey::new(rt.alloc(), name)?)?;
+    for (bit, name) in NAMES {
+        if bits & bit != 0 {
+            add_name(rt, &mut flags, name)?;
         }
     }
     Ok(flags)
+}
+
+// Whether a set that was made is that of these bits.
+fn is_of(rt: &HostRuntime, made: Result<FlagSet, AllocError>, bits: u8) -> bool {
+    match (made, some_names(rt, bits)) {
+        (Ok(made), Ok(expected)) => made == expected,
+        _ => false,
+    }
+}
+
+// Whether two sets answer as their bits do.
+fn answer_as(a: &FlagSet, b: &FlagSet, left: u8, right: u8) -> bool {
+    (*a == *b) == (left == right)
+        && a.holds_all(b) == (left & right == right)
+        && a.holds_none(b) == (left & right == 0)
+        && a.len() == left.count_ones() as usize
+}
+
+// Whether the sets of these bits do as their bits do.
+fn do_as(rt: &HostRuntime, left: u8, right: u8) -> bool {
+    match (some_names(rt, left), some_names(rt, right)) {
+        (Ok(a), Ok(b)) => {
+            answer_as(&a, &b, left, right)
+                && is_of(rt, a.with(&b), left | right)
+                && is_of(rt, a.without(&b), left & !right)
+        }
+        _ => false,
+    }
+}
+
+// Whether the set of these bits holds a name.
+fn holds_name(rt: &HostRuntime, bits: u8, name: &[u8]) -> Result<bool, FlagFault> {
+    let key = FlagKey::new(rt.alloc(), name)?;
+    Ok(some_names(rt, bits)?.holds(&key))
 }
 
 #[test]
 fn sets_do_as_their_bits_do(rt: HostRuntime) -> Result<(), Fail> {
     for left in 0..16u8 {
         for right in 0..16u8 {
-            let a = some_names(&rt, left)?;
-            let b = some_names(&rt, right)?;
-            assert_eq!(rt; a == b, left == right);
-            assert!(rt; a.with(&b)? == some_names(&rt, left | right)?);
-            assert!(rt; a.without(&b)? == some_names(&rt, left & !right)?);
-            assert_eq!(rt; a.holds_all(&b), left & right == right);
-            assert_eq!(rt; a.holds_none(&b), left & right == 0);
-            assert_eq!(rt; a.len(), left.count_ones() as usize);
+            assert!(rt; do_as(&rt, left, right), "of {left} and {right}");
         }
-        for (at, name) in NAMES.iter().enumerate() {
-            let key = FlagKey::new(rt.alloc(), name)?;
-            assert_eq!(rt; some_names(&rt, left)?.holds(&key), left >> at & 1 == 1);
+        for (bit, name) in NAMES {
+            assert_eq!(rt; holds_name(&rt, left, name), Ok(left & bit != 0));
         }
     }
     Ok(())
@@ -245,64 +363,116 @@ fn misfit_of(part: &[u8]) -> Option<usize> {
     if name == part.len() { Some(name) } else { None }
 }
 
+// The key of a part of a list, for texts of the letters below.
+fn key_of(rt: &HostRuntime, part: &[u8]) -> Result<FlagKey, FlagFault> {
+    match misfit_of(part) {
+        Some(at) => Err(FlagFault::BadFlag { at }),
+        None => FlagKey::new(rt.alloc(), part),
+    }
+}
+
+// How many spaces a text has.
+fn spaces_of(text: &[u8]) -> usize {
+    let mut spaces = 0usize;
+    for byte in text {
+        if *byte == b' ' {
+            spaces = spaces.saturating_add(1);
+        }
+    }
+    spaces
+}
+
 // Reads a list slowly: parts it at each space, passes over the empty parts inside, and keeps each key once.
 fn read_slowly(rt: &HostRuntime, text: &[u8]) -> Result<Vec<FlagKey>, FlagFault> {
     let mut keys: Vec<FlagKey> = Vec::new(rt.alloc());
-    let spaces = text.iter().filter(|byte| **byte == b' ').count();
+    let spaces = spaces_of(text);
     for (at, part) in text.split(|byte| *byte == b' ').enumerate() {
         if text.is_empty() || part.is_empty() && at != 0 && at != spaces {
             continue;
         }
-        if let Some(at) = misfit_of(part) {
-            return Err(FlagFault::BadFlag { at });
-        }
-        let key = FlagKey::new(rt.alloc(), part)?;
-        if !keys.contains(&key) {
-            keys.push(key).map_err(|_| FlagFault::Memory)?;
+        let key = key_of(rt, part)?;
+        if !keys.contains(&key) && keys.push(key).is_err() {
+            return Err(FlagFault::Memory);
         }
     }
     Ok(keys)
 }
 
+// Whether a set holds exactly these keys, which differ.
+fn has_exactly(flags: &FlagSet, keys: &[FlagKey]) -> bool {
+    for key in keys {
+        if !flags.holds(key) {
+            return false;
+        }
+    }
+    flags.len() == keys.len()
+}
+
+// Whether a list is read as the slow program reads it.
+fn is_read_alike(rt: &HostRuntime, text: &[u8]) -> bool {
+    match (read_slowly(rt, text), set(rt, text)) {
+        (Ok(keys), Ok(flags)) => has_exactly(&flags, &keys),
+        (Err(expected), Err(fault)) => fault == expected,
+        _ => false,
+    }
+}
+
+// The text of so many letters that a number stands for.
+fn small_text(rt: &HostRuntime, length: usize, number: u32) -> Result<Vec<u8>, AllocError> {
+    let letters = b"aB \\(";
+    let mut text = Vec::new(rt.alloc());
+    let mut left = number;
+    for _ in 0..length {
+        text.push(letters[left as usize % 5])?;
+        left /= 5;
+    }
+    Ok(text)
+}
+
 #[test]
 fn lists_are_read_as_a_slow_program_reads_them(rt: HostRuntime) -> Result<(), Fail> {
-    let letters = b"aB \\(";
     for (length, texts) in [(0, 1u32), (1, 5), (2, 25), (3, 125), (4, 625)] {
         for number in 0..texts {
-            let mut text = Vec::new(rt.alloc());
-            let mut left = number;
-            for _ in 0..length {
-                text.push(letters[left as usize % 5])?;
-                left /= 5;
-            }
-            match read_slowly(&rt, &text) {
-                Err(fault) => assert_eq!(rt; set(&rt, &text).err(), Some(fault)),
-                Ok(keys) => {
-                    let read = set(&rt, &text)?;
-                    assert_eq!(rt; read.len(), keys.len());
-                    assert!(rt; keys.iter().all(|key| read.holds(key)));
-                }
-            }
+            let text = small_text(&rt, length, number)?;
+            assert!(rt; is_read_alike(&rt, &text), "of {text:?}");
         }
     }
     Ok(())
 }
 
+// Whether permanent flags are read as this list, with or without the star.
+fn is_permanent(rt: &HostRuntime, text: &[u8], list: &[u8], star: bool) -> bool {
+    match (read_permanent(rt.alloc(), text), set(rt, list)) {
+        (Ok((read, any)), Ok(flags)) => {
+            any == star && read == flags && read.is_empty() == list.is_empty()
+        }
+        _ => false,
+    }
+}
+
 #[test]
 fn a_star_stands_anywhere_among_permanent_flags(rt: HostRuntime) -> Result<(), Fail> {
-    let (flags, any) = read_permanent(rt.alloc(), b"\\* \\Seen \\*  Work")?;
-    assert!(rt; any && flags == set(&rt, b"work \\SEEN")?);
-    let (flags, any) = read_permanent(rt.alloc(), b"")?;
-    assert!(rt; !any && flags.is_empty());
+    assert!(rt; is_permanent(&rt, b"\\* \\Seen \\*  Work", b"work \\SEEN", true));
+    assert!(rt; is_permanent(&rt, b"", b"", false));
     Ok(())
 }
 
 #[test]
 fn a_list_is_well_formed_whatever_its_size(rt: HostRuntime) -> Result<(), Fail> {
-    let long = [b'a'; MAX_FLAG + 1];
-    assert!(rt; is_flag_list(&long) && is_permanent_list(&long));
-    assert!(rt; is_flag_list(b"\\Seen  a[b") && !is_flag_list(b"\\Seen \\*"));
-    assert!(rt; is_permanent_list(b"\\Seen \\*") && !is_permanent_list(b"\\*a"));
-    assert!(rt; is_flag_list(b"") && !is_flag_list(b" a") && !is_permanent_list(b"a "));
+    let rows: [(&[u8], bool, bool); 7] = [
+        (&[b'a'; MAX_FLAG + 1], true, true),
+        (b"\\Seen  a[b", true, true),
+        (b"\\Seen \\*", false, true),
+        (b"\\*a", false, false),
+        (b"", true, true),
+        (b" a", false, false),
+        (b"a ", false, false),
+    ];
+    for (text, flags, permanent) in rows {
+        assert_eq!(rt;
+            (is_flag_list(text), is_permanent_list(text)),
+            (flags, permanent)
+        );
+    }
     Ok(())
 }

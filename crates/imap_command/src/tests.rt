@@ -3,106 +3,131 @@
 use crate::{astring, write};
 use flag_set::FlagSet;
 use imap_model::{Command, Mark};
-use mail_base::{Account, BoxName, Bytes, ModSeq, NameFault, Tag, Validity};
-use std::alloc::AllocError;
+use mail_base::{Account, BoxName, Bytes, ModSeq, Tag, Validity};
+use std::alloc::{AllocError, Global};
 use std::test::Fail;
 use uid_sets::{Uid, UidSet};
 
-// Whether a command can be written, and is written in these parts.
-fn says(
-    rt: &HostRuntime,
-    tag: Tag,
-    command: &Command,
-    wanted: &[&[u8]],
-) -> Result<bool, AllocError> {
-    if !command.is_writable(tag) {
-        return Ok(false);
-    }
-    let parts = write(rt.alloc(), tag, command)?;
+// Whether these are the parts.
+fn are_parts(parts: &[Bytes], wanted: &[&[u8]]) -> bool {
     let mut same = parts.len() == wanted.len();
-    for (part, text) in parts.as_slice().iter().zip(wanted) {
+    for (part, text) in parts.iter().zip(wanted) {
         same = same && part.as_slice() == *text;
     }
-    Ok(same)
+    same
 }
 
-fn uid(number: u32) -> Result<Uid, Fail> {
-    Ok(Uid::new(number).ok_or("a UID of 0")?)
+// Whether a command can be written, and is written in these parts.
+fn is_said(alloc: Global, tag: Tag, command: &Command, wanted: &[&[u8]]) -> bool {
+    if !command.is_writable(tag) {
+        return false;
+    }
+    match write(alloc, tag, command) {
+        Ok(parts) => are_parts(parts.as_slice(), wanted),
+        Err(_) => false,
+    }
 }
 
-// What is known of a mailbox since a mod-sequence.
-fn mark(validity: u32, modseq: u64) -> Result<Mark, Fail> {
-    Ok(Mark {
-        validity: Validity::new(validity).ok_or("a validity of 0")?,
-        modseq: ModSeq::new(modseq).ok_or("no mod-sequence")?,
-    })
+// The same of a command that could be made.
+fn says(alloc: Global, tag: Tag, command: Option<Command>, wanted: &[&[u8]]) -> bool {
+    match command {
+        Some(command) => is_said(alloc, tag, &command, wanted),
+        None => false,
+    }
 }
 
-fn select(name: &[u8], since: Option<Mark>) -> Result<Command, NameFault> {
-    let name = BoxName::new(name)?;
-    Ok(Command::Select { name, since })
+// What is known of a mailbox since mod-sequence 715.
+fn mark() -> Option<Mark> {
+    let validity = Validity::new(5)?;
+    let modseq = ModSeq::new(715)?;
+    Some(Mark { validity, modseq })
 }
 
-fn search(rt: &HostRuntime, id: &[u8]) -> Result<Command, Fail> {
-    Ok(Command::Search {
-        from: uid(7)?,
-        id: Bytes::of(id.to_vec(rt.alloc())?),
-    })
+fn login(alloc: Global, password: &str) -> Option<Command> {
+    let account = Account::new(alloc, "ann", password).ok()?;
+    Some(Command::Login { account })
 }
 
-fn store(rt: &HostRuntime, add: bool) -> Result<Command, Fail> {
-    Ok(Command::Store {
-        uid: uid(42)?,
-        since: mark(5, 715)?.modseq,
+fn plain(alloc: Global, password: &str) -> Option<Command> {
+    let account = Account::new(alloc, "ann", password).ok()?;
+    Some(Command::Plain { account })
+}
+
+fn select(name: &[u8], since: Option<Mark>) -> Option<Command> {
+    let name = BoxName::new(name).ok()?;
+    Some(Command::Select { name, since })
+}
+
+fn fetch_row(number: u32) -> Option<Command> {
+    let uid = Uid::new(number)?;
+    Some(Command::FetchRow { uid })
+}
+
+fn fetch_ids(alloc: Global, uids: &[u8]) -> Option<Command> {
+    let uids = UidSet::read(alloc, uids).ok()?;
+    Some(Command::FetchIds { uids })
+}
+
+fn search(alloc: Global, id: &[u8]) -> Option<Command> {
+    let from = Uid::new(7)?;
+    let id = Bytes::of(id.to_vec(alloc).ok()?);
+    Some(Command::Search { from, id })
+}
+
+fn store(alloc: Global, add: bool) -> Option<Command> {
+    let uid = Uid::new(42)?;
+    let since = ModSeq::new(715)?;
+    let flags = FlagSet::read_list(alloc, b"\\Seen $Work").ok()?;
+    Some(Command::Store {
+        uid,
+        since,
         add,
-        flags: FlagSet::read_list(rt.alloc(), b"\\Seen $Work")?,
+        flags,
     })
 }
 
-fn append(rt: &HostRuntime, to: &[u8], flags: &[u8], text: &[u8]) -> Result<Command, Fail> {
-    Ok(Command::Append {
-        to: BoxName::new(to)?,
-        flags: FlagSet::read_list(rt.alloc(), flags)?,
-        text: Bytes::of(text.to_vec(rt.alloc())?),
-    })
+fn shift(to: &[u8]) -> Option<Command> {
+    let uid = Uid::new(42)?;
+    let to = BoxName::new(to).ok()?;
+    Some(Command::Shift { uid, to })
+}
+
+fn append(alloc: Global, to: &[u8], flags: &[u8], text: &[u8]) -> Option<Command> {
+    let to = BoxName::new(to).ok()?;
+    let flags = FlagSet::read_list(alloc, flags).ok()?;
+    let text = Bytes::of(text.to_vec(alloc).ok()?);
+    Some(Command::Append { to, flags, text })
+}
+
+// A copy of a command.
+fn copy_of(command: Option<Command>) -> Option<Command> {
+    match command {
+        Some(command) => command.copy().ok(),
+        None => None,
+    }
 }
 
 #[test]
 fn a_connection_begins(rt: HostRuntime) -> Result<(), Fail> {
-    let account = Account::new(rt.alloc(), "ann", "p w")?;
-    let login = Command::Login { account };
+    let capability: [&[u8]; 1] = [b"C1 CAPABILITY\r\n"];
+    let both: [&[u8]; 1] = [b"C3 ENABLE IMAP4rev2 QRESYNC\r\n"];
+    let one: [&[u8]; 1] = [b"C4 ENABLE QRESYNC\r\n"];
+    let logout: [&[u8]; 1] = [b"C4294967295 LOGOUT\r\n"];
+    let alloc = rt.alloc();
     assert!(rt;
-        says(
-            &rt,
-            Tag::Count(1),
-            &Command::Capability,
-            &[b"C1 CAPABILITY\r\n"]
-        )?
+        is_said(alloc, Tag::Count(1), &Command::Capability, &capability)
+            && is_said(alloc, Tag::Count(3), &Command::Enable { rev2: true }, &both)
+            && is_said(alloc, Tag::Count(4), &Command::Enable { rev2: false }, &one)
+            && is_said(alloc, Tag::Count(4294967295), &Command::Logout, &logout)
     );
-    assert!(rt; says(&rt, Tag::Count(2), &login, &[b"C2 LOGIN ann \"p w\"\r\n"])?);
+    let command = login(rt.alloc(), "p w");
     assert!(rt;
         says(
-            &rt,
-            Tag::Count(3),
-            &Command::Enable { rev2: true },
-            &[b"C3 ENABLE IMAP4rev2 QRESYNC\r\n"]
-        )?
-    );
-    assert!(rt;
-        says(
-            &rt,
-            Tag::Count(4),
-            &Command::Enable { rev2: false },
-            &[b"C4 ENABLE QRESYNC\r\n"]
-        )?
-    );
-    assert!(rt;
-        says(
-            &rt,
-            Tag::Count(4294967295),
-            &Command::Logout,
-            &[b"C4294967295 LOGOUT\r\n"]
-        )?
+            rt.alloc(),
+            Tag::Count(2),
+            command,
+            &[b"C2 LOGIN ann \"p w\"\r\n"]
+        )
     );
     Ok(())
 }
@@ -110,54 +135,68 @@ fn a_connection_begins(rt: HostRuntime) -> Result<(), Fail> {
 // The base64 text was made by another program.
 #[test]
 fn the_plain_response_is_a_part_of_its_own(rt: HostRuntime) -> Result<(), Fail> {
-    let account = Account::new(rt.alloc(), "ann", "pw")?;
     let wanted: [&[u8]; 2] = [b"C2 AUTHENTICATE PLAIN\r\n", b"AGFubgBwdw==\r\n"];
-    assert!(rt; says(&rt, Tag::Count(2), &Command::Plain { account }, &wanted)?);
+    let command = plain(rt.alloc(), "pw");
+    assert!(rt; says(rt.alloc(), Tag::Count(2), command, &wanted));
     Ok(())
 }
 
 #[test]
 fn a_mailbox_is_selected(rt: HostRuntime) -> Result<(), Fail> {
-    let first = select(b"inbox", None)?;
-    assert!(rt; says(&rt, Tag::Count(5), &first, &[b"C5 SELECT INBOX\r\n"])?);
-    let later = select(b"Sent Items", Some(mark(5, 715)?))?;
-    let wanted: [&[u8]; 1] = [b"C5 SELECT \"Sent Items\" (QRESYNC (5 715))\r\n"];
-    assert!(rt; says(&rt, Tag::Count(5), &later, &wanted)?);
+    let later: [&[u8]; 1] = [b"C5 SELECT \"Sent Items\" (QRESYNC (5 715))\r\n"];
+    assert!(rt;
+        says(
+            rt.alloc(),
+            Tag::Count(5),
+            select(b"inbox", None),
+            &[b"C5 SELECT INBOX\r\n"]
+        ) && mark().is_some()
+            && says(
+                rt.alloc(),
+                Tag::Count(5),
+                select(b"Sent Items", mark()),
+                &later
+            )
+    );
     Ok(())
 }
 
 #[test]
 fn rows_are_fetched(rt: HostRuntime) -> Result<(), Fail> {
     let all: [&[u8]; 1] = [b"C6 UID FETCH 1:* (UID FLAGS MODSEQ)\r\n"];
-    assert!(rt; says(&rt, Tag::Count(6), &Command::FetchAll, &all)?);
-    let row = Command::FetchRow { uid: uid(42)? };
+    let row: [&[u8]; 1] = [b"C7 UID FETCH 42 (UID FLAGS MODSEQ)\r\n"];
     assert!(rt;
-        says(
-            &rt,
-            Tag::Count(7),
-            &row,
-            &[b"C7 UID FETCH 42 (UID FLAGS MODSEQ)\r\n"]
-        )?
+        says(rt.alloc(), Tag::Count(6), Some(Command::FetchAll), &all)
+            && says(rt.alloc(), Tag::Count(7), fetch_row(42), &row)
     );
     Ok(())
 }
 
 #[test]
 fn identifiers_are_fetched(rt: HostRuntime) -> Result<(), Fail> {
-    let uids = UidSet::read(rt.alloc(), b"7,9:11")?;
     let wanted: [&[u8]; 1] = [
         b"C9 UID FETCH 7,9:11 (UID BODY.PEEK[HEADER.FIELDS (MESSAGE-ID)])\r\n",
     ];
-    assert!(rt; says(&rt, Tag::Count(9), &Command::FetchIds { uids }, &wanted)?);
+    let command = fetch_ids(rt.alloc(), b"7,9:11");
+    assert!(rt; says(rt.alloc(), Tag::Count(9), command, &wanted));
     Ok(())
 }
 
 #[test]
 fn an_identifier_is_searched_for(rt: HostRuntime) -> Result<(), Fail> {
-    let plain: [&[u8]; 1] = [b"C7 UID SEARCH UID 7:* HEADER Message-ID <a1@x>\r\n"];
-    assert!(rt; says(&rt, Tag::Count(7), &search(&rt, b"<a1@x>")?, &plain)?);
-    let escaped: [&[u8]; 1] = [b"C8 UID SEARCH UID 7:* HEADER Message-ID \"<a\\\\\\\"b@x>\"\r\n"];
-    assert!(rt; says(&rt, Tag::Count(8), &search(&rt, b"<a\\\"b@x>")?, &escaped)?);
+    let rows: [(&[u8], &[u8]); 2] = [
+        (
+            b"<a1@x>",
+            b"C7 UID SEARCH UID 7:* HEADER Message-ID <a1@x>\r\n",
+        ),
+        (
+            b"<a\\\"b@x>",
+            b"C7 UID SEARCH UID 7:* HEADER Message-ID \"<a\\\\\\\"b@x>\"\r\n",
+        ),
+    ];
+    for (id, text) in rows {
+        assert!(rt; says(rt.alloc(), Tag::Count(7), search(rt.alloc(), id), &[text]));
+    }
     Ok(())
 }
 
@@ -167,64 +206,113 @@ fn an_identifier_of_eight_bits_is_a_literal(rt: HostRuntime) -> Result<(), Fail>
         b"C8 UID SEARCH UID 7:* HEADER Message-ID {6}\r\n",
         b"<\xc3\xa9@x>\r\n",
     ];
-    assert!(rt; says(&rt, Tag::Count(8), &search(&rt, b"<\xc3\xa9@x>")?, &wanted)?);
+    let command = search(rt.alloc(), b"<\xc3\xa9@x>");
+    assert!(rt; says(rt.alloc(), Tag::Count(8), command, &wanted));
     Ok(())
 }
 
 #[test]
 fn flags_are_added_or_taken_away(rt: HostRuntime) -> Result<(), Fail> {
-    let added: [&[u8]; 1] = [b"P1 UID STORE 42 (UNCHANGEDSINCE 715) +FLAGS ($work \\Seen)\r\n"];
-    assert!(rt; says(&rt, Tag::Play(1), &store(&rt, true)?, &added)?);
-    let taken: [&[u8]; 1] = [b"P2 UID STORE 42 (UNCHANGEDSINCE 715) -FLAGS ($work \\Seen)\r\n"];
-    assert!(rt; says(&rt, Tag::Play(2), &store(&rt, false)?, &taken)?);
+    let rows: [(bool, &[u8]); 2] = [
+        (
+            true,
+            b"P1 UID STORE 42 (UNCHANGEDSINCE 715) +FLAGS ($work \\Seen)\r\n",
+        ),
+        (
+            false,
+            b"P1 UID STORE 42 (UNCHANGEDSINCE 715) -FLAGS ($work \\Seen)\r\n",
+        ),
+    ];
+    for (add, text) in rows {
+        assert!(rt; says(rt.alloc(), Tag::Play(1), store(rt.alloc(), add), &[text]));
+    }
     Ok(())
 }
 
 #[test]
 fn a_message_is_moved(rt: HostRuntime) -> Result<(), Fail> {
-    let shift = Command::Shift {
-        uid: uid(42)?,
-        to: BoxName::new(b"Archive")?,
-    };
-    assert!(rt; says(&rt, Tag::Play(3), &shift, &[b"P3 UID MOVE 42 Archive\r\n"])?);
-    assert!(rt; shift.is_mutating() && !Command::FetchAll.is_mutating());
+    assert!(rt;
+        says(
+            rt.alloc(),
+            Tag::Play(3),
+            shift(b"Archive"),
+            &[b"P3 UID MOVE 42 Archive\r\n"]
+        )
+    );
+    Ok(())
+}
+
+fn is_mutating(command: Option<Command>) -> bool {
+    match command {
+        Some(command) => command.is_mutating(),
+        None => false,
+    }
+}
+
+#[test]
+fn a_move_changes_a_mailbox_and_a_fetch_does_not(rt: HostRuntime) -> Result<(), Fail> {
+    assert!(rt; is_mutating(shift(b"Archive")) && !Command::FetchAll.is_mutating());
     Ok(())
 }
 
 #[test]
 fn a_message_is_appended_in_two_parts(rt: HostRuntime) -> Result<(), Fail> {
-    let bare = append(&rt, b"INBOX", b"", b"a\r\n")?;
-    assert!(rt;
-        says(
-            &rt,
-            Tag::Play(4),
-            &bare,
-            &[b"P4 APPEND INBOX () {3}\r\n", b"a\r\n\r\n"]
-        )?
-    );
-    let flagged = append(&rt, b"a b", b"\\Seen", b"")?.copy()?;
-    let wanted: [&[u8]; 2] = [b"P5 APPEND \"a b\" (\\Seen) {0}\r\n", b"\r\n"];
-    assert!(rt; says(&rt, Tag::Play(5), &flagged, &wanted)?);
+    let bare: [&[u8]; 2] = [b"P4 APPEND INBOX () {3}\r\n", b"a\r\n\r\n"];
+    let command = append(rt.alloc(), b"INBOX", b"", b"a\r\n");
+    assert!(rt; says(rt.alloc(), Tag::Play(4), command, &bare));
+    let flagged: [&[u8]; 2] = [b"P5 APPEND \"a b\" (\\Seen) {0}\r\n", b"\r\n"];
+    let command = copy_of(append(rt.alloc(), b"a b", b"\\Seen", b""));
+    assert!(rt; says(rt.alloc(), Tag::Play(5), command, &flagged));
     Ok(())
+}
+
+// Whether a command is there, and can be sent under a tag.
+fn is_writable(command: Option<Command>, tag: Tag) -> Option<bool> {
+    match command {
+        Some(command) => Some(command.is_writable(tag)),
+        None => None,
+    }
 }
 
 #[test]
 fn what_no_text_can_carry_is_not_writable(rt: HostRuntime) -> Result<(), Fail> {
-    let nul = search(&rt, b"<a\0@x>")?;
-    assert!(rt; !nul.is_writable(Tag::Count(1)));
-    assert!(rt; !Command::Logout.is_writable(Tag::Count(0)));
-    assert!(rt; !Command::Logout.is_writable(Tag::Play(0)));
-    assert!(rt; !Command::Logout.is_writable(Tag::Strange));
-    assert!(rt; Command::Logout.is_writable(Tag::Play(1)));
+    let nul = search(rt.alloc(), b"<a\0@x>");
+    assert_eq!(rt; is_writable(nul, Tag::Count(1)), Some(false));
+    for (tag, can) in [
+        (Tag::Count(0), false),
+        (Tag::Play(0), false),
+        (Tag::Strange, false),
+        (Tag::Play(1), true),
+    ] {
+        assert_eq!(rt; Command::Logout.is_writable(tag), can);
+    }
     Ok(())
 }
 
 // A text as an argument, and nothing where it holds a NUL.
-fn argument(rt: &HostRuntime, text: &[u8]) -> Result<Vec<u8>, AllocError> {
+fn argument(alloc: Global, text: &[u8]) -> Result<Vec<u8>, AllocError> {
     if text.contains(&0) {
-        return Ok(Vec::new(rt.alloc()));
+        return Ok(Vec::new(alloc));
     }
-    astring(rt.alloc(), text)
+    astring(alloc, text)
+}
+
+// Whether a text is this argument.
+fn is_argument(alloc: Global, text: &[u8], wanted: &[u8]) -> bool {
+    match argument(alloc, text) {
+        Ok(written) => written.as_slice() == wanted,
+        Err(_) => false,
+    }
+}
+
+// Whether its argument has so many bytes, begins so, and ends so.
+fn is_long(alloc: Global, text: &[u8], size: usize, front: &[u8], end: &[u8]) -> bool {
+    match argument(alloc, text) {
+        Ok(written) => {
+            written.len() == size && written.starts_with(front) && written.ends_with(end)
+        }
+        Err(_) => false,
+    }
 }
 
 #[test]
@@ -241,18 +329,16 @@ fn a_text_is_bare_or_quoted_or_counted(rt: HostRuntime) -> Result<(), Fail> {
         (b"a\nb", b"{3}\r\na\nb"),
     ];
     for (text, wanted) in rows {
-        let written = argument(&rt, text)?;
-        assert_eq!(rt; written.as_slice(), wanted);
+        assert!(rt; is_argument(rt.alloc(), text, wanted));
     }
     Ok(())
 }
 
 #[test]
 fn a_long_text_keeps_each_byte(rt: HostRuntime) -> Result<(), Fail> {
-    let quoted = argument(&rt, &[b'\\'; 512])?;
-    let counted = argument(&rt, &[0xe9; 512])?;
-    assert!(rt; quoted.len() == 1026 && quoted.ends_with(b"\\\\\""));
-    assert!(rt; counted.starts_with(b"{512}\r\n\xe9"));
-    assert_eq!(rt; counted.len(), 519);
+    assert!(rt;
+        is_long(rt.alloc(), &[b'\\'; 512], 1026, b"\"\\", b"\\\\\"")
+            && is_long(rt.alloc(), &[0xe9; 512], 519, b"{512}\r\n\xe9", b"\xe9")
+    );
     Ok(())
 }

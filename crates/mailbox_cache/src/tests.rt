@@ -8,72 +8,86 @@ use std::alloc::Global;
 use std::test::Fail;
 use uid_sets::{Uid, UidSet};
 
-// A delta of validity 9 that tells no rows. None where a number is none.
-fn bare(alloc: Global, whole: bool, vanished: &[u8], highest: u64) -> Result<Option<Delta>, Fail> {
-    let (Some(validity), Some(highest), Some(uidnext)) = (
-        Validity::new(9),
-        ModSeq::new(highest),
-        Uid::new(50),
-    ) else {
-        return Ok(None);
-    };
-    let vanished = if vanished.is_empty() {
-        UidSet::none(alloc)
-    } else {
-        UidSet::read(alloc, vanished)?
-    };
-    let rows = List::new(alloc);
-    Ok(Some(Delta {
+// A delta of validity 9 that tells no rows. None where a number is none, or for want of memory.
+fn bare(alloc: Global, whole: bool, vanished: &[u8], highest: u64) -> Option<Delta> {
+    let validity = Validity::new(9)?;
+    let highest = ModSeq::new(highest)?;
+    let uidnext = Uid::new(50)?;
+    let vanished = set_of(alloc, vanished)?;
+    Some(Delta {
         whole,
         validity,
         highest,
         uidnext,
         vanished,
-        rows,
-    }))
+        rows: List::new(alloc),
+    })
 }
 
-// The delta with one more row. None where it isn't one.
-fn with(
-    alloc: Global,
-    delta: Option<Delta>,
-    uid: u32,
-    modseq: u64,
-    seen: bool,
-) -> Result<Option<Delta>, Fail> {
-    let (Some(mut delta), Some(uid), Some(modseq)) = (delta, Uid::new(uid), ModSeq::new(modseq))
-    else {
-        return Ok(None);
-    };
-    if uid.number() <= delta.last_uid() || has_uid(&delta.vanished, uid) {
-        return Ok(None);
+fn set_of(alloc: Global, text: &[u8]) -> Option<UidSet> {
+    if text.is_empty() {
+        return Some(UidSet::none(alloc));
     }
+    UidSet::read(alloc, text).ok()
+}
+
+fn flags_of(alloc: Global, seen: bool) -> Option<FlagSet> {
     let mut flags = FlagSet::none(alloc);
     if seen {
-        flags.add(FlagKey::new(alloc, b"\\Seen")?)?;
+        flags.add(FlagKey::new(alloc, b"\\Seen").ok()?).ok()?;
     }
-    delta.push(uid, Row { flags, modseq })?;
-    Ok(Some(delta))
+    Some(flags)
 }
 
-// A delta with a row for each of two UIDs, of which the second is seen.
-fn two(
+// Adds a row with the delta's own mod-sequence. None where it isn't one.
+fn put(alloc: Global, delta: &mut Delta, uid: u32, seen: bool) -> Option<()> {
+    let uid = Uid::new(uid)?;
+    if uid.number() <= delta.last_uid() || has_uid(&delta.vanished, uid) {
+        return None;
+    }
+    let row = Row {
+        flags: flags_of(alloc, seen)?,
+        modseq: delta.highest,
+    };
+    delta.push(uid, row).ok()
+}
+
+// A delta with these rows, each with its UID and whether it is seen, which all have the highest mod-sequence.
+fn delta(
     alloc: Global,
-    delta: Option<Delta>,
-    modseq: u64,
-    low: u32,
-    high: u32,
-) -> Result<Option<Delta>, Fail> {
-    let delta = with(alloc, delta, low, modseq, false)?;
-    with(alloc, delta, high, modseq, true)
+    whole: bool,
+    vanished: &[u8],
+    highest: u64,
+    rows: &[(u32, bool)],
+) -> Option<Delta> {
+    let mut delta = bare(alloc, whole, vanished, highest)?;
+    for (uid, seen) in rows {
+        put(alloc, &mut delta, *uid, *seen)?;
+    }
+    Some(delta)
 }
 
-// The first cache of a delta with two rows.
-fn first(alloc: Global, low: u32, high: u32) -> Result<Option<Cache>, Fail> {
-    match two(alloc, bare(alloc, true, b"", 7)?, 7, low, high)? {
-        Some(delta) if delta.whole => Ok(Some(Cache::first(alloc, &delta)?)),
-        _ => Ok(None),
+// A first delta with messages 40 and 42, of which the second is seen.
+fn first_delta(alloc: Global) -> Option<Delta> {
+    delta(alloc, true, b"", 7, &[(40, false), (42, true)])
+}
+
+// Its cache.
+fn first(alloc: Global) -> Option<Cache> {
+    let delta = first_delta(alloc)?;
+    if !delta.whole {
+        return None;
     }
+    Cache::first(alloc, &delta).ok()
+}
+
+// The same, of a delta that is given up.
+fn moved(alloc: Global) -> Option<Cache> {
+    let delta = first_delta(alloc)?;
+    if !delta.whole {
+        return None;
+    }
+    Cache::of(alloc, delta).ok()
 }
 
 // Whether the cache has this UID, with this mod-sequence and so many flags.
@@ -87,67 +101,125 @@ fn has(cache: &Cache, uid: u32, modseq: u64, flags: usize) -> bool {
     }
 }
 
-// The cache after a delta. None where it may not be applied.
-fn after(alloc: Global, cache: &Cache, delta: Option<Delta>) -> Result<Option<Cache>, Fail> {
-    let Some(delta) = delta else {
-        return Ok(None);
-    };
-    if delta.whole || delta.validity != cache.validity || delta.highest < cache.highest {
-        return Ok(None);
+// Whether the cache has this highest mod-sequence and these rows alone, each with its UID, its mod-sequence, and the
+// number of its flags.
+fn is(cache: &Cache, highest: u64, rows: &[(u32, u64, usize)]) -> bool {
+    for (uid, modseq, flags) in rows {
+        if !has(cache, *uid, *modseq, *flags) {
+            return false;
+        }
     }
-    Ok(Some(cache.apply(alloc, &delta)?))
+    cache.rows.as_map().len() == rows.len() && cache.highest.number() == highest
+}
+
+fn is_first(cache: &Cache) -> bool {
+    is(cache, 7, &[(40, 7, 0), (42, 7, 1)])
+}
+
+// The cache after a delta. None where it may not be applied.
+fn after(alloc: Global, cache: &Cache, delta: Delta) -> Option<Cache> {
+    if delta.whole || delta.validity != cache.validity || delta.highest < cache.highest {
+        return None;
+    }
+    cache.apply(alloc, &delta).ok()
+}
+
+// The same, where both are given up.
+fn moved_after(cache: Cache, delta: Delta) -> Option<Cache> {
+    if delta.whole || delta.validity != cache.validity || delta.highest < cache.highest {
+        return None;
+    }
+    cache.after(delta).ok()
+}
+
+// Whether a row that vanished goes, and a new one comes. This and the later ones are None where a step isn't taken.
+fn goes_and_comes(alloc: Global) -> Option<bool> {
+    let first = first(alloc)?;
+    let later = after(
+        alloc,
+        &first,
+        delta(alloc, false, b"42", 9, &[(44, false)])?,
+    )?;
+    Some(is_first(&first) && is(&later, 9, &[(40, 7, 0), (44, 9, 0)]))
 }
 
 #[test]
 fn a_vanished_row_goes_and_a_new_one_comes(rt: HostRuntime) -> Result<(), Fail> {
-    let alloc = rt.alloc();
-    let first = first(alloc, 40, 42)?.expect(&rt, "a cache");
-    assert!(rt; has(&first, 40, 7, 0) && has(&first, 42, 7, 1));
-    let told = with(alloc, bare(alloc, false, b"42", 9)?, 44, 9, false)?;
-    let later = after(alloc, &first, told)?.expect(&rt, "a cache");
-    assert!(rt; has(&later, 40, 7, 0) && has(&later, 44, 9, 0));
-    assert_eq!(rt; later.rows.as_map().len(), 2);
-    assert_eq!(rt; later.highest.number(), 9);
+    assert_eq!(rt; goes_and_comes(rt.alloc()), Some(true));
     Ok(())
+}
+
+fn takes_the_place(alloc: Global) -> Option<bool> {
+    let told = delta(alloc, false, b"", 9, &[(30, false), (40, true)])?;
+    let later = after(alloc, &first(alloc)?, told)?;
+    let emptied = after(alloc, &later, bare(alloc, false, b"1:4294967295", 9)?)?;
+    Some(is(&later, 9, &[(30, 9, 0), (40, 9, 1), (42, 7, 1)]) && is(&emptied, 9, &[]))
 }
 
 #[test]
 fn a_told_row_takes_the_place_of_an_old_one(rt: HostRuntime) -> Result<(), Fail> {
-    let alloc = rt.alloc();
-    let first = first(alloc, 40, 42)?.expect(&rt, "a cache");
-    let told = two(alloc, bare(alloc, false, b"", 9)?, 9, 30, 40)?;
-    let later = after(alloc, &first, told)?.expect(&rt, "a cache");
-    assert!(rt; has(&later, 30, 9, 0) && has(&later, 40, 9, 1) && has(&later, 42, 7, 1));
-    let emptied = after(alloc, &later, bare(alloc, false, b"1:4294967295", 9)?)?;
-    assert_eq!(rt; emptied.expect(&rt, "a cache").rows.as_map().len(), 0);
+    assert_eq!(rt; takes_the_place(rt.alloc()), Some(true));
     Ok(())
+}
+
+// Whether the first cache of a delta that is given up has its rows.
+fn is_moved(alloc: Global) -> Option<bool> {
+    Some(is_first(&moved(alloc)?))
+}
+
+// Whether this cache has the rows of the two deltas that were given up.
+fn is_moved_on(cache: &Cache) -> bool {
+    is(cache, 9, &[(40, 9, 0), (44, 9, 1)])
+}
+
+// Whether rows are there after a delta, and after another one without rows.
+fn is_moved_twice(alloc: Global) -> Option<bool> {
+    let told = delta(alloc, false, b"42", 9, &[(40, false), (44, true)])?;
+    let later = moved_after(moved(alloc)?, told)?;
+    if !is_moved_on(&later) {
+        return Some(false);
+    }
+    let last = moved_after(later, bare(alloc, false, b"", 9)?)?;
+    Some(is_moved_on(&last))
+}
+
+#[test]
+fn rows_are_moved_where_cache_and_delta_are_given_up(rt: HostRuntime) -> Result<(), Fail> {
+    assert_eq!(rt; is_moved(rt.alloc()), Some(true));
+    assert_eq!(rt; is_moved_twice(rt.alloc()), Some(true));
+    Ok(())
+}
+
+// Whether a copy of the first cache is the same after a copy of a delta that tells nothing.
+fn changes_nothing(alloc: Global) -> Option<bool> {
+    let nothing = bare(alloc, false, b"", 7)?.copy(alloc).ok()?;
+    let later = after(alloc, &first(alloc)?, nothing)?;
+    Some(is_first(&later.copy(alloc).ok()?))
 }
 
 #[test]
 fn nothing_told_changes_no_row(rt: HostRuntime) -> Result<(), Fail> {
-    let alloc = rt.alloc();
-    let first = first(alloc, 40, 42)?.expect(&rt, "a cache");
-    let nothing = bare(alloc, false, b"", 7)?.expect(&rt, "a delta");
-    let later = after(alloc, &first, Some(nothing.copy(alloc)?))?.expect(&rt, "a cache");
-    let copy = later.copy(alloc)?;
-    assert!(rt; has(&copy, 40, 7, 0) && has(&copy, 42, 7, 1));
-    assert_eq!(rt; copy.rows.as_map().len(), 2);
+    assert_eq!(rt; changes_nothing(rt.alloc()), Some(true));
     Ok(())
+}
+
+// Whether the first cache would have more rows than a limit: than two and three after one that comes, and than one and
+// two after one that goes and one that comes.
+fn would_exceed(alloc: Global) -> Option<[bool; 4]> {
+    let cache = first(alloc)?;
+    let both = delta(alloc, false, b"", 9, &[(40, false), (44, true)])?;
+    let less = delta(alloc, false, b"42", 9, &[(44, false)])?;
+    Some([
+        cache.would_exceed(2, &both),
+        cache.would_exceed(3, &both),
+        cache.would_exceed(1, &less),
+        cache.would_exceed(2, &less),
+    ])
 }
 
 #[test]
 fn rows_are_counted_before_they_are_taken(rt: HostRuntime) -> Result<(), Fail> {
-    let alloc = rt.alloc();
-    let cache = first(alloc, 40, 42)?.expect(&rt, "a cache");
-    let both = two(alloc, bare(alloc, false, b"", 9)?, 9, 40, 44)?.expect(&rt, "a delta");
-    assert_eq!(rt;
-        (cache.would_exceed(2, &both), cache.would_exceed(3, &both)),
-        (true, false)
-    );
-    let less = with(alloc, bare(alloc, false, b"42", 9)?, 44, 9, false)?.expect(&rt, "a delta");
-    assert_eq!(rt;
-        (cache.would_exceed(1, &less), cache.would_exceed(2, &less)),
-        (true, false)
-    );
+    let counted = would_exceed(rt.alloc());
+    assert_eq!(rt; counted, Some([true, false, true, false]));
     Ok(())
 }

@@ -7,16 +7,96 @@ use std::test::Fail;
 /// The numbers that the small sets are made of: 1 to 8.
 const SMALL: usize = 9;
 
-/// The text of the set that a text names.
-fn again(alloc: Global, text: &[u8]) -> Result<Vec<u8>, SetFault> {
-    let set = UidSet::read(alloc, text)?;
-    Ok(set.text()?)
+// The calls stand in helpers that answer a plain value: a set that is held at an assert is dear to prove.
+
+/// The set that a text names.
+fn read(alloc: Global, text: &[u8]) -> Result<UidSet, SetFault> {
+    UidSet::read(alloc, text)
+}
+
+/// Why a text names no set.
+fn fault_of(alloc: Global, text: &[u8]) -> Option<SetFault> {
+    UidSet::read(alloc, text).err()
 }
 
 /// Whether a set is written as this text.
-fn is_text(set: &UidSet, text: &[u8]) -> Result<bool, AllocError> {
-    let written = set.text()?;
-    Ok(written.as_slice() == text)
+fn is_text(set: &UidSet, text: &[u8]) -> bool {
+    match set.text() {
+        Ok(written) => written.as_slice() == text && set.is_empty() == text.is_empty(),
+        Err(_) => false,
+    }
+}
+
+/// Whether a set that was made is written as this text.
+fn is_made(made: Result<UidSet, AllocError>, text: &[u8]) -> bool {
+    match made {
+        Ok(set) => is_text(&set, text),
+        Err(_) => false,
+    }
+}
+
+/// Whether a set is read and then written as this text.
+fn is_read_as(alloc: Global, text: &[u8], written: &[u8]) -> bool {
+    match read(alloc, text) {
+        Ok(set) => is_text(&set, written),
+        Err(_) => false,
+    }
+}
+
+/// Whether a set's copy is written as the set itself.
+fn is_copied(alloc: Global, text: &[u8]) -> bool {
+    match read(alloc, text) {
+        Ok(set) => is_made(set.copy(), text),
+        Err(_) => false,
+    }
+}
+
+/// Whether a set with one more number is written as this text.
+fn is_with(alloc: Global, text: &[u8], number: u32, written: &[u8]) -> bool {
+    match (read(alloc, text), Uid::new(number)) {
+        (Ok(mut set), Some(uid)) => set.add(uid).is_ok() && is_text(&set, written),
+        _ => false,
+    }
+}
+
+/// Whether the part of a set from a number on is written as this text.
+fn is_from(alloc: Global, text: &[u8], number: u32, written: &[u8]) -> bool {
+    match (read(alloc, text), Uid::new(number)) {
+        (Ok(set), Some(uid)) => is_made(set.from(uid), written),
+        _ => false,
+    }
+}
+
+/// Whether the union of two sets is written as this text.
+fn is_union(alloc: Global, left: &[u8], right: &[u8], written: &[u8]) -> bool {
+    match (read(alloc, left), read(alloc, right)) {
+        (Ok(left), Ok(right)) => is_made(left.union(&right), written),
+        _ => false,
+    }
+}
+
+/// Whether a set without another one is written as this text.
+fn is_minus(alloc: Global, left: &[u8], right: &[u8], written: &[u8]) -> bool {
+    match (read(alloc, left), read(alloc, right)) {
+        (Ok(left), Ok(right)) => is_made(left.minus(&right), written),
+        _ => false,
+    }
+}
+
+/// Whether a set holds a number.
+fn holds(alloc: Global, text: &[u8], number: u32) -> Option<bool> {
+    match (read(alloc, text), Uid::new(number)) {
+        (Ok(set), Some(uid)) => Some(set.contains(uid)),
+        _ => None,
+    }
+}
+
+/// The only member of a set.
+fn only_of(alloc: Global, text: &[u8]) -> Result<Option<Uid>, SetFault> {
+    match read(alloc, text) {
+        Ok(set) => Ok(set.only()),
+        Err(fault) => Err(fault),
+    }
 }
 
 /// Whether a mask holds a number, from 1 on.
@@ -91,7 +171,7 @@ fn refusals_come_with_their_place(rt: HostRuntime) -> Result<(), Fail> {
         (b"10,200:300;", SetFault::BadByte { at: 10 }),
     ];
     for (text, fault) in rows {
-        assert_eq!(rt; again(rt.alloc(), text).err(), Some(fault), "of {text:?}");
+        assert_eq!(rt; fault_of(rt.alloc(), text), Some(fault), "of {text:?}");
     }
     Ok(())
 }
@@ -111,10 +191,7 @@ fn a_text_is_read_and_written(rt: HostRuntime) -> Result<(), Fail> {
         (b"4294967295,1,2", b"1:2,4294967295"),
     ];
     for (text, written) in rows {
-        assert!(rt;
-            again(rt.alloc(), text)?.as_slice() == written,
-            "of {text:?}"
-        );
+        assert!(rt; is_read_as(rt.alloc(), text, written), "of {text:?}");
     }
     Ok(())
 }
@@ -122,28 +199,54 @@ fn a_text_is_read_and_written(rt: HostRuntime) -> Result<(), Fail> {
 #[test]
 fn sets_are_joined_and_cut(rt: HostRuntime) -> Result<(), Fail> {
     let alloc = rt.alloc();
-    let five = Uid::new(5).expect(&rt, "a UID");
-    let seven = Uid::new(7).expect(&rt, "a UID");
-    let mut set = UidSet::read(alloc, b"3:5")?;
-    set.add(seven)?;
-    assert!(rt; is_text(&set, b"3:5,7")?);
-    let six = UidSet::read(alloc, b"6")?;
-    let union = set.union(&six)?;
-    assert!(rt; is_text(&union, b"3:7")?);
-    let rest = union.from(five)?;
-    assert!(rt; is_text(&rest, b"5:7")?);
-    assert!(rt; is_text(&rest.minus(&six)?, b"5,7")?);
-    assert!(rt; is_text(&rest.copy()?, b"5:7")?);
-    assert!(rt; is_text(&UidSet::none(alloc), b"")?);
-    assert_eq!(rt; six.only(), Uid::new(6));
-    assert_eq!(rt; set.only(), None);
-    assert_eq!(rt; UidSet::none(alloc).only(), None);
+    assert!(rt;
+        is_with(alloc, b"3:5", 7, b"3:5,7")
+            && is_union(alloc, b"3:5,7", b"6", b"3:7")
+            && is_from(alloc, b"3:7", 5, b"5:7")
+            && is_minus(alloc, b"5:7", b"6", b"5,7")
+            && is_copied(alloc, b"5:7")
+            && is_text(&UidSet::none(alloc), b"")
+    );
     Ok(())
 }
 
 #[test]
-fn a_list_of_ranges_is_that_of_a_set(rt: HostRuntime) -> Result<(), Fail> {
+fn a_set_of_one_has_an_only_member(rt: HostRuntime) -> Result<(), Fail> {
     let alloc = rt.alloc();
+    assert!(rt;
+        only_of(alloc, b"6") == Ok(Uid::new(6))
+            && only_of(alloc, b"3:5,7") == Ok(None)
+            && UidSet::none(alloc).only() == None
+    );
+    Ok(())
+}
+
+/// Ranges with these ends.
+fn ranges_of(alloc: Global, ends: &[(u32, u32)]) -> Result<Vec<UidRange>, AllocError> {
+    let mut ranges = Vec::new(alloc);
+    for (low, high) in ends {
+        ranges.push(UidRange {
+            low: *low,
+            high: *high,
+        })?;
+    }
+    Ok(ranges)
+}
+
+/// Whether ranges are those of the set that is written so, or of none.
+fn is_set(alloc: Global, ends: &[(u32, u32)], text: Option<&[u8]>) -> bool {
+    let Ok(ranges) = ranges_of(alloc, ends) else {
+        return false;
+    };
+    match (UidSet::of(ranges), text) {
+        (Some(set), Some(text)) => is_text(&set, text),
+        (None, None) => true,
+        _ => false,
+    }
+}
+
+#[test]
+fn a_list_of_ranges_is_that_of_a_set(rt: HostRuntime) -> Result<(), Fail> {
     let rows: [(&[(u32, u32)], Option<&[u8]>); 10] = [
         (&[], Some(b"")),
         (&[(1, 1)], Some(b"1")),
@@ -160,18 +263,7 @@ fn a_list_of_ranges_is_that_of_a_set(rt: HostRuntime) -> Result<(), Fail> {
         (&[(1, 4294967295), (1, 1)], None),
     ];
     for (ends, text) in rows {
-        let mut ranges = Vec::new(alloc);
-        for (low, high) in ends {
-            ranges.push(UidRange {
-                low: *low,
-                high: *high,
-            })?;
-        }
-        match (UidSet::of(ranges), text) {
-            (Some(set), Some(text)) => assert!(rt; is_text(&set, text)?),
-            (None, None) => {}
-            _ => assert!(rt; false),
-        }
+        assert!(rt; is_set(rt.alloc(), ends, text));
     }
     Ok(())
 }
@@ -179,58 +271,116 @@ fn a_list_of_ranges_is_that_of_a_set(rt: HostRuntime) -> Result<(), Fail> {
 #[test]
 fn a_set_reaches_its_limits(rt: HostRuntime) -> Result<(), Fail> {
     let alloc = rt.alloc();
-    let first = Uid::new(1).expect(&rt, "a UID");
-    let last = Uid::new(u32::MAX).expect(&rt, "a UID");
-    let all = UidSet::read(alloc, b"1:4294967295")?;
-    assert_eq!(rt; all.ranges().len(), 1);
-    assert!(rt; all.contains(last) && all.contains(first));
-    assert!(rt; is_text(&all.from(last)?, b"4294967295")?);
-    assert!(rt; all.minus(&all)?.is_empty());
-    assert!(rt; is_text(&all.union(&all)?, b"1:4294967295")?);
-    let mut most = UidSet::read(alloc, b"1:4294967294")?;
-    assert!(rt; !most.contains(last));
-    most.add(last)?;
-    assert!(rt; is_text(&most, b"1:4294967295")?);
-    let middle = UidSet::read(alloc, b"2:4294967294")?;
-    assert!(rt; is_text(&all.minus(&middle)?, b"1,4294967295")?);
+    let all = b"1:4294967295".as_slice();
+    assert!(rt;
+        holds(alloc, all, u32::MAX) == Some(true)
+            && holds(alloc, all, 1) == Some(true)
+            && is_from(alloc, all, u32::MAX, b"4294967295")
+            && is_minus(alloc, all, all, b"")
+            && is_union(alloc, all, all, all)
+            && holds(alloc, b"1:4294967294", u32::MAX) == Some(false)
+            && is_with(alloc, b"1:4294967294", u32::MAX, all)
+            && is_minus(alloc, all, b"2:4294967294", b"1,4294967295")
+    );
+    assert_eq!(rt; read(alloc, all)?.ranges().len(), 1);
     Ok(())
+}
+
+/// The answers of a mask, one for each small number.
+fn answers(mask: u32) -> [bool; SMALL] {
+    let mut held = [false; SMALL];
+    for number in 1..SMALL {
+        held[number] = is_in(mask, number as u32);
+    }
+    held
+}
+
+/// How many numbers are held.
+fn count_of(held: &[bool; SMALL]) -> u32 {
+    let mut count = 0u32;
+    for number in 1..SMALL {
+        count = count.saturating_add(u32::from(held[number]));
+    }
+    count
+}
+
+/// The answers from a number on.
+fn answers_from(held: &[bool; SMALL], low: usize) -> [bool; SMALL] {
+    let mut rest = [false; SMALL];
+    for number in 1..SMALL {
+        rest[number] = held[number] && number >= low;
+    }
+    rest
+}
+
+/// The answers of a union.
+fn answers_of_either(left: &[bool; SMALL], right: &[bool; SMALL]) -> [bool; SMALL] {
+    let mut union = [false; SMALL];
+    for number in 1..SMALL {
+        union[number] = left[number] || right[number];
+    }
+    union
+}
+
+/// The answers of a set without another one.
+fn answers_of_rest(left: &[bool; SMALL], right: &[bool; SMALL]) -> [bool; SMALL] {
+    let mut minus = [false; SMALL];
+    for number in 1..SMALL {
+        minus[number] = left[number] && !right[number];
+    }
+    minus
+}
+
+/// Whether a set that was made has the members of a list of answers.
+fn made_agrees(made: Result<UidSet, AllocError>, expected: &[bool; SMALL]) -> bool {
+    match made {
+        Ok(set) => agrees(&set, expected),
+        Err(_) => false,
+    }
+}
+
+/// Whether a set of these answers tells how many they are, and the part of it from each number on.
+fn set_agrees(set: &UidSet, held: &[bool; SMALL]) -> bool {
+    let count = count_of(held);
+    let mut fine = set.is_empty() == (count == 0) && set.only().is_some() == (count == 1);
+    for number in 1..SMALL {
+        if let Some(one) = Uid::new(number as u32) {
+            fine = fine
+                && set.contains(one) == held[number]
+                && made_agrees(set.from(one), &answers_from(held, number));
+        }
+    }
+    fine && agrees(set, held)
+}
+
+/// Whether the set of a mask agrees with its answers, whatever the order in which it was made.
+fn mask_agrees(alloc: Global, mask: u32) -> bool {
+    let held = answers(mask);
+    match set_of(alloc, mask, false) {
+        Ok(set) => set_agrees(&set, &held) && made_agrees(set_of(alloc, mask, true), &held),
+        Err(_) => false,
+    }
+}
+
+/// Whether the union and the difference of two masks' sets agree with their answers.
+fn pair_agrees(alloc: Global, left: u32, right: u32) -> bool {
+    let (held, taken) = (answers(left), answers(right));
+    match (set_of(alloc, left, false), set_of(alloc, right, true)) {
+        (Ok(a), Ok(b)) => {
+            made_agrees(a.union(&b), &answers_of_either(&held, &taken))
+                && made_agrees(a.minus(&b), &answers_of_rest(&held, &taken))
+        }
+        _ => false,
+    }
 }
 
 #[test]
 fn small_sets_agree_with_lists_of_answers(rt: HostRuntime) -> Result<(), Fail> {
-    let alloc = rt.alloc();
     for left in 0..256u32 {
-        let mut held = [false; SMALL];
-        let mut count = 0u32;
-        for number in 1..SMALL {
-            held[number] = is_in(left, number as u32);
-            count = count.saturating_add(u32::from(held[number]));
-        }
-        let a = set_of(alloc, left, false)?;
-        assert!(rt; agrees(&a, &held) && agrees(&set_of(alloc, left, true)?, &held));
-        assert_eq!(rt; a.is_empty(), count == 0);
-        assert_eq!(rt; a.only().is_some(), count == 1);
-        for number in 1..SMALL {
-            let one = Uid::new(number as u32).expect(&rt, "a UID");
-            assert_eq!(rt; a.contains(one), held[number]);
-            let mut rest = held;
-            for other in 1..number {
-                rest[other] = false;
-            }
-            assert!(rt; agrees(&a.from(one)?, &rest));
-        }
+        assert!(rt; mask_agrees(rt.alloc(), left));
         for step in 0..64u32 {
             let right = (step * 37 + left * 11) % 256;
-            let b = set_of(alloc, right, true)?;
-            let mut union = held;
-            let mut minus = held;
-            for number in 1..SMALL {
-                let taken = is_in(right, number as u32);
-                union[number] = held[number] || taken;
-                minus[number] = held[number] && !taken;
-            }
-            assert!(rt; agrees(&a.union(&b)?, &union));
-            assert!(rt; agrees(&a.minus(&b)?, &minus));
+            assert!(rt; pair_agrees(rt.alloc(), left, right));
         }
     }
     Ok(())

@@ -1,15 +1,16 @@
 //! Each copy once, with ample memory.
 
 use super::*;
+use crate::Queued;
 
-// A book in which each kind of action is accepted, an intent is pending, and a mailbox has a cache.
-fn busy(alloc: Global) -> Result<Book, Fail> {
-    let book = with(alloc, begun(alloc)?, sees(alloc, 1, real(b"INBOX", 42)?)?)?;
-    let book = with(alloc, book, moves(2, real(b"INBOX", 42)?, b"Archive")?)?;
-    let book = with(alloc, book, appends(alloc, 3, b"Archive")?)?;
-    let book = with(alloc, book, stores(1, 42, 700)?)?;
-    with(alloc, book, learns(alloc, b"INBOX", true, 5, 300)?)
-}
+// Each kind of action is accepted, an intent is pending, and a mailbox has a cache.
+const BUSY: [Step; 5] = [
+    Step::Sees(1, INBOX_42),
+    Step::Moves(2, INBOX_42, Archive),
+    Step::Appends(3, Archive),
+    Step::Stores(1, 42, 700),
+    Step::Learns(Inbox, true, 5, 300),
+];
 
 fn is(bytes: &[u8], text: &[u8]) -> bool {
     bytes == text
@@ -106,42 +107,119 @@ fn is_inbox(known: &Known) -> bool {
     }
 }
 
+// Whether the book and the intent that is pending are those of a busy book.
+fn is_busy(book: &Book) -> bool {
+    match &book.pending {
+        Some(intent) => is_storing(intent) && are_three(&book.queue) && has_inbox(book),
+        None => false,
+    }
+}
+
 #[test]
 fn a_book_is_copied_whole(rt: HostRuntime) -> Result<(), Fail> {
-    let alloc = rt.alloc();
-    let copy = busy(alloc)?.copy(alloc)?;
-    assert!(rt; are_three(&copy.queue) && has_inbox(&copy));
-    let intent = copy.pending.ok_or(Missing)?;
-    assert!(rt; is_storing(&intent) && is_storing(&intent.copy()));
+    let copy = after(rt.alloc(), &BUSY)?.copy(rt.alloc())?;
+    assert!(rt; is_busy(&copy));
     Ok(())
+}
+
+// Whether the copy of the intent that is pending is the same.
+fn copies_its_intent(book: &Book) -> bool {
+    match &book.pending {
+        Some(intent) => is_storing(&intent.copy()),
+        None => false,
+    }
+}
+
+// Whether the copies of what is due, with its outcome and its tries, and of its action alone are the same.
+fn copies_its_due(book: &Book) -> Result<bool, AllocError> {
+    match book.queue.due() {
+        Some(queued) => Ok(copies_queued(queued)? && copies_action(&queued.action)?),
+        None => Ok(false),
+    }
+}
+
+fn copies_queued(queued: &Queued) -> Result<bool, AllocError> {
+    let copy = queued.copy()?;
+    Ok(is_seeing(&copy.action) && copy.outcome.is_none() && copy.tries == 0)
+}
+
+fn copies_action(action: &Action) -> Result<bool, AllocError> {
+    Ok(is_seeing(&action.copy()?))
+}
+
+// Whether the copy of INBOX is the same.
+fn copies_its_inbox(alloc: Global, book: &Book) -> Result<bool, AllocError> {
+    let Some(name) = Inbox.name() else {
+        return Ok(false);
+    };
+    match book.known(&name) {
+        Some(known) => Ok(is_inbox(&known.copy(alloc)?)),
+        None => Ok(false),
+    }
+}
+
+// Whether the copy of message 42 of INBOX is the same.
+fn copies_a_target() -> bool {
+    match INBOX_42.target() {
+        Some(target) => is_42(&target.copy()),
+        None => false,
+    }
+}
+
+// Whether the copy of the queue is the same.
+fn copies_its_queue(alloc: Global, book: &Book) -> Result<bool, AllocError> {
+    Ok(are_three(&book.queue.copy(alloc)?))
+}
+
+// Whether the copy of each part of the book is the same.
+fn copies_its_parts(alloc: Global, book: &Book) -> Result<bool, AllocError> {
+    Ok(
+        copies_its_intent(book)
+            && copies_its_due(book)?
+            && copies_its_queue(alloc, book)?
+            && copies_its_inbox(alloc, book)?,
+    )
 }
 
 #[test]
 fn its_parts_are_copied_whole(rt: HostRuntime) -> Result<(), Fail> {
-    let alloc = rt.alloc();
-    let book = busy(alloc)?;
-    assert!(rt; are_three(&book.queue.copy(alloc)?));
-    let queued = book.queue.due().ok_or(Missing)?;
-    let copy = queued.copy()?;
-    assert!(rt; is_seeing(&copy.action) && copy.outcome.is_none() && copy.tries == 0);
-    assert!(rt; is_seeing(&queued.action.copy()?));
-    assert!(rt; is_42(&real(b"INBOX", 42)?.copy()));
-    let known = book.known(&BoxName::new(b"INBOX")?).ok_or(Missing)?;
-    assert!(rt; is_inbox(&known.copy(alloc)?));
+    let book = after(rt.alloc(), &BUSY)?;
+    assert!(rt; copies_its_parts(rt.alloc(), &book)?);
+    assert!(rt; copies_a_target());
     Ok(())
+}
+
+// Whether the action that is due sees message 42 of INBOX.
+fn is_seen(book: &Book) -> bool {
+    match book.queue.due() {
+        Some(queued) => is_seeing(&queued.action),
+        None => false,
+    }
+}
+
+// Whether an event is lawful in a new book, and the action that is due then does.
+fn is_entered(alloc: Global, event: Event) -> Result<bool, Missing> {
+    let mut book = begun(alloc)?;
+    match enter(alloc, &mut book, event) {
+        Ok(None) => Ok(is_seen(&book)),
+        Ok(Some(_)) => Ok(false),
+        Err(_) => Err(Missing),
+    }
+}
+
+// Whether both an event and its copy are.
+fn are_entered(alloc: Global) -> Result<bool, Missing> {
+    let Some(event) = Step::Sees(1, INBOX_42).event(alloc) else {
+        return Err(Missing);
+    };
+    match event.copy(alloc) {
+        Ok(copy) => Ok(is_entered(alloc, event)? && is_entered(alloc, copy)?),
+        Err(_) => Err(Missing),
+    }
 }
 
 #[test]
 fn an_event_is_copied_whole(rt: HostRuntime) -> Result<(), Fail> {
-    let alloc = rt.alloc();
-    let (mut book, mut other) = (begun(alloc)?, begun(alloc)?);
-    let event = sees(alloc, 1, real(b"INBOX", 42)?)?;
-    let copy = event.copy(alloc)?;
-    assert_eq!(rt;
-        told(alloc, &mut book, event)?,
-        told(alloc, &mut other, copy)?
-    );
-    let queued = other.queue.due().ok_or(Missing)?;
-    assert!(rt; is_seeing(&queued.action));
+    assert!(rt; are_entered(rt.alloc())?);
     Ok(())
 }

@@ -3,11 +3,14 @@
 use super::*;
 use crate::Queued;
 
+// What an action does, or what is about to be sent, and the kind and the number of the message.
+type Sign = (u8, u8, u32);
+
 // The actions with their outcomes, the intent that is pending, and the marks that were learned, the last one last.
 #[derive(Drop)]
 struct Plain {
-    actions: Vec<(Action, Option<Outcome>)>,
-    pending: Option<Intent>,
+    actions: Vec<(Sign, Option<Outcome>)>,
+    pending: Sign,
     marks: Vec<(BoxName, u64)>,
 }
 
@@ -15,7 +18,7 @@ impl Plain {
     fn new(alloc: Global) -> Plain {
         Plain {
             actions: Vec::new(alloc),
-            pending: None,
+            pending: NOTHING,
             marks: Vec::new(alloc),
         }
     }
@@ -24,15 +27,15 @@ impl Plain {
         match event {
             Event::Begin { .. } => Ok(()),
             Event::Accept { action, .. } => {
-                self.actions.push((action.copy()?, None))?;
+                self.actions.push((sign(action), None))?;
                 Ok(())
             }
             Event::Intend { intent, .. } => {
-                self.pending = Some(intent.copy());
+                self.pending = sign_of(intent);
                 Ok(())
             }
             Event::Settle { id, outcome } => {
-                self.pending = None;
+                self.pending = NOTHING;
                 end(&mut self.actions, id.number(), *outcome);
                 Ok(())
             }
@@ -70,7 +73,7 @@ impl Plain {
     fn agrees(&self, book: &Book) -> bool {
         self.first_unsettled() == first_of(book)
             && are_same(&self.actions, book.queue.as_slice())
-            && sign_of(&self.pending) == sign_of(&book.pending)
+            && self.pending == pending_of(book)
             && self.agrees_on_marks(book)
     }
 
@@ -89,7 +92,7 @@ impl Plain {
 }
 
 // Action `id` has this outcome.
-fn end(actions: &mut Vec<(Action, Option<Outcome>)>, id: u32, outcome: Outcome) {
+fn end(actions: &mut Vec<(Sign, Option<Outcome>)>, id: u32, outcome: Outcome) {
     if id == 0 {
         return;
     }
@@ -105,40 +108,49 @@ fn first_of(book: &Book) -> Option<u32> {
     }
 }
 
-// Which message a target is: its kind and number.
-fn message(target: &Target) -> (u8, u32) {
-    match target {
-        Target::Real { uid, .. } => (b'R', uid.number()),
-        Target::Dummy(id) => (b'D', id.number()),
+// Nothing is about to be sent.
+const NOTHING: Sign = (b'N', b'N', 0);
+
+// What an action does, and to which message.
+fn sign(action: &Action) -> Sign {
+    match action {
+        Action::Flag { target, .. } => message(b'F', target),
+        Action::Move { target, .. } => message(b'M', target),
+        Action::Append { .. } => (b'P', b'N', 0),
     }
 }
 
-// What an action does, and to which message.
-fn sign(action: &Action) -> (u8, (u8, u32)) {
-    match action {
-        Action::Flag { target, .. } => (b'F', message(target)),
-        Action::Move { target, .. } => (b'M', message(target)),
-        Action::Append { .. } => (b'P', (b'N', 0)),
+// The same with the message that a target is.
+fn message(what: u8, target: &Target) -> Sign {
+    match target {
+        Target::Real { uid, .. } => (what, b'R', uid.number()),
+        Target::Dummy(id) => (what, b'D', id.number()),
+    }
+}
+
+fn pending_of(book: &Book) -> Sign {
+    match &book.pending {
+        Some(intent) => sign_of(intent),
+        None => NOTHING,
     }
 }
 
 // What is about to be sent, and of which UID.
-fn sign_of(pending: &Option<Intent>) -> (u8, u32) {
-    match pending {
-        None => (b'N', 0),
-        Some(Intent::Store { uid, .. }) => (b'S', uid.number()),
-        Some(Intent::Shift { uid, .. }) => (b'M', uid.number()),
-        Some(Intent::Put { uidnext, .. }) => (b'P', uidnext.number()),
+fn sign_of(intent: &Intent) -> Sign {
+    match intent {
+        Intent::Store { uid, .. } => (b'S', b'R', uid.number()),
+        Intent::Shift { uid, .. } => (b'M', b'R', uid.number()),
+        Intent::Put { uidnext, .. } => (b'P', b'R', uidnext.number()),
     }
 }
 
 // Whether these are the same actions with the same outcomes.
-fn are_same(actions: &[(Action, Option<Outcome>)], queue: &[Queued]) -> bool {
+fn are_same(actions: &[(Sign, Option<Outcome>)], queue: &[Queued]) -> bool {
     if actions.len() != queue.len() {
         return false;
     }
     for ((action, outcome), queued) in actions.iter().zip(queue) {
-        if sign(action) != sign(&queued.action) || *outcome != queued.outcome {
+        if *action != sign(&queued.action) || *outcome != queued.outcome {
             return false;
         }
     }
@@ -146,53 +158,103 @@ fn are_same(actions: &[(Action, Option<Outcome>)], queue: &[Queued]) -> bool {
 }
 
 // Enters an event into both. Whether it is lawful and they then say the same.
-fn both(alloc: Global, book: &mut Book, plain: &mut Plain, event: &Event) -> Result<bool, Fail> {
+fn both(
+    alloc: Global,
+    book: &mut Book,
+    plain: &mut Plain,
+    event: &Event,
+) -> Result<bool, AllocError> {
     plain.take(event)?;
-    if enter(alloc, book, event.copy(alloc)?)?.is_some() {
+    let rule = enter(alloc, book, event.copy(alloc)?)?;
+    Ok(rule.is_none() && plain.agrees(book))
+}
+
+// Follows an event, and gives it up. Whether it is lawful and the book then says what the plain program says.
+fn follows(
+    alloc: Global,
+    book: &mut Book,
+    plain: &Plain,
+    event: Event,
+) -> Result<bool, AllocError> {
+    if book.allows(&event, Version::First).is_some() {
         return Ok(false);
     }
+    book.follow(alloc, event)?;
     Ok(plain.agrees(book))
 }
 
-// An action of each kind, the last about the message that the first one makes, and a first cache.
-fn accepting(alloc: Global, events: &mut Vec<Event>) -> Result<(), Fail> {
-    events.push(moves(1, real(b"INBOX", 42)?, b"Archive")?)?;
-    events.push(appends(alloc, 2, b"Archive")?)?;
-    events.push(sees(alloc, 3, dummy(1)?)?)?;
-    events.push(learns(alloc, b"INBOX", true, 5, 300)?)?;
-    Ok(())
+// An action of each kind, the last about the message that the first one makes, and a first cache. The first one is
+// refused, and the second one is done. The third one's message is never made, and a fourth one is about the appended
+// message.
+const STEPS: [Step; 12] = [
+    Step::Moves(1, INBOX_42, Archive),
+    Step::Appends(2, Archive),
+    Step::Sees(3, Of::Made(1)),
+    Step::Learns(Inbox, true, 5, 300),
+    Step::Shifts(1, Archive),
+    Step::Fails(1, Kind::RefusedNo),
+    Step::Puts(2, Archive),
+    Step::Learns(Inbox, false, 5, 301),
+    Step::Lands(2),
+    Step::Orphaned(3, 1),
+    Step::Learns(Archive, true, 9, 12),
+    Step::Sees(4, Of::Made(2)),
+];
+
+// A book whose events are entered, one that follows them, and the plain program.
+#[derive(Drop)]
+struct Three {
+    book: Book,
+    follower: Book,
+    plain: Plain,
 }
 
-// The first one is refused, and the second one is done.
-fn playing(alloc: Global, events: &mut Vec<Event>) -> Result<(), Fail> {
-    events.push(shifts(1, b"Archive")?)?;
-    events.push(fails(1, Kind::RefusedNo)?)?;
-    events.push(puts(2, b"Archive")?)?;
-    events.push(learns(alloc, b"INBOX", false, 5, 301)?)?;
-    events.push(lands(2)?)?;
-    Ok(())
+impl Three {
+    fn new(alloc: Global) -> Result<Three, Missing> {
+        Ok(Three {
+            book: begun(alloc)?,
+            follower: begun(alloc)?,
+            plain: Plain::new(alloc),
+        })
+    }
+
+    // Takes a step. Whether it is lawful and all three then say the same.
+    fn agree(&mut self, alloc: Global, step: Step) -> Result<bool, AllocError> {
+        let Some(event) = step.event(alloc) else {
+            return Ok(false);
+        };
+        Ok(
+            both(alloc, &mut self.book, &mut self.plain, &event)?
+                && follows(alloc, &mut self.follower, &self.plain, event)?,
+        )
+    }
+
+    // How many steps, up to the first that isn't, are lawful and leave all three saying the same.
+    fn agreed(&mut self, alloc: Global, steps: &[Step]) -> Result<usize, AllocError> {
+        let mut count = 0usize;
+        for step in steps {
+            if !self.agree(alloc, *step)? {
+                break;
+            }
+            count = count.wrapping_add(1);
+        }
+        Ok(count)
+    }
 }
 
-// The third one's message is never made, and a fourth one is about the appended message.
-fn ending(alloc: Global, events: &mut Vec<Event>) -> Result<(), Fail> {
-    events.push(orphaned(3, 1)?)?;
-    events.push(learns(alloc, b"Archive", true, 9, 12)?)?;
-    events.push(sees(alloc, 4, dummy(2)?)?)?;
-    Ok(())
+// The number of steps on which all three agree, and the first action without an outcome.
+fn played(alloc: Global) -> Result<(usize, Option<u32>), Missing> {
+    let mut three = Three::new(alloc)?;
+    match three.agreed(alloc, &STEPS) {
+        Ok(agreed) => Ok((agreed, first_of(&three.book))),
+        Err(_) => Err(Missing),
+    }
 }
 
 #[test]
 fn the_book_is_the_fold_of_its_events(rt: HostRuntime) -> Result<(), Fail> {
-    let alloc = rt.alloc();
-    let mut events = Vec::new(alloc);
-    accepting(alloc, &mut events)?;
-    playing(alloc, &mut events)?;
-    ending(alloc, &mut events)?;
-    let mut book = begun(alloc)?;
-    let mut plain = Plain::new(alloc);
-    for event in &events {
-        assert!(rt; both(alloc, &mut book, &mut plain, event)?);
-    }
-    assert_eq!(rt; (events.len(), first_of(&book)), (12, Some(4)));
+    let (agreed, first) = played(rt.alloc())?;
+    assert_eq!(rt; agreed, 12);
+    assert_eq!(rt; first, Some(4));
     Ok(())
 }

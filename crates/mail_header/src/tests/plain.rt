@@ -10,18 +10,24 @@ fn is_blank(byte: u8) -> bool {
     byte == b' ' || byte == b'\t'
 }
 
+// Takes a byte of a line, which an LF behind a CR ends.
+fn take(lines: &mut Vec<Vec<u8>>, line: &mut Vec<u8>, byte: u8) -> Result<(), AllocError> {
+    if byte == b'\n' && line.last() == Some(&b'\r') {
+        let _ = line.pop();
+        lines.push(line.clone()?)?;
+        line.clear();
+    } else {
+        line.push(byte)?;
+    }
+    Ok(())
+}
+
 // The lines of a text.
 fn lines(alloc: Global, text: &[u8]) -> Result<Vec<Vec<u8>>, AllocError> {
     let mut lines = Vec::new(alloc);
     let mut line = Vec::new(alloc);
     for byte in text {
-        if *byte == b'\n' && line.last() == Some(&b'\r') {
-            let _ = line.pop();
-            lines.push(line)?;
-            line = Vec::new(alloc);
-        } else {
-            line.push(*byte)?;
-        }
+        take(&mut lines, &mut line, *byte)?;
     }
     lines.push(line)?;
     Ok(lines)
