@@ -19,12 +19,15 @@ front-suc : (text : List ℕ) (at : ℕ) → at < length text → take (at + 1) 
 front-suc text at there = rw add-one (take-suc text at 0 there)
 
 -- the value of one digit more
-pub value-more : (text : List ℕ) (at : ℕ) → at < length text → IsAsciiDigit (slice_index text at) → digits_value 10 (take (at + 1) text) ≡ digits_value 10 (take at text) * 10 + (slice_index text at - 48)
+pub value-more : (text : List ℕ) (at : ℕ) → at < length text → IsAsciiDigit (slice_index text at) →
+    digits_value 10 (take (at + 1) text) ≡ digits_value 10 (take at text) * 10 + (slice_index text at - 48)
 value-more text at there digit =
     let d : digit_value (slice_index text at) ≡ slice_index text at - 48 = omega (arith, digit_value_digit (slice_index text at) digit) in
-    ap (digits_value 10) (front-suc text at there) ∙ value_after-append 0 (take at text) (slice_index text at) ∙ ap (λ v. digits_value 10 (take at text) * 10 + v) d
+    ap (digits_value 10) (front-suc text at there) ∙ value_after-append 0 (take at text) (slice_index text at)
+    ∙ ap (λ v. digits_value 10 (take at text) * 10 + v) d
 
-pub digits-more : (text : List ℕ) (at : ℕ) → at < length text → AllDigits 10 (take at text) → digit_value (slice_index text at) < 10 → AllDigits 10 (take (at + 1) text)
+pub digits-more : (text : List ℕ) (at : ℕ) → at < length text → AllDigits 10 (take at text) → digit_value (slice_index text at) < 10 →
+    AllDigits 10 (take (at + 1) text)
 digits-more text at there all here = subst (AllDigits 10) (sym (front-suc text at there)) (all_digits-append (take at text) (slice_index text at) all here)
 
 -- fewer digits

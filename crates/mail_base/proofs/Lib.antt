@@ -1,8 +1,10 @@
 pub mod Digits
 pub mod Faults
 pub mod Frames
+pub mod HeaderPlaces
 pub mod Headers
 pub mod Lf
 pub mod MoreBytes
 pub mod Openings
 pub mod Stopping
+pub mod ToldLines

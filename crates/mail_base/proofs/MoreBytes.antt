@@ -9,11 +9,27 @@ use Rattle.mail_base.proofs.Frames.{frames_le, frames_append, frames_split, faul
 
 -- a whole frame stays
 pub next_stays : (at : ℕ) (stream more : List ℕ) (f : Frame) (rest : List ℕ) → IsNext at stream f rest → IsNext at (stream ++ more) f (rest ++ more)
-next_stays at stream more f rest is = (is.0, is.1, record { line = is.2.line; whole = ap (λ (t : List ℕ). t ++ more) is.2.whole ∙ append_assoc (line_text is.0 is.1) (13 ∷ 10 ∷ rest) more }, is.3, is.4, is.5)
+next_stays at stream more f rest is = (
+  is.0,
+  is.1,
+  record {
+    line = is.2.line;
+    whole =
+        ap (λ (t : List ℕ). t ++ more) is.2.whole ∙ append_assoc (line_text is.0 is.1) (13 ∷ 10 ∷ rest) more;
+  },
+  is.3,
+  is.4,
+  is.5,
+)
 
-pub frames_stay : (at : ℕ) (stream more : List ℕ) (fs : List Frame) (rest : List ℕ) → AreFrames at stream fs rest → AreFrames at (stream ++ more) fs (rest ++ more)
+pub frames_stay : (at : ℕ) (stream more : List ℕ) (fs : List Frame) (rest : List ℕ) → AreFrames at stream fs rest →
+    AreFrames at (stream ++ more) fs (rest ++ more)
 frames_stay at stream more [] rest is = ap (λ (t : List ℕ). t ++ more) is
-frames_stay at stream more (f ∷ fs) rest is = (is.0 ++ more, next_stays at stream more f is.0 is.1, frames_stay (at + length f.bytes + 2) is.0 more fs rest is.2)
+frames_stay at stream more (f ∷ fs) rest is = (
+  is.0 ++ more,
+  next_stays at stream more f is.0 is.1,
+  frames_stay (at + length f.bytes + 2) is.0 more fs rest is.2,
+)
 
 -- the first fault stays
 goes_on_stays : (rest more : List ℕ) → GoesOn rest → GoesOn (rest ++ more)
@@ -24,7 +40,13 @@ part_fault_stays : (at used : ℕ) (tail more : List ℕ) (f : FeedFault) → Pa
 part_fault_stays at used tail more (faults.BareLf p) bad = (
   bad.0,
   bad.1 ++ more,
-  record { text = ap (λ (t : List ℕ). t ++ more) bad.2.text ∙ append_assoc bad.0 (10 ∷ bad.1) more; plain = bad.2.plain; bare = bad.2.bare; short = bad.2.short },
+  record {
+    text = ap (λ (t : List ℕ). t ++ more) bad.2.text ∙ append_assoc bad.0 (10 ∷ bad.1) more;
+    plain = bad.2.plain;
+    bare =
+        bad.2.bare;
+    short = bad.2.short;
+  },
   bad.3,
 )
 part_fault_stays at used tail more (faults.LiteralTooLarge p x) bad = (
@@ -67,7 +89,8 @@ line_fault_stays at line more f bad = (
 
 pub first_fault_stays : (at : ℕ) (stream more : List ℕ) (f : FeedFault) → FirstFault at stream f → FirstFault at (stream ++ more) f
 first_fault_stays at stream more f bad =
-    let place : at + (length stream - length bad.1) ≡ at + (length (stream ++ more) - length (bad.1 ++ more)) = omega (arith, length-append stream more, length-append bad.1 more) in (
+    let place : at + (length stream - length bad.1) ≡ at + (length (stream ++ more) - length (bad.1 ++ more)) =
+    omega (arith, length-append stream more, length-append bad.1 more) in (
       bad.0,
       bad.1 ++ more,
       frames_stay at stream more bad.0 bad.1 bad.2,
@@ -100,13 +123,15 @@ first_fault_told a b stream fault same bad =
     (bad.0, bad.1, frames_told a b stream bad.0 bad.1 same bad.2, line_told (a + n) (b + n) bad.1 fault shifted bad.3)
 
 -- behind frames that stand in front, the first fault is that of the whole stream
-pub fault_behind : (at : ℕ) (stream : List ℕ) (fs : List Frame) (middle : List ℕ) → AreFrames at stream fs middle → (f : FeedFault) → FirstFault (at + (length stream - length middle)) middle f → FirstFault at stream f
+pub fault_behind : (at : ℕ) (stream : List ℕ) (fs : List Frame) (middle : List ℕ) → AreFrames at stream fs middle → (f : FeedFault) →
+    FirstFault (at + (length stream - length middle)) middle f → FirstFault at stream f
 fault_behind at stream fs middle is f bad =
     let place : at + (length stream - length middle) + (length middle - length bad.1) ≡ at + (length stream - length bad.1) =
     omega (arith, frames_le at stream fs middle is, frames_le _ middle bad.0 bad.1 bad.2) in
     (fs ++ bad.0, bad.1, frames_append at stream fs middle is bad.0 bad.1 bad.2, subst (λ (k : ℕ). LineFault k bad.1 f) place bad.3)
 
-pub fault_ahead : (at : ℕ) (stream : List ℕ) (fs : List Frame) (middle : List ℕ) → AreFrames at stream fs middle → (f : FeedFault) → FirstFault at stream f → FirstFault (at + (length stream - length middle)) middle f
+pub fault_ahead : (at : ℕ) (stream : List ℕ) (fs : List Frame) (middle : List ℕ) → AreFrames at stream fs middle → (f : FeedFault) →
+    FirstFault at stream f → FirstFault (at + (length stream - length middle)) middle f
 fault_ahead at stream fs middle is f bad =
     let split = frames_split at stream fs middle is bad.0 bad.1 bad.2 (fault_no_whole bad.1 _ f bad.3) in
     let place : at + (length stream - length bad.1) ≡ at + (length stream - length middle) + (length middle - length bad.1) =

@@ -1,5 +1,6 @@
 -- A text is a number, or it stops being one at one place for one cause.
-use Rattle.std.proofs.Common.{◌≡◌, inl, inr, ℕ, ◌+◌, ◌-◌, ◌*◌, ◌/◌, ◌<◌, ◌≤◌, List, [], length, take, refl, sym, ◌∙◌, ap, subst, arith, get_or-take, Result, Ok, Err, length-take}
+use Rattle.std.proofs.Common.{◌≡◌, inl, inr, ℕ, ◌+◌, ◌-◌, ◌*◌, ◌/◌, ◌<◌, ◌≤◌, List, [], length, take, refl, sym, ◌∙◌, ap, subst, arith}
+use Rattle.std.proofs.Common.{get_or-take, Result, Ok, Err, length-take}
 use Rattle.std.proofs.Math.Seq.{take-length}
 use Rattle.std.proofs.lemmas.Bool.{cases_lt}
 use Rattle.std.proofs.lemmas.Str.Parse.{digit_at}
@@ -26,13 +27,20 @@ number_fits largest text n is = record {
 }
 
 -- One digit more: it fits where the number so far is at most this quotient, and else it exceeds the largest number.
-module _ (largest : ℕ) (text : List ℕ) (at number : ℕ) (so_far : FitsBefore largest text at) (is : number ≡ digits_value 10 (take at text)) (there : at < length text) (digit : IsAsciiDigit (slice_index text at)) (enough : 9 ≤ largest) where
+module _ (largest : ℕ) (text : List ℕ) (at number : ℕ) (so_far : FitsBefore largest text at) (is : number ≡ digits_value 10 (take at text))
+    (there : at < length text) (digit : IsAsciiDigit (slice_index text at)) (enough : 9 ≤ largest) where
   value_is : digits_value 10 (take (at + 1) text) ≡ number * 10 + (slice_index text at - 48)
   value_is = omega (arith, value-more text at there digit, is)
 
-  pub fits_here : digit_value (slice_index text at) < 10 → number ≤ (largest - (slice_index text at - 48)) / 10 → FitsBefore largest text (at + 1) × (number * 10 + (slice_index text at - 48) ≡ digits_value 10 (take (at + 1) text))
+  pub fits_here : digit_value (slice_index text at) < 10 → number ≤ (largest - (slice_index text at - 48)) / 10 →
+      FitsBefore largest text (at + 1) × (number * 10 + (slice_index text at - 48) ≡ digits_value 10 (take (at + 1) text))
   fits_here small room = (
-    record { within = omega (arith, there); digits = digits-more text at there so_far.digits small; fits = omega (arith, value_is, room, digit.0, digit.1, enough) },
+    record {
+      within = omega (arith, there);
+      digits = digits-more text at there so_far.digits small;
+      fits =
+          omega (arith, value_is, room, digit.0, digit.1, enough);
+    },
     sym value_is,
   )
 
@@ -69,7 +77,8 @@ same_stop largest text here there a b = elim (cases_lt here there) [
 
 -- and a number stops nowhere
 never_stops : (largest : ℕ) (text : List ℕ) (n place : ℕ) → IsNumberUpTo largest text n → Stops largest text place → ⊥
-never_stops largest text n place is stop = stop.beyond (fits_fewer largest text (place + 1) (length text) (omega (arith, stop.there)) (number_fits largest text n is))
+never_stops largest text n place is stop = stop.beyond (fits_fewer largest text (place + 1) (length text) (omega (arith, stop.there))
+    (number_fits largest text n is))
 
 one_number : (largest : ℕ) (text : List ℕ) (m n : ℕ) → IsNumberUpTo largest text m → IsNumberUpTo largest text n → m ≡ n
 one_number largest text m n a b = sym a.value ∙ b.value
@@ -104,7 +113,8 @@ module _ (largest : ℕ) (text : List ℕ) where
   from_byte : (r : Result ℕ NumberFault) (at : ℕ) → Verdict largest text r → StopsAtByte largest text at → r ≡ Err (faults.NotDigit at)
   from_byte (Ok m) at is stop = absurd (never_stops largest text m at is (byte_stops largest text at stop))
   from_byte (Err faults.Empty) at is stop = absurd (no_bytes largest text at is (byte_stops largest text at stop))
-  from_byte (Err (faults.NotDigit place)) at is stop = ap (λ k. Err (faults.NotDigit k)) (same_stop largest text place at (byte_stops largest text place is) (byte_stops largest text at stop))
+  from_byte (Err (faults.NotDigit place)) at is stop = ap (λ k. Err (faults.NotDigit k))
+      (same_stop largest text place at (byte_stops largest text place is) (byte_stops largest text at stop))
   from_byte (Err (faults.TooBig place)) at is stop = absurd (not_both largest text at place stop is)
   from_byte (Err faults.Zero) at is stop = absurd is
 
@@ -112,7 +122,8 @@ module _ (largest : ℕ) (text : List ℕ) where
   from_size (Ok m) at is stop = absurd (never_stops largest text m at is (size_stops largest text at stop))
   from_size (Err faults.Empty) at is stop = absurd (no_bytes largest text at is (size_stops largest text at stop))
   from_size (Err (faults.NotDigit place)) at is stop = absurd (not_both largest text place at is stop)
-  from_size (Err (faults.TooBig place)) at is stop = ap (λ k. Err (faults.TooBig k)) (same_stop largest text place at (size_stops largest text place is) (size_stops largest text at stop))
+  from_size (Err (faults.TooBig place)) at is stop = ap (λ k. Err (faults.TooBig k))
+      (same_stop largest text place at (size_stops largest text place is) (size_stops largest text at stop))
   from_size (Err faults.Zero) at is stop = absurd is
 
   to_number : (r : Result ℕ NumberFault) (n : ℕ) → Verdict largest text r → r ≡ Ok n → IsNumberUpTo largest text n

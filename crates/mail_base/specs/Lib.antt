@@ -1,7 +1,10 @@
 pub mod Account
+pub mod Bodies
 pub mod BoxName
 pub mod Frames
 pub mod Lines
+pub mod LiteralHeaders
 pub mod Number
 pub mod Status
 pub mod Tags
+pub mod ToldLines

@@ -59,14 +59,16 @@ impl Account {
 
     /// The user's name.
     pub fn user(&self) -> &str
-        ensures { result.now ≡ self.now.user }
+        ensures text { result.now ≡ self.now.user }
+        ensures plain { IsPlain self.now.user self.now.password }
     {
         &self.user
     }
 
     /// The password.
     pub fn password(&self) -> &str
-        ensures { result.now ≡ self.now.password }
+        ensures text { result.now ≡ self.now.password }
+        ensures plain { IsPlain self.now.user self.now.password }
     {
         &self.password
     }

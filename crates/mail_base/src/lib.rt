@@ -7,14 +7,13 @@ mod bytes;
 mod frame;
 mod line;
 mod list;
+mod literal_header;
 mod map;
 mod number;
 mod numbered;
 mod span;
 mod status;
 mod tag;
-#[cfg(test)]
-mod tests;
 mod words;
 
 pub use account::{Account, AccountFault};
@@ -23,6 +22,7 @@ pub use bytes::Bytes;
 pub use frame::{FeedFault, Frame};
 pub use line::Line;
 pub use list::List;
+pub use literal_header::{LiteralHeader, literal_at_end};
 pub use map::Map;
 pub use number::{NumberFault, read_modseq, read_u32};
 pub use numbered::{ActionId, ModSeq, Validity};

@@ -8,10 +8,13 @@ use arrayvec::ArrayVec;
 use itoa::Buffer;
 use std::marker::Model;
 
+/// The most bytes of a printed line: a front of words, 200 bytes of a line that a server sent, and the LF.
+const MAX_LINE: usize = 256;
+
 /// A printed line with its LF. It holds no heap memory, so that what was done can be told whatever memory is left.
 #[derive(Debug, Drop)]
 pub struct Line {
-    text: ArrayVec<u8, 64>,
+    text: ArrayVec<u8, MAX_LINE>,
 }
 
 impl Model for Line {
@@ -25,7 +28,7 @@ impl Model for Line {
 impl Line {
     // A line of these bytes.
     fn plain(text: &[u8]) -> Line
-        requires { length text.now ≤ 64 }
+        requires { length text.now ≤ MAX_LINE }
         ensures { result ≡ text.now }
     {
         let mut line = ArrayVec::new();
@@ -35,7 +38,7 @@ impl Line {
 
     // A line of a front and a number.
     fn numbered(front: &[u8], number: u64) -> Line
-        requires { length front.now ≤ 23 }
+        requires { length front.now + 21 ≤ MAX_LINE }
         ensures { result ≡ numbered front.now number }
     {
         let mut buffer = Buffer::new();

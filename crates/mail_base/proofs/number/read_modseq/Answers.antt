@@ -15,7 +15,8 @@ pub returns-in-Some : goal.returns-in-Some
 returns-in-Some c =
     let some = c.in-Some.ensures in
     let nonzero = above_zero c.in-Ok.number (λ zero. cc (some.outside.1 (inl zero))) in
-    let e = exactly_number 9223372036854775807 c.args.text.now c.in-Some.modseq (omega (arith, some.value, nonzero)) (subst (IsNumberUpTo 9223372036854775807 c.args.text.now) (sym some.value) c.in-Ok.ensures) in
+    let e = exactly_number 9223372036854775807 c.args.text.now c.in-Some.modseq (omega (arith, some.value, nonzero))
+    (subst (IsNumberUpTo 9223372036854775807 c.args.text.now) (sym some.value) c.in-Ok.ensures) in
     record { value = e.value; empty = e.empty; not_digit = e.not_digit; too_big = e.too_big; zero = e.zero }
 
 pub returns-in-None : goal.returns-in-None
@@ -24,4 +25,5 @@ returns-in-None c =
     record { value = e.value; empty = e.empty; not_digit = e.not_digit; too_big = e.too_big; zero = e.zero }
 
 pub returns-in-Err : goal.returns-in-Err
-returns-in-Err c = let e = exactly_fault 9223372036854775807 c.args.text.now c.in-Err.fault c.in-Err.ensures in record { value = e.value; empty = e.empty; not_digit = e.not_digit; too_big = e.too_big; zero = e.zero }
+returns-in-Err c = let e = exactly_fault 9223372036854775807 c.args.text.now c.in-Err.fault c.in-Err.ensures in
+    record { value = e.value; empty = e.empty; not_digit = e.not_digit; too_big = e.too_big; zero = e.zero }
