@@ -1,5 +1,6 @@
 -- The lower-case text of a flag is a key.
-use Rattle.std.proofs.Common.{◌≡◌, ◌↔◌, ℕ, ◌≤◌, Bool, true, false, cond, ◌&&◌, List, [], ◌∷◌, length, None, Some, IsTrue, nat_eq, nat_lt, refl, sym, ap, ◌∙◌, arith}
+use Rattle.std.proofs.Common.{◌≡◌, ◌↔◌, ℕ, ◌≤◌, Bool, true, false, cond, ◌&&◌, List, [], ◌∷◌, length, None, Some, IsTrue, nat_eq, nat_lt}
+use Rattle.std.proofs.Common.{refl, sym, ap, ◌∙◌, arith}
 use Rattle.std.proofs.lemmas.Bool.{and_parts, ltb-false}
 use Rattle.std.proofs.lemmas.Bool.Decides.{nat_tests}
 use Rattle.std.proofs.lemmas.Cmp.{nat_list_eq_equiv}
@@ -37,7 +38,8 @@ lower_lower [] = refl
 lower_lower (b ∷ rest) = ap (λ x. x ∷ key_of (key_of rest)) (lowercase-lowercase b) ∙ ap (λ t. to_ascii_lowercase b ∷ t) (lower_lower rest)
 
 -- what no refusal says of a text
-accepted_cases : (text : List ℕ) (long fits : Bool) → cond long (Some (TooLong (length text))) (cond fits None (Some (BadFlag (misfit text)))) ≡ None → (long ≡ false) × (fits ≡ true)
+accepted_cases : (text : List ℕ) (long fits : Bool) → cond long (Some (TooLong (length text)))
+    (cond fits None (Some (BadFlag (misfit text)))) ≡ None → (long ≡ false) × (fits ≡ true)
 accepted_cases text true fits h = cc
 accepted_cases text false true h = (refl, refl)
 accepted_cases text false false h = cc

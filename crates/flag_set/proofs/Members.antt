@@ -1,5 +1,6 @@
 -- What sets have, and that a set is fixed by what it has.
-use Rattle.std.proofs.Common.{◌≡◌, ℕ, zero, suc, ◌<◌, ◌≤◌, ◌⊎◌, ◌↔◌, Bool, true, false, cond, not, ◌&&◌, ◌||◌, List, [], ◌∷◌, length, get_or, IsTrue, Result, Ok, Err, OnOk, IfErr, refl, sym, ap, ◌∙◌, subst, inl, inr, arith, add-one}
+use Rattle.std.proofs.Common.{◌≡◌, ℕ, zero, suc, ◌<◌, ◌≤◌, ◌⊎◌, ◌↔◌, Bool, true, false, cond, not, ◌&&◌, ◌||◌, List, [], ◌∷◌, length}
+use Rattle.std.proofs.Common.{get_or, IsTrue, Result, Ok, Err, OnOk, IfErr, refl, sym, ap, ◌∙◌, subst, inl, inr, arith, add-one}
 use Rattle.std.proofs.lemmas.Bool.{and_parts, both_ways, cases_lt}
 use Rattle.std.proofs.lemmas.Cmp.{nat_list_cmp_total, nat_list_eq_equiv}
 use Rattle.std.proofs.lemmas.List.Sorted.{searchable_from_sorted}
@@ -35,9 +36,12 @@ or_group : (a b c : Bool) → (a || (b || c)) ≡ ((a || b) || c)
 or_group true b c = refl
 or_group false b c = refl
 
-has-put_by : (o : Ordering) (key first q : List ℕ) (rest later : List (List ℕ)) → order key first ≡ o → has later q ≡ (bytes_eq q key || has rest q) → has (match_ordering o (key ∷ first ∷ rest) (first ∷ rest) (first ∷ later)) q ≡ (bytes_eq q key || (bytes_eq q first || has rest q))
+has-put_by : (o : Ordering) (key first q : List ℕ) (rest later : List (List ℕ)) → order key first ≡ o →
+    has later q ≡ (bytes_eq q key || has rest q) → has (match_ordering o (key ∷ first ∷ rest) (first ∷ rest) (first ∷ later)) q
+    ≡ (bytes_eq q key || (bytes_eq q first || has rest q))
 has-put_by Less key first q rest later h e = refl
-has-put_by Equal key first q rest later h e = or_again (bytes_eq q first) (has rest q) ∙ ap (λ k. bytes_eq q k || (bytes_eq q first || has rest q)) (sym (order_same key first h))
+has-put_by Equal key first q rest later h e = or_again (bytes_eq q first) (has rest q)
+    ∙ ap (λ k. bytes_eq q k || (bytes_eq q first || has rest q)) (sym (order_same key first h))
 has-put_by Greater key first q rest later h e = ap (λ b. bytes_eq q first || b) e ∙ or_swap (bytes_eq q key) (bytes_eq q first) (has rest q)
 
 pub has-put : (key : List ℕ) (keys : List (List ℕ)) (q : List ℕ) → has (put key keys) q ≡ (bytes_eq q key || has keys q)
@@ -67,27 +71,31 @@ put_held key (x ∷ xs) up h =
     ] refl
 
 -- the key goes in between the lower keys and the higher ones
-pub put_between : (key : List ℕ) (keys : List (List ℕ)) (at : ℕ) → at ≤ length keys → AllWithin (λ y. order y key ≡ Less) keys 0 at → AllWithin (λ y. order y key ≡ Greater) keys at (length keys) → put key keys ≡ insert keys at key
+pub put_between : (key : List ℕ) (keys : List (List ℕ)) (at : ℕ) → at ≤ length keys → AllWithin (λ y. order y key ≡ Less) keys 0 at →
+    AllWithin (λ y. order y key ≡ Greater) keys at (length keys) → put key keys ≡ insert keys at key
 put_between key [] zero h low high = refl
 put_between key [] (suc at) h low high = absurd (omega arith)
 put_between key (x ∷ xs) zero h low high =
     ap (λ o. match_ordering o (key ∷ x ∷ xs) (x ∷ xs) (x ∷ put key xs)) (order_flip x key ∙ ap ordering_reverse (high 0 key (omega arith) (omega arith)))
 put_between key (x ∷ xs) (suc at) h low high =
     ap (λ o. match_ordering o (key ∷ x ∷ xs) (x ∷ xs) (x ∷ put key xs)) (order_flip x key ∙ ap ordering_reverse (low 0 key (omega arith) (omega arith)))
-    ∙ ap (λ l. x ∷ l) (put_between key xs at (omega arith) (λ k d p q. low (suc k) d (omega arith) (omega arith)) (λ k d p q. high (suc k) d (omega arith) (omega arith)))
+    ∙ ap (λ l. x ∷ l) (put_between key xs at (omega arith) (λ k d p q. low (suc k) d (omega arith) (omega arith))
+    (λ k d p q. high (suc k) d (omega arith) (omega arith)))
 
 held_first : (x : List ℕ) (xs : List (List ℕ)) → has (x ∷ xs) x ≡ true
 held_first x xs = ap (λ b. b || has xs x) (eq_itself x)
 
 -- what a set has fixes it
-tails_have : (x : List ℕ) (xs ys : List (List ℕ)) (q : List ℕ) → has xs x ≡ false → has ys x ≡ false → (bytes_eq q x || has xs q) ≡ (bytes_eq q x || has ys q) → has xs q ≡ has ys q
+tails_have : (x : List ℕ) (xs ys : List (List ℕ)) (q : List ℕ) → has xs x ≡ false → has ys x ≡ false →
+    (bytes_eq q x || has xs q) ≡ (bytes_eq q x || has ys q) → has xs q ≡ has ys q
 tails_have x xs ys q p r h =
     elim (bytes_eq q x) as (λ b. bytes_eq q x ≡ b → (b || has xs q) ≡ (b || has ys q) → has xs q ≡ has ys q) [
       | true ↦ λ e _. let same : q ≡ x = same_text q x (sym e) in ap (has xs) same ∙ p ∙ sym r ∙ sym (ap (has ys) same)
       | false ↦ λ e k. k
     ] refl h
 
-first_same : (x y : List ℕ) (xs ys : List (List ℕ)) → x ≡ y → IsRising (x ∷ xs) → IsRising (y ∷ ys) → ((q : List ℕ) → has (x ∷ xs) q ≡ has (y ∷ ys) q) → (((q : List ℕ) → has xs q ≡ has ys q) → xs ≡ ys) → x ∷ xs ≡ y ∷ ys
+first_same : (x y : List ℕ) (xs ys : List (List ℕ)) → x ≡ y → IsRising (x ∷ xs) → IsRising (y ∷ ys) →
+    ((q : List ℕ) → has (x ∷ xs) q ≡ has (y ∷ ys) q) → (((q : List ℕ) → has xs q ≡ has ys q) → xs ≡ ys) → x ∷ xs ≡ y ∷ ys
 first_same x y xs ys e up vp same more =
     let below : has ys x ≡ false = ap (has ys) e ∙ has-below y ys vp.0 in
     let rest : xs ≡ ys = more (λ q. tails_have x xs ys q (has-below x xs up.0) below (same q ∙ ap (λ k. bytes_eq q k || has ys q) (sym e))) in
@@ -161,7 +169,10 @@ not_has keys key h = elim (has keys key) as (λ b. has keys key ≡ b → not b 
 ] refl
 
 pub holds_each : (a b : List (List ℕ)) (r : Bool) → r ≡ list_all (has a) b → IsTrue r ↔ All (λ key. Contains a key) b
-holds_each a b r e = (λ t. all_hold (has a) (λ key. Contains a key) (member_from_has a) b (sym e ∙ t), λ all. e ∙ all_pass (has a) (λ key. Contains a key) (has_from_member a) b all)
+holds_each a b r e = (
+  λ t. all_hold (has a) (λ key. Contains a key) (member_from_has a) b (sym e ∙ t),
+  λ all. e ∙ all_pass (has a) (λ key. Contains a key) (has_from_member a) b all,
+)
 
 pub holds_no : (a b : List (List ℕ)) (r : Bool) → r ≡ list_all (λ key. not (has a key)) b → IsTrue r ↔ All (λ key. ¬ Contains a key) b
 holds_no a b r e = (
@@ -172,7 +183,11 @@ holds_no a b r e = (
 -- filtered sets
 pub all_filter : (P : List ℕ → Type 0) (p : List ℕ → Bool) (keys : List (List ℕ)) → AllKeys P keys → AllKeys P (filter p keys)
 all_filter P p [] all = tt
-all_filter P p (x ∷ xs) all = elim (p x) as (λ b. AllKeys P (cond b (x ∷ filter p xs) (filter p xs))) [ true ↦ (all.0, all_filter P p xs all.1) | false ↦ all_filter P p xs all.1 ]
+all_filter P p (x ∷ xs) all = elim (p x) as (λ b. AllKeys P (cond b (x ∷ filter p xs) (filter p xs))) [
+  | true ↦
+      (all.0, all_filter P p xs all.1)
+  | false ↦ all_filter P p xs all.1
+]
 
 pub rising_filter : (p : List ℕ → Bool) (keys : List (List ℕ)) → IsRising keys → IsRising (filter p keys)
 rising_filter p [] up = tt
@@ -186,7 +201,8 @@ and-false : (b : Bool) → (b && false) ≡ false
 and-false true = refl
 and-false false = refl
 
-has_filter_cases : (q x : List ℕ) (rest kept : Bool) (p : List ℕ → Bool) (t e : Bool) → p x ≡ t → bytes_eq q x ≡ e → kept ≡ (rest && p q) → cond t (e || kept) kept ≡ ((e || rest) && p q)
+has_filter_cases : (q x : List ℕ) (rest kept : Bool) (p : List ℕ → Bool) (t e : Bool) → p x ≡ t → bytes_eq q x ≡ e → kept ≡ (rest && p q) →
+    cond t (e || kept) kept ≡ ((e || rest) && p q)
 has_filter_cases q x rest kept p true true px qx k = sym (ap p (same_text q x (sym qx)) ∙ px)
 has_filter_cases q x rest kept p true false px qx k = k
 has_filter_cases q x rest kept p false true px qx k =
@@ -200,11 +216,13 @@ has_of_cond false x xs q = refl
 
 pub has-filter : (p : List ℕ → Bool) (keys : List (List ℕ)) (q : List ℕ) → has (filter p keys) q ≡ (has keys q && p q)
 has-filter p [] q = refl
-has-filter p (x ∷ xs) q = has_of_cond (p x) x (filter p xs) q ∙ has_filter_cases q x (has xs q) (has (filter p xs) q) p (p x) (bytes_eq q x) refl refl (has-filter p xs q)
+has-filter p (x ∷ xs) q = has_of_cond (p x) x (filter p xs) q
+    ∙ has_filter_cases q x (has xs q) (has (filter p xs) q) p (p x) (bytes_eq q x) refl refl (has-filter p xs q)
 
 pub members_minus : (a b : List (List ℕ)) (k : List ℕ) → Contains (minus a b) k ↔ (Contains a k × (¬ Contains b k))
 members_minus a b k = (
-  λ c. let both = and_parts (has a k) (not (has b k)) (sym (has-filter (λ key. not (has b key)) a k) ∙ has_from_member _ _ c) in (member_from_has a k both.0, has_not b k both.1),
+  λ c. let both = and_parts (has a k) (not (has b k)) (sym (has-filter (λ key. not (has b key)) a k) ∙ has_from_member _ _ c) in
+      (member_from_has a k both.0, has_not b k both.1),
   λ s. member_from_has _ _ (has-filter (λ key. not (has b key)) a k ∙ ap (λ t. t && not (has b k)) (has_from_member a k s.0) ∙ not_has b k s.1),
 )
 
@@ -212,7 +230,8 @@ members_minus a b k = (
 pub found_is_member : (keys : List (List ℕ)) (key : List ℕ) (at : ℕ) → at < length keys → HoldsAt (λ y. order y key ≡ Equal) keys at → has keys key ≡ true
 found_is_member keys key at lt held = has_from_member keys key (at, lt, order_same _ key (held key))
 
-rising_at : (x : List ℕ) (xs : List (List ℕ)) → AllKeys (λ later. order x later ≡ Less) xs → (k : ℕ) (d : List ℕ) → k < length xs → order x (get_or xs k d) ≡ Less
+rising_at : (x : List ℕ) (xs : List (List ℕ)) → AllKeys (λ later. order x later ≡ Less) xs → (k : ℕ) (d : List ℕ) → k < length xs →
+    order x (get_or xs k d) ≡ Less
 rising_at x [] all k d lt = absurd (omega arith)
 rising_at x (y ∷ ys) all zero d lt = all.0
 rising_at x (y ∷ ys) all (suc k) d lt = rising_at x ys all.1 k d (omega arith)
@@ -233,7 +252,8 @@ not_itself : (x key : List ℕ) (o : Ordering) → x ≡ key → order x key ≡
 not_itself x key o same e = sym e ∙ ap (λ y. order y key) same ∙ order_itself key
 
 -- the key is in neither part
-pub gap_is_absent : (keys : List (List ℕ)) (key : List ℕ) (at : ℕ) → AllWithin (λ y. order y key ≡ Less) keys 0 at → AllWithin (λ y. order y key ≡ Greater) keys at (length keys) → has keys key ≡ false
+pub gap_is_absent : (keys : List (List ℕ)) (key : List ℕ) (at : ℕ) → AllWithin (λ y. order y key ≡ Less) keys 0 at →
+    AllWithin (λ y. order y key ≡ Greater) keys at (length keys) → has keys key ≡ false
 gap_is_absent keys key at low high =
     elim (has keys key) as (λ b. has keys key ≡ b → b ≡ false) [
       | true ↦ λ e. let c = member_from_has keys key e in elim (cases_lt c.0 at) [
@@ -243,11 +263,13 @@ gap_is_absent keys key at low high =
       | false ↦ λ e. refl
     ] refl
 
-pub place_found : (keys : List (List ℕ)) (key : List ℕ) (r : Result ℕ ℕ) → IsSearchInRange r (length keys) → IsBinarySearchResult (λ y. order y key) keys r → OnOk r (has keys key ≡ true)
+pub place_found : (keys : List (List ℕ)) (key : List ℕ) (r : Result ℕ ℕ) → IsSearchInRange r (length keys) →
+    IsBinarySearchResult (λ y. order y key) keys r → OnOk r (has keys key ≡ true)
 place_found keys key (Ok at) within held = found_is_member keys key at within held
 place_found keys key (Err at) within parts = tt
 
-pub place_gap : (keys : List (List ℕ)) (key : List ℕ) (r : Result ℕ ℕ) → IsRising keys → IsSearchInRange r (length keys) → IsBinarySearchResult (λ y. order y key) keys r → IfErr r (IsGap keys key)
+pub place_gap : (keys : List (List ℕ)) (key : List ℕ) (r : Result ℕ ℕ) → IsRising keys → IsSearchInRange r (length keys) →
+    IsBinarySearchResult (λ y. order y key) keys r → IfErr r (IsGap keys key)
 place_gap keys key (Ok at) up within held = tt
 place_gap keys key (Err at) up within parts =
     let gap = parts (searchable keys key up) in
@@ -281,7 +303,8 @@ members_same a b up vp each =
     (λ h. has_from_member b q ((each q).0 (member_from_has a q h)))
     (λ h. has_from_member a q ((each q).1 (member_from_has b q h))))
 
-pub has_same_members : (a b : List (List ℕ)) (r : Bool) → IsRising a → IsRising b → r ≡ pointwise bytes_eq a b → IsTrue r ↔ ((k : List ℕ) → Contains a k ↔ Contains b k)
+pub has_same_members : (a b : List (List ℕ)) (r : Bool) → IsRising a → IsRising b → r ≡ pointwise bytes_eq a b →
+    IsTrue r ↔ ((k : List ℕ) → Contains a k ↔ Contains b k)
 has_same_members a b r up vp e = (
   λ t k. let s : a ≡ b = (is_same a b r e).0 t in subst (λ l. Contains a k ↔ Contains l k) s ((λ c. c), (λ c. c)),
   λ each. (is_same a b r e).1 (members_same a b up vp each),

@@ -17,7 +17,8 @@ order_itself a = tied_itself nat_list_cmp_total a
 pub order_flip : (a b : List ℕ) → order b a ≡ ordering_reverse (order a b)
 order_flip a b = nat_list_cmp_total.antisymm b a
 
-pub below_all : (a b : List ℕ) (keys : List (List ℕ)) → order a b ≡ Less → AllKeys (λ later. order b later ≡ Less) keys → AllKeys (λ later. order a later ≡ Less) keys
+pub below_all : (a b : List ℕ) (keys : List (List ℕ)) → order a b ≡ Less → AllKeys (λ later. order b later ≡ Less) keys →
+    AllKeys (λ later. order a later ≡ Less) keys
 below_all a b [] h all = tt
 below_all a b (x ∷ xs) h all = (nat_list_cmp_total.trans a b x h all.0, below_all a b xs h all.1)
 
@@ -35,7 +36,8 @@ put_there key keys = ap (λ o. put_by o key key keys (put key keys)) (order_itse
 pub put_behind : (key first : List ℕ) (rest : List (List ℕ)) → order first key ≡ Less → put key (first ∷ rest) ≡ first ∷ put key rest
 put_behind key first rest h = ap (λ o. put_by o key first rest (put key rest)) (order_flip first key ∙ ap ordering_reverse h)
 
-all_put_by : (P : List ℕ → Type 0) (o : Ordering) (key first : List ℕ) (rest later : List (List ℕ)) → P key → AllKeys P (first ∷ rest) → AllKeys P later → AllKeys P (put_by o key first rest later)
+all_put_by : (P : List ℕ → Type 0) (o : Ordering) (key first : List ℕ) (rest later : List (List ℕ)) → P key → AllKeys P (first ∷ rest) →
+    AllKeys P later → AllKeys P (put_by o key first rest later)
 all_put_by P Less key first rest later p all l = (p, all)
 all_put_by P Equal key first rest later p all l = all
 all_put_by P Greater key first rest later p all l = (all.0, l)
@@ -44,7 +46,8 @@ pub all_put : (P : List ℕ → Type 0) (key : List ℕ) (keys : List (List ℕ)
 all_put P key [] p all = (p, tt)
 all_put P key (x ∷ xs) p all = all_put_by P (order key x) key x xs (put key xs) p all (all_put P key xs p all.1)
 
-rising_put_by : (o : Ordering) (key first : List ℕ) (rest : List (List ℕ)) → order key first ≡ o → IsRising (first ∷ rest) → IsRising (put key rest) → IsRising (put_by o key first rest (put key rest))
+rising_put_by : (o : Ordering) (key first : List ℕ) (rest : List (List ℕ)) → order key first ≡ o → IsRising (first ∷ rest) →
+    IsRising (put key rest) → IsRising (put_by o key first rest (put key rest))
 rising_put_by Less key first rest h up later = ((h, below_all key first rest h up.0), up)
 rising_put_by Equal key first rest h up later = up
 rising_put_by Greater key first rest h up later =
@@ -67,7 +70,8 @@ pub union_nil : (a : List (List ℕ)) → IsRising a → union a [] ≡ a
 union_nil [] up = refl
 union_nil (x ∷ xs) up = ap (put x) (union_nil xs up.1) ∙ put_first x xs up.0
 
-pub union_left : (x : List ℕ) (xs b : List (List ℕ)) → AllKeys (λ later. order x later ≡ Less) xs → AllKeys (λ later. order x later ≡ Less) b → union (x ∷ xs) b ≡ x ∷ union xs b
+pub union_left : (x : List ℕ) (xs b : List (List ℕ)) → AllKeys (λ later. order x later ≡ Less) xs →
+    AllKeys (λ later. order x later ≡ Less) b → union (x ∷ xs) b ≡ x ∷ union xs b
 union_left x xs b p q = put_first x (union xs b) (all_union (λ later. order x later ≡ Less) xs b p q)
 
 pub union_right : (a : List (List ℕ)) (y : List ℕ) (ys : List (List ℕ)) → AllKeys (λ later. order y later ≡ Less) a → union a (y ∷ ys) ≡ y ∷ union a ys

@@ -1,5 +1,6 @@
 -- The pieces of a text, from its first.
-use Rattle.std.proofs.Common.{◌≡◌, ℕ, suc, ◌+◌, ◌-◌, ◌≤◌, ◌<◌, Bool, true, false, cond, not, List, [], ◌∷◌, length, take, drop, Some, None, unwrap_or, nat_lt, refl, sym, ap, ◌∙◌, arith}
+use Rattle.std.proofs.Common.{◌≡◌, ℕ, suc, ◌+◌, ◌-◌, ◌≤◌, ◌<◌, Bool, true, false, cond, not, List, [], ◌∷◌, length, take, drop, Some}
+use Rattle.std.proofs.Common.{None, unwrap_or, nat_lt, refl, sym, ap, ◌∙◌, arith}
 use Rattle.std.proofs.lemmas.Bool.{ltb-false}
 use Rattle.std.proofs.lemmas.List.{take_all}
 use Rattle.std.proofs.lemmas.List.Sums.{prefix_len-le-length}
@@ -10,7 +11,8 @@ use Rattle.flag_set.specs.FlagList.{begins_with_space, is_space, pieces}
 pub place_or_len : (p : ℕ → Bool) (xs : List ℕ) → unwrap_or (position p xs) (length xs) ≡ position_or_len p xs
 place_or_len p xs =
     let within = prefix_len-le-length (λ x. not (p x)) xs in
-    elim (nat_lt (position_or_len p xs) (length xs)) as (λ b. nat_lt (position_or_len p xs) (length xs) ≡ b → unwrap_or (cond b (Some (position_or_len p xs)) None) (length xs) ≡ position_or_len p xs) [
+    elim (nat_lt (position_or_len p xs) (length xs)) as (λ b. nat_lt (position_or_len p xs) (length xs) ≡ b →
+    unwrap_or (cond b (Some (position_or_len p xs)) None) (length xs) ≡ position_or_len p xs) [
       | true ↦ λ e. refl
       | false ↦ λ e. let above = ltb-false _ _ e in omega arith
     ] refl
@@ -36,7 +38,9 @@ pieces_other b rest h = ap (λ t. cond t (cond (begins_with_space rest) (pieces 
 pieces_spaces : (rest : List ℕ) → cond (begins_with_space rest) (pieces rest) ([] ∷ pieces rest) ≡ [] ∷ pieces (behind rest)
 pieces_spaces [] = refl
 pieces_spaces (b ∷ rest) =
-    elim (is_space b) as (λ t. is_space b ≡ t → cond t (cond t (cond (begins_with_space rest) (pieces rest) ([] ∷ pieces rest)) (onto_first b (pieces rest))) ([] ∷ cond t (cond (begins_with_space rest) (pieces rest) ([] ∷ pieces rest)) (onto_first b (pieces rest))) ≡ [] ∷ pieces (behind (b ∷ rest))) [
+    elim (is_space b) as (λ t. is_space b ≡ t → cond t (cond t (cond (begins_with_space rest) (pieces rest) ([] ∷ pieces rest))
+    (onto_first b (pieces rest))) ([] ∷ cond t (cond (begins_with_space rest) (pieces rest) ([] ∷ pieces rest))
+    (onto_first b (pieces rest))) ≡ [] ∷ pieces (behind (b ∷ rest))) [
       | true ↦ λ e. pieces_spaces rest ∙ ap (λ l. [] ∷ pieces l) (sym (behind_space b rest e))
       | false ↦ λ e. ap (λ l. [] ∷ l) (sym (pieces_other b rest e)) ∙ ap (λ l. [] ∷ pieces l) (sym (behind_other b rest e))
     ] refl
@@ -50,7 +54,8 @@ pub pieces_first : (text : List ℕ) → pieces text ≡ take (position_or_len i
 pieces_first [] = refl
 pieces_first (b ∷ rest) =
     let n = position_or_len is_space rest in
-    elim (is_space b) as (λ t. cond t (cond (begins_with_space rest) (pieces rest) ([] ∷ pieces rest)) (onto_first b (pieces rest)) ≡ take (cond (not t) (1 + n) 0) (b ∷ rest) ∷ pieces_behind (drop (cond (not t) (1 + n) 0) (b ∷ rest))) [
+    elim (is_space b) as (λ t. cond t (cond (begins_with_space rest) (pieces rest) ([] ∷ pieces rest)) (onto_first b (pieces rest))
+    ≡ take (cond (not t) (1 + n) 0) (b ∷ rest) ∷ pieces_behind (drop (cond (not t) (1 + n) 0) (b ∷ rest))) [
       | true ↦ pieces_spaces rest
       | false ↦ ap (onto_first b) (pieces_first rest) ∙ ap (λ m. take m (b ∷ rest) ∷ pieces_behind (drop m (b ∷ rest))) (sym (one_more n))
     ]
@@ -63,7 +68,8 @@ pub behind_some : (rest : List ℕ) → 1 ≤ length rest → pieces_behind rest
 behind_some [] h = absurd (omega arith)
 behind_some (b ∷ rest) h = refl
 
-pub parts : (text front back : List ℕ) (n : ℕ) → n ≡ position_or_len is_space text → front ≡ take n text → back ≡ drop n text → pieces text ≡ front ∷ pieces_behind back
+pub parts : (text front back : List ℕ) (n : ℕ) → n ≡ position_or_len is_space text → front ≡ take n text → back ≡ drop n text →
+    pieces text ≡ front ∷ pieces_behind back
 parts text front back n e f b =
     pieces_first text
     ∙ ap (λ m. take m text ∷ pieces_behind (drop m text)) (sym e)

@@ -1,5 +1,7 @@
 -- The text of a set, and what is read of it again.
-use Rattle.std.proofs.Common.{◌≡◌, ℕ, ◌+◌, ◌≤◌, ◌<◌, Bool, true, false, cond, not, ◌&&◌, ◌||◌, nat_lt, List, [], ◌∷◌, ◌++◌, length, take, get_or, fold, map, Some, None, unwrap_or, add-one, append_assoc, refl, sym, ap, ◌∙◌, subst, arith, length-append}
+use Rattle.std.proofs.Common.{◌≡◌, ℕ, ◌+◌, ◌≤◌, ◌<◌, Bool, true, false, cond, not, ◌&&◌, ◌||◌, nat_lt, List, [], ◌∷◌, ◌++◌, length, take}
+use Rattle.std.proofs.Common.{get_or, fold, map, Some, None, unwrap_or, add-one, append_assoc, refl, sym, ap, ◌∙◌, subst, arith}
+use Rattle.std.proofs.Common.{length-append}
 use Rattle.std.proofs.Math.Seq.{take-suc}
 use Rattle.std.proofs.lemmas.Bool.{and_parts, le-ltb}
 use Rattle.std.proofs.lemmas.Bool.Decides.{nat_tests}
@@ -35,7 +37,8 @@ text_push : (keys : List (List ℕ)) (key : List ℕ) → 0 < length keys → li
 text_push [] key h = absurd (omega arith)
 text_push (x ∷ xs) key h = ap (join_with_byte 32) (map-append spelling (x ∷ xs) (key ∷ [])) ∙ join_push 32 (spelling x) (map spelling xs) (spelling key)
 
-pub text_more : (keys : List (List ℕ)) (key : List ℕ) (at : ℕ) → 0 < at → at < length keys → key ≡ get_or keys at key → list_text (take (at + 1) keys) ≡ list_text (take at keys) ++ (32 ∷ spelling key)
+pub text_more : (keys : List (List ℕ)) (key : List ℕ) (at : ℕ) → 0 < at → at < length keys → key ≡ get_or keys at key →
+    list_text (take (at + 1) keys) ≡ list_text (take at keys) ++ (32 ∷ spelling key)
 text_more keys key at h lt e =
     ap list_text (ap (λ n. take n keys) (add-one at) ∙ take-suc keys at key lt ∙ ap (λ k. take at keys ++ k ∷ []) (sym e))
     ∙ text_push (take at keys) key (simp length-take (omega arith))
@@ -58,7 +61,8 @@ pieces_word (b ∷ rest) h =
     let both = and_parts (not (is_space b)) (list_all (λ byte. not (is_space byte)) rest) h in
     onto_word b rest both.0 ∙ ap (onto_first b) (pieces_word rest both.1)
 
-pieces_words : (word rest : List ℕ) → list_all (λ byte. not (is_space byte)) word ≡ true → begins_with_space rest ≡ false → pieces (word ++ (32 ∷ rest)) ≡ word ∷ pieces rest
+pieces_words : (word rest : List ℕ) → list_all (λ byte. not (is_space byte)) word ≡ true → begins_with_space rest ≡ false →
+    pieces (word ++ (32 ∷ rest)) ≡ word ∷ pieces rest
 pieces_words [] rest h e = ap (λ t. cond t (pieces rest) ([] ∷ pieces rest)) e
 pieces_words (b ∷ more) rest h e =
     let both = and_parts (not (is_space b)) (list_all (λ byte. not (is_space byte)) more) h in
@@ -71,7 +75,8 @@ begins_word (b ∷ rest) (z ∷ zs) w = let both = and_parts (not (is_space b)) 
 
 pieces_join : (word : List ℕ) (words : List (List ℕ)) → IsWord word → AllKeys IsWord words → pieces (join_with_byte 32 (word ∷ words)) ≡ word ∷ words
 pieces_join word [] w all = pieces_word word w.plain
-pieces_join word (z ∷ zs) w all = pieces_words word (join_with_byte 32 (z ∷ zs)) w.plain (begins_word z zs all.0) ∙ ap (λ l. word ∷ l) (pieces_join z zs all.0 all.1)
+pieces_join word (z ∷ zs) w all = pieces_words word (join_with_byte 32 (z ∷ zs)) w.plain (begins_word z zs all.0)
+    ∙ ap (λ l. word ∷ l) (pieces_join z zs all.0 all.1)
 
 flags_join : (words : List (List ℕ)) → AllKeys IsWord words → flags_of (join_with_byte 32 words) ≡ words
 flags_join [] all = refl
@@ -92,7 +97,8 @@ name_plain (b ∷ rest) h =
     let both = and_parts (is_atom_byte b) (list_all is_atom_byte rest) h in
     ap (λ t. t && list_all (λ byte. not (is_space byte)) rest) (atom_plain b both.0) ∙ name_plain rest both.1
 
-flag_plain : (b : ℕ) (rest : List ℕ) (t : Bool) → (b == backslash) ≡ t → list_all is_atom_byte (cond t rest (b ∷ rest)) ≡ true → list_all (λ byte. not (is_space byte)) (b ∷ rest) ≡ true
+flag_plain : (b : ℕ) (rest : List ℕ) (t : Bool) → (b == backslash) ≡ t → list_all is_atom_byte (cond t rest (b ∷ rest)) ≡ true →
+    list_all (λ byte. not (is_space byte)) (b ∷ rest) ≡ true
 flag_plain b rest true e h = ap (λ t. t && list_all (λ byte. not (is_space byte)) rest) (backslash_plain b e) ∙ name_plain rest h
 flag_plain b rest false e h = name_plain (b ∷ rest) h
 
@@ -103,7 +109,8 @@ flag_is_word (b ∷ rest) h =
     record { plain = flag_plain b rest (b == backslash) refl both.1; some = omega arith }
 
 -- keys as they are written
-spelling_accepted_from : (key : List ℕ) (names : List (List ℕ)) → refusal key ≡ None → AllKeys (λ name. refusal name ≡ None) names → refusal (unwrap_or (find (λ flag. str_eq_ignore_ascii_case flag key) names) key) ≡ None
+spelling_accepted_from : (key : List ℕ) (names : List (List ℕ)) → refusal key ≡ None → AllKeys (λ name. refusal name ≡ None) names →
+    refusal (unwrap_or (find (λ flag. str_eq_ignore_ascii_case flag key) names) key) ≡ None
 spelling_accepted_from key [] h all = h
 spelling_accepted_from key (x ∷ xs) h all =
     elim (str_eq_ignore_ascii_case x key) as (λ t. refusal (unwrap_or (cond t (Some x) (find (λ flag. str_eq_ignore_ascii_case flag key) xs)) key) ≡ None) [
@@ -111,10 +118,12 @@ spelling_accepted_from key (x ∷ xs) h all =
       | false ↦ spelling_accepted_from key xs h all.1
     ]
 
-spelling_key_from : (key : List ℕ) (names : List (List ℕ)) → key_of key ≡ key → key_of (unwrap_or (find (λ flag. str_eq_ignore_ascii_case flag key) names) key) ≡ key
+spelling_key_from : (key : List ℕ) (names : List (List ℕ)) → key_of key ≡ key →
+    key_of (unwrap_or (find (λ flag. str_eq_ignore_ascii_case flag key) names) key) ≡ key
 spelling_key_from key [] h = h
 spelling_key_from key (x ∷ xs) h =
-    elim (str_eq_ignore_ascii_case x key) as (λ t. str_eq_ignore_ascii_case x key ≡ t → key_of (unwrap_or (cond t (Some x) (find (λ flag. str_eq_ignore_ascii_case flag key) xs)) key) ≡ key) [
+    elim (str_eq_ignore_ascii_case x key) as (λ t. str_eq_ignore_ascii_case x key ≡ t →
+    key_of (unwrap_or (cond t (Some x) (find (λ flag. str_eq_ignore_ascii_case flag key) xs)) key) ≡ key) [
       | true ↦ λ e. same_text (key_of x) (key_of key) (sym e) ∙ h
       | false ↦ λ e. spelling_key_from key xs h
     ] refl
@@ -192,7 +201,8 @@ no_next done k d key e h =
     ∙ ap excess (next_keys done k key ∙ e)
     ∙ no_excess d h
 
-no_fault_read : (done keys : List (List ℕ)) → IsRising (done ++ keys) → AllKeys IsKey keys → length done + length keys ≤ MAX_FLAGS → fault_behind done (map spelling keys) ≡ None
+no_fault_read : (done keys : List (List ℕ)) → IsRising (done ++ keys) → AllKeys IsKey keys → length done + length keys ≤ MAX_FLAGS →
+    fault_behind done (map spelling keys) ≡ None
 no_fault_read done [] up all short = refl
 no_fault_read done (k ∷ rest) up all short =
     elim (bytes_eq k recent) as (λ t. bytes_eq k recent ≡ t → fault_behind done (map spelling (k ∷ rest)) ≡ None) [
@@ -214,10 +224,12 @@ pub text_again : (keys : List (List ℕ)) → IsFlagSet keys → set_of (flags_o
 text_again keys set = ap set_of (flags_again keys set.flags) ∙ read_behind [] keys set.rising set.flags
 
 pub text_readable : (keys : List (List ℕ)) → IsFlagSet keys → length keys ≤ MAX_FLAGS → HasNoFault (flags_of (list_text keys))
-text_readable keys set short = subst HasNoFault (sym (flags_again keys set.flags)) (no_fault (map spelling keys) (no_fault_read [] keys set.rising set.flags (omega arith)))
+text_readable keys set short = subst HasNoFault (sym (flags_again keys set.flags))
+    (no_fault (map spelling keys) (no_fault_read [] keys set.rising set.flags (omega arith)))
 
 -- one step of the loop that writes a text
-pub step_first : (keys : List (List ℕ)) (at : ℕ) (key text text' : List ℕ) → at ≤ 0 → at < length keys → key ≡ get_or keys at key → text ≡ list_text (take at keys) → text' ≡ text ++ spelling key → text' ≡ list_text (take (at + 1) keys)
+pub step_first : (keys : List (List ℕ)) (at : ℕ) (key text text' : List ℕ) → at ≤ 0 → at < length keys → key ≡ get_or keys at key →
+    text ≡ list_text (take at keys) → text' ≡ text ++ spelling key → text' ≡ list_text (take (at + 1) keys)
 step_first keys at key text text' h lt e t w =
     let none : at ≡ 0 = omega arith in
     w
@@ -225,7 +237,8 @@ step_first keys at key text text' h lt e t w =
     ∙ sym (text_first keys key (omega arith) (e ∙ ap (λ n. get_or keys n key) none))
     ∙ ap (λ n. list_text (take (n + 1) keys)) (sym none)
 
-pub step_more : (keys : List (List ℕ)) (at : ℕ) (key text spaced text' : List ℕ) → 0 < at → at < length keys → key ≡ get_or keys at key → text ≡ list_text (take at keys) → spaced ≡ text ++ 32 ∷ [] → text' ≡ spaced ++ spelling key → text' ≡ list_text (take (at + 1) keys)
+pub step_more : (keys : List (List ℕ)) (at : ℕ) (key text spaced text' : List ℕ) → 0 < at → at < length keys → key ≡ get_or keys at key →
+    text ≡ list_text (take at keys) → spaced ≡ text ++ 32 ∷ [] → text' ≡ spaced ++ spelling key → text' ≡ list_text (take (at + 1) keys)
 step_more keys at key text spaced text' h lt e t s w =
     w
     ∙ ap (λ l. l ++ spelling key) (s ∙ ap (λ l. l ++ 32 ∷ []) t)

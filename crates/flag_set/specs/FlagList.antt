@@ -1,5 +1,6 @@
 -- What a list of flags holds, and which fault comes first (RFC 9051, section 9, flag-list).
-use Rattle.std.specs.Prelude.{◌≡◌, ◌<◌, ◌+◌, ◌==◌, ℕ, suc, Bool, false, not, codes, List, [], ◌∷◌, length, take, fold, nat_lt, slice_index_or, Option, Some, None, if◌then◌else◌}
+use Rattle.std.specs.Prelude.{◌≡◌, ◌<◌, ◌+◌, ◌==◌, ℕ, suc, Bool, false, not, codes, List, [], ◌∷◌, length, take, fold, nat_lt}
+use Rattle.std.specs.Prelude.{slice_index_or, Option, Some, None, if◌then◌else◌}
 use Rattle.std.specs.List.{filter, onto_first}
 use Rattle.std.specs.Option.{option_or}
 use Rattle.std.specs.Str.{bytes_eq}

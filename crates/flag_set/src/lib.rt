@@ -8,8 +8,6 @@ mod flag_perm;
 mod flag_set;
 mod key_list;
 mod key_runs;
-#[cfg(test)]
-mod tests;
 
 pub use flag_fault::{FlagFault, MAX_FLAG, MAX_FLAGS};
 pub use flag_key::FlagKey;

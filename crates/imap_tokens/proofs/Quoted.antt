@@ -1,5 +1,6 @@
 -- A quoted string is read in one way, a byte at a time.
-use Rattle.std.proofs.Common.{◌≡◌, ◌≢◌, ◌⊎◌, inl, inr, ℕ, ◌+◌, ◌<◌, Bool, true, false, List, [], ◌∷◌, ◌++◌, length, drop, Option, Some, None, get_or, refl, sym, ◌∙◌, ap, subst, arith, add-one, drop-cons}
+use Rattle.std.proofs.Common.{◌≡◌, ◌≢◌, ◌⊎◌, inl, inr, ℕ, ◌+◌, ◌<◌, Bool, true, false, List, [], ◌∷◌, ◌++◌, length, drop, Option, Some}
+use Rattle.std.proofs.Common.{None, get_or, refl, sym, ◌∙◌, ap, subst, arith, add-one, drop-cons}
 use Rattle.std.proofs.Math.Seq.{drop-length}
 use Rattle.std.proofs.lemmas.Bool.{cases_Bool}
 use Rattle.std.proofs.lemmas.Bool.Decides.{nat_tests}
@@ -26,7 +27,8 @@ step_bad : (b n : ℕ) (more : List ℕ) → (b == 34) ≡ false → is_forbidde
 unfolding quoted_from
 step_bad b n more test bad = rw (test, bad) refl
 
-step_on : (b n : ℕ) (more : List ℕ) (e : Bool) → (b == 34) ≡ false → is_forbidden b ≡ false → (b == 92) ≡ e → quoted_from false n (b ∷ more) ≡ quoted_from e (n + 1) more
+step_on : (b n : ℕ) (more : List ℕ) (e : Bool) → (b == 34) ≡ false → is_forbidden b ≡ false → (b == 92) ≡ e →
+    quoted_from false n (b ∷ more) ≡ quoted_from e (n + 1) more
 unfolding quoted_from
 step_on b n more e test bad slash = rw (test, bad) (ap (λ (x : Bool). quoted_from x (n + 1) more) slash)
 
@@ -37,7 +39,8 @@ empty false n = refl
 
 -- What the reading finds is a quoted string.
 abbrev Ends : ℕ → List ℕ → ℕ → Type 0
-Ends n text m = (chars : List QuotedChar) × (rest : List ℕ) × AllByRecursion IsQuotedChar chars × (text ≡ inner_text chars ++ 34 ∷ rest) × (m ≡ n + length (inner_text chars) + 1)
+Ends n text m = (chars : List QuotedChar) × (rest : List ℕ) × AllByRecursion IsQuotedChar chars × (text ≡ inner_text chars ++ 34 ∷ rest)
+    × (m ≡ n + length (inner_text chars) + 1)
 
 abbrev EndsAs : Bool → ℕ → List ℕ → ℕ → Type 0
 EndsAs false n text m = Ends n text m
@@ -112,7 +115,8 @@ test_escaped : (b : ℕ) → (b ≡ 34) ⊎ (b ≡ 92) → is_escaped b ≡ true
 test_escaped b (inl is) = ap is_escaped is
 test_escaped b (inr is) = ap is_escaped is
 
-complete : (chars : List QuotedChar) (rest : List ℕ) (n : ℕ) → AllByRecursion IsQuotedChar chars → quoted_from false n (inner_text chars ++ 34 ∷ rest) ≡ Some (n + length (inner_text chars) + 1)
+complete : (chars : List QuotedChar) (rest : List ℕ) (n : ℕ) → AllByRecursion IsQuotedChar chars →
+    quoted_from false n (inner_text chars ++ 34 ∷ rest) ≡ Some (n + length (inner_text chars) + 1)
 complete [] rest n all = let size : n + 1 ≡ n + 0 + 1 = omega arith in step_end 34 n rest refl ∙ ap (λ (k : ℕ). Some k) size
 complete (Plain b ∷ chars) rest n all =
     let is = all.0 in
@@ -158,7 +162,8 @@ unfolding quoted_from
 at_end true n text = rw drop-length refl
 at_end false n text = rw drop-length refl
 
-module _ (text : List ℕ) (i : ℕ) (escaped : Bool) (answer : Option ℕ) (so_far : quoted_from escaped (i + 1) (drop i text) ≡ answer) (there : i < length text) where
+module _ (text : List ℕ) (i : ℕ) (escaped : Bool) (answer : Option ℕ) (so_far : quoted_from escaped (i + 1) (drop i text) ≡ answer)
+    (there : i < length text) where
   here : quoted_from escaped (i + 1) (get_or text i 0 ∷ drop (i + 1) text) ≡ answer
   here = ap (quoted_from escaped (i + 1)) (sym (front text i there)) ∙ so_far
 
@@ -186,6 +191,7 @@ module _ (text : List ℕ) (i : ℕ) (escaped : Bool) (answer : Option ℕ) (so_
   unfolding quoted_from
   plain_bad is test bad = sym (rw (test, bad) refl) ∙ as_false is
 
-  pub plain_on : escaped ≡ false → (get_or text i 0 == 34) ≡ false → is_forbidden (get_or text i 0) ≡ false → quoted_from (get_or text i 0 == 92) (i + 1 + 1) (drop (i + 1) text) ≡ answer
+  pub plain_on : escaped ≡ false → (get_or text i 0 == 34) ≡ false → is_forbidden (get_or text i 0) ≡ false →
+      quoted_from (get_or text i 0 == 92) (i + 1 + 1) (drop (i + 1) text) ≡ answer
   unfolding quoted_from
   plain_on is test bad = sym (rw (test, bad) refl) ∙ as_false is

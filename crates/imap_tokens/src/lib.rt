@@ -1,8 +1,6 @@
 //! The tokens of a line (RFC 9051, section 9), each with the place of its text.
 #![tactic(auto)]
 
-#[cfg(test)]
-mod tests;
 mod token;
 mod tokens;
 mod word;

@@ -6,7 +6,8 @@ use Rattle.std.specs.Prelude.{◌==◌, Some, None}
 use Rattle.memchr.specs.Find.{IsFirstByte, is_byte}
 use Rattle.mail_header.specs.BareLf.{end_behind, crlf_after, crlf_of, last_after}
 
-cut : (at before : ℕ) (text : List ℕ) → get_or text at 0 ≡ 10 → ((k : ℕ) → k < at → get_or text k 0 ≡ 10 → ⊥) → crlf_after before text ≡ take at text ++ (end_behind (last_after before (take at text)) ++ crlf_after 10 (drop (suc at) text))
+cut : (at before : ℕ) (text : List ℕ) → get_or text at 0 ≡ 10 → ((k : ℕ) → k < at → get_or text k 0 ≡ 10 → ⊥) →
+    crlf_after before text ≡ take at text ++ (end_behind (last_after before (take at text)) ++ crlf_after 10 (drop (suc at) text))
 cut at before [] here none = absurd (cc here)
 cut zero before (byte ∷ rest) here none = let lf : byte ≡ 10 = here in rw lf refl
 cut (suc at) before (byte ∷ rest) here none =
@@ -18,14 +19,17 @@ after_lf [] = refl
 after_lf (byte ∷ rest) = refl
 
 -- by the first LF
-crlf-cut : (text : List ℕ) (at : ℕ) → IsFirstByte (is_byte 10) text (Some at) → crlf_of text ≡ take at text ++ (end_behind (last_after 0 (take at text)) ++ crlf_of (drop (at + 1) text))
+crlf-cut : (text : List ℕ) (at : ℕ) → IsFirstByte (is_byte 10) text (Some at) →
+    crlf_of text ≡ take at text ++ (end_behind (last_after 0 (take at text)) ++ crlf_of (drop (at + 1) text))
 crlf-cut text at found =
     let same : suc at ≡ at + 1 = omega arith in
     let here = cut at 0 text (eqb-true _ 10 found.1) (λ k below is. found.0.before k (omega arith) below (eq-eqb _ 10 is)) in
-    here ∙ ap (λ bytes. take at text ++ (end_behind (last_after 0 (take at text)) ++ bytes)) (after_lf (drop (suc at) text) ∙ ap (λ n. crlf_of (drop n text)) same)
+    here ∙ ap (λ bytes. take at text ++ (end_behind (last_after 0 (take at text)) ++ bytes))
+    (after_lf (drop (suc at) text) ∙ ap (λ n. crlf_of (drop n text)) same)
 
 -- one line more
-pub crlf-more : (before all text : List ℕ) (at : ℕ) → IsFirstByte (is_byte 10) text (Some at) → before ++ crlf_of text ≡ all → (before ++ take at text ++ end_behind (last_after 0 (take at text))) ++ crlf_of (drop (at + 1) text) ≡ all
+pub crlf-more : (before all text : List ℕ) (at : ℕ) → IsFirstByte (is_byte 10) text (Some at) → before ++ crlf_of text ≡ all →
+    (before ++ take at text ++ end_behind (last_after 0 (take at text))) ++ crlf_of (drop (at + 1) text) ≡ all
 crlf-more before all text at found is = simp append_assoc (ap (λ bytes. before ++ bytes) (sym (crlf-cut text at found)) ∙ is)
 
 -- with no LF
@@ -45,7 +49,8 @@ last_after-get before byte (next ∷ rest) = last_after-get byte next rest
 
 pub last-get : (line : List ℕ) → 0 < length line → last_after 0 line ≡ get_or line (length line - 1) 0
 last-get [] some = absurd (omega arith)
-last-get (byte ∷ rest) some = let same : length rest ≡ suc (length rest) - 1 = omega arith in last_after-get 0 byte rest ∙ ap (λ n. get_or (byte ∷ rest) n 0) same
+last-get (byte ∷ rest) some = let same : length rest ≡ suc (length rest) - 1 = omega arith in
+    last_after-get 0 byte rest ∙ ap (λ n. get_or (byte ∷ rest) n 0) same
 
 pub end_of-cr : (line : List ℕ) → 0 < length line → get_or line (length line - 1) 0 ≡ 13 → 10 ∷ [] ≡ end_behind (last_after 0 line)
 end_of-cr line some cr = rw (last-get line some, cr) refl

@@ -14,12 +14,15 @@ not_colon byte isnt = ne_eqb byte 58 (λ is. isnt (eq-eqb byte 58 is))
 -- what a search for a colon finds
 pub position-is : (line : List ℕ) (found : Option ℕ) → IsFirstByte (is_byte 58) line found → position is_colon line ≡ found
 position-is line None none =
-    let place = position_or_len_is is_colon line (length line) 0 (le_refl (length line)) (λ k below. not_colon _ (none k (omega arith) below)) (λ below. absurd (omega arith)) in
+    let place = position_or_len_is is_colon line (length line) 0 (le_refl (length line))
+    (λ k below. not_colon _ (none k (omega arith) below)) (λ below. absurd (omega arith)) in
     rw (place, le-ltb (length line) (length line) (le_refl (length line))) refl
 position-is line (Some at) found =
-    let place = position_or_len_is is_colon line at 0 (omega (arith, found.0.high)) (λ k below. not_colon _ (found.0.before k (omega arith) below)) (λ below. found.1) in
+    let place = position_or_len_is is_colon line at 0 (omega (arith, found.0.high))
+    (λ k below. not_colon _ (found.0.before k (omega arith) below)) (λ below. found.1) in
     rw (place, lt-ltb at (length line) found.0.high) refl
 
 -- the field that a colon parts
-pub field-some : (line : List ℕ) (at : ℕ) → IsFirstByte (is_byte 58) line (Some at) → (at ≡ 0 → ⊥) → Some (record { name = take at line; body = take (length line - (at + 1)) (drop (at + 1) line) }) ≡ field_of line
+pub field-some : (line : List ℕ) (at : ℕ) → IsFirstByte (is_byte 58) line (Some at) → (at ≡ 0 → ⊥) →
+    Some (record { name = take at line; body = take (length line - (at + 1)) (drop (at + 1) line) }) ≡ field_of line
 field-some line at found filled = rw (take_rest line (at + 1)) (sym (ap (parted_at line) (position-is line (Some at) found) ∙ rw (ne_eqb at 0 filled) refl))

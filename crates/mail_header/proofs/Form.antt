@@ -1,5 +1,6 @@
 -- Where bytes stop being an identifier.
-use Rattle.std.proofs.Common.{◌≡◌, ℕ, zero, suc, ◌+◌, ◌<◌, ◌≤◌, List, [], ◌∷◌, ◌++◌, length, take, drop, refl, sym, ◌∙◌, ap, subst, arith, get_or, length-take, get_or-take}
+use Rattle.std.proofs.Common.{◌≡◌, ℕ, zero, suc, ◌+◌, ◌<◌, ◌≤◌, List, [], ◌∷◌, ◌++◌, length, take, drop, refl, sym, ◌∙◌, ap, subst, arith}
+use Rattle.std.proofs.Common.{get_or, length-take, get_or-take}
 use Rattle.std.proofs.lemmas.List.{append_assoc, append-nil, length-append, take_all, take-append-drop, get_or-append-add}
 use Rattle.std.proofs.lemmas.List.Elements.{All-nil, All-cons, All-push, All-head, All-tail, All-get_or}
 use Rattle.std.proofs.Math.Seq.{take-suc}
@@ -34,7 +35,8 @@ begins_open inside all = record {
 }
 
 -- another byte in an identifier is its end
-other_place : (front rest mid : List ℕ) (at : ℕ) → front ++ rest ≡ mid ++ 62 ∷ [] → All IsIdByte mid → at < length front → (IsIdByte (get_or front at 0) → ⊥) → (at ≡ length mid) × (get_or front at 0 ≡ 62)
+other_place : (front rest mid : List ℕ) (at : ℕ) → front ++ rest ≡ mid ++ 62 ∷ [] → All IsIdByte mid → at < length front →
+    (IsIdByte (get_or front at 0) → ⊥) → (at ≡ length mid) × (get_or front at 0 ≡ 62)
 other_place [] rest mid at same all below other = absurd (omega arith)
 other_place (byte ∷ front) rest [] zero same all below other = (refl, cc same)
 other_place (byte ∷ front) rest [] (suc at) same all below other =
@@ -68,7 +70,13 @@ first_of (byte ∷ bytes) begins some = cc (begins.id.whole)
 pub unfit_first : (bytes : List ℕ) → (0 < length bytes → get_or bytes 0 0 ≡ 60 → ⊥) → IsUnfitAt bytes 0
 unfit_first bytes other = record {
   within = omega arith;
-  before = begins-front (60 ∷ 97 ∷ 62 ∷ []) 0 (record { inside = 97 ∷ []; some = omega arith; bytes = All-cons IsIdByte 97 [] letter (All-nil IsIdByte); whole = refl });
+  before = begins-front (60 ∷ 97 ∷ 62 ∷ []) 0 (record {
+    inside = 97 ∷ [];
+    some = omega arith;
+    bytes =
+        All-cons IsIdByte 97 [] letter (All-nil IsIdByte);
+    whole = refl;
+  });
   there = λ some begins. other some (first_of bytes begins some);
   no_id = λ id. other (omega (arith, ap length id.whole)) (ap (λ all. get_or all 0 0) id.whole);
 }
@@ -92,10 +100,12 @@ unfit_end inside all = record {
 }
 
 -- the bytes up to one more, as the code writes the place
-unfit-suc : (inside : List ℕ) (at n : ℕ) → n ≡ suc at → at < length inside → BeginsId (60 ∷ take at inside) → (BeginsId (60 ∷ take (suc at) inside) → ⊥) → IsUnfitAt (60 ∷ inside) n
+unfit-suc : (inside : List ℕ) (at n : ℕ) → n ≡ suc at → at < length inside → BeginsId (60 ∷ take at inside) →
+    (BeginsId (60 ∷ take (suc at) inside) → ⊥) → IsUnfitAt (60 ∷ inside) n
 unfit-suc inside at n is below before beyond =
     let more : suc (suc at) ≡ suc at + 1 = omega arith in
-    subst (IsUnfitAt (60 ∷ inside)) (sym is) (unfit (60 ∷ inside) (suc at) (omega arith) before (λ begins. beyond (subst (λ k. BeginsId (take k (60 ∷ inside))) (sym more) begins)))
+    subst (IsUnfitAt (60 ∷ inside)) (sym is) (unfit (60 ∷ inside) (suc at) (omega arith) before
+    (λ begins. beyond (subst (λ k. BeginsId (take k (60 ∷ inside))) (sym more) begins)))
 
 -- the first byte that may not stand between the brackets
 module _ (inside : List ℕ) (at : ℕ) (first : IsFirstOther inside at) where
@@ -125,7 +135,13 @@ module _ (inside : List ℕ) (at : ℕ) (first : IsFirstOther inside at) where
     closed = take-suc inside at 0 first.there ∙ ap (λ byte. take at inside ++ byte ∷ []) closes
 
     whole_id : IsId (60 ∷ take (suc at) inside)
-    whole_id = record { inside = take at inside; some = omega (arith, long at (omega (arith, first.there)), some); bytes = first.before; whole = ap (λ bytes. 60 ∷ bytes) closed }
+    whole_id = record {
+      inside = take at inside;
+      some = omega (arith, long at (omega (arith, first.there)), some);
+      bytes =
+          first.before;
+      whole = ap (λ bytes. 60 ∷ bytes) closed;
+    }
 
     -- with bytes behind it
     pub unfit_more : at + 1 < length inside → IsUnfitAt (60 ∷ inside) (at + 2)

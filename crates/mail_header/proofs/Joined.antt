@@ -11,7 +11,8 @@ use Rattle.mail_header.proofs.Lines.{crlf_is}
 use Rattle.mail_header.proofs.Whole.{BeginsAs, lines-begin}
 
 -- a byte in front of lines of which there is one
-onto_first-append : (byte : ℕ) (lines others : List (List ℕ)) (text : List ℕ) → BeginsAs lines text → onto_first byte (lines ++ others) ≡ onto_first byte lines ++ others
+onto_first-append : (byte : ℕ) (lines others : List (List ℕ)) (text : List ℕ) → BeginsAs lines text →
+    onto_first byte (lines ++ others) ≡ onto_first byte lines ++ others
 onto_first-append byte lines others text begins = rw begins.is refl
 
 -- the lines on both sides of a CRLF
@@ -20,7 +21,8 @@ lines-split [] rest = refl
 lines-split (first ∷ []) rest = rw (and_right (first == 13) false refl) refl
 lines-split (first ∷ second ∷ front) rest = elim (cases_Bool (is_crlf first second)) [
   | inl ends ↦ rw ends (ap (λ lines. [] ∷ lines) (lines-split front rest))
-  | inr goes ↦ rw goes (ap (onto_first first) (lines-split (second ∷ front) rest) ∙ onto_first-append first (lines_of (second ∷ front)) (lines_of rest) (second ∷ front) (lines-begin (second ∷ front)))
+  | inr goes ↦ rw goes (ap (onto_first first) (lines-split (second ∷ front) rest)
+      ∙ onto_first-append first (lines_of (second ∷ front)) (lines_of rest) (second ∷ front) (lines-begin (second ∷ front)))
 ]
 
 before_empty-append : (lines others : List (List ℕ)) → before_empty (lines ++ [] ∷ others) ≡ before_empty lines
@@ -51,7 +53,8 @@ together (first ∷ second ∷ rest) = elim (cases_Bool (is_crlf first second)) 
   | inl ends ↦
       let both = crlf_is first second ends in
       rw ends (with_crlfs-cons (lines_of rest) rest (lines-begin rest) ∙ ap (λ bytes. crlf ++ bytes) (together rest) ∙ rw (both.0, both.1) refl)
-  | inr goes ↦ rw goes (with_crlfs-onto first (lines_of (second ∷ rest)) (second ∷ rest) (lines-begin (second ∷ rest)) ∙ ap (λ bytes. first ∷ bytes) (together (second ∷ rest)))
+  | inr goes ↦ rw goes (with_crlfs-onto first (lines_of (second ∷ rest)) (second ∷ rest) (lines-begin (second ∷ rest))
+      ∙ ap (λ bytes. first ∷ bytes) (together (second ∷ rest)))
 ]
 
 is_end : (first second : ℕ) → first ≡ 13 → second ≡ 10 → is_crlf first second ≡ true
@@ -81,12 +84,14 @@ begins_lf byte (second ∷ rest) is = elim (cases_Bool (is_crlf byte second)) [
 
 onto-clean : (byte : ℕ) (lines : List (List ℕ)) → All HoldsNoCrlf lines → (byte ≡ 13 → first_byte lines ≡ 10 → ⊥) → All HoldsNoCrlf (onto_first byte lines)
 onto-clean byte [] all first = All-cons HoldsNoCrlf (byte ∷ []) [] (clean-cons byte [] (λ at cr lf. cc cr) (λ _ lf. cc lf)) (All-nil HoldsNoCrlf)
-onto-clean byte (line ∷ lines) all first = All-cons HoldsNoCrlf (byte ∷ line) lines (clean-cons byte line (All-head HoldsNoCrlf line lines all) first) (All-tail HoldsNoCrlf line lines all)
+onto-clean byte (line ∷ lines) all first = All-cons HoldsNoCrlf (byte ∷ line) lines
+    (clean-cons byte line (All-head HoldsNoCrlf line lines all) first) (All-tail HoldsNoCrlf line lines all)
 
 pub apart : (text : List ℕ) → All HoldsNoCrlf (lines_of text)
 apart [] = All-cons HoldsNoCrlf [] [] (λ at cr lf. cc cr) (All-nil HoldsNoCrlf)
 apart (first ∷ []) = onto-clean first [] (All-nil HoldsNoCrlf) (λ _ lf. cc lf)
 apart (first ∷ second ∷ rest) = elim (cases_Bool (is_crlf first second)) [
   | inl ends ↦ rw ends (All-cons HoldsNoCrlf [] (lines_of rest) (λ at cr lf. cc cr) (apart rest))
-  | inr goes ↦ rw goes (onto-clean first (lines_of (second ∷ rest)) (apart (second ∷ rest)) (λ cr lf. both_ways _ goes (is_end first second cr (begins_lf second rest lf))))
+  | inr goes ↦ rw goes (onto-clean first (lines_of (second ∷ rest)) (apart (second ∷ rest))
+      (λ cr lf. both_ways _ goes (is_end first second cr (begins_lf second rest lf))))
 ]

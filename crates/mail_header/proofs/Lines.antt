@@ -1,5 +1,6 @@
 -- The first line of a text, by the place of its first CRLF.
-use Rattle.std.proofs.Common.{◌≡◌, inl, inr, ℕ, zero, suc, ◌+◌, ◌<◌, true, false, List, [], ◌∷◌, ◌++◌, Some, None, length, take, drop, refl, ◌∙◌, ap, subst, arith, get_or}
+use Rattle.std.proofs.Common.{◌≡◌, inl, inr, ℕ, zero, suc, ◌+◌, ◌<◌, true, false, List, [], ◌∷◌, ◌++◌, Some, None, length, take, drop}
+use Rattle.std.proofs.Common.{refl, ◌∙◌, ap, subst, arith, get_or}
 use Rattle.std.proofs.lemmas.Bool.{cases_Bool, eqb-true, false≢true}
 use Rattle.std.specs.Prelude.{slice_index, ◌==◌}
 use Rattle.std.specs.List.{onto_first}
@@ -25,7 +26,8 @@ no_crlf first second rest none = elim (cases_Bool (is_crlf first second)) [
   | inr fails ↦ fails
 ]
 
-pub lines-cut : (at : ℕ) (text : List ℕ) → HasCrlf text at → ((k : ℕ) → k < at → ¬ (HasCrlf text k)) → lines_of text ≡ take at text ∷ lines_of (drop (suc (suc at)) text)
+pub lines-cut : (at : ℕ) (text : List ℕ) → HasCrlf text at → ((k : ℕ) → k < at → ¬ (HasCrlf text k)) →
+    lines_of text ≡ take at text ∷ lines_of (drop (suc (suc at)) text)
 lines-cut at [] here none = absurd (cc (here.cr))
 lines-cut zero (first ∷ []) here none = absurd (cc (here.lf))
 lines-cut zero (first ∷ second ∷ rest) here none =
@@ -35,7 +37,8 @@ lines-cut zero (first ∷ second ∷ rest) here none =
 lines-cut (suc at) (first ∷ []) here none = absurd (cc (here.lf))
 lines-cut (suc at) (first ∷ second ∷ rest) here none =
     let other = no_crlf first second rest (none 0 (omega arith)) in
-    let later = lines-cut at (second ∷ rest) (record { cr = here.cr; lf = here.lf }) (λ k below has. none (suc k) (omega arith) (record { cr = has.cr; lf = has.lf })) in
+    let later = lines-cut at (second ∷ rest) (record { cr = here.cr; lf = here.lf })
+    (λ k below has. none (suc k) (omega arith) (record { cr = has.cr; lf = has.lf })) in
     rw other (ap (onto_first first) later)
 
 pub lines-whole : (text : List ℕ) → ((k : ℕ) → ¬ (HasCrlf text k)) → lines_of text ≡ text ∷ []

@@ -12,7 +12,8 @@ begins-shorter front more begins = record { rest = more ++ begins.rest; id = sub
 
 begins-fewer : (bytes : List ℕ) (few many : ℕ) → few ≤ many → BeginsId (take many bytes) → BeginsId (take few bytes)
 begins-fewer bytes few many le begins =
-    subst BeginsId (take-take few many bytes le) (begins-shorter (take few (take many bytes)) (drop few (take many bytes)) (subst BeginsId (sym (take-append-drop few (take many bytes))) begins))
+    subst BeginsId (take-take few many bytes le) (begins-shorter (take few (take many bytes)) (drop few (take many bytes))
+    (subst BeginsId (sym (take-append-drop few (take many bytes))) begins))
 
 not_before : (bytes : List ℕ) (here there : ℕ) → IsUnfitAt bytes here → IsUnfitAt bytes there → here < there → ⊥
 not_before bytes here there a b lt = a.there (omega (arith, lt, b.within)) (begins-fewer bytes (here + 1) there (omega (arith, lt)) b.before)
@@ -37,7 +38,8 @@ one_body text a b first second = ap first_body (sym first.1 ∙ second.1)
 place_of : {X : Type 0} (here there : ℕ) → IsErrOf {T = X} {E = IdFault} (Err (faults.BadForm here)) (faults.BadForm there) → here ≡ there
 place_of here there same = cc same
 
-pub bad_form : {X : Type 0} (items : X → List ℕ) (text : List ℕ) (r : Result X IdFault) → IfOk r (λ v. HasMessageId text (items v)) → IfErr r (WhyNoId text) → r ≢ Err faults.Memory → (at : ℕ) → IsErrOf r (faults.BadForm at) ↔ IsBadForm text at
+pub bad_form : {X : Type 0} (items : X → List ℕ) (text : List ℕ) (r : Result X IdFault) → IfOk r (λ v. HasMessageId text (items v)) →
+    IfErr r (WhyNoId text) → r ≢ Err faults.Memory → (at : ℕ) → IsErrOf r (faults.BadForm at) ↔ IsBadForm text at
 bad_form items text (Ok v) has why enough at = (
   λ is. absurd (cc is),
   λ bad. absurd (bad.unfit.no_id (subst IsId (has.value ∙ ap id_of (one_body text has.body bad.body has.one bad.one)) has.form)),
@@ -50,6 +52,7 @@ bad_form items text (Err (faults.TooLong n)) has why enough at = (
 )
 bad_form items text (Err (faults.BadForm here)) has why enough at = (
   λ is. subst (IsBadForm text) (place_of here at is) why,
-  λ bad. ap (λ place. Err (faults.BadForm place)) (one_place (id_of bad.body) here at (subst (λ body. IsUnfitAt (id_of body) here) (one_body text why.body bad.body why.one bad.one) why.unfit) bad.unfit),
+  λ bad. ap (λ place. Err (faults.BadForm place)) (one_place (id_of bad.body) here at
+      (subst (λ body. IsUnfitAt (id_of body) here) (one_body text why.body bad.body why.one bad.one) why.unfit) bad.unfit),
 )
 bad_form items text (Err faults.Memory) has why enough at = absurd (enough refl)

@@ -1,5 +1,6 @@
 -- The first line of a header, with the lines that go on with it.
-use Rattle.std.proofs.Common.{◌≡◌, ◌⊎◌, inl, inr, ℕ, ◌+◌, ◌<◌, ◌≤◌, true, false, List, [], ◌∷◌, ◌++◌, length, take, refl, sym, ◌∙◌, ap, arith, le_refl, length-take, ⊎_elim}
+use Rattle.std.proofs.Common.{◌≡◌, ◌⊎◌, inl, inr, ℕ, ◌+◌, ◌<◌, ◌≤◌, true, false, List, [], ◌∷◌, ◌++◌, length, take, refl, sym, ◌∙◌, ap}
+use Rattle.std.proofs.Common.{arith, le_refl, length-take, ⊎_elim}
 use Rattle.std.proofs.lemmas.Bool.{cases_Bool, both_ways, false≢true, cond_both, and_parts, and_right, eqb-true}
 use Rattle.std.proofs.lemmas.List.{append_assoc, append-nil, length-append, take-append-le, take_all}
 use Rattle.std.specs.Prelude.{if◌then◌else◌, nat_eq}
@@ -36,11 +37,13 @@ unfolded-step text line rest parted =
     ap joined parted.lines ∙ here
 
 -- one line more of a text that is unfolded
-pub unfold-plain : (before all text line rest : List ℕ) → IsParted text line rest → begins_blank rest ≡ false → before ++ unfolded text ≡ all → (before ++ line ++ crlf) ++ unfolded rest ≡ all
+pub unfold-plain : (before all text line rest : List ℕ) → IsParted text line rest → begins_blank rest ≡ false →
+    before ++ unfolded text ≡ all → (before ++ line ++ crlf) ++ unfolded rest ≡ all
 unfold-plain before all text line rest parted plain is =
     simp append_assoc (ap (λ bytes. before ++ bytes) (sym (unfolded-step text line rest parted ∙ rw plain refl)) ∙ is)
 
-pub unfold-blank : (before all text line rest : List ℕ) → IsParted text line rest → begins_blank rest ≡ true → before ++ unfolded text ≡ all → (before ++ line) ++ unfolded rest ≡ all
+pub unfold-blank : (before all text line rest : List ℕ) → IsParted text line rest → begins_blank rest ≡ true →
+    before ++ unfolded text ≡ all → (before ++ line) ++ unfolded rest ≡ all
 unfold-blank before all text line rest parted blank is =
     simp append_assoc (ap (λ bytes. before ++ bytes) (sym (unfolded-step text line rest parted ∙ rw blank refl)) ∙ is)
 
@@ -58,18 +61,20 @@ header-front text [] rest first some = absurd (omega arith)
 header-front text (byte ∷ line) rest (inl parted) some = ap (λ lines. whole_lines (before_empty lines)) parted.lines
 header-front text (byte ∷ line) rest (inr alone) some = ap (λ lines. whole_lines (before_empty lines)) alone.lines ∙ rw alone.none refl
 
-begun : (text : List ℕ) (lines : List (List ℕ)) → BeginsAs lines text → (whole_lines (before_empty lines) ≡ []) ⊎ BeginsAs (whole_lines (before_empty lines)) text
-begun text lines begins = elim begins.first as (λ first. lines ≡ first ∷ begins.others → begins_blank first ≡ begins_blank text → (whole_lines (before_empty lines) ≡ []) ⊎ BeginsAs (whole_lines (before_empty lines)) text) [
-  | [] ↦ λ is blank. inl (ap (λ all. whole_lines (before_empty all)) is)
-  | byte ∷ line ↦ λ is blank.
-      let front = in_front-begins (byte ∷ line) (whole_lines (before_empty begins.others)) (omega arith) in
-      inr (record {
-        first = front.first;
-        others = front.others;
-        is = ap (λ all. whole_lines (before_empty all)) is ∙ front.is;
-        blank = front.blank ∙ blank;
-      })
-] begins.is begins.blank
+begun : (text : List ℕ) (lines : List (List ℕ)) → BeginsAs lines text →
+    (whole_lines (before_empty lines) ≡ []) ⊎ BeginsAs (whole_lines (before_empty lines)) text
+begun text lines begins = elim begins.first as (λ first. lines ≡ first ∷ begins.others → begins_blank first ≡ begins_blank text →
+    (whole_lines (before_empty lines) ≡ []) ⊎ BeginsAs (whole_lines (before_empty lines)) text) [
+      | [] ↦ λ is blank. inl (ap (λ all. whole_lines (before_empty all)) is)
+      | byte ∷ line ↦ λ is blank.
+          let front = in_front-begins (byte ∷ line) (whole_lines (before_empty begins.others)) (omega arith) in
+          inr (record {
+            first = front.first;
+            others = front.others;
+            is = ap (λ all. whole_lines (before_empty all)) is ∙ front.is;
+            blank = front.blank ∙ blank;
+          })
+    ] begins.is begins.blank
 
 header-begins : (text : List ℕ) → (whole_header text ≡ []) ⊎ BeginsAs (whole_header text) text
 header-begins text = begun text (lines_of text) (lines-begin text)
@@ -82,7 +87,8 @@ in_front-plain line rest plain = elim (header-begins rest) as (λ _. in_front li
 ]
 
 -- lines that go on with a line that goes on with a line
-pub in_front-in_front : (line next : List ℕ) (lines : List (List ℕ)) → begins_blank next ≡ true → in_front line (in_front next lines) ≡ in_front (line ++ crlf ++ next) lines
+pub in_front-in_front : (line next : List ℕ) (lines : List (List ℕ)) → begins_blank next ≡ true →
+    in_front line (in_front next lines) ≡ in_front (line ++ crlf ++ next) lines
 in_front-in_front line next [] blank = rw blank refl
 in_front-in_front line [] (third ∷ lines) blank = absurd (false≢true blank)
 in_front-in_front line (byte ∷ next) (third ∷ lines) blank = elim (cases_Bool (begins_blank third)) [
@@ -120,7 +126,8 @@ first-some text (byte ∷ line) rest first some plain = omega arith
 take-front : (line rest : List ℕ) → take (length line) (line ++ rest) ≡ line
 take-front line rest = take-append-le (length line) line rest (le_refl (length line)) ∙ take_all (length line) line (le_refl (length line))
 
-pub reached-first : (text line rest : List ℕ) → IsFirstLine text line rest → 0 < length text → starts_with nat_eq text crlf ≡ false → Reached text (length line) rest
+pub reached-first : (text line rest : List ℕ) → IsFirstLine text line rest → 0 < length text → starts_with nat_eq text crlf ≡ false →
+    Reached text (length line) rest
 reached-first text line rest (inl parted) some plain =
     let filled = first-some text line rest (inl parted) some plain in
     let bytes : text ≡ line ++ (crlf ++ rest) = parted.bytes ∙ append_assoc line crlf rest in
@@ -159,7 +166,8 @@ within_of : (text front tail : List ℕ) (n : ℕ) → text ≡ front ++ tail �
 within_of text front tail n is long = omega (arith, ap length is, length-append front tail, long)
 
 -- one line more
-module _ (text : List ℕ) (end : ℕ) (rest line behind : List ℕ) (reached : Reached text end rest) (blank : begins_blank rest ≡ true) (first : IsFirstLine rest line behind) where
+module _ (text : List ℕ) (end : ℕ) (rest line behind : List ℕ) (reached : Reached text end rest) (blank : begins_blank rest ≡ true)
+    (first : IsFirstLine rest line behind) where
   front : List ℕ
   front = take end text ++ crlf ++ line
 
@@ -180,10 +188,16 @@ module _ (text : List ℕ) (end : ℕ) (rest line behind : List ℕ) (reached : 
       record {
         within = within_of text (take end text ++ crlf ++ line) tail (end + (2 + length line)) whole long;
         some = omega arith;
-        header = rw cut_here (reached.header ∙ ap (in_front (take end text)) (header-front rest line behind first filled) ∙ in_front-in_front (take end text) line (whole_header behind) (first-blank rest line behind first blank));
+        header = rw cut_here (reached.header ∙ ap (in_front (take end text)) (header-front rest line behind first filled)
+            ∙ in_front-in_front (take end text) line (whole_header behind) (first-blank rest line behind first blank));
         bytes = ⊎_elim
-            (λ none. inl (none.0, sym long ∙ sym (ap length (whole ∙ ap (λ bytes. (take end text ++ crlf ++ line) ++ bytes) none.1 ∙ append-nil (take end text ++ crlf ++ line)))))
-            (λ there. inr (rw cut_here (whole ∙ ap (λ bytes. (take end text ++ crlf ++ line) ++ bytes) there ∙ sym (append_assoc (take end text ++ crlf ++ line) crlf behind))))
+            (λ none. inl (
+              none.0,
+              sym long ∙ sym (ap length (whole ∙ ap (λ bytes. (take end text ++ crlf ++ line) ++ bytes) none.1
+                  ∙ append-nil (take end text ++ crlf ++ line))),
+            ))
+            (λ there. inr (rw cut_here (whole ∙ ap (λ bytes. (take end text ++ crlf ++ line) ++ bytes) there
+            ∙ sym (append_assoc (take end text ++ crlf ++ line) crlf behind))))
             ends;
       }
 

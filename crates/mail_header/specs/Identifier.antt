@@ -1,5 +1,6 @@
 -- The Message-ID of a text (RFC 5322, section 3.6.4; the form and the limit are this client's profile).
-use Rattle.std.specs.Prelude.{◌≡◌, ◌≢◌, ◌≤◌, ◌<◌, ◌+◌, ℕ, Bool, List, [], ◌∷◌, ◌++◌, Option, Some, None, length, map, take, slice_index, reverse, All, codes, if◌then◌else◌}
+use Rattle.std.specs.Prelude.{◌≡◌, ◌≢◌, ◌≤◌, ◌<◌, ◌+◌, ℕ, Bool, List, [], ◌∷◌, ◌++◌, Option, Some, None, length, map, take, slice_index}
+use Rattle.std.specs.Prelude.{reverse, All, codes, if◌then◌else◌}
 use Rattle.std.specs.Str.{bytes_eq}
 use Rattle.std.specs.Char.{to_ascii_lowercase}
 use Rattle.mail_header.specs.Folding.{is_blank, unfolded, whole_header}

@@ -9,8 +9,6 @@ mod id_form;
 mod identifier;
 mod laws;
 mod line_ends;
-#[cfg(test)]
-mod tests;
 
 pub use field::{Field, Fields};
 pub use folding::unfold;

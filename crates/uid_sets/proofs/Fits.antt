@@ -1,5 +1,6 @@
 -- What is read is a range of nonzero numbers of 32 bits.
-use Rattle.std.proofs.Common.{◌≡◌, ◌⊎◌, inl, inr, ℕ, nat_lt, ◌+◌, ◌<◌, ◌^◌, min, max, Bool, true, false, cond, List, [], ◌∷◌, length, Result, Ok, Err, refl, ap, sym, ◌∙◌, arith}
+use Rattle.std.proofs.Common.{◌≡◌, ◌⊎◌, inl, inr, ℕ, nat_lt, ◌+◌, ◌<◌, ◌^◌, min, max, Bool, true, false, cond, List, [], ◌∷◌, length}
+use Rattle.std.proofs.Common.{Result, Ok, Err, refl, ap, sym, ◌∙◌, arith}
 use Rattle.std.specs.List.{AllByRecursion, before_first, after_first, position_or_len}
 use Rattle.std.proofs.lemmas.Bool.Decides.{nat_tests}
 use Rattle.uid_sets.specs.UidSet.{IsRange}
@@ -21,10 +22,15 @@ pub number_fits : (at : ℕ) (text : List ℕ) (n : ℕ) → number at text ≡ 
 unfolding number
 number_fits at text n is = grind (arith, nat_tests)
 
-two_fit : (at : ℕ) (text : List ℕ) (range : UidRange) → (number at (before_first is_colon text) >>= λ first. number (at + position_or_len is_colon text + 1) (after_first is_colon text) >>= λ second. Ok (record { low = min first second; high = max first second })) ≡ Ok range → IsRange 0 range
+two_fit : (at : ℕ) (text : List ℕ) (range : UidRange) → (number at (before_first is_colon text) >>= λ first. number
+    (at + position_or_len is_colon text + 1) (after_first is_colon text) >>= λ second. Ok
+    (record { low = min first second; high = max first second })) ≡ Ok range → IsRange 0 range
 two_fit at text range is =
-    let first = bind_ok (number at (before_first is_colon text)) (λ first. number (at + position_or_len is_colon text + 1) (after_first is_colon text) >>= λ second. Ok (record { low = min first second; high = max first second })) range is in
-    let second = bind_ok (number (at + position_or_len is_colon text + 1) (after_first is_colon text)) (λ second. Ok (record { low = min first.0 second; high = max first.0 second })) range first.2 in
+    let first = bind_ok (number at (before_first is_colon text))
+    (λ first. number (at + position_or_len is_colon text + 1) (after_first is_colon text) >>= λ second. Ok
+    (record { low = min first second; high = max first second })) range is in
+    let second = bind_ok (number (at + position_or_len is_colon text + 1) (after_first is_colon text))
+    (λ second. Ok (record { low = min first.0 second; high = max first.0 second })) range first.2 in
     let low = number_fits at _ first.0 first.1 in
     let high = number_fits _ _ second.0 second.1 in
     rw (← Ok_injective second.2) (record { above = omega arith; ordered = omega arith; fits = omega arith })
@@ -35,7 +41,8 @@ one_fits at text range is =
     let value = number_fits at text only.0 only.1 in
     rw (← Ok_injective only.2) (record { above = omega arith; ordered = omega arith; fits = omega arith })
 
-either_fits : (b : Bool) (x y : Result UidRange SetFault) (range : UidRange) → cond b x y ≡ Ok range → (x ≡ Ok range → IsRange 0 range) → (y ≡ Ok range → IsRange 0 range) → IsRange 0 range
+either_fits : (b : Bool) (x y : Result UidRange SetFault) (range : UidRange) → cond b x y ≡ Ok range → (x ≡ Ok range → IsRange 0 range) →
+    (y ≡ Ok range → IsRange 0 range) → IsRange 0 range
 either_fits true x y range is two one = two is
 either_fits false x y range is two one = one is
 
@@ -57,7 +64,8 @@ unfolding items_of
 items_of_fit [] ranges is = absurd cc
 items_of_fit (byte ∷ bytes) ranges is = items_fit _ 0 ranges is
 
-bind_err : {A B : Type 0} (read : Result A SetFault) (f : A → Result B SetFault) (e : SetFault) → (read >>= f) ≡ Err e → (read ≡ Err e) ⊎ ((x : A) × (f x ≡ Err e))
+bind_err : {A B : Type 0} (read : Result A SetFault) (f : A → Result B SetFault) (e : SetFault) → (read >>= f) ≡ Err e →
+    (read ≡ Err e) ⊎ ((x : A) × (f x ≡ Err e))
 bind_err (Ok x) f e is = inr (x, is)
 bind_err (Err d) f e is = inl cc
 
@@ -69,17 +77,23 @@ either_not_empty : (b : Bool) (x y : Result UidRange SetFault) → cond b x y �
 either_not_empty true x y is two one = two is
 either_not_empty false x y is two one = one is
 
-two_not_empty : (at : ℕ) (text : List ℕ) → ◌≡◌ {A = Result UidRange SetFault} (number at (before_first is_colon text) >>= λ first. number (at + position_or_len is_colon text + 1) (after_first is_colon text) >>= λ second. Ok (record { low = min first second; high = max first second })) (Err Empty) → ⊥
+two_not_empty : (at : ℕ) (text : List ℕ) → ◌≡◌ {A = Result UidRange SetFault}
+    (number at (before_first is_colon text) >>= λ first. number (at + position_or_len is_colon text + 1)
+    (after_first is_colon text) >>= λ second. Ok (record { low = min first second; high = max first second })) (Err Empty) → ⊥
 two_not_empty at text is =
-    elim (bind_err {B = UidRange} (number at (before_first is_colon text)) (λ first. number (at + position_or_len is_colon text + 1) (after_first is_colon text) >>= λ second. Ok (record { low = min first second; high = max first second })) Empty is) as (λ _. ⊥) [
+    elim (bind_err {B = UidRange} (number at (before_first is_colon text))
+    (λ first. number (at + position_or_len is_colon text + 1) (after_first is_colon text) >>= λ second. Ok
+    (record { low = min first second; high = max first second })) Empty is) as (λ _. ⊥) [
       | inl first ↦ number_not_empty at _ first
-      | inr more ↦ elim (bind_err {B = UidRange} (number (at + position_or_len is_colon text + 1) (after_first is_colon text)) (λ second. Ok (record { low = min more.0 second; high = max more.0 second })) Empty more.1) as (λ _. ⊥) [
-        | inl second ↦ number_not_empty _ _ second
-        | inr done ↦ (let no = done.1 in cc)
-      ]
+      | inr more ↦ elim (bind_err {B = UidRange} (number (at + position_or_len is_colon text + 1) (after_first is_colon text))
+          (λ second. Ok (record { low = min more.0 second; high = max more.0 second })) Empty more.1) as (λ _. ⊥) [
+            | inl second ↦ number_not_empty _ _ second
+            | inr done ↦ (let no = done.1 in cc)
+          ]
     ]
 
-one_not_empty : (at : ℕ) (text : List ℕ) → ◌≡◌ {A = Result UidRange SetFault} (number at text >>= λ only. Ok (record { low = only; high = only })) (Err Empty) → ⊥
+one_not_empty : (at : ℕ) (text : List ℕ) → ◌≡◌ {A = Result UidRange SetFault}
+    (number at text >>= λ only. Ok (record { low = only; high = only })) (Err Empty) → ⊥
 one_not_empty at text is =
     elim (bind_err {B = UidRange} (number at text) (λ only. Ok (record { low = only; high = only })) Empty is) as (λ _. ⊥) [
       | inl only ↦ number_not_empty at text only

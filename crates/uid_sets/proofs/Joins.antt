@@ -28,14 +28,22 @@ ends_in (x ∷ y ∷ old) (suc n) last len at =
     record { front = x ∷ more.front; is = ap (λ rs. x ∷ rs) more.is; replaced = λ other. ap (λ rs. x ∷ rs) (more.replaced other) }
 
 -- one range that covers two which overlap or touch
-covers : (uid high : ℕ) (last range : UidRange) → last.low ≤ range.low → range.low - 1 ≤ last.high → high ≡ max last.high range.high → IsWithin last.low high uid ↔ (IsWithin last.low last.high uid ⊎ IsWithin range.low range.high uid)
+covers : (uid high : ℕ) (last range : UidRange) → last.low ≤ range.low → range.low - 1 ≤ last.high → high ≡ max last.high range.high →
+    IsWithin last.low high uid ↔ (IsWithin last.low last.high uid ⊎ IsWithin range.low range.high uid)
 covers uid high last range low touch is = grind arith
 
-wider_at : (front : List UidRange) (last range : UidRange) (high : ℕ) → IsCanonical (front ++ last ∷ []) → IsRange 0 range → last.low ≤ range.low → range.low - 1 ≤ last.high → high ≡ max last.high range.high → Joins (front ++ last ∷ []) range (front ++ record { low = last.low; high = high } ∷ [])
+wider_at : (front : List UidRange) (last range : UidRange) (high : ℕ) → IsCanonical (front ++ last ∷ []) → IsRange 0 range →
+    last.low ≤ range.low → range.low - 1 ≤ last.high → high ≡ max last.high range.high →
+    Joins (front ++ last ∷ []) range (front ++ record { low = last.low; high = high } ∷ [])
 wider_at front last range high canonical is_range low touch is =
     let parts = RisesAbove-front 0 front last canonical in
     let wide : UidRange = record { low = last.low; high = high } in
-    let fits : IsRange (floor_behind 0 front) wide = record { above = parts.1.above; ordered = omega (arith, parts.1.ordered); fits = omega (arith, parts.1.fits, is_range.fits) } in
+    let fits : IsRange (floor_behind 0 front) wide = record {
+      above = parts.1.above;
+      ordered = omega (arith, parts.1.ordered);
+      fits =
+          omega (arith, parts.1.fits, is_range.fits);
+    } in
     record {
       canonical = RisesAbove-push 0 front wide parts.0 fits;
       members = λ uid.
@@ -46,18 +54,23 @@ wider_at front last range high canonical is_range low touch is =
       rising = rw (last_low-push front wide) low;
     }
 
-wider_from : (old new front : List UidRange) (last range : UidRange) (high : ℕ) → old ≡ front ++ last ∷ [] → new ≡ front ++ record { low = last.low; high = high } ∷ [] → IsCanonical old → IsRange 0 range → last_low old ≤ range.low → range.low - 1 ≤ last.high → high ≡ max last.high range.high → Joins old range new
+wider_from : (old new front : List UidRange) (last range : UidRange) (high : ℕ) → old ≡ front ++ last ∷ [] →
+    new ≡ front ++ record { low = last.low; high = high } ∷ [] → IsCanonical old → IsRange 0 range → last_low old ≤ range.low →
+    range.low - 1 ≤ last.high → high ≡ max last.high range.high → Joins old range new
 wider_from old new front last range high is is_new canonical is_range rising touch high_is =
     let canonical' = rw is at canonical in
     let rising' = rw (is, last_low-push) at rising in
     rw (is, is_new) (wider_at front last range high canonical' is_range rising' touch high_is)
 
-pub joins_wider : (old : List UidRange) (n : ℕ) (last range : UidRange) (high : ℕ) → length old ≡ n + 1 → last ≡ get_or old n last → IsCanonical old → IsRange 0 range → last_low old ≤ range.low → range.low - 1 ≤ last.high → high ≡ max last.high range.high → Joins old range (set old n (record { low = last.low; high = high }))
+pub joins_wider : (old : List UidRange) (n : ℕ) (last range : UidRange) (high : ℕ) → length old ≡ n + 1 → last ≡ get_or old n last →
+    IsCanonical old → IsRange 0 range → last_low old ≤ range.low → range.low - 1 ≤ last.high → high ≡ max last.high range.high →
+    Joins old range (set old n (record { low = last.low; high = high }))
 joins_wider old n last range high len at canonical is_range rising touch high_is =
     let ends = ends_in old n last len at in
     wider_from old _ ends.front last range high ends.is (ends.replaced (record { low = last.low; high = high })) canonical is_range rising touch high_is
 
-pub joins_behind : (old : List UidRange) (range : UidRange) → IsCanonical old → IsRange 0 range → floor_behind 0 old < range.low → Joins old range (old ++ range ∷ [])
+pub joins_behind : (old : List UidRange) (range : UidRange) → IsCanonical old → IsRange 0 range → floor_behind 0 old < range.low →
+    Joins old range (old ++ range ∷ [])
 joins_behind old range canonical is_range above = record {
   canonical = RisesAbove-push 0 old range canonical (record { above = above; ordered = is_range.ordered; fits = is_range.fits });
   members = Member-push old range;

@@ -20,7 +20,8 @@ found (range ∷ ranges) uid member =
           (more.0, (suc more.1.0, (let below = more.1.1 in omega arith), more.1.2), more.2)
     ]
 
-member_at : (ranges : List UidRange) (uid k : ℕ) (range : UidRange) → k < length ranges → get_or ranges k range ≡ range → IsWithin range.low range.high uid → Member ranges uid
+member_at : (ranges : List UidRange) (uid k : ℕ) (range : UidRange) → k < length ranges → get_or ranges k range ≡ range →
+    IsWithin range.low range.high uid → Member ranges uid
 member_at [] uid k range below at within = absurd (omega arith)
 member_at (first ∷ ranges) uid zero range below at within =
     let P : UidRange → Type 0 = λ r. IsWithin r.low r.high uid in inl (subst P (sym at) within)
@@ -38,10 +39,17 @@ Member-permutation left right uid same =
     (moved left right uid same, moved right left uid (IsPermutation-sym left right same))
 
 -- ranges in order, each of nonzero numbers
-pub RisesByLow-ordered : (floor : ℕ) (ranges : List UidRange) → AllByRecursion (IsRange 0) ranges → IsNonDecreasingBy (λ range. range.low) ranges → (0 < length ranges → floor ≤ (get_or ranges 0 (record { low = 0; high = 0 })).low) → RisesByLow floor ranges
+pub RisesByLow-ordered : (floor : ℕ) (ranges : List UidRange) → AllByRecursion (IsRange 0) ranges →
+    IsNonDecreasingBy (λ range. range.low) ranges → (0 < length ranges → floor ≤ (get_or ranges 0 (record { low = 0; high = 0 })).low) →
+    RisesByLow floor ranges
 RisesByLow-ordered floor [] all ordered first = tt
-RisesByLow-ordered floor (range ∷ ranges) all ordered first =
-    (first (omega arith), all.0, RisesByLow-ordered range.low ranges all.1 (λ i j d le below. ordered (suc i) (suc j) d (omega arith) (omega arith)) (λ some. ordered 0 1 (record { low = 0; high = 0 }) (omega arith) (omega arith)))
+RisesByLow-ordered floor (range ∷ ranges) all ordered first = (
+  first (omega arith),
+  all.0,
+  RisesByLow-ordered range.low ranges all.1
+      (λ i j d le below. ordered (suc i) (suc j) d (omega arith) (omega arith))
+      (λ some. ordered 0 1 (record { low = 0; high = 0 }) (omega arith) (omega arith)),
+)
 
 -- what a test of the order of two numbers says
 pub le_from_is_le : (m n : ℕ) → true ≡ is_le (nat_cmp m n) → m ≤ n

@@ -10,7 +10,8 @@ use Rattle.uid_sets.proofs.Joins.{ends_in}
 abbrev pub none : UidRange
 none = record { low = 0; high = 0 }
 
-high_above : (floor : ℕ) (ranges : List UidRange) (i : ℕ) (other : UidRange) → RisesAbove floor ranges → i < length ranges → floor < (get_or ranges i other).high
+high_above : (floor : ℕ) (ranges : List UidRange) (i : ℕ) (other : UidRange) → RisesAbove floor ranges → i < length ranges →
+    floor < (get_or ranges i other).high
 high_above floor [] i other rises within = absurd (omega arith)
 high_above floor (range ∷ ranges) zero other rises within = omega (arith, rises.0)
 high_above floor (range ∷ ranges) (suc i) other rises within =
@@ -27,7 +28,10 @@ highs_rise floor (range ∷ ranges) rises (suc i) (suc j) other le within =
     highs_rise (range.high + 1) ranges rises.1 i j other (omega arith) (omega arith)
 
 -- the one place where a member can stand
-pub member_by_place : (floor : ℕ) (ranges : List UidRange) (uid place : ℕ) → RisesAbove floor ranges → ((k : ℕ) → k < place → k < length ranges → (get_or ranges k none).high < uid) → (place < length ranges → uid ≤ (get_or ranges place none).high) → Member ranges uid ↔ ((place < length ranges) × ((get_or ranges place none).low ≤ uid))
+pub member_by_place : (floor : ℕ) (ranges : List UidRange) (uid place : ℕ) → RisesAbove floor ranges →
+    ((k : ℕ) → k < place → k < length ranges → (get_or ranges k none).high < uid) →
+    (place < length ranges → uid ≤ (get_or ranges place none).high) →
+    Member ranges uid ↔ ((place < length ranges) × ((get_or ranges place none).low ≤ uid))
 member_by_place floor [] uid place rises below above = (λ member. absurd member, λ found. absurd (omega (arith, found.0)))
 member_by_place floor (range ∷ ranges) uid zero rises below above = (
   λ member. (omega arith, Member-first floor range ranges uid rises member),
@@ -35,7 +39,8 @@ member_by_place floor (range ∷ ranges) uid zero rises below above = (
 )
 member_by_place floor (range ∷ ranges) uid (suc place) rises below above =
     let past = below 0 (omega arith) (omega arith) in
-    let more = member_by_place (range.high + 1) ranges uid place rises.1 (λ k low within. below (suc k) (omega arith) (omega arith)) (λ within. above (omega arith)) in (
+    let more = member_by_place (range.high + 1) ranges uid place rises.1 (λ k low within. below (suc k) (omega arith) (omega arith))
+    (λ within. above (omega arith)) in (
       λ member. elim member [ inl here ↦ absurd (omega (arith, here)) | inr later ↦ (let found = more.0 later in (omega (arith, found.0), found.1)) ],
       λ found. inr (more.1 (omega (arith, found.0), found.1)),
     )
@@ -56,7 +61,8 @@ only_length (range ∷ next ∷ ranges) uid rises only =
     absurd (omega (arith, rises.0, rises.1.0))
 
 -- and the two ends of it are one
-pub only_ends : (ranges : List UidRange) (range : UidRange) (uid : ℕ) → IsCanonical ranges → IsOnly ranges uid → 0 < length ranges → range ≡ get_or ranges 0 range → range.low ≡ range.high
+pub only_ends : (ranges : List UidRange) (range : UidRange) (uid : ℕ) → IsCanonical ranges → IsOnly ranges uid → 0 < length ranges →
+    range ≡ get_or ranges 0 range → range.low ≡ range.high
 only_ends [] range uid rises only some at = absurd (omega arith)
 only_ends (first ∷ ranges) range uid rises only some at =
     let low = (only first.low).0 (inl (record { above = omega arith; below = rises.0.ordered })) in

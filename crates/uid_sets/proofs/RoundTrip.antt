@@ -1,5 +1,6 @@
 -- The text of a set is read as the set.
-use Rattle.std.proofs.Common.{◌≡◌, ℕ, ◌+◌, ◌<◌, ◌≤◌, ◌^◌, Bool, true, false, not, cond, nat_lt, ◌==◌, min, max, List, [], ◌∷◌, ◌++◌, length, take, drop, map, decimal, Result, Ok, refl, arith, ap, sym, ◌∙◌, append_assoc}
+use Rattle.std.proofs.Common.{◌≡◌, ℕ, ◌+◌, ◌<◌, ◌≤◌, ◌^◌, Bool, true, false, not, cond, nat_lt, ◌==◌, min, max, List, [], ◌∷◌, ◌++◌}
+use Rattle.std.proofs.Common.{length, take, drop, map, decimal, Result, Ok, refl, arith, ap, sym, ◌∙◌, append_assoc}
 use Rattle.std.specs.Char.{is_ascii_digit}
 use Rattle.std.specs.Int.{IsInRange}
 use Rattle.std.specs.List.{All, position_or_len, before_first, after_first, slice_split}
@@ -36,7 +37,8 @@ pub number_decimal : (at n : ℕ) → 0 < n → n < 2 ^ 32 → number at (decima
 number_decimal at n above below =
     let numeral = decimal_is_IsNumeral n (omega arith) in
     let count = all_digits (decimal n) numeral.0.1 in
-    let whole = ap (λ k. digits_value 10 (take k (decimal n))) count ∙ ap (λ xs. digits_value 10 xs) (take_all (length (decimal n)) (decimal n) (omega arith)) ∙ numeral.1 in
+    let whole = ap (λ k. digits_value 10 (take k (decimal n))) count
+    ∙ ap (λ xs. digits_value 10 xs) (take_all (length (decimal n)) (decimal n) (omega arith)) ∙ numeral.1 in
     number_reads at (decimal n) n count whole (decimal_nonempty n (omega arith)) above below
 
 digit_no_colon : (c : ℕ) → IsInRange 48 57 c → not (is_colon c) ≡ true
@@ -48,7 +50,8 @@ digit_no_comma c within = grind (arith, nat_tests)
 -- a numeral holds no colon
 no_colon : (text : List ℕ) → AllDigits 10 text → position_or_len is_colon text ≡ length text
 no_colon text digits =
-    prefix_len_is (λ x. not (is_colon x)) text (length text) 0 (omega arith) (λ k within. digit_no_colon _ (digit_at text k digits within)) (λ within. absurd (omega arith))
+    prefix_len_is (λ x. not (is_colon x)) text (length text) 0 (omega arith) (λ k within. digit_no_colon _ (digit_at text k digits within))
+    (λ within. absurd (omega arith))
 
 -- behind a numeral the first colon is the next
 next_colon : (text rest : List ℕ) → AllDigits 10 text → position_or_len is_colon (text ++ 58 ∷ rest) ≡ length text
@@ -75,24 +78,30 @@ lt_false m n above = grind (arith, nat_tests)
 bind_same : {A B : Type 0} (read : Result A SetFault) (f : A → Result B SetFault) (x : A) → read ≡ Ok x → (read >>= f) ≡ f x
 bind_same read f x is = rw is refl
 
-item_one : (at : ℕ) (text : List ℕ) (n : ℕ) → position_or_len is_colon text ≡ length text → number at text ≡ Ok n → item at text ≡ Ok (record { low = n; high = n })
+item_one : (at : ℕ) (text : List ℕ) (n : ℕ) → position_or_len is_colon text ≡ length text → number at text ≡ Ok n →
+    item at text ≡ Ok (record { low = n; high = n })
 unfolding item
 item_one at text n place is =
     cond_false (nat_lt (position_or_len is_colon text) (length text)) _ _ (lt_false _ _ (omega arith))
     ∙ bind_same (number at text) (λ only. Ok (record { low = only; high = only })) n is
 
-item_two : (at : ℕ) (text : List ℕ) (m n : ℕ) → position_or_len is_colon text < length text → number at (before_first is_colon text) ≡ Ok m → number (at + position_or_len is_colon text + 1) (after_first is_colon text) ≡ Ok n → item at text ≡ Ok (record { low = min m n; high = max m n })
+item_two : (at : ℕ) (text : List ℕ) (m n : ℕ) → position_or_len is_colon text < length text →
+    number at (before_first is_colon text) ≡ Ok m → number (at + position_or_len is_colon text + 1) (after_first is_colon text) ≡ Ok n →
+    item at text ≡ Ok (record { low = min m n; high = max m n })
 unfolding item
 item_two at text m n place first second =
     cond_true (nat_lt (position_or_len is_colon text) (length text)) _ _ (lt_true _ _ place)
-    ∙ bind_same (number at (before_first is_colon text)) (λ first. number (at + position_or_len is_colon text + 1) (after_first is_colon text) >>= λ second. Ok (record { low = min first second; high = max first second })) m first
-    ∙ bind_same (number (at + position_or_len is_colon text + 1) (after_first is_colon text)) (λ second. Ok (record { low = min m second; high = max m second })) n second
+    ∙ bind_same (number at (before_first is_colon text)) (λ first. number (at + position_or_len is_colon text + 1)
+    (after_first is_colon text) >>= λ second. Ok (record { low = min first second; high = max first second })) m first
+    ∙ bind_same (number (at + position_or_len is_colon text + 1) (after_first is_colon text))
+    (λ second. Ok (record { low = min m second; high = max m second })) n second
 
 drop_past : (text : List ℕ) (mark : ℕ) (rest : List ℕ) → drop (length text + 1) (text ++ mark ∷ rest) ≡ rest
 drop_past text mark rest =
     ap (drop (length text + 1)) (sym (append_assoc text (mark ∷ []) rest)) ∙ drop_at (text ++ mark ∷ []) rest (length text + 1) (length-append text (mark ∷ []))
 
-item_pair : (at : ℕ) (low high : ℕ) → 0 < low → low ≤ high → high < 2 ^ 32 → item at (decimal low ++ 58 ∷ decimal high) ≡ Ok (record { low = min low high; high = max low high })
+item_pair : (at : ℕ) (low high : ℕ) → 0 < low → low ≤ high → high < 2 ^ 32 →
+    item at (decimal low ++ 58 ∷ decimal high) ≡ Ok (record { low = min low high; high = max low high })
 item_pair at low high above ordered below =
     let numeral = decimal_is_IsNumeral low (omega arith) in
     let text = decimal low ++ 58 ∷ decimal high in
@@ -104,7 +113,8 @@ item_pair at low high above ordered below =
     (ap (number at) before ∙ number_decimal at low above (omega arith))
     (ap (number (at + position_or_len is_colon text + 1)) behind ∙ number_decimal _ high (omega arith) below)
 
-range_ends : (b : Bool) (at : ℕ) (range : UidRange) → IsRange 0 range → (range.low == range.high) ≡ b → item at (cond b (decimal range.low) (decimal range.low ++ 58 ∷ decimal range.high)) ≡ Ok range
+range_ends : (b : Bool) (at : ℕ) (range : UidRange) → IsRange 0 range → (range.low == range.high) ≡ b →
+    item at (cond b (decimal range.low) (decimal range.low ++ 58 ∷ decimal range.high)) ≡ Ok range
 range_ends true at range fits same =
     let one : range.low ≡ range.high = grind (arith, nat_tests) in
     let numeral = decimal_is_IsNumeral range.low (omega (arith, fits)) in
@@ -129,7 +139,8 @@ numeral_no_comma n below =
 either_no_comma : (b : Bool) (low high : ℕ) → low < 2 ^ 32 → high < 2 ^ 32 → All NoComma (cond b (decimal low) (decimal low ++ 58 ∷ decimal high))
 either_no_comma true low high fits_low fits_high = numeral_no_comma low fits_low
 either_no_comma false low high fits_low fits_high =
-    All-append NoComma (decimal low) (58 ∷ decimal high) (numeral_no_comma low fits_low) (All-cons NoComma 58 (decimal high) refl (numeral_no_comma high fits_high))
+    All-append NoComma (decimal low) (58 ∷ decimal high) (numeral_no_comma low fits_low)
+    (All-cons NoComma 58 (decimal high) refl (numeral_no_comma high fits_high))
 
 range_no_comma : (range : UidRange) → IsRange 0 range → All NoComma (range_text range)
 range_no_comma range fits = either_no_comma (range.low == range.high) range.low range.high (omega (arith, fits)) fits.fits
@@ -169,7 +180,8 @@ length_set floor (range ∷ next ∷ ranges) rises some =
 pub set_spells : (ranges : List UidRange) → IsCanonical ranges → 0 < length ranges → Spells (set_text ranges) ranges
 set_spells ranges canonical some = record {
   written = ranges;
-  read = items_of_some (set_text ranges) (length_set 0 ranges canonical some) ∙ (ap (items 0) (split_set 0 ranges canonical some) ∙ items_set 0 ranges 0 canonical);
+  read = items_of_some (set_text ranges) (length_set 0 ranges canonical some)
+      ∙ (ap (items 0) (split_set 0 ranges canonical some) ∙ items_set 0 ranges 0 canonical);
   canonical = canonical;
   members = λ uid. (λ member. member, λ member. member);
 }

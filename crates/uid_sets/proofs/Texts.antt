@@ -5,7 +5,8 @@ use Rattle.uid_sets.specs.Spelling.{range_text, set_text}
 use Rattle.uid_sets.specs.declared.uid.UidRange.{UidRange}
 
 -- a comma, and a range more
-pub set_text-push : (ranges : List UidRange) (range : UidRange) → 0 < length ranges → set_text (ranges ++ range ∷ []) ≡ (set_text ranges ++ 44 ∷ []) ++ range_text range
+pub set_text-push : (ranges : List UidRange) (range : UidRange) → 0 < length ranges →
+    set_text (ranges ++ range ∷ []) ≡ (set_text ranges ++ 44 ∷ []) ++ range_text range
 set_text-push [] range some = absurd (omega arith)
 set_text-push (first ∷ []) range some = sym (append_assoc (range_text first) (44 ∷ []) (range_text range))
 set_text-push (first ∷ next ∷ ranges) range some =
@@ -16,6 +17,7 @@ set_text-push (first ∷ next ∷ ranges) range some =
 pub take_here : (ranges : List UidRange) (i : ℕ) (other : UidRange) → i < length ranges → take (i + 1) ranges ≡ take i ranges ++ get_or ranges i other ∷ []
 take_here ranges i other within = rw (add-one, take-suc ranges i other within) refl
 
-pub set_text-first : (ranges : List UidRange) (i : ℕ) (text : List ℕ) (range : UidRange) → i ≡ 0 → text ≡ set_text (take i ranges) → text ++ range_text range ≡ set_text (take i ranges ++ range ∷ [])
+pub set_text-first : (ranges : List UidRange) (i : ℕ) (text : List ℕ) (range : UidRange) → i ≡ 0 → text ≡ set_text (take i ranges) →
+    text ++ range_text range ≡ set_text (take i ranges ++ range ∷ [])
 set_text-first ranges zero text range first is = rw is refl
 set_text-first ranges (suc i) text range first is = absurd (omega arith)

@@ -8,8 +8,6 @@ mod search;
 mod sequence_set;
 mod set_fault;
 mod spelling;
-#[cfg(test)]
-mod tests;
 mod uid;
 mod uid_set;
 

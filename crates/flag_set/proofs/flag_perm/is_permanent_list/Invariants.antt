@@ -8,7 +8,8 @@ use Rattle.flag_set.proofs.Faults.{left_len}
 use Rattle.flag_set.proofs.flag_perm.is_permanent_list.Given as goal
 
 abbrev pub invariant-loop-left : goal.invariant-loop-left
-invariant-loop-left l = list_all (λ flag. is_any flag || is_flag flag) (pieces_left (option_copied l.left)) ≡ list_all (λ flag. is_any flag || is_flag flag) (flags_of l.text)
+invariant-loop-left l = list_all (λ flag. is_any flag || is_flag flag) (pieces_left (option_copied l.left))
+    ≡ list_all (λ flag. is_any flag || is_flag flag) (flags_of l.text)
 
 abbrev pub decreases-loop-left : goal.decreases-loop-left
 decreases-loop-left l = left_len (option_copied l.left)

@@ -7,5 +7,11 @@ use Rattle.imap_tokens.proofs.tokens.other_token_at.Goals as goal
 
 pub returns-in-32-clause-within : goal.returns-in-32-clause-within
 returns-in-32-clause-within c =
-    let passes : is_space c.in_ok-first.first.now ≡ true = grind (arith, nat_tests) in
-    (omega (arith, c.space_len.ensures, run_some is_space c.args.rest.now c.in_ok-first.first.now c.in_ok-first.field-0-1.now c.in_ok-first.ensures.cases.0 passes), omega (arith, c.space_len.ensures, prefix_len-le-length is_space c.args.rest.now))
+    let passes : is_space c.in_ok-first.first.now ≡ true = grind (arith, nat_tests) in (
+      omega (
+        arith,
+        c.space_len.ensures,
+        run_some is_space c.args.rest.now c.in_ok-first.first.now c.in_ok-first.field-0-1.now c.in_ok-first.ensures.cases.0 passes,
+      ),
+      omega (arith, c.space_len.ensures, prefix_len-le-length is_space c.args.rest.now),
+    )

@@ -5,10 +5,13 @@ use Rattle.uid_sets.proofs.Joins.{Joins, joins_wider, joins_behind, floor_behind
 use Rattle.uid_sets.proofs.join.join.Goals as goal
 use Rattle.uid_sets.proofs.join.join.Goals.{then-count-gt0+else-range-last, else-count-gt0}
 
-wider : (c : goal.After-ranges-1) → Joins c.args.ranges.now.items c.args.range (set c.args.ranges.now.items (c.len-count.result - 1) (record { low = c.index-last.result.now.low; high = c.max.result }))
+wider : (c : goal.After-ranges-1) → Joins c.args.ranges.now.items c.args.range
+    (set c.args.ranges.now.items (c.len-count.result - 1) (record { low = c.index-last.result.now.low; high = c.max.result }))
 wider c =
     let count : length c.args.ranges.now.items ≡ (c.len-count.result - 1) + 1 = omega arith in
-    joins_wider c.args.ranges.now.items (c.len-count.result - 1) c.index-last.result.now c.args.range c.max.result count c.index-last.ensures c.requires.canonical c.requires.range c.requires.rising c.if-range-last.true c.max.ensures
+    joins_wider c.args.ranges.now.items
+    (c.len-count.result - 1) c.index-last.result.now c.args.range c.max.result count c.index-last.ensures c.requires.canonical
+    c.requires.range c.requires.rising c.if-range-last.true c.max.ensures
 
 pub returns-then-range-last-clause-canonical : goal.returns-then-range-last-clause-canonical
 returns-then-range-last-clause-canonical c = (wider c).canonical

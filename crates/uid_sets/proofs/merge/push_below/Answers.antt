@@ -6,7 +6,8 @@ use Rattle.uid_sets.specs.declared.uid.UidRange.{UidRange}
 use Rattle.uid_sets.proofs.Ranges.{Pushes, pushes}
 use Rattle.uid_sets.proofs.merge.push_below.Goals as goal
 
-pushed : (c : goal.In_ok-push) → Pushes c.args.ranges.now.items (record { low = c.args.low; high = c.args.end - 1 }) (c.args.ranges.now.items ++ record { low = c.args.low; high = c.args.end - 1 } ∷ [])
+pushed : (c : goal.In_ok-push) → Pushes c.args.ranges.now.items (record { low = c.args.low; high = c.args.end - 1 })
+    (c.args.ranges.now.items ++ record { low = c.args.low; high = c.args.end - 1 } ∷ [])
 pushed c =
     let range : UidRange = record { low = c.args.low; high = c.args.end - 1 } in
     let fits : IsRange (floor_behind 0 c.args.ranges.now.items) range = record { above = c.requires.floor; ordered = omega arith; fits = omega arith } in

@@ -21,7 +21,8 @@ returns-then-range-hole-2-clause-members c = λ uid.
     λ from below member. gap taken c.loop-hole.hole-index uid before.left (λ _. below) ((before.skipped uid from).0 member) in
     let held : c.loop-hole.low ≤ uid → hole.low ≤ uid → uid < c.args.range.high + 1 → Member taken uid =
     λ from above below. (before.skipped uid from).1 (rw here (inl (record { above = above; below = omega arith }))) in
-    let put = up_to_hole _ _ _ (Member taken uid) c.args.range.low c.loop-hole.low hole.low (c.args.range.high + 1) uid (c.in_ok-push_below.ensures.members uid) (before.members uid) free held (omega arith) (omega arith) (omega arith) in
+    let put = up_to_hole _ _ _ (Member taken uid) c.args.range.low c.loop-hole.low hole.low (c.args.range.high + 1) uid
+    (c.in_ok-push_below.ensures.members uid) (before.members uid) free held (omega arith) (omega arith) (omega arith) in
     grind (arith, put.0, put.1)
 
 pub loop-hole-preserved : goal.loop-hole-preserved
@@ -44,17 +45,20 @@ loop-hole-preserved c =
           λ from below member. gap taken c.loop-hole.hole-index uid before.left (λ _. below) ((before.skipped uid from).0 member) in
           let held : c.loop-hole.low ≤ uid → hole.low ≤ uid → uid < c.max-low.result → Member taken uid =
           λ from above below. (before.skipped uid from).1 (rw here (inl (record { above = above; below = omega arith }))) in
-          up_to_hole _ _ _ (Member taken uid) c.args.range.low c.loop-hole.low hole.low c.max-low.result uid (c.in_ok-push_below.ensures.members uid) (before.members uid) free held (omega arith) (omega arith) (omega (arith, left.0));
+          up_to_hole _ _ _ (Member taken uid) c.args.range.low c.loop-hole.low hole.low c.max-low.result uid
+          (c.in_ok-push_below.ensures.members uid) (before.members uid) free held (omega arith) (omega arith) (omega (arith, left.0));
       skipped = λ uid from.
           let same = rw here at (before.skipped uid (omega arith)) in
           grind (arith, same.0, same.1);
     }
 
-pushed : (c : goal.In_ok-push) → Pushes c.loop-hole.ranges.items (record { low = c.loop-hole.low; high = c.args.range.high }) (c.loop-hole.ranges.items ++ record { low = c.loop-hole.low; high = c.args.range.high } ∷ [])
+pushed : (c : goal.In_ok-push) → Pushes c.loop-hole.ranges.items (record { low = c.loop-hole.low; high = c.args.range.high })
+    (c.loop-hole.ranges.items ++ record { low = c.loop-hole.low; high = c.args.range.high } ∷ [])
 pushed c =
     let range : UidRange = record { low = c.loop-hole.low; high = c.args.range.high } in
     let before = c.loop-hole.invariant in
-    let fits : IsRange (floor_behind 0 c.loop-hole.ranges.items) range = record { above = before.floor; ordered = before.below; fits = c.requires.range.fits } in
+    let fits : IsRange (floor_behind 0 c.loop-hole.ranges.items) range =
+    record { above = before.floor; ordered = before.below; fits = c.requires.range.fits } in
     pushes c.loop-hole.ranges.items range before.canonical fits
 
 pub returns-clause-canonical : goal.returns-clause-canonical
@@ -74,4 +78,5 @@ returns-clause-members c = rw c.in_ok-push.ensures.items (λ uid.
     ] in
     let free : c.loop-hole.low ≤ uid → uid ≤ c.args.range.high → ¬ Member taken uid =
     λ from below member. gap taken c.loop-hole.hole-index uid before.left (far below) ((before.skipped uid from).0 member) in
-    up_to_end _ _ _ (Member taken uid) c.args.range.low c.loop-hole.low c.args.range.high uid ((pushed c).members uid) (before.members uid) free (omega arith) (omega arith))
+    up_to_end _ _ _ (Member taken uid) c.args.range.low c.loop-hole.low c.args.range.high uid ((pushed c).members uid)
+    (before.members uid) free (omega arith) (omega arith))

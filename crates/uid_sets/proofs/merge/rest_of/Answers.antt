@@ -16,7 +16,8 @@ loop-range-preserved c =
     let here = drop_here c.args.ranges.now c.loop-range.range-index none c.loop-range-test.true in
     let left = rw here at before.left in
     let kept : UidRange = record { low = c.max.result; high = range.high } in
-    let fits : IsRange (floor_behind 0 c.loop-range.rest.items) kept = record { above = omega (arith, left.0); ordered = omega (arith, left.0); fits = left.0.fits } in
+    let fits : IsRange (floor_behind 0 c.loop-range.rest.items) kept =
+    record { above = omega (arith, left.0); ordered = omega (arith, left.0); fits = left.0.fits } in
     let put = pushes c.loop-range.rest.items kept before.canonical fits in
     rw c.in_ok-push.ensures.items (record {
       canonical = put.canonical;

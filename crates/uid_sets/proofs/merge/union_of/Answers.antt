@@ -20,7 +20,8 @@ none = record { low = 0; high = 0 }
 pub loop-i-preserved-then-left-i : goal.loop-i-preserved-then-left-i
 loop-i-preserved-then-left-i c =
     let within : c.loop-i.i < length c.args.left.now = grind arith in
-    let first : c.loop-i.j < length c.args.right.now → (get_or c.args.left.now c.loop-i.i none).low ≤ (get_or c.args.right.now c.loop-i.j none).low = λ h. grind arith in
+    let first : c.loop-i.j < length c.args.right.now → (get_or c.args.left.now c.loop-i.i none).low ≤
+    (get_or c.args.right.now c.loop-i.j none).low = λ h. grind arith in
     let joins = c.in_ok-join.ensures in
     let before = c.loop-i.invariant in
     let here = drop_here c.args.left.now c.loop-i.i none within in
@@ -40,7 +41,8 @@ loop-i-preserved-then-left-i c =
 pub loop-i-preserved : goal.loop-i-preserved
 loop-i-preserved c =
     let within : c.loop-i.j < length c.args.right.now = grind arith in
-    let first : c.loop-i.i < length c.args.left.now → (get_or c.args.right.now c.loop-i.j none).low ≤ (get_or c.args.left.now c.loop-i.i none).low = λ h. grind arith in
+    let first : c.loop-i.i < length c.args.left.now → (get_or c.args.right.now c.loop-i.j none).low ≤
+    (get_or c.args.left.now c.loop-i.i none).low = λ h. grind arith in
     let joins = c.in_ok-join-2.ensures in
     let before = c.loop-i.invariant in
     let here = drop_here c.args.right.now c.loop-i.j none within in

@@ -10,7 +10,8 @@ use Rattle.uid_sets.proofs.sequence_set.ranges_of.Goals as goal
 pub joined-requires : goal.joined-requires
 joined-requires c =
     let put = c.in_ok-put_in_order.ensures in
-    let fits = recursion_from_All _ _ (All-permutation (IsRange 0) _ _ put.permutation (All-from_recursion _ _ (items_of_fit c.args.text.now _ c.in_ok-written.ensures.value))) in
+    let fits = recursion_from_All _ _ (All-permutation (IsRange 0) _ _ put.permutation
+    (All-from_recursion _ _ (items_of_fit c.args.text.now _ c.in_ok-written.ensures.value))) in
     rw c.deref.ensures.value (RisesByLow-ordered 0 _ fits put.ordered (λ _. omega arith))
 
 pub returns-clause-value : goal.returns-clause-value

@@ -12,4 +12,5 @@ returns-clause-same c = is_same _ _ _ (returns-clause-value c)
 
 pub returns-clause-members : goal.returns-clause-members
 returns-clause-members c =
-    has_same_members _ _ _ (subst IsFlagSet c.self.view_is c.self.invariant).rising (subst IsFlagSet c.other.view_is c.other.invariant).rising (returns-clause-value c)
+    has_same_members _ _ _ (subst IsFlagSet c.self.view_is c.self.invariant).rising
+    (subst IsFlagSet c.other.view_is c.other.invariant).rising (returns-clause-value c)

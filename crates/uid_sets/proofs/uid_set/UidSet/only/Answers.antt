@@ -9,4 +9,5 @@ returns-then-len-ne1-clause-none c = λ uid only.
 
 pub returns-then-range-clause-none : goal.returns-then-range-clause-none
 returns-then-range-clause-none c = λ uid only.
-    let ends = only_ends c.self.inside.ranges.items c.index-range.result.now uid c.self.invariant (rw (← c.self.view_is) at only) (omega arith) c.index-range.ensures in absurd (omega arith)
+    let ends = only_ends c.self.inside.ranges.items c.index-range.result.now uid c.self.invariant (rw (← c.self.view_is) at only)
+    (omega arith) c.index-range.ensures in absurd (omega arith)
