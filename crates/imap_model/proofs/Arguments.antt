@@ -1,5 +1,6 @@
 -- An argument's text tells the argument.
-use Rattle.std.proofs.Common.{◌≡◌, ℕ, ◌<◌, ◌^◌, Bool, true, false, not, cond, ◌&&◌, ◌||◌, ◌==◌, nat_lt, List, [], ◌∷◌, ◌++◌, length, get_or, decimal, codes, refl, ap, sym, ◌∙◌, append_assoc, arith}
+use Rattle.std.proofs.Common.{◌≡◌, ℕ, ◌<◌, ◌^◌, Bool, true, false, not, cond, ◌&&◌, ◌||◌, ◌==◌, nat_lt, List, [], ◌∷◌, ◌++◌, length}
+use Rattle.std.proofs.Common.{get_or, decimal, codes, refl, ap, sym, ◌∙◌, append_assoc, arith}
 use Rattle.std.specs.Char.{is_ascii_digit}
 use Rattle.std.specs.List.{flat_map, list_all}
 use Rattle.std.specs.Str.{str_eq_ignore_ascii_case}
@@ -44,7 +45,8 @@ byte_of_quoted : (bytes : List ℕ) (P : List (List ℕ)) → byte_at 0 (line (q
 byte_of_quoted bytes P = byte_of_line 0 (quoted bytes) P (omega arith)
 
 byte_of_literal : (bytes : List ℕ) (P : List (List ℕ)) → byte_at 0 (literal bytes ⌢ P) ≡ 123
-byte_of_literal bytes P = ap (byte_at 0) (parts_assoc (line (header (decimal (length bytes)))) (wait ⌢ line bytes) P) ∙ byte_of_line 0 (header (decimal (length bytes))) ((wait ⌢ line bytes) ⌢ P) (omega arith)
+byte_of_literal bytes P = ap (byte_at 0) (parts_assoc (line (header (decimal (length bytes)))) (wait ⌢ line bytes) P)
+    ∙ byte_of_line 0 (header (decimal (length bytes))) ((wait ⌢ line bytes) ⌢ P) (omega arith)
 
 byte_of_bare : (bytes : List ℕ) (P : List (List ℕ)) → is_bare bytes ≡ true → byte_at 0 (line bytes ⌢ P) ≡ get_or bytes 0 0
 byte_of_bare bytes P is = byte_of_line 0 bytes P (bare_some bytes is)
@@ -122,7 +124,8 @@ counted_same x y (r ∷ P) (s ∷ Q) fits fits' some some' same =
     let tails : r ≡ s = both.1 in
     (both.0, cc)
 
-pub literal_same : (x y : List ℕ) (P Q : List (List ℕ)) → length x < 2 ^ 64 → length y < 2 ^ 64 → 0 < length P → 0 < length Q → literal x ⌢ P ≡ literal y ⌢ Q → (x ≡ y) × (P ≡ Q)
+pub literal_same : (x y : List ℕ) (P Q : List (List ℕ)) → length x < 2 ^ 64 → length y < 2 ^ 64 → 0 < length P → 0 < length Q →
+    literal x ⌢ P ≡ literal y ⌢ Q → (x ≡ y) × (P ≡ Q)
 literal_same x y P Q fits fits' some some' same =
     counted_same x y P Q fits fits' some some' (ap (λ p. p ⌢ P) (sym (literal_is x)) ∙ same ∙ ap (λ p. p ⌢ Q) (literal_is y))
 
@@ -135,21 +138,30 @@ forms_same : (x y : List ℕ) (P Q : List (List ℕ)) → length x < 2 ^ 64 → 
 forms_same x y P Q fits fits' stop stop' (bare is f) (bare is' g) same =
     cut_run is_astring_byte x y P Q (bare_all x is) (bare_all y is') stop stop' (ap (λ p. p ⌢ P) (sym f) ∙ same ∙ ap (λ p. p ⌢ Q) g)
 forms_same x y P Q fits fits' stop stop' (bare is f) (in_quotes g) same =
-    absurd (not_both (get_or x 0 0) 34 (bare_first x is) refl (apart (line x ⌢ P) (line (quoted y) ⌢ Q) _ _ (byte_of_bare x P is) (byte_of_quoted y Q) (ap (λ p. p ⌢ P) (sym f) ∙ same ∙ ap (λ p. p ⌢ Q) g)))
+    absurd (not_both (get_or x 0 0) 34 (bare_first x is) refl (apart (line x ⌢ P) (line (quoted y) ⌢ Q) _ _ (byte_of_bare x P is)
+    (byte_of_quoted y Q) (ap (λ p. p ⌢ P) (sym f) ∙ same ∙ ap (λ p. p ⌢ Q) g)))
 forms_same x y P Q fits fits' stop stop' (bare is f) (counted g) same =
-    absurd (not_both (get_or x 0 0) 123 (bare_first x is) refl (apart (line x ⌢ P) (literal y ⌢ Q) _ _ (byte_of_bare x P is) (byte_of_literal y Q) (ap (λ p. p ⌢ P) (sym f) ∙ same ∙ ap (λ p. p ⌢ Q) g)))
+    absurd (not_both (get_or x 0 0) 123 (bare_first x is) refl (apart (line x ⌢ P) (literal y ⌢ Q) _ _ (byte_of_bare x P is)
+    (byte_of_literal y Q) (ap (λ p. p ⌢ P) (sym f) ∙ same ∙ ap (λ p. p ⌢ Q) g)))
 forms_same x y P Q fits fits' stop stop' (in_quotes f) (bare is' g) same =
-    absurd (not_both (get_or y 0 0) 34 (bare_first y is') refl (sym (apart (line (quoted x) ⌢ P) (line y ⌢ Q) _ _ (byte_of_quoted x P) (byte_of_bare y Q is') (ap (λ p. p ⌢ P) (sym f) ∙ same ∙ ap (λ p. p ⌢ Q) g))))
+    absurd (not_both (get_or y 0 0) 34 (bare_first y is') refl (sym
+    (apart (line (quoted x) ⌢ P) (line y ⌢ Q) _ _ (byte_of_quoted x P) (byte_of_bare y Q is')
+    (ap (λ p. p ⌢ P) (sym f) ∙ same ∙ ap (λ p. p ⌢ Q) g))))
 forms_same x y P Q fits fits' stop stop' (in_quotes f) (in_quotes g) same =
     quoted_same x y P Q (stops_some is_astring_byte P stop) (stops_some is_astring_byte Q stop') (ap (λ p. p ⌢ P) (sym f) ∙ same ∙ ap (λ p. p ⌢ Q) g)
 forms_same x y P Q fits fits' stop stop' (in_quotes f) (counted g) same =
-    let e : ◌≡◌ {A = ℕ} 34 123 = apart (line (quoted x) ⌢ P) (literal y ⌢ Q) _ _ (byte_of_quoted x P) (byte_of_literal y Q) (ap (λ p. p ⌢ P) (sym f) ∙ same ∙ ap (λ p. p ⌢ Q) g) in absurd (omega arith)
+    let e : ◌≡◌ {A = ℕ} 34 123 = apart (line (quoted x) ⌢ P) (literal y ⌢ Q) _ _ (byte_of_quoted x P) (byte_of_literal y Q)
+    (ap (λ p. p ⌢ P) (sym f) ∙ same ∙ ap (λ p. p ⌢ Q) g) in absurd (omega arith)
 forms_same x y P Q fits fits' stop stop' (counted f) (bare is' g) same =
-    absurd (not_both (get_or y 0 0) 123 (bare_first y is') refl (sym (apart (literal x ⌢ P) (line y ⌢ Q) _ _ (byte_of_literal x P) (byte_of_bare y Q is') (ap (λ p. p ⌢ P) (sym f) ∙ same ∙ ap (λ p. p ⌢ Q) g))))
+    absurd (not_both (get_or y 0 0) 123 (bare_first y is') refl (sym
+    (apart (literal x ⌢ P) (line y ⌢ Q) _ _ (byte_of_literal x P) (byte_of_bare y Q is')
+    (ap (λ p. p ⌢ P) (sym f) ∙ same ∙ ap (λ p. p ⌢ Q) g))))
 forms_same x y P Q fits fits' stop stop' (counted f) (in_quotes g) same =
-    let e : ◌≡◌ {A = ℕ} 123 34 = apart (literal x ⌢ P) (line (quoted y) ⌢ Q) _ _ (byte_of_literal x P) (byte_of_quoted y Q) (ap (λ p. p ⌢ P) (sym f) ∙ same ∙ ap (λ p. p ⌢ Q) g) in absurd (omega arith)
+    let e : ◌≡◌ {A = ℕ} 123 34 = apart (literal x ⌢ P) (line (quoted y) ⌢ Q) _ _ (byte_of_literal x P) (byte_of_quoted y Q)
+    (ap (λ p. p ⌢ P) (sym f) ∙ same ∙ ap (λ p. p ⌢ Q) g) in absurd (omega arith)
 forms_same x y P Q fits fits' stop stop' (counted f) (counted g) same =
-    literal_same x y P Q fits fits' (stops_some is_astring_byte P stop) (stops_some is_astring_byte Q stop') (ap (λ p. p ⌢ P) (sym f) ∙ same ∙ ap (λ p. p ⌢ Q) g)
+    literal_same x y P Q fits fits' (stops_some is_astring_byte P stop) (stops_some is_astring_byte Q stop')
+    (ap (λ p. p ⌢ P) (sym f) ∙ same ∙ ap (λ p. p ⌢ Q) g)
 
 -- two arguments in front of what doesn't go on with a byte of one
 pub astring_same : (x y : List ℕ) (P Q : List (List ℕ)) → length x < 2 ^ 64 → length y < 2 ^ 64 → StopsAt is_astring_byte P → StopsAt is_astring_byte Q

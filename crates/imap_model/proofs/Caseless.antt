@@ -18,7 +18,8 @@ begins_lower part text t =
 
 one_of : (part : List ℕ) (byte : ℕ) (rest : List ℕ) → (holds_part part rest ≡ true → holds_part (lower part) (lower rest) ≡ true) →
     (starts_with nat_eq (byte ∷ rest) part ≡ true) ⊎ (holds_part part rest ≡ true) → holds_part (lower part) (lower (byte ∷ rest)) ≡ true
-one_of part byte rest f (inl t) = or_left (starts_with nat_eq (lower (byte ∷ rest)) (lower part)) (holds_part (lower part) (lower rest)) (begins_lower part (byte ∷ rest) t)
+one_of part byte rest f (inl t) = or_left (starts_with nat_eq (lower (byte ∷ rest)) (lower part)) (holds_part (lower part) (lower rest))
+    (begins_lower part (byte ∷ rest) t)
 one_of part byte rest f (inr t) = or_right (starts_with nat_eq (lower (byte ∷ rest)) (lower part)) (holds_part (lower part) (lower rest)) (f t)
 
 holds_lower : (part text : List ℕ) → holds_part part text ≡ true → holds_part (lower part) (lower text) ≡ true
@@ -29,14 +30,18 @@ any_lower : (part : List ℕ) (bodies : List PlacedBody) → list_any (λ (b : P
     list_any (λ (b : PlacedBody). holds_part (lower part) (lower (unfolded b.body))) bodies ≡ true
 any_lower part [] t = t
 any_lower part (b ∷ bodies) t =
-    one_more part b bodies (any_lower part bodies) (or_cases (holds_part part (unfolded b.body)) (list_any (λ (c : PlacedBody). holds_part part (unfolded c.body)) bodies) t)
+    one_more part b bodies (any_lower part bodies) (or_cases (holds_part part (unfolded b.body))
+    (list_any (λ (c : PlacedBody). holds_part part (unfolded c.body)) bodies) t)
   where
     one_more : (part : List ℕ) (b : PlacedBody) (bodies : List PlacedBody) →
-        (list_any (λ (c : PlacedBody). holds_part part (unfolded c.body)) bodies ≡ true → list_any (λ (c : PlacedBody). holds_part (lower part) (lower (unfolded c.body))) bodies ≡ true) →
+        (list_any (λ (c : PlacedBody). holds_part part (unfolded c.body)) bodies ≡ true →
+        list_any (λ (c : PlacedBody). holds_part (lower part) (lower (unfolded c.body))) bodies ≡ true) →
         (holds_part part (unfolded b.body) ≡ true) ⊎ (list_any (λ (c : PlacedBody). holds_part part (unfolded c.body)) bodies ≡ true) →
         list_any (λ (c : PlacedBody). holds_part (lower part) (lower (unfolded c.body))) (b ∷ bodies) ≡ true
-    one_more part b bodies f (inl u) = or_left (holds_part (lower part) (lower (unfolded b.body))) (list_any (λ (c : PlacedBody). holds_part (lower part) (lower (unfolded c.body))) bodies) (holds_lower part (unfolded b.body) u)
-    one_more part b bodies f (inr u) = or_right (holds_part (lower part) (lower (unfolded b.body))) (list_any (λ (c : PlacedBody). holds_part (lower part) (lower (unfolded c.body))) bodies) (f u)
+    one_more part b bodies f (inl u) = or_left (holds_part (lower part) (lower (unfolded b.body)))
+        (list_any (λ (c : PlacedBody). holds_part (lower part) (lower (unfolded c.body))) bodies) (holds_lower part (unfolded b.body) u)
+    one_more part b bodies f (inr u) = or_right (holds_part (lower part) (lower (unfolded b.body)))
+        (list_any (λ (c : PlacedBody). holds_part (lower part) (lower (unfolded c.body))) bodies) (f u)
 
 pub found_caseless : (part text : List ℕ) → has_in_id part text ≡ true → has_in_id_caseless part text ≡ true
 found_caseless part text t = any_lower part (id_bodies text) t

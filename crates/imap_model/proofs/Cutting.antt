@@ -20,7 +20,8 @@ two_tests : (p : ℕ → Bool) (b y : ℕ) → b ≡ y → p b ≡ false → p y
 two_tests p b y same fails all = cc (ap p same)
 
 -- two runs of bytes that pass, in front of what doesn't go on with one
-pub run_same : (p : ℕ → Bool) (xs ys r s : List ℕ) → list_all p xs ≡ true → list_all p ys ≡ true → Stops p r → Stops p s → xs ++ r ≡ ys ++ s → (xs ≡ ys) × (r ≡ s)
+pub run_same : (p : ℕ → Bool) (xs ys r s : List ℕ) → list_all p xs ≡ true → list_all p ys ≡ true → Stops p r → Stops p s →
+    xs ++ r ≡ ys ++ s → (xs ≡ ys) × (r ≡ s)
 run_same p [] [] r s all all' stop stop' same = (refl, same)
 run_same p [] (y ∷ ys) [] s all all' stop stop' same = absurd cc
 run_same p [] (y ∷ ys) (b ∷ r) s all all' stop stop' same =
@@ -97,7 +98,8 @@ digit_is c within = grind (arith, nat_tests)
 pub all_digits : (n : ℕ) → n < 2 ^ 64 → list_all is_ascii_digit (decimal n) ≡ true
 all_digits n fits =
     let numeral = decimal_is_IsNumeral n fits in
-    list_all-from_AllPass is_ascii_digit (decimal n) (λ k d within. ap is_ascii_digit (get_or_default (decimal n) k d 0 within) ∙ digit_is _ (digit_at (decimal n) k numeral.0.1 within))
+    list_all-from_AllPass is_ascii_digit (decimal n) (λ k d within. ap is_ascii_digit (get_or_default (decimal n) k d 0 within)
+    ∙ digit_is _ (digit_at (decimal n) k numeral.0.1 within))
 
 -- two numbers in front of what doesn't go on with a digit
 pub cut_number : (m n : ℕ) (P Q : List (List ℕ)) → m < 2 ^ 64 → n < 2 ^ 64 → StopsAt is_ascii_digit P → StopsAt is_ascii_digit Q

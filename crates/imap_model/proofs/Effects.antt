@@ -20,14 +20,18 @@ rewritten_other Becomes name n old new named apart r =
     let is : r.after.name ≡ name = named r.before r.after r.becomes ∙ box_at-name name old r.before r.there in
     ap (box_at n) r.put ∙ box_at-put_other n r.after old (λ e. apart (sym e ∙ is))
 
-pub added_there : (floor : ℕ) (flags : List (List ℕ)) (text : List ℕ) (uid : ℕ) (name : List ℕ) (old new : List Mailbox) (r : Rewrites (Adds floor flags text uid) name old new) → box_at name new ≡ Some r.after
+pub added_there : (floor : ℕ) (flags : List (List ℕ)) (text : List ℕ) (uid : ℕ) (name : List ℕ) (old new : List Mailbox)
+    (r : Rewrites (Adds floor flags text uid) name old new) → box_at name new ≡ Some r.after
 added_there floor flags text uid name old new r = rewritten_there (Adds floor flags text uid) name old new (adds_name floor flags text uid) r
 
-pub set_there : (floor uid : ℕ) (flags : List (List ℕ)) (name : List ℕ) (old new : List Mailbox) (r : Rewrites (Sets floor uid flags) name old new) → box_at name new ≡ Some r.after
+pub set_there : (floor uid : ℕ) (flags : List (List ℕ)) (name : List ℕ) (old new : List Mailbox)
+    (r : Rewrites (Sets floor uid flags) name old new) → box_at name new ≡ Some r.after
 set_there floor uid flags name old new r = rewritten_there (Sets floor uid flags) name old new (sets_name floor uid flags) r
 
 -- the mailbox that a message left
-pub left_there : (floor : List ℕ → ℕ) (name : List ℕ) (uid : ℕ) (to : List ℕ) (received : ℕ) (old new : List Mailbox) (s : Shifts floor name uid to received old new) → box_at name new ≡ Some s.leaves.after
+pub left_there : (floor : List ℕ → ℕ) (name : List ℕ) (uid : ℕ) (to : List ℕ) (received : ℕ) (old new : List Mailbox)
+    (s : Shifts floor name uid to received old new) → box_at name new ≡ Some s.leaves.after
 left_there floor name uid to received old new s =
-    rewritten_other (Adds (floor to) s.message.flags s.message.text received) to name s.middle new (adds_name (floor to) s.message.flags s.message.text received) (λ e. s.apart (sym e)) s.comes
+    rewritten_other (Adds (floor to) s.message.flags s.message.text received) to name s.middle new
+    (adds_name (floor to) s.message.flags s.message.text received) (λ e. s.apart (sym e)) s.comes
     ∙ rewritten_there (Drops (floor name) uid) name old s.middle (drops_name (floor name) uid) s.leaves

@@ -31,7 +31,8 @@ goes_then floor a b c w g h =
     record {
       highest = omega arith;
       uidnext = omega arith;
-      rows = λ u. rows_then floor a.uidnext b.uidnext u (gone_at u b.gone) (gone_at u c.gone) (message_at u a.messages) (message_at u b.messages) (message_at u c.messages)
+      rows = λ u. rows_then floor a.uidnext b.uidnext u (gone_at u b.gone) (gone_at u c.gone) (message_at u a.messages)
+          (message_at u b.messages) (message_at u c.messages)
           g2 (w.below u) (stays_above floor (gone_at u b.gone) (gone_at u c.gone) (h.gone u)) (g.rows u) (h.rows u);
       gone = λ u k e. h.gone u k (g.gone u k e);
     }
@@ -62,44 +63,55 @@ pub drops_name : (floor uid : ℕ) (b c : Mailbox) → Drops floor uid b c → c
 drops_name floor uid b c a = ap (λ (x : Mailbox). x.name) a.becomes
 
 module _ (base : List Mailbox) (old new : List Mailbox) (w : IsWellFormed old) where
-  pub adds_all : (name : List ℕ) (flags : List (List ℕ)) (text : List ℕ) (uid : ℕ) → Rewrites (Adds (floor_of base name) flags text uid) name old new → IsWellFormed new × EvolvesFrom base old new
+  pub adds_all : (name : List ℕ) (flags : List (List ℕ)) (text : List ℕ) (uid : ℕ) →
+      Rewrites (Adds (floor_of base name) flags text uid) name old new → IsWellFormed new × EvolvesFrom base old new
   adds_all name flags text uid r = (
-    rewrites_formed (Adds (floor_of base name) flags text uid) name old new (adds_formed (floor_of base name) flags text uid) (adds_name (floor_of base name) flags text uid) w r,
-    rewrites_evolve base (Adds (floor_of base name) flags text uid) name old new (λ b c e. adds_evolves (floor_of base name) flags text uid b c) (adds_name (floor_of base name) flags text uid) r,
+    rewrites_formed (Adds (floor_of base name) flags text uid) name old new (adds_formed (floor_of base name) flags text uid)
+        (adds_name (floor_of base name) flags text uid) w r,
+    rewrites_evolve base (Adds (floor_of base name) flags text uid) name old new
+        (λ b c e. adds_evolves (floor_of base name) flags text uid b c) (adds_name (floor_of base name) flags text uid) r,
   )
 
-  pub sets_all : (name : List ℕ) (uid : ℕ) (flags : List (List ℕ)) → Rewrites (Sets (floor_of base name) uid flags) name old new → IsWellFormed new × EvolvesFrom base old new
+  pub sets_all : (name : List ℕ) (uid : ℕ) (flags : List (List ℕ)) → Rewrites (Sets (floor_of base name) uid flags) name old new →
+      IsWellFormed new × EvolvesFrom base old new
   sets_all name uid flags r = (
-    rewrites_formed (Sets (floor_of base name) uid flags) name old new (sets_formed (floor_of base name) uid flags) (sets_name (floor_of base name) uid flags) w r,
-    rewrites_evolve base (Sets (floor_of base name) uid flags) name old new (λ b c e. sets_evolves (floor_of base name) uid flags b c) (sets_name (floor_of base name) uid flags) r,
+    rewrites_formed (Sets (floor_of base name) uid flags) name old new (sets_formed (floor_of base name) uid flags)
+        (sets_name (floor_of base name) uid flags) w r,
+    rewrites_evolve base (Sets (floor_of base name) uid flags) name old new (λ b c e. sets_evolves (floor_of base name) uid flags b c)
+        (sets_name (floor_of base name) uid flags) r,
   )
 
   pub drops_all : (name : List ℕ) (uid : ℕ) → Rewrites (Drops (floor_of base name) uid) name old new → IsWellFormed new × EvolvesFrom base old new
   drops_all name uid r = (
     rewrites_formed (Drops (floor_of base name) uid) name old new (drops_formed (floor_of base name) uid) (drops_name (floor_of base name) uid) w r,
-    rewrites_evolve base (Drops (floor_of base name) uid) name old new (λ b c e. drops_evolves (floor_of base name) uid b c (w.each name b e)) (drops_name (floor_of base name) uid) r,
+    rewrites_evolve base (Drops (floor_of base name) uid) name old new
+        (λ b c e. drops_evolves (floor_of base name) uid b c (w.each name b e)) (drops_name (floor_of base name) uid) r,
   )
 
-pub shifts_all : (base : List Mailbox) (name : List ℕ) (uid : ℕ) (to : List ℕ) (received : ℕ) (old new : List Mailbox) → IsWellFormed old → Shifts (floor_of base) name uid to received old new → IsWellFormed new × EvolvesFrom base old new
+pub shifts_all : (base : List Mailbox) (name : List ℕ) (uid : ℕ) (to : List ℕ) (received : ℕ) (old new : List Mailbox) → IsWellFormed old →
+    Shifts (floor_of base) name uid to received old new → IsWellFormed new × EvolvesFrom base old new
 shifts_all base name uid to received old new w s =
     let leaves : IsWellFormed s.middle × EvolvesFrom base old s.middle = drops_all base old s.middle w name uid s.leaves in
     let comes : IsWellFormed new × EvolvesFrom base s.middle new = adds_all base s.middle new leaves.0 to s.message.flags s.message.text received s.comes in
     (comes.0, evolves_then base old s.middle new w leaves.1 comes.1)
 
-pub effect_all : (base : List Mailbox) (name : List ℕ) (change : Change) (old new : List Mailbox) → IsWellFormed old → Effect base name change old new → IsWellFormed new × EvolvesFrom base old new
+pub effect_all : (base : List Mailbox) (name : List ℕ) (change : Change) (old new : List Mailbox) → IsWellFormed old →
+    Effect base name change old new → IsWellFormed new × EvolvesFrom base old new
 effect_all base name (changes.Add flags text uid) old new w e = adds_all base old new w name flags text uid e
 effect_all base name (changes.SetFlags uid flags) old new w e = sets_all base old new w name uid flags e
 effect_all base name (changes.Drop uid) old new w e = drops_all base old new w name uid e
 effect_all base name (changes.Shift uid to received) old new w e = shifts_all base name uid to received old new w e
 
-pub batch_all : (base : List Mailbox) (old new : Server) → Batch base old new → IsWellFormed old.boxes → IsWellFormed new.boxes × EvolvesFrom base old.boxes new.boxes
+pub batch_all : (base : List Mailbox) (old new : Server) → Batch base old new → IsWellFormed old.boxes →
+    IsWellFormed new.boxes × EvolvesFrom base old.boxes new.boxes
 batch_all base old new none w = (w, evolves_same base old.boxes)
 batch_all base old new (more {m = mid} name change c b) w =
     let one : IsWellFormed mid.boxes × EvolvesFrom base old.boxes mid.boxes = effect_all base name change old.boxes mid.boxes w c.effect in
     let rest : IsWellFormed new.boxes × EvolvesFrom base mid.boxes new.boxes = batch_all base mid new b one.0 in
     (rest.0, evolves_then base old.boxes mid.boxes new.boxes w one.1 rest.1)
 
-pub changes_stay : (base : List Mailbox) (author : Author) (name : List ℕ) (change : Change) (old new : Server) → IsWellFormed old.boxes → Changes base author name change old new → IsWellFormed new.boxes × EvolvesFrom base old.boxes new.boxes
+pub changes_stay : (base : List Mailbox) (author : Author) (name : List ℕ) (change : Change) (old new : Server) → IsWellFormed old.boxes →
+    Changes base author name change old new → IsWellFormed new.boxes × EvolvesFrom base old.boxes new.boxes
 changes_stay base author name change old new w c = effect_all base name change old.boxes new.boxes w c.effect
 
 pub batches_stay : (old new : Server) → IsWellFormed old.boxes → Batch old.boxes old new → IsWellFormed new.boxes × EvolvesFrom old.boxes old.boxes new.boxes

@@ -1,5 +1,6 @@
 -- Each change keeps a mailbox well formed.
-use Rattle.std.proofs.Common.{◌≡◌, ◌⊎◌, inl, inr, ℕ, ◌+◌, ◌<◌, ◌≤◌, max, true, false, cond, eqb, List, [], ◌∷◌, ◌++◌, Option, Some, None, refl, sym, ◌∙◌, ap, subst, arith}
+use Rattle.std.proofs.Common.{◌≡◌, ◌⊎◌, inl, inr, ℕ, ◌+◌, ◌<◌, ◌≤◌, max, true, false, cond, eqb, List, [], ◌∷◌, ◌++◌, Option, Some, None}
+use Rattle.std.proofs.Common.{refl, sym, ◌∙◌, ap, subst, arith}
 use Rattle.std.specs.Prelude.{bytes_eq, Contains}
 use Rattle.std.proofs.lemmas.Bool.{cases_Bool, cases_eq, cond_both, eqb-true, eqb-false, eq-eqb, ne_eqb, cond-true, cond-false}
 use Rattle.std.proofs.lemmas.Option.{same_Some}
@@ -23,7 +24,8 @@ tail_below next x xs below u m e =
     cond_both (eqb x.uid u) (Some x) (message_at u xs) (λ (o : Option Message). message_at u (x ∷ xs) ≡ o → u < next)
     (λ t s. below u x s) (λ f s. below u m (s ∙ e)) refl
 
-pub rises_push : (from : ℕ) (ms : List Message) (new : Message) → from ≤ new.uid → ((u : ℕ) (m : Message) → message_at u ms ≡ Some m → u < new.uid) → Rises from ms → Rises from (ms ++ new ∷ [])
+pub rises_push : (from : ℕ) (ms : List Message) (new : Message) → from ≤ new.uid →
+    ((u : ℕ) (m : Message) → message_at u ms ≡ Some m → u < new.uid) → Rises from ms → Rises from (ms ++ new ∷ [])
 rises_push from [] new l below r = (l, tt)
 rises_push from (x ∷ xs) new l below r =
     let b : x.uid < new.uid = below x.uid x (cond-true (eqb x.uid x.uid) (Some x) (message_at x.uid xs) (eq-eqb x.uid x.uid refl)) in
@@ -45,12 +47,14 @@ rises_without from uid (x ∷ xs) r =
     (λ f. (r.0, rises_without (x.uid + 1) uid xs r.1))
 
 -- what is there after an edit was there, or is new
-pub from_push : (uid : ℕ) (new m : Message) (ms : List Message) → message_at uid (ms ++ new ∷ []) ≡ Some m → (message_at uid ms ≡ Some m) ⊎ ((m ≡ new) × (new.uid ≡ uid))
+pub from_push : (uid : ℕ) (new m : Message) (ms : List Message) → message_at uid (ms ++ new ∷ []) ≡ Some m →
+    (message_at uid ms ≡ Some m) ⊎ ((m ≡ new) × (new.uid ≡ uid))
 from_push uid new m [] =
     cond_both (eqb new.uid uid) (Some new) None (λ (o : Option Message). o ≡ Some m → (None ≡ Some m) ⊎ ((m ≡ new) × (new.uid ≡ uid)))
     (λ t e. inr (sym (same_Some new m e), eqb-true new.uid uid t)) (λ f e. inl e)
 from_push uid new m (x ∷ xs) =
-    cond_two (eqb x.uid uid) (Some x) (message_at uid (xs ++ new ∷ [])) (Some x) (message_at uid xs) (λ (o p : Option Message). o ≡ Some m → (p ≡ Some m) ⊎ ((m ≡ new) × (new.uid ≡ uid)))
+    cond_two (eqb x.uid uid) (Some x) (message_at uid (xs ++ new ∷ [])) (Some x) (message_at uid xs)
+    (λ (o p : Option Message). o ≡ Some m → (p ≡ Some m) ⊎ ((m ≡ new) × (new.uid ≡ uid)))
     (λ t e. inl e) (λ f e. from_push uid new m xs e)
 
 pub push_none : (uid : ℕ) (new : Message) (ms : List Message) → (new.uid ≡ uid → ⊥) → message_at uid ms ≡ None → message_at uid (ms ++ new ∷ []) ≡ None
@@ -59,46 +63,59 @@ push_none uid new (x ∷ xs) n =
     cond_two (eqb x.uid uid) (Some x) (message_at uid xs) (Some x) (message_at uid (xs ++ new ∷ [])) (λ (o p : Option Message). o ≡ None → p ≡ None)
     (λ t e. e) (λ f e. push_none uid new xs n e)
 
-pub from_put : (uid : ℕ) (new m : Message) (ms : List Message) → message_at uid (put_message new ms) ≡ Some m → (message_at uid ms ≡ Some m) ⊎ ((m ≡ new) × (y : Message) × (message_at uid ms ≡ Some y))
+pub from_put : (uid : ℕ) (new m : Message) (ms : List Message) → message_at uid (put_message new ms) ≡ Some m →
+    (message_at uid ms ≡ Some m) ⊎ ((m ≡ new) × (y : Message) × (message_at uid ms ≡ Some y))
 from_put uid new m [] = λ e. cc
 from_put uid new m (x ∷ xs) =
-    cond_both (eqb x.uid new.uid) (new ∷ xs) (x ∷ put_message new xs) (λ (l : List Message). message_at uid l ≡ Some m → (message_at uid (x ∷ xs) ≡ Some m) ⊎ ((m ≡ new) × (y : Message) × (message_at uid (x ∷ xs) ≡ Some y)))
-    (λ t. subst (λ (k : ℕ). cond (eqb k uid) (Some new) (message_at uid xs) ≡ Some m → (message_at uid (x ∷ xs) ≡ Some m) ⊎ ((m ≡ new) × (y : Message) × (message_at uid (x ∷ xs) ≡ Some y))) (eqb-true x.uid new.uid t)
-    (cond_two (eqb x.uid uid) (Some new) (message_at uid xs) (Some x) (message_at uid xs) (λ (o p : Option Message). o ≡ Some m → (p ≡ Some m) ⊎ ((m ≡ new) × (y : Message) × (p ≡ Some y)))
+    cond_both (eqb x.uid new.uid) (new ∷ xs) (x ∷ put_message new xs)
+    (λ (l : List Message). message_at uid l ≡ Some m → (message_at uid (x ∷ xs) ≡ Some m)
+    ⊎ ((m ≡ new) × (y : Message) × (message_at uid (x ∷ xs) ≡ Some y)))
+    (λ t. subst (λ (k : ℕ). cond (eqb k uid) (Some new) (message_at uid xs) ≡ Some m →
+    (message_at uid (x ∷ xs) ≡ Some m) ⊎ ((m ≡ new) × (y : Message) × (message_at uid (x ∷ xs) ≡ Some y))) (eqb-true x.uid new.uid t)
+    (cond_two (eqb x.uid uid) (Some new) (message_at uid xs) (Some x) (message_at uid xs)
+    (λ (o p : Option Message). o ≡ Some m → (p ≡ Some m) ⊎ ((m ≡ new) × (y : Message) × (p ≡ Some y)))
     (λ u e. inr (sym (same_Some new m e), x, refl)) (λ u e. inl e)))
-    (λ f. cond_two (eqb x.uid uid) (Some x) (message_at uid (put_message new xs)) (Some x) (message_at uid xs) (λ (o p : Option Message). o ≡ Some m → (p ≡ Some m) ⊎ ((m ≡ new) × (y : Message) × (p ≡ Some y)))
+    (λ f. cond_two (eqb x.uid uid) (Some x) (message_at uid (put_message new xs)) (Some x) (message_at uid xs)
+    (λ (o p : Option Message). o ≡ Some m → (p ≡ Some m) ⊎ ((m ≡ new) × (y : Message) × (p ≡ Some y)))
     (λ u e. inl e) (λ u e. from_put uid new m xs e))
 
-put_none_case : (uid : ℕ) (new m : Message) (ms : List Message) → message_at uid ms ≡ None → (message_at uid ms ≡ Some m) ⊎ ((m ≡ new) × (y : Message) × (message_at uid ms ≡ Some y)) → ⊥
+put_none_case : (uid : ℕ) (new m : Message) (ms : List Message) → message_at uid ms ≡ None →
+    (message_at uid ms ≡ Some m) ⊎ ((m ≡ new) × (y : Message) × (message_at uid ms ≡ Some y)) → ⊥
 put_none_case uid new m ms e (inl h) = cc
 put_none_case uid new m ms e (inr h) = let g : message_at uid ms ≡ Some h.1 = h.2 in cc
 
 pub put_none : (uid : ℕ) (new : Message) (ms : List Message) → message_at uid ms ≡ None → message_at uid (put_message new ms) ≡ None
 put_none uid new ms e = none_of (message_at uid (put_message new ms)) (λ m h. put_none_case uid new m ms e (from_put uid new m ms h))
 
-without_other : (uid gone : ℕ) (ms : List Message) → (uid ≡ gone → ⊥) → (r : Option Message) → message_at uid (without_message gone ms) ≡ r → message_at uid ms ≡ r
+without_other : (uid gone : ℕ) (ms : List Message) → (uid ≡ gone → ⊥) → (r : Option Message) →
+    message_at uid (without_message gone ms) ≡ r → message_at uid ms ≡ r
 without_other uid gone [] d r = λ e. e
 without_other uid gone (x ∷ xs) d r =
-    cond_both (eqb x.uid gone) (without_message gone xs) (x ∷ without_message gone xs) (λ (l : List Message). message_at uid l ≡ r → message_at uid (x ∷ xs) ≡ r)
-    (λ t e. cond-false (eqb x.uid uid) (Some x) (message_at uid xs) (ne_eqb x.uid uid (λ s. d (sym s ∙ eqb-true x.uid gone t))) ∙ without_other uid gone xs d r e)
+    cond_both (eqb x.uid gone) (without_message gone xs) (x ∷ without_message gone xs)
+    (λ (l : List Message). message_at uid l ≡ r → message_at uid (x ∷ xs) ≡ r)
+    (λ t e. cond-false (eqb x.uid uid) (Some x) (message_at uid xs) (ne_eqb x.uid uid (λ s. d (sym s ∙ eqb-true x.uid gone t)))
+    ∙ without_other uid gone xs d r e)
     (λ f. cond_two (eqb x.uid uid) (Some x) (message_at uid (without_message gone xs)) (Some x) (message_at uid xs) (λ (o p : Option Message). o ≡ r → p ≡ r)
     (λ u e. e) (λ u e. without_other uid gone xs d r e))
 
 pub from_without : (uid gone : ℕ) (m : Message) (ms : List Message) → message_at uid (without_message gone ms) ≡ Some m → message_at uid ms ≡ Some m
 from_without uid gone m ms = λ e. elim (cases_eq uid gone) [
-  | inl s ↦ (let n : message_at uid (without_message gone ms) ≡ None = subst (λ (k : ℕ). message_at k (without_message gone ms) ≡ None) (sym s) (message_at-without gone ms) in cc)
+  | inl s ↦ (let n : message_at uid (without_message gone ms) ≡ None =
+      subst (λ (k : ℕ). message_at k (without_message gone ms) ≡ None) (sym s) (message_at-without gone ms) in cc)
   | inr d ↦ without_other uid gone ms d (Some m) e
 ]
 
 pub without_none : (uid gone : ℕ) (ms : List Message) → message_at uid ms ≡ None → message_at uid (without_message gone ms) ≡ None
 without_none uid gone ms e = none_of (message_at uid (without_message gone ms)) (λ m h. let g : message_at uid ms ≡ Some m = from_without uid gone m ms h in cc)
 
-pub from_gone_push : (uid k : ℕ) (g : Gone) (gs : List Gone) → gone_at uid (gs ++ g ∷ []) ≡ Some k → (gone_at uid gs ≡ Some k) ⊎ ((g.uid ≡ uid) × (k ≡ g.modseq))
+pub from_gone_push : (uid k : ℕ) (g : Gone) (gs : List Gone) → gone_at uid (gs ++ g ∷ []) ≡ Some k →
+    (gone_at uid gs ≡ Some k) ⊎ ((g.uid ≡ uid) × (k ≡ g.modseq))
 from_gone_push uid k g [] =
     cond_both (eqb g.uid uid) (Some g.modseq) None (λ (o : Option ℕ). o ≡ Some k → (None ≡ Some k) ⊎ ((g.uid ≡ uid) × (k ≡ g.modseq)))
     (λ t e. inr (eqb-true g.uid uid t, sym (same_Some g.modseq k e))) (λ f e. inl e)
 from_gone_push uid k g (x ∷ xs) =
-    cond_two (eqb x.uid uid) (Some x.modseq) (gone_at uid (xs ++ g ∷ [])) (Some x.modseq) (gone_at uid xs) (λ (o p : Option ℕ). o ≡ Some k → (p ≡ Some k) ⊎ ((g.uid ≡ uid) × (k ≡ g.modseq)))
+    cond_two (eqb x.uid uid) (Some x.modseq) (gone_at uid (xs ++ g ∷ [])) (Some x.modseq) (gone_at uid xs)
+    (λ (o p : Option ℕ). o ≡ Some k → (p ≡ Some k) ⊎ ((g.uid ≡ uid) × (k ≡ g.modseq)))
     (λ t e. inl e) (λ f e. from_gone_push uid k g xs e)
 
 pub go_once_push : (g : Gone) (gs : List Gone) → gone_at g.uid gs ≡ None → GoOnce gs → GoOnce (gs ++ g ∷ [])
@@ -138,11 +155,13 @@ set_plain : (u : ℕ) (x n : Message) (ms : List Message) → (Contains n.text 0
 set_plain u x n ms p w (inl e) = w e
 set_plain u x n ms p w (inr e) = subst (λ (y : Message). Contains y.text 0 → ⊥) (sym e.0) p
 
-dropped_below : (u k next : ℕ) (g : Gone) (gs : List Gone) → g.uid < next → (gone_at u gs ≡ Some k → u < next) → (gone_at u gs ≡ Some k) ⊎ ((g.uid ≡ u) × (k ≡ g.modseq)) → u < next
+dropped_below : (u k next : ℕ) (g : Gone) (gs : List Gone) → g.uid < next → (gone_at u gs ≡ Some k → u < next) →
+    (gone_at u gs ≡ Some k) ⊎ ((g.uid ≡ u) × (k ≡ g.modseq)) → u < next
 dropped_below u k next g gs b w (inl e) = w e
 dropped_below u k next g gs b w (inr e) = subst (λ (n : ℕ). n < next) e.0 b
 
-dropped_numbered : (u k highest : ℕ) (g : Gone) (gs : List Gone) → (gone_at u gs ≡ Some k → k ≤ highest) → (gone_at u gs ≡ Some k) ⊎ ((g.uid ≡ u) × (k ≡ g.modseq)) → k ≤ max highest g.modseq
+dropped_numbered : (u k highest : ℕ) (g : Gone) (gs : List Gone) → (gone_at u gs ≡ Some k → k ≤ highest) →
+    (gone_at u gs ≡ Some k) ⊎ ((g.uid ≡ u) × (k ≡ g.modseq)) → k ≤ max highest g.modseq
 dropped_numbered u k highest g gs w (inl e) = let h : k ≤ highest = w e in omega arith
 dropped_numbered u k highest g gs w (inr e) = let h : k ≡ g.modseq = e.1 in omega arith
 
@@ -151,7 +170,8 @@ dropped_apart : (u k : ℕ) (g : Gone) (gs : List Gone) (ms : List Message) → 
 dropped_apart u k g gs ms w (inl e) = without_none u g.uid ms (w e)
 dropped_apart u k g gs ms w (inr e) = subst (λ (n : ℕ). message_at n (without_message g.uid ms) ≡ None) e.0 (message_at-without g.uid ms)
 
-pub adds_formed : (floor : ℕ) (flags : List (List ℕ)) (text : List ℕ) (uid : ℕ) (old new : Mailbox) → IsWellFormedBox old → Adds floor flags text uid old new → IsWellFormedBox new
+pub adds_formed : (floor : ℕ) (flags : List (List ℕ)) (text : List ℕ) (uid : ℕ) (old new : Mailbox) → IsWellFormedBox old →
+    Adds floor flags text uid old new → IsWellFormedBox new
 adds_formed floor flags text uid old new w a =
     let m : Message = record { uid = uid; flags = flags; modseq = a.modseq; text = text } in
     let fresh : old.uidnext ≤ uid = a.fresh in
@@ -203,7 +223,8 @@ put_absent name new [] = λ e. e
 put_absent name new (c ∷ cs) =
     cond_both (bytes_eq c.name new.name) (new ∷ cs) (c ∷ put_box new cs) (λ (l : List Mailbox). box_at name (c ∷ cs) ≡ None → box_at name l ≡ None)
     (λ t. subst (λ (n : List ℕ). box_at name (c ∷ cs) ≡ None → cond (bytes_eq n name) (Some new) (box_at name cs) ≡ None) (same_name c.name new.name t)
-    (cond_two (bytes_eq c.name name) (Some c) (box_at name cs) (Some new) (box_at name cs) (λ (o p : Option Mailbox). o ≡ None → p ≡ None) (λ u e. absurd (cc)) (λ u e. e)))
+    (cond_two (bytes_eq c.name name) (Some c) (box_at name cs) (Some new) (box_at name cs) (λ (o p : Option Mailbox). o ≡ None → p ≡ None)
+    (λ u e. absurd (cc)) (λ u e. e)))
     (λ f. cond_two (bytes_eq c.name name) (Some c) (box_at name cs) (Some c) (box_at name (put_box new cs)) (λ (o p : Option Mailbox). o ≡ None → p ≡ None)
     (λ u e. e) (λ u e. put_absent name new cs e))
 
@@ -215,7 +236,8 @@ differ_put new (c ∷ cs) d =
     (λ f. (put_absent c.name new cs d.0, differ_put new cs d.1))
 
 rewritten_formed : (name n : List ℕ) (old : List Mailbox) (after b : Mailbox) → IsWellFormed old → IsWellFormedBox after → after.name ≡ name →
-    box_at name (put_box after old) ≡ Some after → box_at n (put_box after old) ≡ Some b → (bytes_eq name n ≡ true) ⊎ (bytes_eq name n ≡ false) → IsWellFormedBox b
+    box_at name (put_box after old) ≡ Some after → box_at n (put_box after old) ≡ Some b →
+    (bytes_eq name n ≡ true) ⊎ (bytes_eq name n ≡ false) → IsWellFormedBox b
 rewritten_formed name n old after b w a is found e (inl t) =
     let here : box_at n (put_box after old) ≡ Some after = subst (λ (k : List ℕ). box_at k (put_box after old) ≡ Some after) (same_name name n t) found in
     subst IsWellFormedBox (same_Some after b (sym here ∙ e)) a
@@ -229,8 +251,10 @@ pub rewrites_formed : (Becomes : Mailbox → Mailbox → Type 0) (name : List �
 rewrites_formed Becomes name old new formed named w r =
     let is : r.after.name ≡ name = named r.before r.after r.becomes ∙ box_at-name name old r.before r.there in
     let here : box_at r.after.name old ≡ Some r.before = subst (λ (n : List ℕ). box_at n old ≡ Some r.before) (sym is) r.there in
-    let found : box_at name (put_box r.after old) ≡ Some r.after = subst (λ (n : List ℕ). box_at n (put_box r.after old) ≡ Some r.after) is (box_at-put_same r.after old r.before here) in
+    let found : box_at name (put_box r.after old) ≡ Some r.after =
+    subst (λ (n : List ℕ). box_at n (put_box r.after old) ≡ Some r.after) is (box_at-put_same r.after old r.before here) in
     subst IsWellFormed (sym r.put) (record {
       names = differ_put r.after old w.names;
-      each = λ n b e. rewritten_formed name n old r.after b w (formed r.before r.after (w.each name r.before r.there) r.becomes) is found e (cases_Bool (bytes_eq name n));
+      each = λ n b e. rewritten_formed name n old r.after b w (formed r.before r.after (w.each name r.before r.there) r.becomes) is found e
+          (cases_Bool (bytes_eq name n));
     })

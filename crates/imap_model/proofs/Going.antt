@@ -25,7 +25,8 @@ goes_same floor b = record {
 pub along : (floor : ℕ) (old new other : Mailbox) → new ≡ other → other.validity ≡ old.validity → GoesOn floor old other → BoxEvolves floor old new
 along floor old new other e v g = subst (λ (b : Mailbox). BoxEvolves floor old b) (sym e) (record { validity = omega arith; goes_on = λ _. g })
 
-pub adds_evolves : (floor : ℕ) (flags : List (List ℕ)) (text : List ℕ) (uid : ℕ) (old new : Mailbox) → Adds floor flags text uid old new → BoxEvolves floor old new
+pub adds_evolves : (floor : ℕ) (flags : List (List ℕ)) (text : List ℕ) (uid : ℕ) (old new : Mailbox) → Adds floor flags text uid old new →
+    BoxEvolves floor old new
 adds_evolves floor flags text uid old new a =
     let m : Message = record { uid = uid; flags = flags; modseq = a.modseq; text = text } in
     let other : Mailbox = record old { uidnext = a.next; highest = max old.highest a.modseq; messages = old.messages ++ m ∷ [] } in
@@ -101,7 +102,8 @@ pub rewrites_evolve : (base : List Mailbox) (Becomes : Mailbox → Mailbox → T
 rewrites_evolve base Becomes name old new evolve named r =
     let is : r.after.name ≡ name = named r.before r.after r.becomes ∙ box_at-name name old r.before r.there in
     let here : box_at r.after.name old ≡ Some r.before = subst (λ (n : List ℕ). box_at n old ≡ Some r.before) (sym is) r.there in
-    let found : box_at name (put_box r.after old) ≡ Some r.after = subst (λ (n : List ℕ). box_at n (put_box r.after old) ≡ Some r.after) is (box_at-put_same r.after old r.before here) in
+    let found : box_at name (put_box r.after old) ≡ Some r.after =
+    subst (λ (n : List ℕ). box_at n (put_box r.after old) ≡ Some r.after) is (box_at-put_same r.after old r.before here) in
     record {
       each = λ n b e. rewritten base name n old new r.after b is r.put found e
           (λ same. let was : box_at name old ≡ Some b = subst (λ (k : List ℕ). box_at k old ≡ Some b) same e in

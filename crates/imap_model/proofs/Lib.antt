@@ -14,4 +14,6 @@ pub mod Possible
 pub mod Remarking
 pub mod Rows
 pub mod SameCommand
+pub mod SameResponses
 pub mod SetOf
+pub mod Untagged

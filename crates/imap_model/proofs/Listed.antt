@@ -1,5 +1,6 @@
 -- The text of a list of flags tells the flags, and that of a set of UIDs the set.
-use Rattle.std.proofs.Common.{◌≡◌, ℕ, ◌<◌, ◌^◌, Bool, true, false, not, cond, ◌&&◌, ◌==◌, nat_lt, List, [], ◌∷◌, ◌++◌, length, map, decimal, refl, ap, sym, ◌∙◌, arith}
+use Rattle.std.proofs.Common.{◌≡◌, ℕ, ◌<◌, ◌^◌, Bool, true, false, not, cond, ◌&&◌, ◌==◌, nat_lt, List, [], ◌∷◌, ◌++◌, length, map}
+use Rattle.std.proofs.Common.{decimal, refl, ap, sym, ◌∙◌, arith}
 use Rattle.std.specs.Char.{is_ascii_digit}
 use Rattle.std.specs.List.{list_all, join_with_byte}
 use Rattle.std.proofs.lemmas.Bool.{and_parts}
@@ -63,8 +64,10 @@ atom_inside b is = not_byte b 41 (λ e. cc (ap is_atom_byte e))
 backslash_inside : (b : ℕ) → (b == backslash) ≡ true → is_inside b ≡ true
 backslash_inside b is = grind (arith, nat_tests)
 
-flag_inside_from : (b : ℕ) (rest : List ℕ) (t : Bool) → (b == backslash) ≡ t → list_all is_atom_byte (cond t rest (b ∷ rest)) ≡ true → list_all is_inside (b ∷ rest) ≡ true
-flag_inside_from b rest true is all = both_true (is_inside b) (list_all is_inside rest) (backslash_inside b is) (all_weaker is_atom_byte is_inside atom_inside rest all)
+flag_inside_from : (b : ℕ) (rest : List ℕ) (t : Bool) → (b == backslash) ≡ t → list_all is_atom_byte (cond t rest (b ∷ rest)) ≡ true →
+    list_all is_inside (b ∷ rest) ≡ true
+flag_inside_from b rest true is all = both_true (is_inside b) (list_all is_inside rest) (backslash_inside b is)
+    (all_weaker is_atom_byte is_inside atom_inside rest all)
 flag_inside_from b rest false is all = all_weaker is_atom_byte is_inside atom_inside (b ∷ rest) all
 
 flag_inside : (text : List ℕ) → is_flag text ≡ true → list_all is_inside text ≡ true
@@ -109,8 +112,11 @@ solid_range_from low high false fits fits' = all_both is_solid (decimal low) (58
 
 solid_ranges : (ranges : List UidRange) (floor : ℕ) → RisesAbove floor ranges → AllPassing is_solid (map range_text ranges)
 solid_ranges [] floor rises = tt
-solid_ranges (range ∷ ranges) floor rises =
-    (solid_range_from range.low range.high (range.low == range.high) (omega (arith, rises.0.ordered, rises.0.fits)) (omega (arith, rises.0.fits)), solid_ranges ranges _ rises.1)
+solid_ranges (range ∷ ranges) floor rises = (
+  solid_range_from range.low range.high (range.low == range.high) (omega (arith, rises.0.ordered, rises.0.fits))
+      (omega (arith, rises.0.fits)),
+  solid_ranges ranges _ rises.1,
+)
 
 pub solid_set : (ranges : List UidRange) → IsCanonical ranges → list_all is_solid (set_text ranges) ≡ true
 solid_set ranges is = all_joined is_solid 44 (map range_text ranges) refl (solid_ranges ranges 0 is)

@@ -1,8 +1,10 @@
 -- A change that breaks no rule can be made: the plain program makes it. One that can be made breaks none.
-use Rattle.std.proofs.Common.{◌≡◌, ◌≢◌, ℕ, zero, suc, ◌+◌, ◌-◌, ◌<◌, ◌≤◌, ◌^◌, max, Bool, true, false, not, ◌&&◌, List, [], ◌∷◌, ◌++◌, Option, Some, None, refl, sym, ◌∙◌, ap, subst, arith, length}
+use Rattle.std.proofs.Common.{◌≡◌, ◌≢◌, ℕ, zero, suc, ◌+◌, ◌-◌, ◌<◌, ◌≤◌, ◌^◌, max, Bool, true, false, not, ◌&&◌, List, [], ◌∷◌, ◌++◌}
+use Rattle.std.proofs.Common.{Option, Some, None, refl, sym, ◌∙◌, ap, subst, arith, length}
 use Rattle.std.specs.Prelude.{bytes_eq, Contains, nat_le, nat_lt, is_some, ◌==◌}
 use Rattle.std.specs.List.{list_any}
-use Rattle.std.proofs.lemmas.Bool.{and_parts, and_from, or_from, or_parts, not-true, not_from_false, false_from_ne_true, ltb-true, leb-true, lt-ltb, le-leb, eqb-true, eq-eqb}
+use Rattle.std.proofs.lemmas.Bool.{and_parts, and_from, or_from, or_parts, not-true, not_from_false, false_from_ne_true, ltb-true}
+use Rattle.std.proofs.lemmas.Bool.{leb-true, lt-ltb, le-leb, eqb-true, eq-eqb}
 use Rattle.imap_model.specs.Lookups.{box_at, message_at, put_message, highest_of}
 use Rattle.imap_model.specs.Lawful.{has_boxes, is_free, has_free_uid, holds_message, has_message, has_next, has_room, is_plain_text, first_failed, broken_rule}
 use Rattle.imap_model.specs.Changes.{IsNext, Adds, Sets, Drops, Rewrites, Shifts, Effect, Changes, floor_of}
@@ -70,7 +72,8 @@ found_one (Some x) = λ t. (x, refl)
 is_found : {A : Type 0} (o : Option A) (x : A) → o ≡ Some x → is_some o ≡ true
 is_found o x e = ap is_some e
 
-pub next_at : (boxes : List Mailbox) (name : List ℕ) (b : Mailbox) → box_at name boxes ≡ Some b → has_next (box_at name boxes) ≡ true → IsNext (floor_of boxes name) b (b.highest + 1)
+pub next_at : (boxes : List Mailbox) (name : List ℕ) (b : Mailbox) → box_at name boxes ≡ Some b → has_next (box_at name boxes) ≡ true →
+    IsNext (floor_of boxes name) b (b.highest + 1)
 next_at boxes name b there room =
     let floor : floor_of boxes name ≡ b.highest = ap highest_of there in
     let less : b.highest < 2 ^ 63 - 1 = ltb-true b.highest (2 ^ 63 - 1) (sym (ap has_next there) ∙ room) in
@@ -79,7 +82,8 @@ next_at boxes name b there room =
 max_next : (h : ℕ) → h + 1 ≡ max h (h + 1)
 max_next h = omega arith
 
-pub adds_plain : (boxes : List Mailbox) (name : List ℕ) (flags : List (List ℕ)) (text : List ℕ) (uid : ℕ) (b : Mailbox) (floor : ℕ) → is_free uid (Some b) ≡ true →
+pub adds_plain : (boxes : List Mailbox) (name : List ℕ) (flags : List (List ℕ)) (text : List ℕ) (uid : ℕ) (b : Mailbox) (floor : ℕ) →
+    is_free uid (Some b) ≡ true →
     IsNext floor b (b.highest + 1) → (¬ (Contains text 0)) → Adds floor flags text uid b (added flags text uid b)
 adds_plain boxes name flags text uid b floor free next plain =
     let both = and_parts (nat_le b.uidnext uid) (nat_lt uid (2 ^ 32 - 1)) free in
@@ -94,10 +98,16 @@ adds_plain boxes name flags text uid b floor free next plain =
       next = uid + 1;
       beyond = omega arith;
       next_fits = omega arith;
-      becomes = ap (λ (h : ℕ). record b { uidnext = uid + 1; highest = h; messages = b.messages ++ record { uid = uid; flags = flags; modseq = b.highest + 1; text = text } ∷ [] }) (max_next b.highest);
+      becomes = ap (λ (h : ℕ). record b {
+        uidnext = uid + 1;
+        highest = h;
+        messages =
+            b.messages ++ record { uid = uid; flags = flags; modseq = b.highest + 1; text = text } ∷ [];
+      }) (max_next b.highest);
     }
 
-pub sets_plain : (uid : ℕ) (flags : List (List ℕ)) (b : Mailbox) (m : Message) (floor : ℕ) → message_at uid b.messages ≡ Some m → IsNext floor b (b.highest + 1) → Sets floor uid flags b (reflagged uid flags b)
+pub sets_plain : (uid : ℕ) (flags : List (List ℕ)) (b : Mailbox) (m : Message) (floor : ℕ) → message_at uid b.messages ≡ Some m →
+    IsNext floor b (b.highest + 1) → Sets floor uid flags b (reflagged uid flags b)
 sets_plain uid flags b m floor there next =
     record {
       message = m;
@@ -108,7 +118,8 @@ sets_plain uid flags b m floor there next =
           ap (λ (h : ℕ). record b { highest = h; messages = put_message (record m { flags = flags; modseq = b.highest + 1 }) b.messages }) (max_next b.highest);
     }
 
-pub drops_plain : (uid : ℕ) (b : Mailbox) (m : Message) (floor : ℕ) → message_at uid b.messages ≡ Some m → IsNext floor b (b.highest + 1) → Drops floor uid b (dropped uid b)
+pub drops_plain : (uid : ℕ) (b : Mailbox) (m : Message) (floor : ℕ) → message_at uid b.messages ≡ Some m → IsNext floor b (b.highest + 1) →
+    Drops floor uid b (dropped uid b)
 drops_plain uid b m floor there next =
     record {
       message = m;
@@ -125,11 +136,13 @@ rewrites_plain Becomes f name boxes b there becomes =
     record { before = b; after = f b; there = there; becomes = becomes; put = ap (λ (o : Option Mailbox). put_changed f o boxes) there }
 
 -- a change by one of the kinds
-add_possible : (name : List ℕ) (flags : List (List ℕ)) (text : List ℕ) (uid : ℕ) (boxes : List Mailbox) → broken_rule boxes name (changes.Add flags text uid) ≡ None →
+add_possible : (name : List ℕ) (flags : List (List ℕ)) (text : List ℕ) (uid : ℕ) (boxes : List Mailbox) →
+    broken_rule boxes name (changes.Add flags text uid) ≡ None →
     Effect boxes name (changes.Add flags text uid) boxes (changed name (changes.Add flags text uid) boxes)
 add_possible name flags text uid boxes lawful =
     let change : Change = changes.Add flags text uid in
-    let hold = none_failed (has_boxes boxes name change) (has_free_uid boxes name change) (has_message boxes name change) (has_room boxes name change) (is_plain_text change) lawful in
+    let hold = none_failed (has_boxes boxes name change) (has_free_uid boxes name change) (has_message boxes name change)
+    (has_room boxes name change) (is_plain_text change) lawful in
     let found = found_one (box_at name boxes) hold.first in
     let free : is_free uid (Some found.0) ≡ true = sym (ap (is_free uid) found.1) ∙ hold.second in
     let room = and_parts (has_next (box_at name boxes)) (has_next (box_at name boxes)) hold.fourth in
@@ -138,14 +151,16 @@ add_possible name flags text uid boxes lawful =
     (plain_fact text (not-true (list_any (λ byte. byte == 0) text) hold.fifth)))
 
 -- the message that a change names
-names_message : (uid : ℕ) (boxes : List Mailbox) (name : List ℕ) (b : Mailbox) → box_at name boxes ≡ Some b → holds_message uid (box_at name boxes) ≡ true → (m : Message) × (message_at uid b.messages ≡ Some m)
+names_message : (uid : ℕ) (boxes : List Mailbox) (name : List ℕ) (b : Mailbox) → box_at name boxes ≡ Some b →
+    holds_message uid (box_at name boxes) ≡ true → (m : Message) × (message_at uid b.messages ≡ Some m)
 names_message uid boxes name b there holds = found_one (message_at uid b.messages) (sym (ap (holds_message uid) there) ∙ holds)
 
 set_possible : (name : List ℕ) (uid : ℕ) (flags : List (List ℕ)) (boxes : List Mailbox) → broken_rule boxes name (changes.SetFlags uid flags) ≡ None →
     Effect boxes name (changes.SetFlags uid flags) boxes (changed name (changes.SetFlags uid flags) boxes)
 set_possible name uid flags boxes lawful =
     let change : Change = changes.SetFlags uid flags in
-    let hold = none_failed (has_boxes boxes name change) (has_free_uid boxes name change) (has_message boxes name change) (has_room boxes name change) (is_plain_text change) lawful in
+    let hold = none_failed (has_boxes boxes name change) (has_free_uid boxes name change) (has_message boxes name change)
+    (has_room boxes name change) (is_plain_text change) lawful in
     let found = found_one (box_at name boxes) hold.first in
     let message = names_message uid boxes name found.0 found.1 hold.third in
     let room = and_parts (has_next (box_at name boxes)) (has_next (box_at name boxes)) hold.fourth in
@@ -156,7 +171,8 @@ drop_possible : (name : List ℕ) (uid : ℕ) (boxes : List Mailbox) → broken_
     Effect boxes name (changes.Drop uid) boxes (changed name (changes.Drop uid) boxes)
 drop_possible name uid boxes lawful =
     let change : Change = changes.Drop uid in
-    let hold = none_failed (has_boxes boxes name change) (has_free_uid boxes name change) (has_message boxes name change) (has_room boxes name change) (is_plain_text change) lawful in
+    let hold = none_failed (has_boxes boxes name change) (has_free_uid boxes name change) (has_message boxes name change)
+    (has_room boxes name change) (is_plain_text change) lawful in
     let found = found_one (box_at name boxes) hold.first in
     let message = names_message uid boxes name found.0 found.1 hold.third in
     let room = and_parts (has_next (box_at name boxes)) (has_next (box_at name boxes)) hold.fourth in
@@ -171,7 +187,8 @@ pub record ShiftNames (name to : List ℕ) (boxes : List Mailbox) : Type 0 where
   pub there : box_at to boxes ≡ Some target
   pub apart : to ≢ name
 
-shift_names : (name : List ℕ) (uid : ℕ) (to : List ℕ) (new : ℕ) (boxes : List Mailbox) → has_boxes boxes name (changes.Shift uid to new) ≡ true → ShiftNames name to boxes
+shift_names : (name : List ℕ) (uid : ℕ) (to : List ℕ) (new : ℕ) (boxes : List Mailbox) →
+    has_boxes boxes name (changes.Shift uid to new) ≡ true → ShiftNames name to boxes
 shift_names name uid to new boxes holds =
     let both = and_parts (is_some (box_at name boxes) && is_some (box_at to boxes)) (not (bytes_eq to name)) holds in
     let there = and_parts (is_some (box_at name boxes)) (is_some (box_at to boxes)) both.0 in
@@ -197,7 +214,8 @@ shift_possible : (name : List ℕ) (uid : ℕ) (to : List ℕ) (new : ℕ) (boxe
     Effect boxes name (changes.Shift uid to new) boxes (changed name (changes.Shift uid to new) boxes)
 shift_possible name uid to new boxes lawful plain =
     let change : Change = changes.Shift uid to new in
-    let hold = none_failed (has_boxes boxes name change) (has_free_uid boxes name change) (has_message boxes name change) (has_room boxes name change) (is_plain_text change) lawful in
+    let hold = none_failed (has_boxes boxes name change) (has_free_uid boxes name change) (has_message boxes name change)
+    (has_room boxes name change) (is_plain_text change) lawful in
     let n = shift_names name uid to new boxes hold.first in
     let message = names_message uid boxes name n.source n.named hold.third in
     let room = and_parts (has_next (box_at name boxes)) (has_next (box_at to boxes)) hold.fourth in
@@ -216,47 +234,65 @@ shift_possible name uid to new boxes lawful plain =
       comes = subst (λ (o : Option Message). Rewrites (Adds (floor_of boxes to) m.flags m.text new) to middle (moved o to new middle))
           (sym (ap (message_in uid) n.named ∙ message.1))
           (rewrites_plain (Adds (floor_of boxes to) m.flags m.text new) (added m.flags m.text new) to middle n.target (other_stays uid name to boxes n)
-          (adds_plain boxes to m.flags m.text new n.target (floor_of boxes to) free (next_at boxes to n.target n.there room.1) (plain uid n.source m n.named message.1)));
+          (adds_plain boxes to m.flags m.text new n.target (floor_of boxes to) free (next_at boxes to n.target n.there room.1)
+          (plain uid n.source m n.named message.1)));
     }
 
 -- the plain program's change is one of this kind
-pub plain_effect : (name : List ℕ) (change : Change) (boxes : List Mailbox) → IsWellFormed boxes → broken_rule boxes name change ≡ None → Effect boxes name change boxes (changed name change boxes)
+pub plain_effect : (name : List ℕ) (change : Change) (boxes : List Mailbox) → IsWellFormed boxes → broken_rule boxes name change ≡ None →
+    Effect boxes name change boxes (changed name change boxes)
 plain_effect name (changes.Add flags text uid) boxes w lawful = add_possible name flags text uid boxes lawful
 plain_effect name (changes.SetFlags uid flags) boxes w lawful = set_possible name uid flags boxes lawful
 plain_effect name (changes.Drop uid) boxes w lawful = drop_possible name uid boxes lawful
-plain_effect name (changes.Shift uid to new) boxes w lawful = shift_possible name uid to new boxes lawful (λ u b m there here. (w.each name b there).plain u m here)
+plain_effect name (changes.Shift uid to new) boxes w lawful =
+    shift_possible name uid to new boxes lawful (λ u b m there here. (w.each name b there).plain u m here)
 
-pub plain_changes : (author : Author) (name : List ℕ) (change : Change) (s : Server) → IsWellFormed s.boxes → broken_rule s.boxes name change ≡ None → Changes s.boxes author name change s (with_change author name change s)
+pub plain_changes : (author : Author) (name : List ℕ) (change : Change) (s : Server) → IsWellFormed s.boxes →
+    broken_rule s.boxes name change ≡ None → Changes s.boxes author name change s (with_change author name change s)
 plain_changes author name change s w lawful = record { effect = plain_effect name change s.boxes w lawful; history = refl }
 
 -- the other direction
-next_test : (boxes : List Mailbox) (name : List ℕ) (b : Mailbox) (floor modseq : ℕ) → box_at name boxes ≡ Some b → IsNext floor b modseq → has_next (box_at name boxes) ≡ true
+next_test : (boxes : List Mailbox) (name : List ℕ) (b : Mailbox) (floor modseq : ℕ) → box_at name boxes ≡ Some b → IsNext floor b modseq →
+    has_next (box_at name boxes) ≡ true
 next_test boxes name b floor modseq there n = ap has_next there ∙ lt-ltb b.highest (2 ^ 63 - 1) n.room
 
-free_test : (boxes : List Mailbox) (name : List ℕ) (b c : Mailbox) (floor : ℕ) (flags : List (List ℕ)) (text : List ℕ) (uid : ℕ) → box_at name boxes ≡ Some b → Adds floor flags text uid b c → is_free uid (box_at name boxes) ≡ true
+free_test : (boxes : List Mailbox) (name : List ℕ) (b c : Mailbox) (floor : ℕ) (flags : List (List ℕ)) (text : List ℕ) (uid : ℕ) →
+    box_at name boxes ≡ Some b → Adds floor flags text uid b c → is_free uid (box_at name boxes) ≡ true
 free_test boxes name b c floor flags text uid there a =
     ap (is_free uid) there ∙ and_from (nat_le b.uidnext uid) (nat_lt uid (2 ^ 32 - 1)) (le-leb b.uidnext uid a.fresh) (lt-ltb uid (2 ^ 32 - 1) a.uid_fits)
 
-holds_test : (boxes : List Mailbox) (name : List ℕ) (b : Mailbox) (uid : ℕ) (m : Message) → box_at name boxes ≡ Some b → message_at uid b.messages ≡ Some m → holds_message uid (box_at name boxes) ≡ true
+holds_test : (boxes : List Mailbox) (name : List ℕ) (b : Mailbox) (uid : ℕ) (m : Message) → box_at name boxes ≡ Some b →
+    message_at uid b.messages ≡ Some m → holds_message uid (box_at name boxes) ≡ true
 holds_test boxes name b uid m there here = ap (holds_message uid) there ∙ is_found (message_at uid b.messages) m here
 
 -- a change of one mailbox breaks no rule
-one_unbroken : (boxes : List Mailbox) (name : List ℕ) (b : Mailbox) (floor modseq : ℕ) (free message plain : Bool) → box_at name boxes ≡ Some b → IsNext floor b modseq → free ≡ true → message ≡ true → plain ≡ true →
+one_unbroken : (boxes : List Mailbox) (name : List ℕ) (b : Mailbox) (floor modseq : ℕ) (free message plain : Bool) →
+    box_at name boxes ≡ Some b → IsNext floor b modseq → free ≡ true → message ≡ true → plain ≡ true →
     first_failed 1 (is_some (box_at name boxes) ∷ free ∷ message ∷ (has_next (box_at name boxes) && has_next (box_at name boxes)) ∷ plain ∷ []) ≡ None
 one_unbroken boxes name b floor modseq free message plain there n f m p =
     let next = next_test boxes name b floor modseq there n in
     all_hold (is_some (box_at name boxes)) free message (has_next (box_at name boxes) && has_next (box_at name boxes)) plain
-    (record { first = is_found (box_at name boxes) b there; second = f; third = m; fourth = and_from (has_next (box_at name boxes)) (has_next (box_at name boxes)) next next; fifth = p })
+    (record {
+      first = is_found (box_at name boxes) b there;
+      second = f;
+      third = m;
+      fourth =
+          and_from (has_next (box_at name boxes)) (has_next (box_at name boxes)) next next;
+      fifth = p;
+    })
 
-shift_unbroken : (name : List ℕ) (uid : ℕ) (to : List ℕ) (new : ℕ) (boxes later : List Mailbox) → Shifts (floor_of boxes) name uid to new boxes later → broken_rule boxes name (changes.Shift uid to new) ≡ None
+shift_unbroken : (name : List ℕ) (uid : ℕ) (to : List ℕ) (new : ℕ) (boxes later : List Mailbox) →
+    Shifts (floor_of boxes) name uid to new boxes later → broken_rule boxes name (changes.Shift uid to new) ≡ None
 shift_unbroken name uid to new boxes later s =
     let target : Mailbox = s.comes.before in
-    let there : box_at to boxes ≡ Some target = sym (rewritten_other (Drops (floor_of boxes name) uid) name to boxes s.middle (drops_name (floor_of boxes name) uid) s.apart s.leaves) ∙ s.comes.there in
+    let there : box_at to boxes ≡ Some target = sym (rewritten_other (Drops (floor_of boxes name) uid) name to boxes s.middle
+    (drops_name (floor_of boxes name) uid) s.apart s.leaves) ∙ s.comes.there in
     let change : Change = changes.Shift uid to new in
     all_hold (has_boxes boxes name change) (has_free_uid boxes name change) (has_message boxes name change) (has_room boxes name change) true
     (record {
       first = and_from (is_some (box_at name boxes) && is_some (box_at to boxes)) (not (bytes_eq to name))
-          (and_from (is_some (box_at name boxes)) (is_some (box_at to boxes)) (is_found (box_at name boxes) s.source s.named) (is_found (box_at to boxes) target there))
+          (and_from (is_some (box_at name boxes)) (is_some (box_at to boxes)) (is_found (box_at name boxes) s.source s.named)
+          (is_found (box_at to boxes) target there))
           (not_from_false (bytes_eq to name) (names_differ to name s.apart));
       second = free_test boxes to target s.comes.after (floor_of boxes to) s.message.flags s.message.text new there s.comes.becomes;
       third = holds_test boxes name s.source uid s.message s.named s.there;
@@ -268,7 +304,8 @@ shift_unbroken name uid to new boxes later s =
 
 effect_unbroken : (name : List ℕ) (change : Change) (boxes later : List Mailbox) → Effect boxes name change boxes later → broken_rule boxes name change ≡ None
 effect_unbroken name (changes.Add flags text uid) boxes later r =
-    one_unbroken boxes name r.before (floor_of boxes name) r.becomes.modseq (is_free uid (box_at name boxes)) true (not (list_any (λ byte. byte == 0) text)) r.there r.becomes.is_next
+    one_unbroken boxes name r.before (floor_of boxes name) r.becomes.modseq (is_free uid (box_at name boxes)) true
+    (not (list_any (λ byte. byte == 0) text)) r.there r.becomes.is_next
     (free_test boxes name r.before r.after (floor_of boxes name) flags text uid r.there r.becomes) refl
     (not_from_false (list_any (λ byte. byte == 0) text) (plain_test text r.becomes.plain))
 effect_unbroken name (changes.SetFlags uid flags) boxes later r =
@@ -279,5 +316,6 @@ effect_unbroken name (changes.Drop uid) boxes later r =
     refl (holds_test boxes name r.before uid r.becomes.message r.there r.becomes.there) refl
 effect_unbroken name (changes.Shift uid to new) boxes later r = shift_unbroken name uid to new boxes later r
 
-pub possible_unbroken : (author : Author) (name : List ℕ) (change : Change) (old new : Server) → Changes old.boxes author name change old new → broken_rule old.boxes name change ≡ None
+pub possible_unbroken : (author : Author) (name : List ℕ) (change : Change) (old new : Server) →
+    Changes old.boxes author name change old new → broken_rule old.boxes name change ≡ None
 possible_unbroken author name change old new c = effect_unbroken name change old.boxes new.boxes c.effect

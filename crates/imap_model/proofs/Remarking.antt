@@ -55,7 +55,8 @@ all_told P Q tell test (x ∷ xs) f a =
     (λ t. (f x a.0 t, all_told P Q tell test xs f a.1))
     (λ _. all_told P Q tell test xs f a.1)
 
-pub is_told : {A : Type 0} (tell : Message → A) (test : Message → Bool) (uid : ℕ) (m : Message) (ms : List Message) → test m ≡ true → message_at uid ms ≡ Some m → Contains (map tell (filter test ms)) (tell m)
+pub is_told : {A : Type 0} (tell : Message → A) (test : Message → Bool) (uid : ℕ) (m : Message) (ms : List Message) → test m ≡ true →
+    message_at uid ms ≡ Some m → Contains (map tell (filter test ms)) (tell m)
 is_told tell test uid m [] t = λ e. absurd (cc)
 is_told tell test uid m (x ∷ xs) t =
     cond_both (eqb x.uid uid) (Some x) (message_at uid xs) (λ (o : Option Message). o ≡ Some m → Contains (map tell (filter test (x ∷ xs))) (tell m))

@@ -1,5 +1,6 @@
 -- The text of a command tells the command.
-use Rattle.std.proofs.Common.{◌≡◌, ℕ, ◌<◌, ◌≤◌, ◌^◌, zero, suc, Bool, true, false, cond, if◌then◌else◌, not, ◌&&◌, ◌==◌, Contains, Result, Ok, Option, Some, None, List, [], ◌∷◌, ◌++◌, length, get_or, decimal, codes, refl, ap, sym, ◌∙◌, arith}
+use Rattle.std.proofs.Common.{◌≡◌, ℕ, ◌<◌, ◌≤◌, ◌^◌, zero, suc, Bool, true, false, cond, if◌then◌else◌, not, ◌&&◌, ◌==◌, Contains, Result}
+use Rattle.std.proofs.Common.{Ok, Option, Some, None, List, [], ◌∷◌, ◌++◌, length, get_or, decimal, codes, refl, ap, sym, ◌∙◌, arith}
 use Rattle.std.specs.Char.{is_ascii_digit}
 use Rattle.std.specs.List.{list_all, AllByRecursion}
 use Rattle.std.proofs.lemmas.Bool.Decides.{nat_tests}
@@ -122,7 +123,8 @@ front_long commands.Logout = omega arith
 
 front_byte : (k : ℕ) (c d : Command) → k < 6 → Same c d → get_or (front c) k 0 ≡ get_or (front d) k 0
 front_byte k c d within same =
-    sym (byte_of_line k (front c) (rest c) (omega (arith, front_long c))) ∙ ap (byte_at k) (fronts c d same) ∙ byte_of_line k (front d) (rest d) (omega (arith, front_long d))
+    sym (byte_of_line k (front c) (rest c) (omega (arith, front_long c))) ∙ ap (byte_at k) (fronts c d same)
+    ∙ byte_of_line k (front d) (rest d) (omega (arith, front_long d))
 
 -- five bytes tell the kinds of commands apart, up to the three FETCHes
 record Alike (c d : Command) : Type 0 where
@@ -158,10 +160,13 @@ chain_three a b d = parts_assoc a (b ⌢ d) end ∙ ap (λ p. a ⌢ p) (parts_as
 same_login : (account : Credentials) (d : Command) → IsAccount account → IsKept d → Same (commands.Login account) d → commands.Login account ≡ d
 same_login a (commands.Login b) kept kept' same =
     let tails = tails_same (commands.Login a) (commands.Login b) refl same in
-    let users = astring_same a.user b.user (words " " ⌢ (astring_parts a.password ⌢ end)) (words " " ⌢ (astring_parts b.password ⌢ end)) kept.user.short kept'.user.short
+    let users = astring_same a.user b.user (words " " ⌢ (astring_parts a.password ⌢ end))
+    (words " " ⌢ (astring_parts b.password ⌢ end)) kept.user.short kept'.user.short
     (stops_line is_astring_byte 32 [] _ refl) (stops_line is_astring_byte 32 [] _ refl)
-    (sym (chain_three (astring_parts a.user) (words " ") (astring_parts a.password)) ∙ tails ∙ chain_three (astring_parts b.user) (words " ") (astring_parts b.password)) in
-    let behind = cut_same (codes " ") (astring_parts a.password ⌢ end) (astring_parts b.password ⌢ end) (some_behind _ end (omega arith)) (some_behind _ end (omega arith)) users.1 in
+    (sym (chain_three (astring_parts a.user) (words " ") (astring_parts a.password)) ∙ tails
+    ∙ chain_three (astring_parts b.user) (words " ") (astring_parts b.password)) in
+    let behind = cut_same (codes " ") (astring_parts a.password ⌢ end) (astring_parts b.password ⌢ end) (some_behind _ end (omega arith))
+    (some_behind _ end (omega arith)) users.1 in
     let passwords = astring_same a.password b.password end end kept.password.short kept'.password.short refl refl behind in
     ap commands.Login (credentials_same a b users.0 passwords.0)
 same_login a d kept kept' same = let e = alike (commands.Login a) d same in absurd (omega arith)
@@ -197,12 +202,14 @@ both_true false y h k = h
 all_full : (bytes : List ℕ) → ¬ (Contains bytes 0) → list_all is_full bytes ≡ true
 all_full [] none = refl
 all_full (b ∷ bytes) none =
-    both_true (is_full b) (list_all is_full bytes) (full_from b (λ e. none (0, omega arith, e))) (all_full bytes (λ there. none (suc there.0, omega (arith, there.1), there.2)))
+    both_true (is_full b) (list_all is_full bytes) (full_from b (λ e. none (0, omega arith, e)))
+    (all_full bytes (λ there. none (suc there.0, omega (arith, there.1), there.2)))
 
 message_same : (a b : Credentials) → IsAccount a → IsAccount b → message a ≡ message b → a ≡ b
 message_same a b kept kept' same =
     let inner : a.user ++ 0 ∷ a.password ≡ b.user ++ 0 ∷ b.password = cc in
-    let both = run_same is_full a.user b.user (0 ∷ a.password) (0 ∷ b.password) (all_full a.user kept.plain.user_has_none) (all_full b.user kept'.plain.user_has_none) refl refl inner in
+    let both = run_same is_full a.user b.user (0 ∷ a.password) (0 ∷ b.password) (all_full a.user kept.plain.user_has_none)
+    (all_full b.user kept'.plain.user_has_none) refl refl inner in
     let second = both.1 in
     let passwords : a.password ≡ b.password = cc in
     credentials_same a b both.0 passwords
@@ -217,7 +224,8 @@ response_same : (a b : Credentials) → IsAccount a → IsAccount b → response
 unfolding response_of
 response_same a b kept kept' same =
     message_same a b kept kept' (Ok_same (message a) (message b)
-    (sym (decode_of-encode_of standard (message a) consistent (message_bytes a kept)) ∙ ap (decode_of standard) same ∙ decode_of-encode_of standard (message b) consistent (message_bytes b kept')))
+    (sym (decode_of-encode_of standard (message a) consistent (message_bytes a kept)) ∙ ap (decode_of standard) same
+    ∙ decode_of-encode_of standard (message b) consistent (message_bytes b kept')))
 
 plain_parts : (a : Credentials) → rest (commands.Plain a) ≡ crlf ∷ (response_of a ++ crlf) ∷ []
 unfolding ◌⌢◌
@@ -277,15 +285,18 @@ mark_same None (Some n) kept kept' same = absurd (no_mark n same)
 mark_same (Some m) None kept kept' same = absurd (no_mark m (sym same))
 mark_same (Some m) (Some n) kept kept' same =
     let first = cut_same (codes " (QRESYNC (") _ _ (some_first _ _ _) (some_first _ _ _) (sym (mark_is m) ∙ same ∙ mark_is n) in
-    let validities = cut_number m.validity n.validity _ _ (omega (arith, kept.0)) (omega (arith, kept'.0)) (stops_line is_ascii_digit 32 [] _ refl) (stops_line is_ascii_digit 32 [] _ refl) first in
+    let validities = cut_number m.validity n.validity _ _ (omega (arith, kept.0)) (omega (arith, kept'.0))
+    (stops_line is_ascii_digit 32 [] _ refl) (stops_line is_ascii_digit 32 [] _ refl) first in
     let second = cut_same (codes " ") _ _ (some_first _ _ _) (some_first _ _ _) validities.1 in
-    let modseqs = cut_number m.modseq n.modseq _ _ (omega (arith, kept.1)) (omega (arith, kept'.1)) (stops_line is_ascii_digit 41 (codes ")") _ refl) (stops_line is_ascii_digit 41 (codes ")") _ refl) second in
+    let modseqs = cut_number m.modseq n.modseq _ _ (omega (arith, kept.1)) (omega (arith, kept'.1))
+    (stops_line is_ascii_digit 41 (codes ")") _ refl) (stops_line is_ascii_digit 41 (codes ")") _ refl) second in
     ap (λ mark. Some mark) (marks_same m n validities.0 modseqs.0)
 
 name_short : (name : List ℕ) → IsBoxName name → length name < 2 ^ 64
 name_short name is = omega (arith, is.text.few)
 
-same_select : (name : List ℕ) (since : Option Mark) (d : Command) → IsBoxName name → IsMark since → IsKept d → Same (commands.Select name since) d → commands.Select name since ≡ d
+same_select : (name : List ℕ) (since : Option Mark) (d : Command) → IsBoxName name → IsMark since → IsKept d →
+    Same (commands.Select name since) d → commands.Select name since ≡ d
 same_select x m (commands.Select y n) kept mark kept' same =
     let tails = tails_same (commands.Select x m) (commands.Select y n) refl same in
     let names = astring_same x y (mark_parts m ⌢ end) (mark_parts n ⌢ end) (name_short x kept) (name_short y kept'.0) (mark_stops m) (mark_stops n)
@@ -321,15 +332,18 @@ no_star uid fits same = cc (ap (list_all is_ascii_digit) same, all_digits uid fi
 
 all_row : (uid : ℕ) → uid < 2 ^ 64 → line (codes "1:*") ⌢ row_end ≡ number uid ⌢ row_end → ⊥
 all_row uid fits same =
-    no_star uid fits (cut_run is_solid (codes "1:*") (decimal uid) row_end row_end refl (solid_number uid fits) (stops_line is_solid 32 _ end refl) (stops_line is_solid 32 _ end refl) same).0
+    no_star uid fits (cut_run is_solid (codes "1:*") (decimal uid) row_end row_end refl (solid_number uid fits)
+    (stops_line is_solid 32 _ end refl) (stops_line is_solid 32 _ end refl) same).0
 
 all_ids : (uids : List UidRange) → IsCanonical uids → line (codes "1:*") ⌢ row_end ≡ line (set_text uids) ⌢ ids_end → ⊥
 all_ids uids is same =
-    no_rows (cut_run is_solid (codes "1:*") (set_text uids) row_end ids_end refl (solid_set uids is) (stops_line is_solid 32 _ end refl) (stops_line is_solid 32 _ end refl) same).1
+    no_rows (cut_run is_solid (codes "1:*") (set_text uids) row_end ids_end refl (solid_set uids is) (stops_line is_solid 32 _ end refl)
+    (stops_line is_solid 32 _ end refl) same).1
 
 row_ids : (uid : ℕ) (uids : List UidRange) → uid < 2 ^ 64 → IsCanonical uids → number uid ⌢ row_end ≡ line (set_text uids) ⌢ ids_end → ⊥
 row_ids uid uids fits is same =
-    no_rows (cut_run is_solid (decimal uid) (set_text uids) row_end ids_end (solid_number uid fits) (solid_set uids is) (stops_line is_solid 32 _ end refl) (stops_line is_solid 32 _ end refl) same).1
+    no_rows (cut_run is_solid (decimal uid) (set_text uids) row_end ids_end (solid_number uid fits) (solid_set uids is)
+    (stops_line is_solid 32 _ end refl) (stops_line is_solid 32 _ end refl) same).1
 
 same_fetch_all : (d : Command) → IsKept d → Same commands.FetchAll d → commands.FetchAll ≡ d
 same_fetch_all commands.FetchAll kept same = refl
@@ -343,7 +357,8 @@ same_fetch_row : (uid : ℕ) (d : Command) → uid < 2 ^ 32 → IsKept d → Sam
 same_fetch_row m commands.FetchAll kept kept' same =
     absurd (all_row m (omega arith) (sym all_is ∙ sym (tails_same (commands.FetchRow m) commands.FetchAll refl same) ∙ row_is m))
 same_fetch_row m (commands.FetchRow n) kept kept' same =
-    let both = cut_number m n row_end row_end (omega arith) (omega (arith, kept')) (stops_line is_ascii_digit 32 _ end refl) (stops_line is_ascii_digit 32 _ end refl)
+    let both = cut_number m n row_end row_end (omega arith) (omega (arith, kept')) (stops_line is_ascii_digit 32 _ end refl)
+    (stops_line is_ascii_digit 32 _ end refl)
     (sym (row_is m) ∙ tails_same (commands.FetchRow m) (commands.FetchRow n) refl same ∙ row_is n) in
     ap commands.FetchRow both.0
 same_fetch_row m (commands.FetchIds uids) kept kept' same =
@@ -365,10 +380,13 @@ same_fetch_ids u d kept kept' same = let e = alike (commands.FetchIds u) d same 
 same_search : (from : ℕ) (id : List ℕ) (d : Command) → from < 2 ^ 32 → IsText id → IsKept d → Same (commands.Search from id) d → commands.Search from id ≡ d
 same_search m x (commands.Search n y) kept text kept' same =
     let tails = tails_same (commands.Search m x) (commands.Search n y) refl same in
-    let numbers = cut_number m n (words ":* HEADER Message-ID " ⌢ (astring_parts x ⌢ end)) (words ":* HEADER Message-ID " ⌢ (astring_parts y ⌢ end)) (omega arith) (omega (arith, kept'.0))
+    let numbers = cut_number m n (words ":* HEADER Message-ID " ⌢ (astring_parts x ⌢ end))
+    (words ":* HEADER Message-ID " ⌢ (astring_parts y ⌢ end)) (omega arith) (omega (arith, kept'.0))
     (stops_line is_ascii_digit 58 _ _ refl) (stops_line is_ascii_digit 58 _ _ refl)
-    (sym (chain_three (number m) (words ":* HEADER Message-ID ") (astring_parts x)) ∙ tails ∙ chain_three (number n) (words ":* HEADER Message-ID ") (astring_parts y)) in
-    let behind = cut_same (codes ":* HEADER Message-ID ") (astring_parts x ⌢ end) (astring_parts y ⌢ end) (some_behind _ end (omega arith)) (some_behind _ end (omega arith)) numbers.1 in
+    (sym (chain_three (number m) (words ":* HEADER Message-ID ") (astring_parts x)) ∙ tails
+    ∙ chain_three (number n) (words ":* HEADER Message-ID ") (astring_parts y)) in
+    let behind = cut_same (codes ":* HEADER Message-ID ") (astring_parts x ⌢ end) (astring_parts y ⌢ end) (some_behind _ end (omega arith))
+    (some_behind _ end (omega arith)) numbers.1 in
     let ids = astring_same x y end end text.short kept'.1.short refl refl behind in
     let first : m ≡ n = numbers.0 in
     let second : x ≡ y = ids.0 in
@@ -381,7 +399,8 @@ same_shift m x (commands.Shift n y) kept name kept' same =
     let numbers = cut_number m n (words " " ⌢ (astring_parts x ⌢ end)) (words " " ⌢ (astring_parts y ⌢ end)) (omega arith) (omega (arith, kept'.0))
     (stops_line is_ascii_digit 32 _ _ refl) (stops_line is_ascii_digit 32 _ _ refl)
     (sym (chain_three (number m) (words " ") (astring_parts x)) ∙ tails ∙ chain_three (number n) (words " ") (astring_parts y)) in
-    let behind = cut_same (codes " ") (astring_parts x ⌢ end) (astring_parts y ⌢ end) (some_behind _ end (omega arith)) (some_behind _ end (omega arith)) numbers.1 in
+    let behind = cut_same (codes " ") (astring_parts x ⌢ end) (astring_parts y ⌢ end) (some_behind _ end (omega arith))
+    (some_behind _ end (omega arith)) numbers.1 in
     let names = astring_same x y end end (name_short x name) (name_short y kept'.1) refl refl behind in
     let first : m ≡ n = numbers.0 in
     let second : x ≡ y = names.0 in
@@ -403,7 +422,8 @@ store_is uid since add flags =
     parts_assoc (number uid) _ end
     ∙ ap (λ p. number uid ⌢ p) (parts_assoc (words " (UNCHANGEDSINCE ") _ end
     ∙ ap (λ p. words " (UNCHANGEDSINCE " ⌢ p) (chain_three (number since) (words ") ") (sign add ⌢ (words "FLAGS (" ⌢ (line (list_text flags) ⌢ words ")")))
-    ∙ ap (λ p. number since ⌢ (words ") " ⌢ p)) (parts_assoc (sign add) _ end ∙ ap (λ p. sign add ⌢ p) (chain_three (words "FLAGS (") (line (list_text flags)) (words ")")))))
+    ∙ ap (λ p. number since ⌢ (words ") " ⌢ p)) (parts_assoc (sign add) _ end
+    ∙ ap (λ p. sign add ⌢ p) (chain_three (words "FLAGS (") (line (list_text flags)) (words ")")))))
 
 sign_byte : (add : Bool) (flags : List (List ℕ)) → byte_at 0 (sign add ⌢ store_flags flags) ≡ cond add 43 45
 sign_byte true flags = byte_of_line 0 (codes "+") (store_flags flags) (omega arith)
@@ -426,7 +446,8 @@ flags_same x y set set' same =
 
 store_sign_same : (a b : Bool) (x y : List (List ℕ)) → IsFlagSet x → IsFlagSet y → store_sign a x ≡ store_sign b y → (a ≡ b) × (x ≡ y)
 store_sign_same a b x y set set' same =
-    let behind = cut_same (codes ") ") (sign a ⌢ store_flags x) (sign b ⌢ store_flags y) (some_behind _ _ (some_first _ _ _)) (some_behind _ _ (some_first _ _ _)) same in
+    let behind = cut_same (codes ") ") (sign a ⌢ store_flags x) (sign b ⌢ store_flags y) (some_behind _ _ (some_first _ _ _))
+    (some_behind _ _ (some_first _ _ _)) same in
     let signs : a ≡ b = signs_same a b (sym (sign_byte a x) ∙ ap (byte_at 0) behind ∙ sign_byte b y) in
     (signs, flags_same x y set set' (cut_sign b x y (ap (λ s. sign s ⌢ store_flags x) (sym signs) ∙ behind)))
 
@@ -434,10 +455,12 @@ same_store : (uid since : ℕ) (add : Bool) (flags : List (List ℕ)) (d : Comma
     → Same (commands.Store uid since add flags) d → commands.Store uid since add flags ≡ d
 same_store m r a x (commands.Store n s b y) kept mark set kept' same =
     let tails = sym (store_is m r a x) ∙ tails_same (commands.Store m r a x) (commands.Store n s b y) refl same ∙ store_is n s b y in
-    let uids = cut_number m n (words " (UNCHANGEDSINCE " ⌢ (number r ⌢ store_sign a x)) (words " (UNCHANGEDSINCE " ⌢ (number s ⌢ store_sign b y)) (omega arith) (omega (arith, kept'.0))
+    let uids = cut_number m n (words " (UNCHANGEDSINCE " ⌢ (number r ⌢ store_sign a x))
+    (words " (UNCHANGEDSINCE " ⌢ (number s ⌢ store_sign b y)) (omega arith) (omega (arith, kept'.0))
     (stops_line is_ascii_digit 32 _ _ refl) (stops_line is_ascii_digit 32 _ _ refl) tails in
     let behind = cut_same (codes " (UNCHANGEDSINCE ") (number r ⌢ store_sign a x) (number s ⌢ store_sign b y) (some_first _ _ _) (some_first _ _ _) uids.1 in
-    let marks = cut_number r s (store_sign a x) (store_sign b y) (omega arith) (omega (arith, kept'.1)) (stops_line is_ascii_digit 41 _ _ refl) (stops_line is_ascii_digit 41 _ _ refl) behind in
+    let marks = cut_number r s (store_sign a x) (store_sign b y) (omega arith) (omega (arith, kept'.1))
+    (stops_line is_ascii_digit 41 _ _ refl) (stops_line is_ascii_digit 41 _ _ refl) behind in
     let both = store_sign_same a b x y set kept'.2 marks.1 in
     let first : m ≡ n = uids.0 in
     let second : r ≡ s = marks.0 in
@@ -459,9 +482,12 @@ same_append : (to : List ℕ) (flags : List (List ℕ)) (octets : List ℕ) (d :
     → Same (commands.Append to flags octets) d → commands.Append to flags octets ≡ d
 same_append x f s (commands.Append y g t) name set text kept' same =
     let tails = sym (append_is x f s) ∙ tails_same (commands.Append x f s) (commands.Append y g t) refl same ∙ append_is y g t in
-    let names = astring_same x y (append_flags f s) (append_flags g t) (name_short x name) (name_short y kept'.0) (stops_line is_astring_byte 32 _ _ refl) (stops_line is_astring_byte 32 _ _ refl) tails in
-    let behind = cut_same (codes " (") (line (list_text f) ⌢ (words ") " ⌢ (literal s ⌢ end))) (line (list_text g) ⌢ (words ") " ⌢ (literal t ⌢ end))) (some_first _ _ _) (some_first _ _ _) names.1 in
-    let sets = cut_flags f g (words ") " ⌢ (literal s ⌢ end)) (words ") " ⌢ (literal t ⌢ end)) set kept'.1 (stops_line is_inside 41 _ _ refl) (stops_line is_inside 41 _ _ refl) behind in
+    let names = astring_same x y (append_flags f s) (append_flags g t) (name_short x name) (name_short y kept'.0)
+    (stops_line is_astring_byte 32 _ _ refl) (stops_line is_astring_byte 32 _ _ refl) tails in
+    let behind = cut_same (codes " (") (line (list_text f) ⌢ (words ") " ⌢ (literal s ⌢ end)))
+    (line (list_text g) ⌢ (words ") " ⌢ (literal t ⌢ end))) (some_first _ _ _) (some_first _ _ _) names.1 in
+    let sets = cut_flags f g (words ") " ⌢ (literal s ⌢ end)) (words ") " ⌢ (literal t ⌢ end)) set kept'.1
+    (stops_line is_inside 41 _ _ refl) (stops_line is_inside 41 _ _ refl) behind in
     let octets = cut_same (codes ") ") (literal s ⌢ end) (literal t ⌢ end) (some_behind _ end (omega arith)) (some_behind _ end (omega arith)) sets.1 in
     let texts = literal_same s t end end text.short kept'.2.short (omega arith) (omega arith) octets in
     let first : x ≡ y = names.0 in
@@ -496,18 +522,23 @@ numbers_same letter m n P Q fits fits' stop stop' same =
     (cut_same (letter ∷ []) (number m ⌢ P) (number n ⌢ Q) (some_first _ _ _) (some_first _ _ _)
     (sym (parts_assoc (line (letter ∷ [])) (number m) P) ∙ same ∙ parts_assoc (line (letter ∷ [])) (number n) Q))
 
-pub tag_same : (t u : Tag) (P Q : List (List ℕ)) → IsCommandTag t → IsCommandTag u → IsKeptTag t → IsKeptTag u → StopsAt is_ascii_digit P → StopsAt is_ascii_digit Q
+pub tag_same : (t u : Tag) (P Q : List (List ℕ)) → IsCommandTag t → IsCommandTag u → IsKeptTag t → IsKeptTag u → StopsAt is_ascii_digit P →
+    StopsAt is_ascii_digit Q
     → tag_parts t ⌢ P ≡ tag_parts u ⌢ Q → (t ≡ u) × (P ≡ Q)
 tag_same (Play m) (Play n) P Q is is' kept kept' stop stop' same = let both = numbers_same 80 m n P Q kept kept' stop stop' same in (ap Play both.0, both.1)
-tag_same (Play m) (Count n) P Q is is' kept kept' stop stop' same = let e : ◌≡◌ {A = ℕ} 80 67 = sym (tag_byte 80 m P) ∙ ap (byte_at 0) same ∙ tag_byte 67 n Q in absurd (omega arith)
-tag_same (Count m) (Play n) P Q is is' kept kept' stop stop' same = let e : ◌≡◌ {A = ℕ} 67 80 = sym (tag_byte 67 m P) ∙ ap (byte_at 0) same ∙ tag_byte 80 n Q in absurd (omega arith)
+tag_same (Play m) (Count n) P Q is is' kept kept' stop stop' same = let e : ◌≡◌ {A = ℕ} 80 67 =
+    sym (tag_byte 80 m P) ∙ ap (byte_at 0) same ∙ tag_byte 67 n Q in absurd (omega arith)
+tag_same (Count m) (Play n) P Q is is' kept kept' stop stop' same = let e : ◌≡◌ {A = ℕ} 67 80 =
+    sym (tag_byte 67 m P) ∙ ap (byte_at 0) same ∙ tag_byte 80 n Q in absurd (omega arith)
 tag_same (Count m) (Count n) P Q is is' kept kept' stop stop' same = let both = numbers_same 67 m n P Q kept kept' stop stop' same in (ap Count both.0, both.1)
 tag_same Strange u P Q is is' kept kept' stop stop' same = absurd is
 tag_same t Strange P Q is is' kept kept' stop stop' same = absurd is'
 
 pub one_text : OneText
 one_text t u c d written written' same =
-    let tags = tag_same t u (words " " ⌢ (command_parts c ⌢ end)) (words " " ⌢ (command_parts d ⌢ end)) written.writable.tagged written'.writable.tagged written.kept_tag written'.kept_tag
+    let tags = tag_same t u (words " " ⌢ (command_parts c ⌢ end))
+    (words " " ⌢ (command_parts d ⌢ end)) written.writable.tagged written'.writable.tagged written.kept_tag written'.kept_tag
     (stops_line is_ascii_digit 32 [] _ refl) (stops_line is_ascii_digit 32 [] _ refl) same in
-    let behind = cut_same (codes " ") (command_parts c ⌢ end) (command_parts d ⌢ end) (some_behind _ end (omega arith)) (some_behind _ end (omega arith)) tags.1 in
+    let behind = cut_same (codes " ") (command_parts c ⌢ end) (command_parts d ⌢ end) (some_behind _ end (omega arith))
+    (some_behind _ end (omega arith)) tags.1 in
     (tags.0, same_command c d written.kept written'.kept behind)

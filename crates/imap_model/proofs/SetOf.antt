@@ -14,10 +14,12 @@ abbrev pub Among : ℕ → List ℕ → Type 0
 Among v [] = ⊥
 Among v (u ∷ us) = (v ≡ u) ⊎ Among v us
 
-ordered_front : (u : ℕ) (rs : List UidRange) → AllByRecursion (λ (r : UidRange). r.low ≤ r.high) rs → AllByRecursion (λ (r : UidRange). r.low ≤ r.high) (in_front u rs)
+ordered_front : (u : ℕ) (rs : List UidRange) → AllByRecursion (λ (r : UidRange). r.low ≤ r.high) rs →
+    AllByRecursion (λ (r : UidRange). r.low ≤ r.high) (in_front u rs)
 ordered_front u [] a = (omega arith, tt)
 ordered_front u (r ∷ rs) a =
-    cond_both (eqb r.low (u + 1)) (record { low = u; high = r.high } ∷ rs) (record { low = u; high = u } ∷ r ∷ rs) (λ (l : List UidRange). AllByRecursion (λ (q : UidRange). q.low ≤ q.high) l)
+    cond_both (eqb r.low (u + 1)) (record { low = u; high = r.high } ∷ rs) (record { low = u; high = u } ∷ r ∷ rs)
+    (λ (l : List UidRange). AllByRecursion (λ (q : UidRange). q.low ≤ q.high) l)
     (λ t. let e : r.low ≡ u + 1 = eqb-true r.low (u + 1) t in let first : r.low ≤ r.high = a.0 in (omega arith, a.1))
     (λ _. (omega arith, a))
 
@@ -43,7 +45,8 @@ front_later u v (r ∷ rs) m =
     (λ t. longer u v r rs (eqb-true r.low (u + 1) t) m)
     (λ _. inr m)
 
-shorter : (u v : ℕ) (r : UidRange) (rs : List UidRange) → r.low ≡ u + 1 → (u ≡ v) ⊎ (u < v) → Member (record { low = u; high = r.high } ∷ rs) v → (v ≡ u) ⊎ Member (r ∷ rs) v
+shorter : (u v : ℕ) (r : UidRange) (rs : List UidRange) → r.low ≡ u + 1 → (u ≡ v) ⊎ (u < v) →
+    Member (record { low = u; high = r.high } ∷ rs) v → (v ≡ u) ⊎ Member (r ∷ rs) v
 shorter u v r rs e (inl s) m = inl (sym s)
 shorter u v r rs e (inr l) (inl w) = inr (inl (record { above = omega arith; below = w.below }))
 shorter u v r rs e (inr l) (inr m) = inr (inr m)
@@ -62,7 +65,8 @@ alone u v rs (inr m) = inr m
 from_front : (u v : ℕ) (rs : List UidRange) → Member (in_front u rs) v → (v ≡ u) ⊎ Member rs v
 from_front u v [] = λ m. alone u v [] m
 from_front u v (r ∷ rs) =
-    cond_both (eqb r.low (u + 1)) (record { low = u; high = r.high } ∷ rs) (record { low = u; high = u } ∷ r ∷ rs) (λ (l : List UidRange). Member l v → (v ≡ u) ⊎ Member (r ∷ rs) v)
+    cond_both (eqb r.low (u + 1)) (record { low = u; high = r.high } ∷ rs) (record { low = u; high = u } ∷ r ∷ rs)
+    (λ (l : List UidRange). Member l v → (v ≡ u) ⊎ Member (r ∷ rs) v)
     (λ t m. parted u v r rs (eqb-true r.low (u + 1) t) m)
     (λ _ m. alone u v (r ∷ rs) m)
 

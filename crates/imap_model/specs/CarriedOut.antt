@@ -11,13 +11,14 @@ use Rattle.imap_model.specs.Lookups.{box_at, message_at, validity_of}
 use Rattle.imap_model.specs.Remarks.{selected_box, MayCode, MaySay, Remarks, CodeTold, RowTold}
 use Rattle.imap_model.specs.Searching.{in_tail, lower, has_in_id, has_in_id_caseless}
 use Rattle.imap_model.specs.SelectTells.{SelectTells}
-use Rattle.imap_model.specs.ToldRows.{ids_of}
+use Rattle.imap_model.specs.ToldRows.{TellsIds}
 use Rattle.imap_model.specs.declared.code.Code.{Code}
 use Rattle.imap_model.specs.declared.code.Code.TheVariants as codings
 use Rattle.imap_model.specs.declared.command.Command.{Command}
 use Rattle.imap_model.specs.declared.command.Command.TheVariants as commands
 use Rattle.imap_model.specs.declared.ending.Ending.{Ending}
 use Rattle.imap_model.specs.declared.ending.Ending.TheVariants as endings
+use Rattle.imap_model.specs.declared.fetched.Fetched.{Fetched}
 use Rattle.imap_model.specs.declared.mark.Mark.{Mark}
 use Rattle.imap_model.specs.declared.replies.Replies.{Replies}
 use Rattle.imap_model.specs.declared.response.Response.{Response}
@@ -76,7 +77,8 @@ pub record Selects (name : List ℕ) (since : Option Mark) (w : Waiting) (s : Se
   pub tells : SelectTells (selected_box w.selected s.boxes) since box r.untagged r.code
 
 -- a question about the selected mailbox, whose reply may hold these responses
-pub record Asks (May : Mailbox → Response → Type 0) (Tells : Mailbox → List Response → Type 0) (w : Waiting) (s : Server) (r : Replies) (t : Server) (after : Option (List ℕ)) : Type 0 where
+pub record Asks (May : Mailbox → Response → Type 0) (Tells : Mailbox → List Response → Type 0) (w : Waiting) (s : Server) (r : Replies)
+    (t : Server) (after : Option (List ℕ)) : Type 0 where
   pub stays : Stays w s t after
   pub box : Mailbox
   pub there : selected_box w.selected s.boxes ≡ Some box
@@ -117,14 +119,19 @@ EachFound from id b told =
 -- FETCH of Message-ID fields: those of each named UID that is there
 abbrev pub IdsSay : List UidRange → Mailbox → Response → Type 0
 IdsSay uids b (responses.Fetch fetched) = MaySay (Some b) (responses.Fetch fetched)
-    ⊎ ((uid : ℕ) × (m : Message) × Member uids uid × (message_at uid b.messages ≡ Some m) × (fetched ≡ ids_of m))
+    ⊎ ((uid : ℕ) × (m : Message) × Member uids uid × (message_at uid b.messages ≡ Some m) × TellsIds m fetched)
 IdsSay uids b response = MaySay (Some b) response
 
+-- the message's fields are told
+abbrev pub IdsTold : List Response → Message → Type 0
+IdsTold told m = (fetched : Fetched) × TellsIds m fetched × Contains told (responses.Fetch fetched)
+
 abbrev pub EachIds : List UidRange → Mailbox → List Response → Type 0
-EachIds uids b told = (uid : ℕ) (m : Message) → Member uids uid → message_at uid b.messages ≡ Some m → Contains told (responses.Fetch (ids_of m))
+EachIds uids b told = (uid : ℕ) (m : Message) → Member uids uid → message_at uid b.messages ≡ Some m → IdsTold told m
 
 -- STORE with effect: the message's new row is told, and no MODIFIED
-pub record Stored (uid since : ℕ) (add : Bool) (flags : List (List ℕ)) (w : Waiting) (s : Server) (r : Replies) (t : Server) (after : Option (List ℕ)) : Type 0 where
+pub record Stored (uid since : ℕ) (add : Bool) (flags : List (List ℕ)) (w : Waiting) (s : Server) (r : Replies) (t : Server)
+    (after : Option (List ℕ)) : Type 0 where
   pub effect : Stores w.tag w.selected uid since add flags s t
   pub selection : after ≡ w.selected
   pub says : SaysRemarks (selected_box w.selected t.boxes) r
@@ -162,7 +169,8 @@ pub record Unmoved (uid : ℕ) (w : Waiting) (s : Server) (r : Replies) (t : Ser
   pub says : SaysRemarks (selected_box w.selected s.boxes) r
 
 -- APPEND: APPENDUID is told with the new UID
-pub record Appended (to : List ℕ) (flags : List (List ℕ)) (text : List ℕ) (w : Waiting) (s : Server) (r : Replies) (t : Server) (after : Option (List ℕ)) : Type 0 where
+pub record Appended (to : List ℕ) (flags : List (List ℕ)) (text : List ℕ) (w : Waiting) (s : Server) (r : Replies) (t : Server)
+    (after : Option (List ℕ)) : Type 0 where
   pub effect : Appends w.tag to flags text s t
   pub selection : after ≡ w.selected
   pub says : Remarks (selected_box w.selected t.boxes) r.untagged
@@ -197,20 +205,58 @@ Fulfils commands.Logout w s r t after = LogsOut w s r t after
 
 -- after a refused SELECT nothing is selected
 abbrev pub left_selected : Command → Option (List ℕ) → Option (List ℕ)
+left_selected commands.Capability selected = selected
+left_selected (commands.Login account) selected = selected
+left_selected (commands.Plain account) selected = selected
+left_selected (commands.Enable rev2) selected = selected
 left_selected (commands.Select name since) selected = None
-left_selected command selected = selected
+left_selected commands.FetchAll selected = selected
+left_selected (commands.FetchRow uid) selected = selected
+left_selected (commands.Search from id) selected = selected
+left_selected (commands.FetchIds uids) selected = selected
+left_selected (commands.Store uid since add flags) selected = selected
+left_selected (commands.Shift uid to) selected = selected
+left_selected (commands.Append to flags octets) selected = selected
+left_selected commands.Logout selected = selected
 
 -- a refused STORE may tell MODIFIED where the message isn't there, or has a greater mod-sequence
 abbrev pub RefusalCode : Command → Waiting → Server → Code → Type 0
+RefusalCode commands.Capability w s code = MayCode (selected_box w.selected s.boxes) code
+RefusalCode (commands.Login account) w s code = MayCode (selected_box w.selected s.boxes) code
+RefusalCode (commands.Plain account) w s code = MayCode (selected_box w.selected s.boxes) code
+RefusalCode (commands.Enable rev2) w s code = MayCode (selected_box w.selected s.boxes) code
+RefusalCode (commands.Select name since) w s code = MayCode (selected_box w.selected s.boxes) code
+RefusalCode commands.FetchAll w s code = MayCode (selected_box w.selected s.boxes) code
+RefusalCode (commands.FetchRow uid) w s code = MayCode (selected_box w.selected s.boxes) code
+RefusalCode (commands.Search from id) w s code = MayCode (selected_box w.selected s.boxes) code
+RefusalCode (commands.FetchIds uids) w s code = MayCode (selected_box w.selected s.boxes) code
 RefusalCode (commands.Store uid since add flags) w s code =
     MayCode (selected_box w.selected s.boxes) code
     ⊎ ((code ≡ codings.Modified (only uid)) × ((found : IsThere w.selected uid s) → found.message.modseq ≤ since → ⊥))
-RefusalCode command w s code = MayCode (selected_box w.selected s.boxes) code
+RefusalCode (commands.Shift uid to) w s code = MayCode (selected_box w.selected s.boxes) code
+RefusalCode (commands.Append to flags octets) w s code = MayCode (selected_box w.selected s.boxes) code
+RefusalCode commands.Logout w s code = MayCode (selected_box w.selected s.boxes) code
+
+-- that the old mailbox is closed, or a remark
+abbrev pub ClosedSays : Option Mailbox → Response → Type 0
+ClosedSays selected (responses.Untagged endings.Ok codings.Closed) = Unit {0}
+ClosedSays selected response = MaySay selected response
 
 -- a refused SELECT may tell that the old mailbox is closed
 abbrev pub RefusalSays : Command → Option Mailbox → Response → Type 0
-RefusalSays (commands.Select name since) selected (responses.Untagged endings.Ok codings.Closed) = Unit {0}
-RefusalSays command selected response = MaySay selected response
+RefusalSays commands.Capability selected response = MaySay selected response
+RefusalSays (commands.Login account) selected response = MaySay selected response
+RefusalSays (commands.Plain account) selected response = MaySay selected response
+RefusalSays (commands.Enable rev2) selected response = MaySay selected response
+RefusalSays (commands.Select name since) selected response = ClosedSays selected response
+RefusalSays commands.FetchAll selected response = MaySay selected response
+RefusalSays (commands.FetchRow uid) selected response = MaySay selected response
+RefusalSays (commands.Search from id) selected response = MaySay selected response
+RefusalSays (commands.FetchIds uids) selected response = MaySay selected response
+RefusalSays (commands.Store uid since add flags) selected response = MaySay selected response
+RefusalSays (commands.Shift uid to) selected response = MaySay selected response
+RefusalSays (commands.Append to flags octets) selected response = MaySay selected response
+RefusalSays commands.Logout selected response = MaySay selected response
 
 -- Any command may be refused, by NO or by BAD. Then nothing changes.
 pub record Refuses (command : Command) (w : Waiting) (s : Server) (r : Replies) (t : Server) (after : Option (List ℕ)) : Type 0 where

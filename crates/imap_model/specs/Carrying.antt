@@ -63,10 +63,19 @@ pub record Appends (tag : Tag) (to : List ℕ) (flags : List (List ℕ)) (text :
 
 -- what an OK says of the server; a question changes nothing
 abbrev pub Accepted : Option (List ℕ) → Tag → Command → Server → Server → Type 0
+Accepted selected tag commands.Capability old new = new ≡ old
+Accepted selected tag (commands.Login account) old new = new ≡ old
+Accepted selected tag (commands.Plain account) old new = new ≡ old
+Accepted selected tag (commands.Enable rev2) old new = new ≡ old
+Accepted selected tag (commands.Select name since) old new = new ≡ old
+Accepted selected tag commands.FetchAll old new = new ≡ old
+Accepted selected tag (commands.FetchRow uid) old new = new ≡ old
+Accepted selected tag (commands.Search from id) old new = new ≡ old
+Accepted selected tag (commands.FetchIds uids) old new = new ≡ old
 Accepted selected tag (commands.Store uid since add flags) old new = Stores tag selected uid since add flags old new ⊎ StoresNothing selected uid since old new
 Accepted selected tag (commands.Shift uid to) old new = Moves tag selected uid to old new ⊎ MovesNothing selected uid old new
-Accepted selected tag (commands.Append to flags text) old new = Appends tag to flags text old new
-Accepted selected tag _ old new = new ≡ old
+Accepted selected tag (commands.Append to flags octets) old new = Appends tag to flags octets old new
+Accepted selected tag commands.Logout old new = new ≡ old
 
 -- a command that is carried out: refused, which changes nothing, or accepted
 abbrev pub Carries : Waiting → Server → Server → Type 0

@@ -26,7 +26,12 @@ pub record Adds (floor : ℕ) (flags : List (List ℕ)) (text : List ℕ) (uid :
   pub next : ℕ
   pub beyond : uid < next
   pub next_fits : next < 2 ^ 32
-  pub becomes : new ≡ record old { uidnext = next; highest = max old.highest modseq; messages = old.messages ++ record { uid = uid; flags = flags; modseq = modseq; text = text } ∷ [] }
+  pub becomes : new ≡ record old {
+    uidnext = next;
+    highest = max old.highest modseq;
+    messages =
+        old.messages ++ record { uid = uid; flags = flags; modseq = modseq; text = text } ∷ [];
+  }
 
 -- a message gets these flags
 pub record Sets (floor uid : ℕ) (flags : List (List ℕ)) (old new : Mailbox) : Type 0 where
@@ -42,7 +47,12 @@ pub record Drops (floor uid : ℕ) (old new : Mailbox) : Type 0 where
   pub there : message_at uid old.messages ≡ Some message
   pub modseq : ℕ
   pub is_next : IsNext floor old modseq
-  pub becomes : new ≡ record old { highest = max old.highest modseq; messages = without_message uid old.messages; gone = old.gone ++ record { uid = uid; modseq = modseq } ∷ [] }
+  pub becomes : new ≡ record old {
+    highest = max old.highest modseq;
+    messages = without_message uid old.messages;
+    gone =
+        old.gone ++ record { uid = uid; modseq = modseq } ∷ [];
+  }
 
 -- the mailbox of this name becomes another, and the others stay
 pub record Rewrites (Becomes : Mailbox → Mailbox → Type 0) (name : List ℕ) (old new : List Mailbox) : Type 0 where
@@ -76,8 +86,10 @@ Effect base name (changes.Shift uid to received) old new = Shifts (floor_of base
 
 -- the mailbox that a change puts a message in, or the changed one
 abbrev pub receiver : List ℕ → Change → List ℕ
+receiver name (changes.Add flags text uid) = name
+receiver name (changes.SetFlags uid flags) = name
+receiver name (changes.Drop uid) = name
 receiver name (changes.Shift uid to received) = to
-receiver name _ = name
 
 -- a change as the history keeps it
 abbrev pub deed_of : Author → List ℕ → Change → List Mailbox → Deed

@@ -49,8 +49,19 @@ parts_of tag command = tag_parts tag ⌢ words " " ⌢ command_parts command ⌢
 
 -- what is searched for holds no NUL, which no text of a command can carry
 abbrev pub IsCarried : Command → Type 0
+IsCarried commands.Capability = Unit {0}
+IsCarried (commands.Login account) = Unit {0}
+IsCarried (commands.Plain account) = Unit {0}
+IsCarried (commands.Enable rev2) = Unit {0}
+IsCarried (commands.Select name since) = Unit {0}
+IsCarried commands.FetchAll = Unit {0}
+IsCarried (commands.FetchRow uid) = Unit {0}
 IsCarried (commands.Search from id) = ¬ (Contains id 0)
-IsCarried _ = Unit {0}
+IsCarried (commands.FetchIds uids) = Unit {0}
+IsCarried (commands.Store uid since add flags) = Unit {0}
+IsCarried (commands.Shift uid to) = Unit {0}
+IsCarried (commands.Append to flags octets) = Unit {0}
+IsCarried commands.Logout = Unit {0}
 
 -- the command can be sent under the tag
 pub record IsWritable (tag : Tag) (command : Command) : Type 0 where

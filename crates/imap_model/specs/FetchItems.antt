@@ -1,10 +1,11 @@
 -- The items of a FETCH response (RFC 9051, section 9, msg-att; RFC 7162, section 3.1.4.2).
-use Rattle.std.specs.Prelude.{◌≡◌, ◌≢◌, ◌⊎◌, ℕ, false, List, [], ◌∷◌, ◌++◌, codes, fold, Some, None}
+use Rattle.std.specs.Prelude.{◌≡◌, ◌≢◌, ◌⊎◌, ℕ, false, List, [], ◌∷◌, ◌++◌, codes, fold, Some}
 use Rattle.std.specs.List.{list_any}
 use Rattle.std.specs.Str.{str_eq_ignore_ascii_case}
 use Rattle.std.specs.Str.Parse.{IsNumeral}
 use Rattle.imap_model.specs.declared.fetched.Fetched.{Fetched}
 use Rattle.imap_model.specs.Parts.{Part, bytes}
+use Rattle.imap_model.specs.Unfetched.{nothing_fetched}
 use Rattle.imap_model.specs.Words.{SameWord, IsGap}
 use Rattle.imap_model.specs.Numbers.{IsNonzero, IsModSeq}
 use Rattle.imap_model.specs.Strings.{IsString, IsAstring}
@@ -136,4 +137,4 @@ with_told fetched Nothing = fetched
 
 -- what the items tell together
 abbrev pub fetched_of : List Told → Fetched
-fetched_of items = fold with_told (record { uid = None; flags = None; modseq = None; ids = None }) items
+fetched_of items = fold with_told nothing_fetched items

@@ -34,16 +34,19 @@ IsHeldMark (Some mark) = IsNonzero32 mark.validity × IsModSeq mark.modseq
 
 -- a program can hold the command
 abbrev pub IsHeld : Command → Type 0
+IsHeld commands.Capability = Unit {0}
 IsHeld (commands.Login account) = IsHeldAccount account
 IsHeld (commands.Plain account) = IsHeldAccount account
+IsHeld (commands.Enable rev2) = Unit {0}
 IsHeld (commands.Select name since) = IsBoxName name × IsHeldMark since
+IsHeld commands.FetchAll = Unit {0}
 IsHeld (commands.FetchRow uid) = IsNonzero32 uid
 IsHeld (commands.Search from id) = IsNonzero32 from × IsText id
 IsHeld (commands.FetchIds uids) = IsCanonical uids
 IsHeld (commands.Store uid since add flags) = IsNonzero32 uid × IsModSeq since × IsFlagSet flags
 IsHeld (commands.Shift uid to) = IsNonzero32 uid × IsBoxName to
 IsHeld (commands.Append to flags octets) = IsBoxName to × IsFlagSet flags × IsText octets
-IsHeld _ = Unit {0}
+IsHeld commands.Logout = Unit {0}
 
 -- a command that a program sends under a tag
 pub record IsSent (tag : Tag) (command : Command) : Type 0 where

@@ -10,8 +10,10 @@ use Rattle.imap_model.specs.declared.deed.Change.TheVariants as changes
 
 -- 1: the mailboxes of the change are there, and no message goes to where it is
 abbrev pub has_boxes : List Mailbox → List ℕ → Change → Bool
+has_boxes boxes name (changes.Add flags text uid) = is_some (box_at name boxes)
+has_boxes boxes name (changes.SetFlags uid flags) = is_some (box_at name boxes)
+has_boxes boxes name (changes.Drop uid) = is_some (box_at name boxes)
 has_boxes boxes name (changes.Shift uid to new) = is_some (box_at name boxes) && is_some (box_at to boxes) && not (bytes_eq to name)
-has_boxes boxes name _ = is_some (box_at name boxes)
 
 -- the UID is one that no message of the mailbox had
 abbrev pub is_free : ℕ → Option Mailbox → Bool
@@ -21,8 +23,9 @@ is_free uid (Some b) = nat_le b.uidnext uid && nat_lt uid (2 ^ 32 - 1)
 -- 2: a message that comes has a UID of its own
 abbrev pub has_free_uid : List Mailbox → List ℕ → Change → Bool
 has_free_uid boxes name (changes.Add flags text uid) = is_free uid (box_at name boxes)
+has_free_uid boxes name (changes.SetFlags uid flags) = true
+has_free_uid boxes name (changes.Drop uid) = true
 has_free_uid boxes name (changes.Shift uid to new) = is_free new (box_at to boxes)
-has_free_uid boxes name _ = true
 
 -- the message is there
 abbrev pub holds_message : ℕ → Option Mailbox → Bool
@@ -48,7 +51,9 @@ has_room boxes name change = has_next (box_at name boxes) && has_next (box_at (r
 -- 5: a text that comes holds no NUL
 abbrev pub is_plain_text : Change → Bool
 is_plain_text (changes.Add flags text uid) = not (list_any (λ byte. byte == 0) text)
-is_plain_text _ = true
+is_plain_text (changes.SetFlags uid flags) = true
+is_plain_text (changes.Drop uid) = true
+is_plain_text (changes.Shift uid to new) = true
 
 -- the place of the first test that fails, counted from this number
 abbrev pub first_failed : ℕ → List Bool → Option ℕ
@@ -58,4 +63,6 @@ first_failed number (test ∷ tests) = if test then first_failed (number + 1) te
 -- the number of the first of these five that a change in the mailbox of this name breaks
 abbrev pub broken_rule : List Mailbox → List ℕ → Change → Option ℕ
 broken_rule boxes name change =
-    first_failed 1 (has_boxes boxes name change ∷ has_free_uid boxes name change ∷ has_message boxes name change ∷ has_room boxes name change ∷ is_plain_text change ∷ [])
+    first_failed 1
+    (has_boxes boxes name change ∷ has_free_uid boxes name change ∷ has_message boxes name change ∷ has_room boxes name change
+    ∷ is_plain_text change ∷ [])

@@ -34,6 +34,8 @@ pub mod Talking
 pub mod TextParts
 pub mod ToldRows
 pub mod UidLists
+pub mod Unfetched
+pub mod Untagged
 pub mod Values
 pub mod WellFormed
 pub mod Words

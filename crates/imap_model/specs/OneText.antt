@@ -30,16 +30,19 @@ IsMark (Some mark) = (mark.validity < 2 ^ 32) × (mark.modseq < 2 ^ 63)
 
 -- a command as its type keeps it
 abbrev pub IsKept : Command → Type 0
+IsKept commands.Capability = Unit {0}
 IsKept (commands.Login account) = IsAccount account
 IsKept (commands.Plain account) = IsAccount account
+IsKept (commands.Enable rev2) = Unit {0}
 IsKept (commands.Select name since) = IsBoxName name × IsMark since
+IsKept commands.FetchAll = Unit {0}
 IsKept (commands.FetchRow uid) = uid < 2 ^ 32
 IsKept (commands.Search from id) = (from < 2 ^ 32) × IsText id
 IsKept (commands.FetchIds uids) = IsCanonical uids
 IsKept (commands.Store uid since add flags) = (uid < 2 ^ 32) × (since < 2 ^ 63) × IsFlagSet flags
 IsKept (commands.Shift uid to) = (uid < 2 ^ 32) × IsBoxName to
 IsKept (commands.Append to flags octets) = IsBoxName to × IsFlagSet flags × IsText octets
-IsKept _ = Unit {0}
+IsKept commands.Logout = Unit {0}
 
 -- a tag as its type keeps it
 abbrev pub IsKeptTag : Tag → Type 0

@@ -28,7 +28,12 @@ reflagged uid flags b = with_flags flags (message_at uid b.messages) b
 
 -- a mailbox without a message
 abbrev pub dropped : ℕ → Mailbox → Mailbox
-dropped uid b = record b { highest = b.highest + 1; messages = without_message uid b.messages; gone = b.gone ++ record { uid = uid; modseq = b.highest + 1 } ∷ [] }
+dropped uid b = record b {
+  highest = b.highest + 1;
+  messages = without_message uid b.messages;
+  gone =
+      b.gone ++ record { uid = uid; modseq = b.highest + 1 } ∷ [];
+}
 
 -- the mailboxes with another in place of this one, if there is one
 abbrev pub put_changed : (Mailbox → Mailbox) → Option Mailbox → List Mailbox → List Mailbox

@@ -1,6 +1,7 @@
 -- One lawful server, as a plain program: what it does and tells for each command (RFC 9051, sections 6 and 7; RFC 7162,
 -- sections 3.1 and 3.2). Where a server may choose, this is a choice and no rule.
-use Rattle.std.specs.Prelude.{ℕ, ◌==◌, ◌&&◌, nat_lt, nat_le, Bool, false, true, List, [], ◌∷◌, ◌++◌, Option, Some, None, is_some, length, map, filter, codes, if◌then◌else◌}
+use Rattle.std.specs.Prelude.{ℕ, ◌==◌, ◌&&◌, nat_lt, nat_le, Bool, false, true, List, [], ◌∷◌, ◌++◌, Option, Some, None, is_some, length}
+use Rattle.std.specs.Prelude.{map, filter, codes, if◌then◌else◌}
 use Rattle.std.specs.List.{list_any}
 use Rattle.std.specs.Str.{bytes_eq}
 use Rattle.flag_set.specs.FlagSet.{union, minus}

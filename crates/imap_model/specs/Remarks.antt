@@ -36,17 +36,33 @@ MayCode selected (codings.Capability words) = Unit {0}
 MayCode selected (codings.PermanentFlags flags any) = Unit {0}
 MayCode selected codings.Other = Unit {0}
 MayCode (Some b) (codings.HighestModSeq modseq) = modseq ≡ b.highest
-MayCode selected code = ⊥
+MayCode None (codings.HighestModSeq modseq) = ⊥
+MayCode selected (codings.UidNext uid) = ⊥
+MayCode selected (codings.UidValidity validity) = ⊥
+MayCode selected codings.NoModSeq = ⊥
+MayCode selected codings.UidNotSticky = ⊥
+MayCode selected (codings.AppendUid validity uid) = ⊥
+MayCode selected (codings.CopyUid validity source target) = ⊥
+MayCode selected (codings.Modified uids) = ⊥
+MayCode selected codings.Closed = ⊥
 
--- a response that may be told
+-- a response that may be told; a server may say BYE at any time (RFC 9051, section 7.1.5)
 abbrev pub MaySay : Option Mailbox → Response → Type 0
 MaySay selected (responses.Untagged ending code) = MayCode selected code
 MaySay selected (responses.Capability words) = Unit {0}
 MaySay selected responses.Other = Unit {0}
+MaySay selected responses.Bye = Unit {0}
 MaySay (Some b) (responses.Exists count) = count ≡ length b.messages
 MaySay (Some b) (responses.Fetch fetched) = IsRow b fetched
 MaySay (Some b) (responses.Vanished earlier uids) = AreAbsent b uids
-MaySay selected response = ⊥
+MaySay None (responses.Exists count) = ⊥
+MaySay None (responses.Fetch fetched) = ⊥
+MaySay None (responses.Vanished earlier uids) = ⊥
+MaySay selected (responses.Done tag ending code) = ⊥
+MaySay selected (responses.Preauth code) = ⊥
+MaySay selected responses.Go = ⊥
+MaySay selected (responses.Enabled words) = ⊥
+MaySay selected (responses.Found uids) = ⊥
 
 -- each of the responses is such a one
 abbrev pub Remarks : Option Mailbox → List Response → Type 0

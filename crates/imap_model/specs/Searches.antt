@@ -78,7 +78,8 @@ MayCountUids text = (text ≡ []) ⊎ ((gap : List ℕ) × (word : List ℕ) × 
 
 -- no pair has the name UID in front of the others, where the word UID is left out
 abbrev pub BeginsWithUid : List Part → Type 0
-BeginsWithUid parts = (gap : List ℕ) × (word : List ℕ) × (value : List Part) × IsGap gap × SameWord word (codes "UID") × (parts ≡ bytes (gap ++ word ++ 32 ∷ []) ++ value)
+BeginsWithUid parts = (gap : List ℕ) × (word : List ℕ) × (value : List Part) × IsGap gap × SameWord word (codes "UID")
+    × (parts ≡ bytes (gap ++ word ++ 32 ∷ []) ++ value)
 
 -- the set of a pair, if it is ALL: the last one counts
 abbrev pub with_pair : List UidRange → Pair → List UidRange

@@ -37,9 +37,19 @@ pub record Peer : Type 0 where
 -- the first response of a connection (RFC 9051, section 7.1.4 and 7.1.5)
 abbrev pub IsGreeting : Response → Type 0
 IsGreeting (responses.Untagged endings.Ok code) = MayCode None code
+IsGreeting (responses.Untagged endings.No code) = ⊥
+IsGreeting (responses.Untagged endings.Bad code) = ⊥
 IsGreeting (responses.Preauth code) = MayCode None code
 IsGreeting responses.Bye = Unit {0}
-IsGreeting response = ⊥
+IsGreeting (responses.Done tag ending code) = ⊥
+IsGreeting responses.Go = ⊥
+IsGreeting (responses.Capability words) = ⊥
+IsGreeting (responses.Enabled words) = ⊥
+IsGreeting (responses.Exists count) = ⊥
+IsGreeting (responses.Fetch fetched) = ⊥
+IsGreeting (responses.Vanished earlier uids) = ⊥
+IsGreeting (responses.Found uids) = ⊥
+IsGreeting responses.Other = ⊥
 
 -- a connection that has just been made
 abbrev pub greeted : Response → Talk
@@ -68,7 +78,8 @@ pub data Answering (p : Peer) : Peer → Type 0 where
   others : (t : Server) → Batch p.server.boxes p.server t → Answering p (record p { server = t })
   goes_on : (a : Arriving) → p.talk.arriving ≡ Some a → a.asked ≡ false → Answering p (went_on a p)
   refuses : (a : Arriving) (r : Replies) → p.talk.arriving ≡ Some a → a.asked ≡ false → IsRefusal p r → Answering p (refused a r p)
-  carries : (w : Waiting) (r : Replies) (t : Server) (after : Option (List ℕ)) → p.waiting ≡ Some w → CarriesOut w p.server r t after → Answering p (carried w r t after p)
+  carries : (w : Waiting) (r : Replies) (t : Server) (after : Option (List ℕ)) → p.waiting ≡ Some w → CarriesOut w p.server r t after →
+      Answering p (carried w r t after p)
 
 -- As a connection is made besides: what waited is dropped, and a talk begins. So a command of a lost connection is carried
 -- out before the next greeting or never (this client's premise).

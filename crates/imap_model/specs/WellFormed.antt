@@ -20,6 +20,9 @@ abbrev pub Differ : List Mailbox → Type 0
 Differ [] = Unit {0}
 Differ (b ∷ bs) = (box_at b.name bs ≡ None) × Differ bs
 
+-- No number here has a lower bound, and the first UIDNEXT and highest mod-sequence have no upper one. That is harmless: a line
+-- spells no UID, UIDVALIDITY or mod-sequence of 0 and none that is too large (Numbers), so what can't be spelled is never told.
+--
 -- Each UID, there or gone, is below UIDNEXT, and each mod-sequence at most the highest; no UID is both there and gone, and
 -- no text holds a NUL.
 pub record IsWellFormedBox (b : Mailbox) : Type 0 where

@@ -91,7 +91,18 @@ impl Command {
         }
         match self {
             Command::Search { id, .. } => !id.as_slice().contains(&0),
-            _ => true,
+            Command::Capability
+            | Command::Login { .. }
+            | Command::Plain { .. }
+            | Command::Enable { .. }
+            | Command::Select { .. }
+            | Command::FetchAll
+            | Command::FetchRow { .. }
+            | Command::FetchIds { .. }
+            | Command::Store { .. }
+            | Command::Shift { .. }
+            | Command::Append { .. }
+            | Command::Logout => true,
         }
     }
 

@@ -1,6 +1,7 @@
 //! What a FETCH response tells of a message (RFC 9051, section 7.5.2; RFC 7162, section 3.1.4.2).
 
-ghost use Rattle.std.specs.Prelude.{◌≡◌, None, IfOk};
+ghost use Rattle.std.specs.Prelude.{◌≡◌, IfOk};
+ghost use Rattle.imap_model.specs.Unfetched.{nothing_fetched};
 
 use flag_set::FlagSet;
 use mail_base::{Bytes, ModSeq};
@@ -23,7 +24,7 @@ pub struct Fetched {
 impl Fetched {
     /// Nothing was told.
     pub fn none() -> Fetched
-        ensures { result ≡ record { uid = None; flags = None; modseq = None; ids = None } }
+        ensures { result ≡ nothing_fetched }
     {
         Fetched {
             uid: None,

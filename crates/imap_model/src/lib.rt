@@ -13,8 +13,6 @@ mod mark;
 mod replies;
 mod response;
 mod server;
-#[cfg(test)]
-mod tests;
 
 pub use code::Code;
 pub use command::Command;
