@@ -1,5 +1,6 @@
 -- Who logs in, as the parts of a text say it.
-use Rattle.std.proofs.Common.{◌≡◌, ◌<◌, ◌-◌, ◌&&◌, ◌==◌, ℕ, zero, suc, Bool, true, false, not, Contains, Ok, List, [], ◌∷◌, ◌++◌, length, take, refl, ap, ◌∙◌, sym, arith}
+use Rattle.std.proofs.Common.{◌≡◌, ◌<◌, ◌-◌, ◌&&◌, ◌==◌, ℕ, zero, suc, Bool, true, false, not, Contains, Ok, List, [], ◌∷◌, ◌++◌, length}
+use Rattle.std.proofs.Common.{take, refl, ap, ◌∙◌, sym, arith}
 use Rattle.mail_base.specs.Account.{Credentials}
 use Rattle.imap_model.specs.Astring.{astring_parts}
 use Rattle.imap_model.specs.CommandParts.{line, words, crlf, ◌⌢◌}
@@ -34,7 +35,8 @@ space : (first : List ℕ) (others : List (List ℕ)) → words " " ⌢ (first �
 unfolding ◌⌢◌
 space first others = refl
 
-pub user_text : (a : Credentials) (text : List ℕ) (later : List (List ℕ)) → text ∷ later ≡ astring_parts a.user ⌢ (words " " ⌢ (astring_parts a.password ⌢ line crlf)) → UserText a text later
+pub user_text : (a : Credentials) (text : List ℕ) (later : List (List ℕ)) →
+    text ∷ later ≡ astring_parts a.user ⌢ (words " " ⌢ (astring_parts a.password ⌢ line crlf)) → UserText a text later
 user_text a text later is =
     let f = firsts (astring_parts a.password ⌢ line crlf) (some_behind (astring_parts a.password) (line crlf) (omega arith)) in
     record {
@@ -70,7 +72,8 @@ both_true false y h k = h
 pub no_nul : (text : List ℕ) → (Contains text 0 → ⊥) → Lacks 0 text
 no_nul [] none = refl
 no_nul (b ∷ text) none =
-    both_true (not (b == 0)) (list_all (λ byte. not (byte == 0)) text) (not_same b 0 (λ e. none (0, omega arith, e))) (no_nul text (λ there. none (suc there.0, omega (arith, there.1), there.2)))
+    both_true (not (b == 0)) (list_all (λ byte. not (byte == 0)) text) (not_same b 0 (λ e. none (0, omega arith, e)))
+    (no_nul text (λ there. none (suc there.0, omega (arith, there.1), there.2)))
 
 bytes_at : (bytes : List ℕ) → AllByRecursion (λ byte. byte < 256) bytes → IsBytes bytes
 bytes_at [] all i = omega arith
@@ -87,5 +90,6 @@ message_bytes a kept = bytes_at (message a) (omega arith, bytes_both a.user (0 �
 pub line_is : (line text : List ℕ) → line ≡ text ++ crlf → take (length line - 2) line ≡ text
 line_is line text is = rw is (take_at text crlf (length (text ++ crlf) - 2) (omega (arith, length-append text crlf)))
 
-pub first_same_parts : (parts : List (List ℕ)) (part other : List ℕ) (rest behind : List (List ℕ)) → IsFirstAndRest parts part rest → parts ≡ other ∷ behind → part ≡ other
+pub first_same_parts : (parts : List (List ℕ)) (part other : List ℕ) (rest behind : List (List ℕ)) → IsFirstAndRest parts part rest →
+    parts ≡ other ∷ behind → part ≡ other
 first_same_parts parts part other rest behind first is = let e : part ∷ rest ≡ other ∷ behind = sym first.0 ∙ is in cc

@@ -1,5 +1,6 @@
 -- An argument's text is read as the argument.
-use Rattle.std.proofs.Common.{◌≡◌, ◌<◌, ◌&&◌, ◌==◌, ℕ, Bool, true, false, cond, not, nat_lt, List, [], ◌∷◌, ◌++◌, length, Option, Some, None, codes, decimal, refl, ap, sym, ◌∙◌, append_assoc, arith}
+use Rattle.std.proofs.Common.{◌≡◌, ◌<◌, ◌&&◌, ◌==◌, ℕ, Bool, true, false, cond, not, nat_lt, List, [], ◌∷◌, ◌++◌, length, Option, Some}
+use Rattle.std.proofs.Common.{None, codes, decimal, refl, ap, sym, ◌∙◌, append_assoc, arith}
 use Rattle.std.specs.List.{IsFirstAndRest, list_all, flat_map, position, position_or_len}
 use Rattle.std.specs.Str.{str_eq_ignore_ascii_case}
 use Rattle.std.proofs.lemmas.Bool.{and_parts}
@@ -79,31 +80,39 @@ position_is p xs n is within = rw is (inside n (length xs) within)
     inside : (n m : ℕ) → n < m → cond (nat_lt n m) (Some n) None ≡ Some n
     inside n m within = grind (arith, nat_tests)
 
-end_found : (text bytes rest : List ℕ) → list_all is_astring_byte bytes ≡ true → EndsArgument rest → text ≡ bytes ++ rest → position ends_argument text ≡ Some (length bytes)
+end_found : (text bytes rest : List ℕ) → list_all is_astring_byte bytes ≡ true → EndsArgument rest → text ≡ bytes ++ rest →
+    position ends_argument text ≡ Some (length bytes)
 end_found text bytes rest all ends is =
-    rw is (position_is ends_argument (bytes ++ rest) (length bytes) (end_place bytes rest all ends) (omega (arith, length-append bytes rest, ends_some rest ends)))
+    rw is (position_is ends_argument (bytes ++ rest) (length bytes) (end_place bytes rest all ends)
+    (omega (arith, length-append bytes rest, ends_some rest ends)))
 
-pub end_is : (place : ℕ) (text bytes rest : List ℕ) → list_all is_astring_byte bytes ≡ true → EndsArgument rest → text ≡ bytes ++ rest → Some place ≡ position ends_argument text → place ≡ length bytes
+pub end_is : (place : ℕ) (text bytes rest : List ℕ) → list_all is_astring_byte bytes ≡ true → EndsArgument rest → text ≡ bytes ++ rest →
+    Some place ≡ position ends_argument text → place ≡ length bytes
 end_is place text bytes rest all ends is found = let e = end_found text bytes rest all ends is in cc
 
-pub end_there : (text bytes rest : List ℕ) → list_all is_astring_byte bytes ≡ true → EndsArgument rest → text ≡ bytes ++ rest → ◌≡◌ {A = Option ℕ} None (position ends_argument text) → ⊥
+pub end_there : (text bytes rest : List ℕ) → list_all is_astring_byte bytes ≡ true → EndsArgument rest → text ≡ bytes ++ rest →
+    ◌≡◌ {A = Option ℕ} None (position ends_argument text) → ⊥
 end_there text bytes rest all ends is found = let e = end_found text bytes rest all ends is in cc
 
 -- the three forms of an argument, in front of what is left
 pub data Form (bytes rest : List ℕ) (behind : List (List ℕ)) (text : List ℕ) (later : List (List ℕ)) : Type 0 where
-  bare : (first : ℕ) (more : List ℕ) → text ≡ first ∷ more → is_astring_byte first ≡ true → list_all is_astring_byte bytes ≡ true → text ≡ bytes ++ rest → later ≡ behind → Form bytes rest behind text later
+  bare : (first : ℕ) (more : List ℕ) → text ≡ first ∷ more → is_astring_byte first ≡ true → list_all is_astring_byte bytes ≡ true →
+      text ≡ bytes ++ rest → later ≡ behind → Form bytes rest behind text later
   in_quotes : text ≡ 34 ∷ (flat_map escaped bytes ++ 34 ∷ rest) → later ≡ behind → Form bytes rest behind text later
   counted : text ≡ 123 ∷ (decimal (length bytes) ++ 125 ∷ crlf) → later ≡ (bytes ++ rest) ∷ behind → Form bytes rest behind text later
 
 bare_all : (bytes : List ℕ) → is_bare bytes ≡ true → list_all is_astring_byte bytes ≡ true
 bare_all bytes is = (and_parts (nat_lt 0 (length bytes) && not (str_eq_ignore_ascii_case bytes (codes "NIL"))) (list_all is_astring_byte bytes) is).1
 
-bare_form : (bytes rest : List ℕ) (behind : List (List ℕ)) (text : List ℕ) (later : List (List ℕ)) → is_bare bytes ≡ true → text ≡ bytes ++ rest → later ≡ behind → Form bytes rest behind text later
+bare_form : (bytes rest : List ℕ) (behind : List (List ℕ)) (text : List ℕ) (later : List (List ℕ)) → is_bare bytes ≡ true →
+    text ≡ bytes ++ rest → later ≡ behind → Form bytes rest behind text later
 bare_form [] rest behind text later is same same' = absurd cc
 bare_form (b ∷ bytes) rest behind text later is same same' =
-    bare b (bytes ++ rest) same (and_parts (is_astring_byte b) (list_all is_astring_byte bytes) (bare_all (b ∷ bytes) is)).0 (bare_all (b ∷ bytes) is) same same'
+    bare b (bytes ++ rest) same (and_parts (is_astring_byte b) (list_all is_astring_byte bytes) (bare_all (b ∷ bytes) is)).0
+    (bare_all (b ∷ bytes) is) same same'
 
-form_from : (bytes rest : List ℕ) (behind : List (List ℕ)) (text : List ℕ) (later : List (List ℕ)) (b q : Bool) → is_bare bytes ≡ b → list_all is_quotable bytes ≡ q
+form_from : (bytes rest : List ℕ) (behind : List (List ℕ)) (text : List ℕ) (later : List (List ℕ)) (b q : Bool) → is_bare bytes ≡ b →
+    list_all is_quotable bytes ≡ q
     → text ∷ later ≡ cond b (line bytes) (cond q (line (quoted bytes)) (literal bytes)) ⌢ (rest ∷ behind) → Form bytes rest behind text later
 unfolding ◌⌢◌
 form_from bytes rest behind text later true q is all same =
@@ -119,14 +128,16 @@ form_from bytes rest behind text later false false is all same =
     let others : later ≡ (bytes ++ rest) ∷ behind = cc in
     counted (first ∙ ap (λ xs. 123 ∷ xs) (append_assoc (decimal (length bytes)) (125 ∷ []) crlf)) others
 
-pub form_of : (bytes rest : List ℕ) (behind : List (List ℕ)) (text : List ℕ) (later : List (List ℕ)) → text ∷ later ≡ astring_parts bytes ⌢ (rest ∷ behind) → Form bytes rest behind text later
+pub form_of : (bytes rest : List ℕ) (behind : List (List ℕ)) (text : List ℕ) (later : List (List ℕ)) →
+    text ∷ later ≡ astring_parts bytes ⌢ (rest ∷ behind) → Form bytes rest behind text later
 form_of bytes rest behind text later same = form_from bytes rest behind text later (is_bare bytes) (list_all is_quotable bytes) refl refl same
 
 two_bytes : (b c : ℕ) → b ≡ c → is_astring_byte c ≡ false → is_astring_byte b ≡ true → ⊥
 two_bytes b c e fails is = cc (ap is_astring_byte e)
 
 -- the first byte tells the form
-module _ (bytes rest : List ℕ) (behind : List (List ℕ)) (text : List ℕ) (later : List (List ℕ)) (first : ℕ) (told : (b : ℕ) (r : List ℕ) → text ≡ b ∷ r → first ≡ b) where
+module _ (bytes rest : List ℕ) (behind : List (List ℕ)) (text : List ℕ) (later : List (List ℕ)) (first : ℕ)
+    (told : (b : ℕ) (r : List ℕ) → text ≡ b ∷ r → first ≡ b) where
   pub counted_of : Form bytes rest behind text later → first ≡ 123 → (text ≡ 123 ∷ (decimal (length bytes) ++ 125 ∷ crlf)) × (later ≡ (bytes ++ rest) ∷ behind)
   counted_of (bare b more is passes all same same') e = absurd (two_bytes b 123 (sym (told b more is) ∙ e) refl passes)
   counted_of (in_quotes is same) e = absurd (omega (arith, told 34 _ is, e))
@@ -137,7 +148,8 @@ module _ (bytes rest : List ℕ) (behind : List (List ℕ)) (text : List ℕ) (l
   quoted_of (in_quotes is same) e = (is, same)
   quoted_of (counted is same) e = absurd (omega (arith, told 123 _ is, e))
 
-  pub bare_of : Form bytes rest behind text later → (first ≡ 123 → ⊥) → (first ≡ 34 → ⊥) → (list_all is_astring_byte bytes ≡ true) × (text ≡ bytes ++ rest) × (later ≡ behind)
+  pub bare_of : Form bytes rest behind text later → (first ≡ 123 → ⊥) → (first ≡ 34 → ⊥) →
+      (list_all is_astring_byte bytes ≡ true) × (text ≡ bytes ++ rest) × (later ≡ behind)
   bare_of (bare b more is passes all same same') e f = (all, same, same')
   bare_of (in_quotes is same) e f = absurd (f (told 34 _ is))
   bare_of (counted is same) e f = absurd (e (told 123 _ is))

@@ -1,5 +1,6 @@
 -- The text of each command without its tag is read as that command.
-use Rattle.std.proofs.Common.{◌≡◌, ◌<◌, ℕ, Bool, true, false, get_or, drop, Option, Some, List, [], ◌∷◌, ◌++◌, length, codes, decimal, refl, ap, ◌∙◌, sym, append_assoc, arith}
+use Rattle.std.proofs.Common.{◌≡◌, ◌<◌, ℕ, Bool, true, false, get_or, drop, Option, Some, List, [], ◌∷◌, ◌++◌, length, codes, decimal}
+use Rattle.std.proofs.Common.{refl, ap, ◌∙◌, sym, append_assoc, arith}
 use Rattle.flag_set.specs.FlagSet.{IsFlagSet}
 use Rattle.flag_set.specs.FlagText.{list_text}
 use Rattle.mail_base.specs.Account.{Credentials}
@@ -36,7 +37,8 @@ behind_six : (a b d e f g z : List (List ℕ)) → (a ⌢ (b ⌢ (d ⌢ (e ⌢ (
 behind_six a b d e f g z =
     parts_assoc a (b ⌢ (d ⌢ (e ⌢ (f ⌢ g)))) z ∙ ap (λ p. a ⌢ p) (parts_assoc b (d ⌢ (e ⌢ (f ⌢ g))) z ∙ ap (λ p. b ⌢ p) (behind_four d e f g z))
 
-behind_nine : (a b d e f g h i j z : List (List ℕ)) → (a ⌢ (b ⌢ (d ⌢ (e ⌢ (f ⌢ (g ⌢ (h ⌢ (i ⌢ j)))))))) ⌢ z ≡ a ⌢ (b ⌢ (d ⌢ (e ⌢ (f ⌢ (g ⌢ (h ⌢ (i ⌢ (j ⌢ z))))))))
+behind_nine : (a b d e f g h i j z : List (List ℕ)) → (a ⌢ (b ⌢ (d ⌢ (e ⌢ (f ⌢ (g ⌢ (h ⌢ (i ⌢ j)))))))) ⌢ z
+    ≡ a ⌢ (b ⌢ (d ⌢ (e ⌢ (f ⌢ (g ⌢ (h ⌢ (i ⌢ (j ⌢ z))))))))
 behind_nine a b d e f g h i j z =
     parts_assoc a (b ⌢ (d ⌢ (e ⌢ (f ⌢ (g ⌢ (h ⌢ (i ⌢ j))))))) z ∙ ap (λ p. a ⌢ p) (
     parts_assoc b (d ⌢ (e ⌢ (f ⌢ (g ⌢ (h ⌢ (i ⌢ j)))))) z ∙ ap (λ p. b ⌢ p) (
@@ -48,7 +50,8 @@ record Behind (word : List ℕ) (parts : List (List ℕ)) (text : List ℕ) (lat
   is : text ≡ word ++ first
   next : first ∷ later ≡ parts
 
-behind : (word : List ℕ) (parts : List (List ℕ)) (text : List ℕ) (later : List (List ℕ)) → 0 < length parts → text ∷ later ≡ line word ⌢ parts → Behind word parts text later
+behind : (word : List ℕ) (parts : List (List ℕ)) (text : List ℕ) (later : List (List ℕ)) → 0 < length parts →
+    text ∷ later ≡ line word ⌢ parts → Behind word parts text later
 unfolding ◌⌢◌
 behind word [] text later some is = absurd (omega (arith, some))
 behind word (p ∷ parts) text later some is =
@@ -60,14 +63,17 @@ behind word (p ∷ parts) text later some is =
 pub record ReadsUids (Read : Command → Type 0) (text : List ℕ) (later : List (List ℕ)) : Type 0 where
   pub all : text ≡ codes "FETCH " ++ (codes "1:*" ++ (codes " (UID FLAGS MODSEQ)" ++ crlf)) → Read commands.FetchAll
   pub row : (uid : ℕ) → IsNonzero32 uid → text ≡ codes "FETCH " ++ (decimal uid ++ (codes " (UID FLAGS MODSEQ)" ++ crlf)) → Read (commands.FetchRow uid)
-  pub ids : (uids : List UidRange) → IsCanonical uids → text ≡ codes "FETCH " ++ (set_text uids ++ (codes " (UID BODY.PEEK[HEADER.FIELDS (MESSAGE-ID)])" ++ crlf))
+  pub ids : (uids : List UidRange) → IsCanonical uids → text ≡ codes "FETCH "
+      ++ (set_text uids ++ (codes " (UID BODY.PEEK[HEADER.FIELDS (MESSAGE-ID)])" ++ crlf))
       → Read (commands.FetchIds uids)
   pub shift : (uid : ℕ) (to first : List ℕ) → IsNonzero32 uid → IsBoxName to → text ≡ codes "MOVE " ++ first
       → first ∷ [] ≡ number uid ⌢ (words " " ⌢ (astring_parts to ⌢ line crlf)) → Read (commands.Shift uid to)
   pub search : (from : ℕ) (id first : List ℕ) → IsNonzero32 from → IsText id → text ≡ codes "SEARCH UID " ++ first
       → first ∷ later ≡ number from ⌢ (words ":* HEADER Message-ID " ⌢ (astring_parts id ⌢ line crlf)) → Read (commands.Search from id)
-  pub store : (uid since : ℕ) (add : Bool) (flags : List (List ℕ)) (first : List ℕ) → IsNonzero32 uid → IsModSeq since → IsFlagSet flags → text ≡ codes "STORE " ++ first
-      → first ∷ [] ≡ number uid ⌢ (words " (UNCHANGEDSINCE " ⌢ (number since ⌢ (words ") " ⌢ (sign add ⌢ (words "FLAGS (" ⌢ (line (list_text flags) ⌢ (words ")" ⌢ line crlf)))))))
+  pub store : (uid since : ℕ) (add : Bool) (flags : List (List ℕ)) (first : List ℕ) → IsNonzero32 uid → IsModSeq since → IsFlagSet flags →
+      text ≡ codes "STORE " ++ first
+      → first ∷ [] ≡ number uid ⌢ (words " (UNCHANGEDSINCE " ⌢ (number since ⌢
+      (words ") " ⌢ (sign add ⌢ (words "FLAGS (" ⌢ (line (list_text flags) ⌢ (words ")" ⌢ line crlf)))))))
       → Read (commands.Store uid since add flags)
 
 pub record ReadsLogin (Read : Command → Type 0) (text : List ℕ) (later : List (List ℕ)) : Type 0 where
@@ -79,11 +85,13 @@ abbrev pub ReadsPlain : (Command → Type 0) → List (List ℕ) → Type 0
 ReadsPlain Read later = (account : Credentials) → IsHeldAccount account → later ≡ (response_of account ++ crlf) ∷ [] → Read (commands.Plain account)
 
 abbrev pub ReadsSelect : (Command → Type 0) → List ℕ → Type 0
-ReadsSelect Read text = (name : List ℕ) (since : Option Mark) → IsBoxName name → IsHeldMark since → text ∷ [] ≡ astring_parts name ⌢ (mark_parts since ⌢ line crlf)
+ReadsSelect Read text = (name : List ℕ) (since : Option Mark) → IsBoxName name → IsHeldMark since →
+    text ∷ [] ≡ astring_parts name ⌢ (mark_parts since ⌢ line crlf)
     → Read (commands.Select name since)
 
 abbrev pub ReadsAppend : (Command → Type 0) → List ℕ → List (List ℕ) → Type 0
-ReadsAppend Read text later = (to : List ℕ) (flags : List (List ℕ)) (octets : List ℕ) (end : List ℕ) (behind : List (List ℕ)) → IsBoxName to → IsFlagSet flags → IsText octets
+ReadsAppend Read text later = (to : List ℕ) (flags : List (List ℕ)) (octets : List ℕ) (end : List ℕ) (behind : List (List ℕ)) →
+    IsBoxName to → IsFlagSet flags → IsText octets
     → text ∷ [] ≡ astring_parts to ⌢ (words " (" ⌢ (line (list_text flags) ⌢ (words ") " ⌢ line (123 ∷ (decimal (length octets) ++ 125 ∷ end)))))
     → later ≡ (octets ++ crlf) ∷ [] → Read (commands.Append to flags octets)
 
@@ -99,14 +107,16 @@ name_alone name rest first later one is =
     let whole : first ∷ later ≡ (one.part ++ rest) ∷ [] = is ∙ ap (λ p. p ⌢ line rest) one.is in
     cc
 
-move_alone : (uid : ℕ) (to first : List ℕ) (later : List (List ℕ)) → IsLone (astring_parts to) → first ∷ later ≡ number uid ⌢ (words " " ⌢ (astring_parts to ⌢ line crlf)) → later ≡ []
+move_alone : (uid : ℕ) (to first : List ℕ) (later : List (List ℕ)) → IsLone (astring_parts to) →
+    first ∷ later ≡ number uid ⌢ (words " " ⌢ (astring_parts to ⌢ line crlf)) → later ≡ []
 unfolding ◌⌢◌
 move_alone uid to first later one is =
     let whole : first ∷ later ≡ (decimal uid ++ (codes " " ++ (one.part ++ crlf))) ∷ [] = is ∙ ap (λ p. number uid ⌢ (words " " ⌢ (p ⌢ line crlf))) one.is in
     cc
 
 store_alone : (uid since : ℕ) (add : Bool) (flags : List (List ℕ)) (first : List ℕ) (later : List (List ℕ))
-    → first ∷ later ≡ number uid ⌢ (words " (UNCHANGEDSINCE " ⌢ (number since ⌢ (words ") " ⌢ (sign add ⌢ (words "FLAGS (" ⌢ (line (list_text flags) ⌢ (words ")" ⌢ line crlf))))))) → later ≡ []
+    → first ∷ later ≡ number uid ⌢ (words " (UNCHANGEDSINCE " ⌢ (number since ⌢
+    (words ") " ⌢ (sign add ⌢ (words "FLAGS (" ⌢ (line (list_text flags) ⌢ (words ")" ⌢ line crlf))))))) → later ≡ []
 unfolding ◌⌢◌
 store_alone uid since true flags first later is = cc
 store_alone uid since false flags first later is = cc
@@ -118,10 +128,12 @@ record AppendText (to : List ℕ) (flags : List (List ℕ)) (octets first : List
 
 literal_ends : (octets : List ℕ) → literal octets ⌢ line crlf ≡ (123 ∷ (decimal (length octets) ++ 125 ∷ crlf)) ∷ (octets ++ crlf) ∷ []
 unfolding ◌⌢◌
-literal_ends octets = ap (λ p. p ⌢ line crlf) (literal_is octets) ∙ ap (λ x. (123 ∷ x) ∷ (octets ++ crlf) ∷ []) (append_assoc (decimal (length octets)) (125 ∷ []) crlf)
+literal_ends octets = ap (λ p. p ⌢ line crlf) (literal_is octets)
+    ∙ ap (λ x. (123 ∷ x) ∷ (octets ++ crlf) ∷ []) (append_assoc (decimal (length octets)) (125 ∷ []) crlf)
 
 append_text : (to : List ℕ) (flags : List (List ℕ)) (octets first : List ℕ) (later : List (List ℕ)) → IsLone (astring_parts to)
-    → first ∷ later ≡ astring_parts to ⌢ (words " (" ⌢ (line (list_text flags) ⌢ (words ") " ⌢ (literal octets ⌢ line crlf)))) → AppendText to flags octets first later
+    → first ∷ later ≡ astring_parts to ⌢ (words " (" ⌢ (line (list_text flags) ⌢ (words ") " ⌢ (literal octets ⌢ line crlf)))) →
+    AppendText to flags octets first later
 unfolding ◌⌢◌
 append_text to flags octets first later one is =
     let size = 123 ∷ (decimal (length octets) ++ 125 ∷ crlf) in
@@ -164,7 +176,8 @@ module _ (Read : Command → Type 0) (kind : ℕ) (text : List ℕ) (later : Lis
   begins whole is = byte ∙ ap (λ x. get_or x 1 0) is
 
   capability : kind ≡ 65 → ReadsWord Read text
-  capability is = word (λ k. omega (arith, is, k)) (λ k. omega (arith, is, k)) (λ k. omega (arith, is, k)) (λ k. omega (arith, is, k)) (λ k. omega (arith, is, k))
+  capability is = word (λ k. omega (arith, is, k)) (λ k. omega (arith, is, k)) (λ k. omega (arith, is, k)) (λ k. omega (arith, is, k))
+      (λ k. omega (arith, is, k))
 
   enable : kind ≡ 78 → ReadsWord Read text
   enable is = word (λ k. omega (arith, is, k)) (λ k. omega (arith, is, k)) (λ k. omega (arith, is, k)) (λ k. omega (arith, is, k)) (λ k. omega (arith, is, k))
@@ -174,7 +187,8 @@ module _ (Read : Command → Type 0) (kind : ℕ) (text : List ℕ) (later : Lis
       let t = word_text (codes "CAPABILITY") text later is in
       (capability (begins _ t)).capability t
   command_read (commands.Login account) held is =
-      let b = behind (codes "LOGIN ") _ text later (some_behind (astring_parts account.user) _ (some_behind (words " ") _ (some_end (astring_parts account.password))))
+      let b = behind (codes "LOGIN ") _ text later (some_behind (astring_parts account.user) _
+      (some_behind (words " ") _ (some_end (astring_parts account.password))))
       (is ∙ behind_four (words "LOGIN ") (astring_parts account.user) (words " ") (astring_parts account.password) (line crlf)) in
       (login (begins _ b.is)).login account b.first held b.is b.next
   command_read (commands.Plain account) held is =
@@ -198,7 +212,8 @@ module _ (Read : Command → Type 0) (kind : ℕ) (text : List ℕ) (later : Lis
       let t = three_text (codes "UID FETCH ") (decimal uid) (codes " (UID FLAGS MODSEQ)") text later is in
       (uids (begins _ t)).row uid held (ap (drop 4) t)
   command_read (commands.Search from id) held is =
-      let b = behind (codes "UID SEARCH UID ") _ text later (some_behind (number from) _ (some_behind (words ":* HEADER Message-ID ") _ (some_end (astring_parts id))))
+      let b = behind (codes "UID SEARCH UID ") _ text later (some_behind (number from) _
+      (some_behind (words ":* HEADER Message-ID ") _ (some_end (astring_parts id))))
       (is ∙ behind_four (words "UID SEARCH UID ") (number from) (words ":* HEADER Message-ID ") (astring_parts id) (line crlf)) in
       (uids (begins _ b.is)).search from id b.first held.0 held.1 (ap (drop 4) b.is) b.next
   command_read (commands.FetchIds set) held is =
@@ -206,15 +221,21 @@ module _ (Read : Command → Type 0) (kind : ℕ) (text : List ℕ) (later : Lis
       (uids (begins _ t)).ids set held (ap (drop 4) t)
   command_read (commands.Store uid since add flags) held is =
       let b = behind (codes "UID STORE ") _ text later
-      (some_behind (number uid) _ (some_behind (words " (UNCHANGEDSINCE ") _ (some_behind (number since) _ (some_behind (words ") ") _ (some_behind (sign add) _ (some_behind (words "FLAGS (") _ (some_behind (line (list_text flags)) _ (some_end (words ")")))))))))
-      (is ∙ behind_nine (words "UID STORE ") (number uid) (words " (UNCHANGEDSINCE ") (number since) (words ") ") (sign add) (words "FLAGS (") (line (list_text flags)) (words ")") (line crlf)) in
-      (uids (begins _ b.is)).store uid since add flags b.first held.0 held.1 held.2 (ap (drop 4) b.is) (ap (λ l. b.first ∷ l) (sym (store_alone uid since add flags b.first later b.next)) ∙ b.next)
+      (some_behind (number uid) _ (some_behind (words " (UNCHANGEDSINCE ") _
+      (some_behind (number since) _ (some_behind (words ") ") _ (some_behind (sign add) _
+      (some_behind (words "FLAGS (") _ (some_behind (line (list_text flags)) _ (some_end (words ")")))))))))
+      (is ∙ behind_nine (words "UID STORE ") (number uid) (words " (UNCHANGEDSINCE ") (number since) (words ") ") (sign add)
+      (words "FLAGS (") (line (list_text flags)) (words ")") (line crlf)) in
+      (uids (begins _ b.is)).store uid since add flags b.first held.0 held.1 held.2 (ap (drop 4) b.is)
+      (ap (λ l. b.first ∷ l) (sym (store_alone uid since add flags b.first later b.next)) ∙ b.next)
   command_read (commands.Shift uid to) held is =
       let b = behind (codes "UID MOVE ") _ text later (some_behind (number uid) _ (some_behind (words " ") _ (some_end (astring_parts to))))
       (is ∙ behind_four (words "UID MOVE ") (number uid) (words " ") (astring_parts to) (line crlf)) in
-      (uids (begins _ b.is)).shift uid to b.first held.0 held.1 (ap (drop 4) b.is) (ap (λ l. b.first ∷ l) (sym (move_alone uid to b.first later (one_name to held.1) b.next)) ∙ b.next)
+      (uids (begins _ b.is)).shift uid to b.first held.0 held.1 (ap (drop 4) b.is)
+      (ap (λ l. b.first ∷ l) (sym (move_alone uid to b.first later (one_name to held.1) b.next)) ∙ b.next)
   command_read (commands.Append to flags octets) held is =
-      let b = behind (codes "APPEND ") _ text later (some_behind (astring_parts to) _ (some_behind (words " (") _ (some_behind (line (list_text flags)) _ (some_behind (words ") ") _ (some_end (literal octets))))))
+      let b = behind (codes "APPEND ") _ text later (some_behind (astring_parts to) _
+      (some_behind (words " (") _ (some_behind (line (list_text flags)) _ (some_behind (words ") ") _ (some_end (literal octets))))))
       (is ∙ behind_six (words "APPEND ") (astring_parts to) (words " (") (line (list_text flags)) (words ") ") (literal octets) (line crlf)) in
       let t = append_text to flags octets b.first later (one_name to held.0) b.next in
       append (begins _ b.is) to flags octets crlf [] held.0 held.1 held.2 (ap (λ x. drop 7 x ∷ []) b.is ∙ t.front) t.text
@@ -223,10 +244,12 @@ module _ (Read : Command → Type 0) (kind : ℕ) (text : List ℕ) (later : Lis
       (login (begins _ t)).logout t
 
 -- the whole text of a command: the first part has the tag, and behind it what the command's text begins with
-pub whole_tagged : (tag : Tag) (command : Command) (parts : List (List ℕ)) (part : List ℕ) (later : List (List ℕ)) → IsWhole tag command parts → parts ≡ part ∷ later
+pub whole_tagged : (tag : Tag) (command : Command) (parts : List (List ℕ)) (part : List ℕ) (later : List (List ℕ)) →
+    IsWhole tag command parts → parts ≡ part ∷ later
     → Tagged tag (command_parts command ⌢ line crlf) part later
 whole_tagged tag command parts part later whole same =
-    tagged_from tag (command_parts command ⌢ line crlf) part later whole.sent.writable.tagged whole.sent.tag_fits (some_end (command_parts command)) (whole.text ∙ same)
+    tagged_from tag (command_parts command ⌢ line crlf) part later whole.sent.writable.tagged whole.sent.tag_fits
+    (some_end (command_parts command)) (whole.text ∙ same)
 
 pub some_whole : (tag : Tag) (command : Command) (parts : List (List ℕ)) → IsWhole tag command parts → length parts ≡ 0 → ⊥
 some_whole tag command parts whole none =

@@ -1,5 +1,6 @@
 -- The first CRLF of bytes, by its place.
-use Rattle.std.proofs.Common.{◌≡◌, ℕ, zero, suc, ◌+◌, ◌<◌, Some, None, List, [], ◌∷◌, ◌++◌, length, take, drop, refl, sym, ◌∙◌, ap, arith, get_or, length-append, length-take, take-append-drop, append_assoc}
+use Rattle.std.proofs.Common.{◌≡◌, ℕ, zero, suc, ◌+◌, ◌<◌, Some, None, List, [], ◌∷◌, ◌++◌, length, take, drop, refl, sym, ◌∙◌, ap, arith}
+use Rattle.std.proofs.Common.{get_or, length-append, length-take, take-append-drop, append_assoc}
 use Rattle.std.proofs.lemmas.List.{get_or-append-add}
 use Rattle.std.specs.Prelude.{slice_index}
 use Rattle.memchr.specs.Find.{FindsNeedle, OccursAt}

@@ -1,5 +1,6 @@
 -- Where a part ends: behind the octets that are due, at the first CRLF.
-use Rattle.std.proofs.Common.{◌≡◌, ℕ, ◌+◌, ◌<◌, ◌≤◌, List, [], ◌∷◌, ◌++◌, length, take, drop, refl, sym, ◌∙◌, ap, subst, arith, length-append, length-take, append_assoc}
+use Rattle.std.proofs.Common.{◌≡◌, ℕ, ◌+◌, ◌<◌, ◌≤◌, List, [], ◌∷◌, ◌++◌, length, take, drop, refl, sym, ◌∙◌, ap, subst, arith}
+use Rattle.std.proofs.Common.{length-append, length-take, append_assoc}
 use Rattle.std.proofs.Math.Seq.{take-add}
 use Rattle.std.specs.Prelude.{min}
 use Rattle.std.specs.Str.Parse.{IsNumeral, digits_value}
@@ -25,7 +26,8 @@ tells_none part none = record {
 pub no_line : (part : List ℕ) → ((front : List ℕ) → part ≡ front ++ crlf → ⊥) → TellsDue (part ∷ []) 0
 no_line part none = tells_none part (λ digits announces. none (announces.front ++ header digits) announces.text)
 
-pub no_header : (part line : List ℕ) → part ≡ line ++ crlf → ((front digits : List ℕ) → IsNumeral 10 digits → line ≡ front ++ header digits → ⊥) → TellsDue (part ∷ []) 0
+pub no_header : (part line : List ℕ) → part ≡ line ++ crlf →
+    ((front digits : List ℕ) → IsNumeral 10 digits → line ≡ front ++ header digits → ⊥) → TellsDue (part ∷ []) 0
 no_header part line cut none = tells_none part (λ digits announces. none announces.front digits announces.number
     (append_cancel_right line (announces.front ++ header digits) crlf (sym cut ∙ announces.text)))
 
@@ -74,7 +76,8 @@ split before bytes part rest is whole =
     whole ∙ ap (λ (t : List ℕ). t ++ rest) is.text ∙ append_assoc (is.octets ++ is.line) crlf rest ∙ append_assoc is.octets is.line (13 ∷ 10 ∷ rest)
 
 -- fewer bytes than are due are no part
-pub too_short : (before : List (List ℕ)) (bytes : List ℕ) (due : ℕ) → TellsDue before due → length bytes < 18446744073709551616 → length bytes ≤ due → NoPart before bytes
+pub too_short : (before : List (List ℕ)) (bytes : List ℕ) (due : ℕ) → TellsDue before due → length bytes < 18446744073709551616 →
+    length bytes ≤ due → NoPart before bytes
 too_short before bytes due tells fits short part rest is whole =
     omega (
       arith,
@@ -88,10 +91,12 @@ too_short before bytes due tells fits short part rest is whole =
     )
 
 -- nor are those without a CRLF behind them
-pub no_end : (before : List (List ℕ)) (bytes : List ℕ) (due : ℕ) → TellsDue before due → length bytes < 18446744073709551616 → due < length bytes → NoCrlf (drop due bytes) → NoPart before bytes
+pub no_end : (before : List (List ℕ)) (bytes : List ℕ) (due : ℕ) → TellsDue before due → length bytes < 18446744073709551616 →
+    due < length bytes → NoCrlf (drop due bytes) → NoPart before bytes
 no_end before bytes due tells fits long none part rest is whole =
     let same : due ≡ length is.octets = omega (arith, tells.only (length is.octets) is.due, tells.count, fits, long) in
-    none is.line rest (ap (λ (n : ℕ). drop n bytes) same ∙ ap (drop (length is.octets)) (split before bytes part rest is whole) ∙ drop_front is.octets (is.line ++ 13 ∷ 10 ∷ rest))
+    none is.line rest (ap (λ (n : ℕ). drop n bytes) same ∙ ap (drop (length is.octets)) (split before bytes part rest is whole)
+    ∙ drop_front is.octets (is.line ++ 13 ∷ 10 ∷ rest))
 
 -- up to the first CRLF behind what is due, they are one
 pub whole_part : (before : List (List ℕ)) (bytes line : List ℕ) (due end : ℕ) → TellsDue before due → length bytes < 18446744073709551616 → due < length bytes
@@ -99,7 +104,8 @@ pub whole_part : (before : List (List ℕ)) (bytes line : List ℕ) (due end : �
 whole_part before bytes line due end tells fits long plain cut = record {
   octets = take due bytes;
   line = line;
-  due = let same : tells.octets ≡ length (take due bytes) = omega (arith, tells.count, fits, long, length-take due bytes) in subst (IsDue before) same tells.due;
+  due = let same : tells.octets ≡ length (take due bytes) = omega (arith, tells.count, fits, long, length-take due bytes) in
+      subst (IsDue before) same tells.due;
   plain = plain;
   text = take-add due end bytes ∙ ap (λ (t : List ℕ). take due bytes ++ t) cut ∙ sym (append_assoc (take due bytes) line crlf);
 }

@@ -1,5 +1,6 @@
 -- The first word of a text, where it is a tag.
-use Rattle.std.proofs.Common.{◌≡◌, ◌≢◌, ℕ, zero, suc, ◌<◌, Bool, true, false, List, [], ◌∷◌, ◌++◌, get_or, length, take, drop, Option, Some, None, refl, ap, sym, ◌∙◌, subst, inl, inr, arith}
+use Rattle.std.proofs.Common.{◌≡◌, ◌≢◌, ℕ, zero, suc, ◌<◌, Bool, true, false, List, [], ◌∷◌, ◌++◌, get_or, length, take, drop, Option}
+use Rattle.std.proofs.Common.{Some, None, refl, ap, sym, ◌∙◌, subst, inl, inr, arith}
 use Rattle.std.proofs.lemmas.Bool.{cases_Bool}
 use Rattle.std.proofs.lemmas.Bool.Decides.{nat_tests}
 use Rattle.std.specs.Prelude.{◌⊎◌, not, nat_lt, cond, IsTrue, IfNone}
@@ -24,7 +25,8 @@ front_all (b ∷ text) = elim (cases_Bool (is_tag_byte b)) [
   | inr none ↦ subst (λ (n : ℕ). AllByRecursion (λ byte. IsTrue (is_tag_byte byte)) (take n (b ∷ text))) (sym (len_end b text none)) tt
 ]
 
-len_is : (word rest : List ℕ) (e : ℕ) → AllByRecursion (λ byte. IsTrue (is_tag_byte byte)) word → is_tag_byte e ≡ false → tag_len (word ++ e ∷ rest) ≡ length word
+len_is : (word rest : List ℕ) (e : ℕ) → AllByRecursion (λ byte. IsTrue (is_tag_byte byte)) word → is_tag_byte e ≡ false →
+    tag_len (word ++ e ∷ rest) ≡ length word
 len_is [] rest e all none = len_end e rest none
 len_is (b ∷ word) rest e all none = len_on b (word ++ e ∷ rest) all.0 ∙ omega (arith, len_is word rest e all.1 none)
 
@@ -59,11 +61,16 @@ some_word [] at some lt e = omega arith
 some_word (b ∷ text) zero some lt e = some refl
 some_word (b ∷ text) (suc at) some lt e = cc
 
-pub word_here : (text : List ℕ) (at d : ℕ) → position (λ byte. not (is_tag_byte byte)) text ≡ Some at → at ≢ 0 → (get_or text at d ≡ 32) ⊎ (get_or text at d ≡ 13) → (later : List (List ℕ)) → IsTagged (text ∷ later) (take at text)
+pub word_here : (text : List ℕ) (at d : ℕ) → position (λ byte. not (is_tag_byte byte)) text ≡ Some at → at ≢ 0 →
+    (get_or text at d ≡ 32) ⊎ (get_or text at d ≡ 13) → (later : List (List ℕ)) → IsTagged (text ∷ later) (take at text)
 word_here text at d is some ends later =
     let place = place_of text at is in
     record {
-      tag = (some_word text at some place.1, subst (λ (n : ℕ). AllByRecursion (λ byte. IsTrue (is_tag_byte byte)) (take n text)) (sym place.0) (front_all text));
+      tag = (
+        some_word text at some place.1,
+        subst (λ (n : ℕ). AllByRecursion (λ byte. IsTrue (is_tag_byte byte)) (take n text))
+            (sym place.0) (front_all text),
+      );
       end = get_or text at d;
       ends = ends;
       rest = drop (suc at) text;
@@ -79,7 +86,8 @@ end_fails e (inr is) = rw is refl
 text_of : (text word : List ℕ) (later : List (List ℕ)) (t : IsTagged (text ∷ later) word) → text ≡ word ++ t.end ∷ t.rest
 text_of text word later t = let whole = t.text in cc
 
-place_is : (word rest : List ℕ) (e : ℕ) → AllByRecursion (λ byte. IsTrue (is_tag_byte byte)) word → is_tag_byte e ≡ false → position (λ byte. not (is_tag_byte byte)) (word ++ e ∷ rest) ≡ Some (length word)
+place_is : (word rest : List ℕ) (e : ℕ) → AllByRecursion (λ byte. IsTrue (is_tag_byte byte)) word → is_tag_byte e ≡ false →
+    position (λ byte. not (is_tag_byte byte)) (word ++ e ∷ rest) ≡ Some (length word)
 place_is word rest e all none =
     let here : tag_len (word ++ e ∷ rest) ≡ length word = len_is word rest e all none in
     let less : nat_lt (length word) (length (word ++ e ∷ rest)) ≡ true = less_true (length word) (length (word ++ e ∷ rest)) (longer word rest e) in
@@ -89,26 +97,31 @@ place_is word rest e all none =
     less_true m n h = grind (arith, nat_tests)
 
 place_told : (text word : List ℕ) (later : List (List ℕ)) → IsTagged (text ∷ later) word → position (λ byte. not (is_tag_byte byte)) text ≡ Some (length word)
-place_told text word later t = ap (position (λ byte. not (is_tag_byte byte))) (text_of text word later t) ∙ place_is word t.rest t.end t.tag.1 (end_fails t.end t.ends)
+place_told text word later t = ap (position (λ byte. not (is_tag_byte byte))) (text_of text word later t)
+    ∙ place_is word t.rest t.end t.tag.1 (end_fails t.end t.ends)
 
-pub none_here : (text : List ℕ) → position (λ byte. not (is_tag_byte byte)) text ≡ None → (word : List ℕ) (later : List (List ℕ)) → IsTagged (text ∷ later) word → ⊥
+pub none_here : (text : List ℕ) → position (λ byte. not (is_tag_byte byte)) text ≡ None → (word : List ℕ) (later : List (List ℕ)) →
+    IsTagged (text ∷ later) word → ⊥
 none_here text none word later t = let some = place_told text word later t in cc
 
 length_some : (word : List ℕ) → word ≢ [] → length word ≢ 0
 length_some [] some e = some refl
 length_some (b ∷ word) some e = omega (arith, e)
 
-pub none_empty : (text : List ℕ) (at : ℕ) → position (λ byte. not (is_tag_byte byte)) text ≡ Some at → at ≡ 0 → (word : List ℕ) (later : List (List ℕ)) → IsTagged (text ∷ later) word → ⊥
+pub none_empty : (text : List ℕ) (at : ℕ) → position (λ byte. not (is_tag_byte byte)) text ≡ Some at → at ≡ 0 →
+    (word : List ℕ) (later : List (List ℕ)) → IsTagged (text ∷ later) word → ⊥
 none_empty text at is none word later t =
     let some = place_told text word later t in
     let same : length word ≡ at = cc in
     length_some word t.tag.0 (same ∙ none)
 
-pub none_ends : (text : List ℕ) (at d : ℕ) → position (λ byte. not (is_tag_byte byte)) text ≡ Some at → (((get_or text at d ≡ 32) ⊎ (get_or text at d ≡ 13)) → ⊥) → (word : List ℕ) (later : List (List ℕ)) → IsTagged (text ∷ later) word → ⊥
+pub none_ends : (text : List ℕ) (at d : ℕ) → position (λ byte. not (is_tag_byte byte)) text ≡ Some at →
+    (((get_or text at d ≡ 32) ⊎ (get_or text at d ≡ 13)) → ⊥) → (word : List ℕ) (later : List (List ℕ)) → IsTagged (text ∷ later) word → ⊥
 none_ends text at d is other word later t =
     let some = place_told text word later t in
     let same : length word ≡ at = cc in
-    let here : get_or text at d ≡ t.end = ap (λ (n : ℕ). get_or text n d) (sym same) ∙ ap (λ (l : List ℕ). get_or l (length word) d) (text_of text word later t) ∙ at_end word t.rest t.end d in
+    let here : get_or text at d ≡ t.end = ap (λ (n : ℕ). get_or text n d) (sym same)
+    ∙ ap (λ (l : List ℕ). get_or l (length word) d) (text_of text word later t) ∙ at_end word t.rest t.end d in
     other (subst (λ (b : ℕ). (b ≡ 32) ⊎ (b ≡ 13)) (sym here) t.ends)
 
 -- where nothing is told

@@ -1,5 +1,6 @@
 -- The text of a list of flags is read as that list.
-use Rattle.std.proofs.Common.{◌≡◌, ◌<◌, ℕ, Bool, true, false, not, cond, ◌&&◌, nat_lt, ◌==◌, List, [], ◌∷◌, ◌++◌, length, unwrap_or, refl, ap, sym, ◌∙◌, append_assoc, arith}
+use Rattle.std.proofs.Common.{◌≡◌, ◌<◌, ℕ, Bool, true, false, not, cond, ◌&&◌, nat_lt, ◌==◌, List, [], ◌∷◌, ◌++◌, length, unwrap_or, refl}
+use Rattle.std.proofs.Common.{ap, sym, ◌∙◌, append_assoc, arith}
 use Rattle.std.specs.List.{list_all}
 use Rattle.std.specs.declared.cmp.Ordering.TheVariants.{Less}
 use Rattle.flag_set.specs.Flag.{backslash, is_atom_byte, is_flag, name_of, spelling, refusal}
@@ -23,7 +24,8 @@ key_read key text found is same read = read ∙ ap key_of same ∙ spelling_key 
 pub key_fault : (key text : List ℕ) (fault : FlagFault) → IsKey key → text ≡ spelling key → fault ≡ unwrap_or (refusal text) Memory → fault ≡ Memory
 key_fault key text fault is same told = told ∙ ap (λ r. unwrap_or r Memory) (ap refusal same ∙ spelling_accepted key is)
 
-below : (d : List ℕ) (done : List (List ℕ)) (key : List ℕ) (rest : List (List ℕ)) → AllKeys (λ later. order d later ≡ Less) (done ++ key ∷ rest) → order d key ≡ Less
+below : (d : List ℕ) (done : List (List ℕ)) (key : List ℕ) (rest : List (List ℕ)) →
+    AllKeys (λ later. order d later ≡ Less) (done ++ key ∷ rest) → order d key ≡ Less
 below d [] key rest all = all.0
 below d (x ∷ done) key rest all = below d done key rest all.1
 
@@ -84,7 +86,8 @@ all_keys_front : (P : List ℕ → Type 0) (done : List (List ℕ)) (key : List 
 all_keys_front P [] key rest all = all.0
 all_keys_front P (d ∷ done) key rest all = all_keys_front P done key rest all.1
 
-next_from : (keys done : List (List ℕ)) (key : List ℕ) (rest : List (List ℕ)) (text front behind : List ℕ) → IsFlagSet keys → keys ≡ done ++ key ∷ rest → front ≡ spelling key → behind ≡ list_text rest
+next_from : (keys done : List (List ℕ)) (key : List ℕ) (rest : List (List ℕ)) (text front behind : List ℕ) → IsFlagSet keys →
+    keys ≡ done ++ key ∷ rest → front ≡ spelling key → behind ≡ list_text rest
     → Next keys done front behind
 next_from keys done key rest text front behind set whole flag left =
     let whole_set : IsFlagSet (done ++ key ∷ rest) = rw whole at set in
@@ -96,7 +99,8 @@ next_from keys done key rest text front behind set whole flag left =
       reads = record { left = rest; whole = whole ∙ sym (append_assoc done (key ∷ []) rest); text_is = left };
     }
 
-pub next : (keys done : List (List ℕ)) (text front behind : List ℕ) → IsFlagSet keys → Reads keys done text → 0 < length text → Cut text front behind → Next keys done front behind
+pub next : (keys done : List (List ℕ)) (text front behind : List ℕ) → IsFlagSet keys → Reads keys done text → 0 < length text →
+    Cut text front behind → Next keys done front behind
 next keys done text front behind set reads some cuts = next_of reads.left reads.whole reads.text_is
   where
     lacks : (key : List ℕ) (rest : List (List ℕ)) → keys ≡ done ++ key ∷ rest → Lacks 32 (spelling key)
@@ -165,4 +169,5 @@ list_lacks [] all = refl
 list_lacks (key ∷ []) all = spelling_inside key all.0
 list_lacks (key ∷ k ∷ rest) all =
     list_all-append (λ byte. not (byte == 41)) (spelling key) (32 ∷ list_text (k ∷ rest))
-    ∙ both_true (list_all (λ byte. not (byte == 41)) (spelling key)) (list_all (λ byte. not (byte == 41)) (32 ∷ list_text (k ∷ rest))) (spelling_inside key all.0) (list_lacks (k ∷ rest) all.1)
+    ∙ both_true (list_all (λ byte. not (byte == 41)) (spelling key)) (list_all (λ byte. not (byte == 41)) (32 ∷ list_text (k ∷ rest)))
+    (spelling_inside key all.0) (list_lacks (k ∷ rest) all.1)

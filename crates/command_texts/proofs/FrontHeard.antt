@@ -49,7 +49,8 @@ sent_for : (tag : Tag) (awaited : Awaited) (parts : List (List ℕ)) → IsFront
 sent_for tag awaited parts front =
     record { writable = record { tagged = front.tagged; carried = carried_for awaited }; tag_fits = front.tag_fits; held = held_for awaited front.held }
 
-pub stands_sent : (tag : Tag) (awaited : Awaited) (parts : List (List ℕ)) (t : Tag) (s : StandIn) → IsFrontOf tag awaited parts → t ≡ tag → Stands awaited s → IsSent t s.command
+pub stands_sent : (tag : Tag) (awaited : Awaited) (parts : List (List ℕ)) (t : Tag) (s : StandIn) → IsFrontOf tag awaited parts → t ≡ tag →
+    Stands awaited s → IsSent t s.command
 stands_sent tag awaited parts t s front same stands = rw (same, stands.command) (sent_for tag awaited parts front)
 
 -- its text is the front but for the number of octets
@@ -67,7 +68,8 @@ octets_are (Password user n) = refl
 octets_are (Id from n) = refl
 octets_are (Message to flags n) = refl
 
-pub stands_renumbered : (tag : Tag) (awaited : Awaited) (parts : List (List ℕ)) (t : Tag) (s : StandIn) → IsFrontOf tag awaited parts → t ≡ tag → Stands awaited s
+pub stands_renumbered : (tag : Tag) (awaited : Awaited) (parts : List (List ℕ)) (t : Tag) (s : StandIn) → IsFrontOf tag awaited parts →
+    t ≡ tag → Stands awaited s
     → IsRenumbered s.octets (parts_of t s.command) parts
 stands_renumbered tag awaited parts t s front same stands =
     rw (same, stands.command, stands.octets, ← stand_in_is awaited, ← octets_are awaited) (stand_in_front tag awaited parts front)

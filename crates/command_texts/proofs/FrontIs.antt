@@ -1,5 +1,6 @@
 -- What is such a front is the front of a command's text: returns, which only a literal can carry, may come behind it.
-use Rattle.std.proofs.Common.{◌≡◌, ℕ, zero, suc, ◌<◌, ◌^◌, Bool, true, false, not, ◌&&◌, nat_lt, Contains, List, [], ◌∷◌, ◌++◌, length, get_or, codes, refl, ap, sym, ◌∙◌, arith}
+use Rattle.std.proofs.Common.{◌≡◌, ℕ, zero, suc, ◌<◌, ◌^◌, Bool, true, false, not, ◌&&◌, nat_lt, Contains, List, [], ◌∷◌, ◌++◌, length}
+use Rattle.std.proofs.Common.{get_or, codes, refl, ap, sym, ◌∙◌, arith}
 use Rattle.std.specs.List.{list_all, AllByRecursion}
 use Rattle.std.specs.Str.{IsUtf8, str_eq_ignore_ascii_case}
 use Rattle.std.proofs.lemmas.Str.{IsUtf8-from_ascii, IsUtf8-nil}
@@ -74,9 +75,39 @@ returns_awaited (Message to flags n) held = returns_len n
 
 -- a program can hold the command with these returns
 returns_held : (awaited : Awaited) → IsHeldFront awaited → IsHeld (filled awaited (returns (octets_of awaited)))
-returns_held Response held = record { kept = record { plain = record { user_has_none = nothing_plain; password_has_none = nothing_plain }; user = nothing_text; password = nothing_text }; user = IsUtf8-nil; password = IsUtf8-nil }
-returns_held (User n) held = record { kept = record { plain = record { user_has_none = returns_plain n; password_has_none = nothing_plain }; user = returns_text n held.fits; password = nothing_text }; user = returns_utf8 n; password = IsUtf8-nil }
-returns_held (Password user n) held = record { kept = record { plain = record { user_has_none = held.0.plain; password_has_none = returns_plain n }; user = held.0.text; password = returns_text n held.1.fits }; user = held.0.utf8; password = returns_utf8 n }
+returns_held Response held = record {
+  kept = record {
+    plain =
+        record { user_has_none = nothing_plain; password_has_none = nothing_plain };
+    user = nothing_text;
+    password = nothing_text;
+  };
+  user =
+      IsUtf8-nil;
+  password = IsUtf8-nil;
+}
+returns_held (User n) held = record {
+  kept = record {
+    plain =
+        record { user_has_none = returns_plain n; password_has_none = nothing_plain };
+    user = returns_text n held.fits;
+    password =
+        nothing_text;
+  };
+  user = returns_utf8 n;
+  password = IsUtf8-nil;
+}
+returns_held (Password user n) held = record {
+  kept = record {
+    plain =
+        record { user_has_none = held.0.plain; password_has_none = returns_plain n };
+    user = held.0.text;
+    password =
+        returns_text n held.1.fits;
+  };
+  user = held.0.utf8;
+  password = returns_utf8 n;
+}
 returns_held (Id from n) held = (held.0, returns_text n held.1.fits)
 returns_held (Message to flags n) held = (held.0, held.1, returns_text n held.2)
 
@@ -104,7 +135,12 @@ front_is tag awaited parts is =
     let behind = behind_of (tail awaited) in (
       command,
       record {
-        sent = record { writable = record { tagged = is.tagged; carried = returns_carried awaited }; tag_fits = is.tag_fits; held = returns_held awaited is.held };
+        sent = record {
+          writable = record { tagged = is.tagged; carried = returns_carried awaited };
+          tag_fits = is.tag_fits;
+          held =
+              returns_held awaited is.held;
+        };
         next = next;
         behind = behind;
         text = filled_is tag awaited octets (returns_awaited awaited is.held) ∙ ap (λ p. p ++ next ∷ behind) is.text;

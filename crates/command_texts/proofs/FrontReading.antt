@@ -1,5 +1,7 @@
 -- The texts of fronts, one byte list behind the other.
-use Rattle.std.proofs.Common.{◌≡◌, ◌<◌, ◌^◌, ℕ, zero, suc, Bool, true, false, cond, not, ◌&&◌, nat_lt, ◌==◌, get_or, drop, Contains, Bor, Result, Ok, Err, IfOk, MatchOption, Option, Some, None, subst, List, [], ◌∷◌, ◌++◌, length, codes, decimal, refl, ap, ◌∙◌, sym, append_assoc, arith}
+use Rattle.std.proofs.Common.{◌≡◌, ◌<◌, ◌^◌, ℕ, zero, suc, Bool, true, false, cond, not, ◌&&◌, nat_lt, ◌==◌, get_or, drop, Contains, Bor}
+use Rattle.std.proofs.Common.{Result, Ok, Err, IfOk, MatchOption, Option, Some, None, subst, List, [], ◌∷◌, ◌++◌, length, codes, decimal}
+use Rattle.std.proofs.Common.{refl, ap, ◌∙◌, sym, append_assoc, arith}
 use Rattle.std.specs.Str.{IsUtf8}
 use Rattle.std.proofs.lemmas.Str.{IsUtf8-from_ascii, IsUtf8-nil}
 use Rattle.std.proofs.lemmas.Str.Ascii.{IsAscii-nil, IsAscii-cons}
@@ -49,16 +51,44 @@ return_utf8 : IsUtf8 (13 ∷ [])
 return_utf8 = IsUtf8-from_ascii (13 ∷ []) (IsAscii-cons 13 [] (omega arith) IsAscii-nil)
 
 pub no_account : IsHeldAccount (record { user = []; password = [] })
-no_account = record { kept = record { plain = record { user_has_none = no_nul; password_has_none = no_nul }; user = no_text; password = no_text }; user = IsUtf8-nil; password = IsUtf8-nil }
+no_account = record {
+  kept = record {
+    plain = record { user_has_none = no_nul; password_has_none = no_nul };
+    user = no_text;
+    password =
+        no_text;
+  };
+  user = IsUtf8-nil;
+  password = IsUtf8-nil;
+}
 
 pub return_account : IsHeldAccount (record { user = 13 ∷ []; password = [] })
-return_account = record { kept = record { plain = record { user_has_none = return_nul; password_has_none = no_nul }; user = return_text; password = no_text }; user = return_utf8; password = IsUtf8-nil }
+return_account = record {
+  kept = record {
+    plain = record { user_has_none = return_nul; password_has_none = no_nul };
+    user =
+        return_text;
+    password = no_text;
+  };
+  user = return_utf8;
+  password = IsUtf8-nil;
+}
 
 pub user_account : (name : List ℕ) → IsUser name → IsHeldAccount (record { user = name; password = 13 ∷ [] })
-user_account name is = record { kept = record { plain = record { user_has_none = is.plain; password_has_none = return_nul }; user = is.text; password = return_text }; user = is.utf8; password = return_utf8 }
+user_account name is = record {
+  kept = record {
+    plain = record { user_has_none = is.plain; password_has_none = return_nul };
+    user =
+        is.text;
+    password = return_text;
+  };
+  user = is.utf8;
+  password = return_utf8;
+}
 
 -- behind the user's name, which is one part or two
-pub password_text : (name : List ℕ) (n : ℕ) → astring_parts name ⌢ (words " " ⌢ announced n) ≡ astring_parts name ⌢ ((32 ∷ 123 ∷ (decimal n ++ 125 ∷ crlf)) ∷ [])
+pub password_text : (name : List ℕ) (n : ℕ) → astring_parts name ⌢ (words " " ⌢ announced n)
+    ≡ astring_parts name ⌢ ((32 ∷ 123 ∷ (decimal n ++ 125 ∷ crlf)) ∷ [])
 unfolding ◌⌢◌
 password_text name n = ap (λ x. astring_parts name ⌢ ((32 ∷ 123 ∷ x) ∷ [])) (append_assoc (decimal n) (125 ∷ []) crlf)
 
@@ -71,13 +101,16 @@ login_finds awaited account n m (Ok (Some f)) is command octets same = record { 
 login_finds awaited account n m (Err e) is command octets same = tt
 
 -- what is found for other numbers is found for these
-pub id_finds : {E : Type 0} (from n from' n' : ℕ) (result : Result (Option StandIn) E) → IfOk result (Finds (Id from n)) → Some from ≡ Some from' → Some n ≡ Some n' → IfOk result (Finds (Id from' n'))
-id_finds from n from' n' result is first second = subst (λ x. IfOk result (Finds (Id x n'))) (same_Some from from' first) (subst (λ x. IfOk result (Finds (Id from x))) (same_Some n n' second) is)
+pub id_finds : {E : Type 0} (from n from' n' : ℕ) (result : Result (Option StandIn) E) → IfOk result (Finds (Id from n)) →
+    Some from ≡ Some from' → Some n ≡ Some n' → IfOk result (Finds (Id from' n'))
+id_finds from n from' n' result is first second = subst (λ x. IfOk result (Finds (Id x n'))) (same_Some from from' first)
+    (subst (λ x. IfOk result (Finds (Id from x))) (same_Some n n' second) is)
 
 pub plain_stands : (account : Credentials) → Some account ≡ Some (record { user = []; password = [] }) → commands.Plain account ≡ stand_for Response
 plain_stands account same = ap commands.Plain (same_Some account (record { user = []; password = [] }) same)
 
-pub append_stands : (to to' : List ℕ) (flags flags' : List (List ℕ)) (text : List ℕ) (n : ℕ) → to ≡ to' → Some flags ≡ Some flags' → text ≡ [] → commands.Append to flags text ≡ stand_for (Message to' flags' n)
+pub append_stands : (to to' : List ℕ) (flags flags' : List (List ℕ)) (text : List ℕ) (n : ℕ) → to ≡ to' → Some flags ≡ Some flags' →
+    text ≡ [] → commands.Append to flags text ≡ stand_for (Message to' flags' n)
 append_stands to to' flags flags' text n first second third = let two : flags ≡ flags' = same_Some flags flags' second in cc
 
 -- Where a user's name and what stands behind it are one part, that part begins with no brace.
@@ -94,7 +127,8 @@ bare_first (c ∷ name) text r bare is brace =
     let first : c ≡ 123 = sym (ap (λ x. get_or x 0 0) same) ∙ brace in
     cc (ap is_astring_byte first, (and_parts (is_astring_byte c) (list_all is_astring_byte name) (bare_parts (c ∷ name) bare).1).0)
 
-lone_from : (name text r : List ℕ) (b q : Bool) → is_bare name ≡ b → text ∷ [] ≡ cond b (line name) (cond q (line (quoted name)) (literal name)) ⌢ ((32 ∷ r) ∷ []) → get_or text 0 0 ≡ 123 → ⊥
+lone_from : (name text r : List ℕ) (b q : Bool) → is_bare name ≡ b →
+    text ∷ [] ≡ cond b (line name) (cond q (line (quoted name)) (literal name)) ⌢ ((32 ∷ r) ∷ []) → get_or text 0 0 ≡ 123 → ⊥
 unfolding ◌⌢◌
 lone_from name text r true q bare is brace = bare_first name text r bare is brace
 lone_from name text r false true bare is brace =
@@ -107,14 +141,16 @@ pub lone_first : (name text r : List ℕ) → text ∷ [] ≡ astring_parts name
 lone_first name text r is brace = lone_from name text r (is_bare name) (list_all is_quotable name) refl is brace
 
 -- what a front begins with, and what stands behind that
-begins : (word : List ℕ) (parts : List (List ℕ)) (text : List ℕ) (later : List (List ℕ)) → text ∷ later ≡ line word ⌢ parts → 1 < length word → get_or text 1 0 ≡ get_or word 1 0
+begins : (word : List ℕ) (parts : List (List ℕ)) (text : List ℕ) (later : List (List ℕ)) → text ∷ later ≡ line word ⌢ parts →
+    1 < length word → get_or text 1 0 ≡ get_or word 1 0
 unfolding ◌⌢◌
 begins (a ∷ b ∷ word) [] text later is some = let same : text ≡ a ∷ b ∷ word = cc in ap (λ x. get_or x 1 0) same
 begins (a ∷ b ∷ word) (p ∷ parts) text later is some = let same : text ≡ (a ∷ b ∷ word) ++ p = cc in ap (λ x. get_or x 1 0) same
 begins [] parts text later is some = absurd (omega (arith, some))
 begins (a ∷ []) parts text later is some = absurd (omega (arith, some))
 
-pub behind_word : (word : List ℕ) (parts : List (List ℕ)) (text : List ℕ) (later : List (List ℕ)) → 0 < length parts → text ∷ later ≡ line word ⌢ parts → drop (length word) text ∷ later ≡ parts
+pub behind_word : (word : List ℕ) (parts : List (List ℕ)) (text : List ℕ) (later : List (List ℕ)) → 0 < length parts →
+    text ∷ later ≡ line word ⌢ parts → drop (length word) text ∷ later ≡ parts
 unfolding ◌⌢◌
 behind_word word [] text later some is = absurd (omega (arith, some))
 behind_word word (p ∷ parts) text later some is =
@@ -129,13 +165,15 @@ second_is Response text later is = let same : text ≡ codes "AUTHENTICATE PLAIN
 second_is (User n) text later is = begins (codes "LOGIN ") (announced n) text later is (omega arith)
 second_is (Password user n) text later is = begins (codes "LOGIN ") (astring_parts user ⌢ (words " " ⌢ announced n)) text later is (omega arith)
 second_is (Id from n) text later is = begins (codes "UID SEARCH UID ") (number from ⌢ (words ":* HEADER Message-ID " ⌢ announced n)) text later is (omega arith)
-second_is (Message to flags n) text later is = begins (codes "APPEND ") (astring_parts to ⌢ (words " (" ⌢ (line (list_text flags) ⌢ (words ") " ⌢ announced n)))) text later is (omega arith)
+second_is (Message to flags n) text later is = begins (codes "APPEND ")
+    (astring_parts to ⌢ (words " (" ⌢ (line (list_text flags) ⌢ (words ") " ⌢ announced n)))) text later is (omega arith)
 
 pub none_of : (parts : List (List ℕ)) → true ≡ (length parts == 0) → parts ≡ []
 none_of [] is = refl
 none_of (p ∷ parts) is = absurd (let same = eqb-true (length (p ∷ parts)) 0 (sym is) in omega (arith, same))
 
-pub lone_text : (name text : List ℕ) (later : List (List ℕ)) (n : ℕ) → true ≡ (length later == 0) → text ∷ later ≡ astring_parts name ⌢ (words " " ⌢ announced n) → get_or text 0 0 ≡ 123 → ⊥
+pub lone_text : (name text : List ℕ) (later : List (List ℕ)) (n : ℕ) → true ≡ (length later == 0) →
+    text ∷ later ≡ astring_parts name ⌢ (words " " ⌢ announced n) → get_or text 0 0 ≡ 123 → ⊥
 lone_text name text later n alone is brace =
     lone_first name text (123 ∷ (decimal n ++ 125 ∷ crlf)) (ap (λ x. text ∷ x) (sym (none_of later alone)) ∙ is ∙ password_text name n) brace
 
@@ -148,24 +186,28 @@ IsLogin (User n) parts = parts ≡ announced n
 IsLogin (Password user n) parts = parts ≡ astring_parts user ⌢ (words " " ⌢ announced n)
 IsLogin _ parts = ⊥
 
-pub login_rest : (awaited : Awaited) (text : List ℕ) (later : List (List ℕ)) → text ∷ later ≡ begun_parts awaited → second awaited ≡ 79 → IsLogin awaited (drop 6 text ∷ later)
+pub login_rest : (awaited : Awaited) (text : List ℕ) (later : List (List ℕ)) → text ∷ later ≡ begun_parts awaited → second awaited ≡ 79 →
+    IsLogin awaited (drop 6 text ∷ later)
 login_rest Response text later is second = absurd (omega (arith, second))
 login_rest (User n) text later is second = behind_word (codes "LOGIN ") (announced n) text later (omega arith) is
 login_rest (Password user n) text later is second =
-    behind_word (codes "LOGIN ") (astring_parts user ⌢ (words " " ⌢ announced n)) text later (some_behind (astring_parts user) (words " " ⌢ announced n) (some_behind (words " ") (announced n) (omega arith))) is
+    behind_word (codes "LOGIN ") (astring_parts user ⌢ (words " " ⌢ announced n)) text later
+    (some_behind (astring_parts user) (words " " ⌢ announced n) (some_behind (words " ") (announced n) (omega arith))) is
 login_rest (Id from n) text later is second = absurd (omega (arith, second))
 login_rest (Message to flags n) text later is second = absurd (omega (arith, second))
 
 pub login_is : {E : Type 0} (awaited : Awaited) (parts : List (List ℕ)) (result : Result (Option StandIn) E) → IsHeldFront awaited → IsLogin awaited parts
     → ((n : ℕ) → IsCount n → parts ≡ announced n → IfOk result (Finds (User n)))
-    → ((name : List ℕ) (n : ℕ) → IsUser name → IsCount n → parts ≡ astring_parts name ⌢ (words " " ⌢ announced n) → IfOk result (Finds (Password name n))) → IfOk result (Finds awaited)
+    → ((name : List ℕ) (n : ℕ) → IsUser name → IsCount n → parts ≡ astring_parts name ⌢ (words " " ⌢ announced n) →
+    IfOk result (Finds (Password name n))) → IfOk result (Finds awaited)
 login_is Response parts result held is user password = absurd is
 login_is (User n) parts result held is user password = user n held is
 login_is (Password name n) parts result held is user password = password name n held.0 held.1 is
 login_is (Id from n) parts result held is user password = absurd is
 login_is (Message to flags n) parts result held is user password = absurd is
 
-pub plain_is : {E : Type 0} (awaited : Awaited) (result : Result (Option StandIn) E) → second awaited ≡ 85 → IfOk result (Finds Response) → IfOk result (Finds awaited)
+pub plain_is : {E : Type 0} (awaited : Awaited) (result : Result (Option StandIn) E) → second awaited ≡ 85 → IfOk result (Finds Response) →
+    IfOk result (Finds awaited)
 plain_is Response result is found = found
 plain_is (User n) result is found = absurd (omega (arith, is))
 plain_is (Password name n) result is found = absurd (omega (arith, is))
@@ -188,9 +230,11 @@ name_byte b is = grind (arith, nat_tests, is.low, is.high)
 name_quotable : (bytes : List ℕ) → All IsNameByte bytes → list_all is_quotable bytes ≡ true
 name_quotable [] all = refl
 name_quotable (b ∷ bytes) all =
-    both_true (is_quotable b) (list_all is_quotable bytes) (name_byte b (all 0 0 (omega arith))) (name_quotable bytes (λ k d within. all (suc k) d (omega (arith, within))))
+    both_true (is_quotable b) (list_all is_quotable bytes) (name_byte b (all 0 0 (omega arith)))
+    (name_quotable bytes (λ k d within. all (suc k) d (omega (arith, within))))
 
-name_from : (name : List ℕ) (b q : Bool) → q ≡ true → astring_parts name ≡ cond b (line name) (cond q (line (quoted name)) (literal name)) → IsLone (astring_parts name)
+name_from : (name : List ℕ) (b q : Bool) → q ≡ true → astring_parts name
+    ≡ cond b (line name) (cond q (line (quoted name)) (literal name)) → IsLone (astring_parts name)
 name_from name true q all is = record { part = name; is = is }
 name_from name false true all is = record { part = quoted name; is = is }
 name_from name false false all is = cc
@@ -199,29 +243,38 @@ pub one_name : (name : List ℕ) → IsBoxName name → IsLone (astring_parts na
 one_name name is = name_from name (is_bare name) (list_all is_quotable name) (name_quotable name is.text.bytes) refl
 
 -- an APPEND, and a SEARCH
-message_text : (to : List ℕ) (flags : List (List ℕ)) (n : ℕ) (text : List ℕ) (later : List (List ℕ)) (one : IsLone (astring_parts to)) → text ∷ later ≡ begun_parts (Message to flags n)
+message_text : (to : List ℕ) (flags : List (List ℕ)) (n : ℕ) (text : List ℕ) (later : List (List ℕ)) (one : IsLone (astring_parts to)) →
+    text ∷ later ≡ begun_parts (Message to flags n)
     → drop 7 text ∷ [] ≡ astring_parts to ⌢ (words " (" ⌢ (line (list_text flags) ⌢ (words ") " ⌢ line (123 ∷ (decimal n ++ 125 ∷ crlf)))))
 unfolding ◌⌢◌
 message_text to flags n text later one is =
     let whole = behind_word (codes "APPEND ") (astring_parts to ⌢ (words " (" ⌢ (line (list_text flags) ⌢ (words ") " ⌢ announced n)))) text later
     (some_behind (astring_parts to) _ (omega arith)) is in
-    let size : astring_parts to ⌢ (words " (" ⌢ (line (list_text flags) ⌢ (words ") " ⌢ announced n))) ≡ astring_parts to ⌢ (words " (" ⌢ (line (list_text flags) ⌢ (words ") " ⌢ line (123 ∷ (decimal n ++ 125 ∷ crlf)))))
+    let size : astring_parts to ⌢ (words " (" ⌢ (line (list_text flags) ⌢ (words ") " ⌢ announced n)))
+    ≡ astring_parts to ⌢ (words " (" ⌢ (line (list_text flags) ⌢ (words ") " ⌢ line (123 ∷ (decimal n ++ 125 ∷ crlf)))))
     = ap (λ x. astring_parts to ⌢ (words " (" ⌢ (line (list_text flags) ⌢ (words ") " ⌢ x)))) (announced_is n) in
-    let lone : drop 7 text ∷ later ≡ (one.part ++ (codes " (" ++ (list_text flags ++ (codes ") " ++ (123 ∷ (decimal n ++ 125 ∷ crlf)))))) ∷ [] = whole ∙ size ∙ ap (λ x. x ⌢ (words " (" ⌢ (line (list_text flags) ⌢ (words ") " ⌢ line (123 ∷ (decimal n ++ 125 ∷ crlf)))))) one.is in
+    let lone : drop 7 text ∷ later ≡ (one.part ++ (codes " (" ++
+    (list_text flags ++ (codes ") " ++ (123 ∷ (decimal n ++ 125 ∷ crlf)))))) ∷ [] =
+    whole ∙ size ∙ ap (λ x. x ⌢ (words " (" ⌢ (line (list_text flags) ⌢
+    (words ") " ⌢ line (123 ∷ (decimal n ++ 125 ∷ crlf)))))) one.is in
     let none : later ≡ [] = cc in
     ap (λ x. drop 7 text ∷ x) (sym none) ∙ whole ∙ size
 
-pub message_is : {E : Type 0} (awaited : Awaited) (text : List ℕ) (later : List (List ℕ)) (result : Result (Option StandIn) E) → IsHeldFront awaited → second awaited ≡ 80 → text ∷ later ≡ begun_parts awaited
+pub message_is : {E : Type 0} (awaited : Awaited) (text : List ℕ) (later : List (List ℕ)) (result : Result (Option StandIn) E) →
+    IsHeldFront awaited → second awaited ≡ 80 → text ∷ later ≡ begun_parts awaited
     → ((to : List ℕ) (flags : List (List ℕ)) (n : ℕ) → IsBoxName to → IsFlagSet flags → n < 2 ^ 64
-    → drop 7 text ∷ [] ≡ astring_parts to ⌢ (words " (" ⌢ (line (list_text flags) ⌢ (words ") " ⌢ line (123 ∷ (decimal n ++ 125 ∷ crlf))))) → IfOk result (Finds (Message to flags n)))
+    → drop 7 text ∷ [] ≡ astring_parts to ⌢ (words " (" ⌢ (line (list_text flags) ⌢
+    (words ") " ⌢ line (123 ∷ (decimal n ++ 125 ∷ crlf))))) → IfOk result (Finds (Message to flags n)))
     → IfOk result (Finds awaited)
 message_is Response text later result held kind is found = absurd (omega (arith, kind))
 message_is (User n) text later result held kind is found = absurd (omega (arith, kind))
 message_is (Password name n) text later result held kind is found = absurd (omega (arith, kind))
 message_is (Id from n) text later result held kind is found = absurd (omega (arith, kind))
-message_is (Message to flags n) text later result held kind is found = found to flags n held.0 held.1 held.2 (message_text to flags n text later (one_name to held.0) is)
+message_is (Message to flags n) text later result held kind is found =
+    found to flags n held.0 held.1 held.2 (message_text to flags n text later (one_name to held.0) is)
 
-id_text : (from n : ℕ) (text : List ℕ) (later : List (List ℕ)) → text ∷ later ≡ begun_parts (Id from n) → drop 15 text ≡ decimal from ++ 58 ∷ (codes "* HEADER Message-ID " ++ 123 ∷ (decimal n ++ 125 ∷ crlf))
+id_text : (from n : ℕ) (text : List ℕ) (later : List (List ℕ)) → text ∷ later ≡ begun_parts (Id from n) →
+    drop 15 text ≡ decimal from ++ 58 ∷ (codes "* HEADER Message-ID " ++ 123 ∷ (decimal n ++ 125 ∷ crlf))
 unfolding ◌⌢◌
 id_text from n text later is =
     let whole = behind_word (codes "UID SEARCH UID ") (number from ⌢ (words ":* HEADER Message-ID " ⌢ announced n)) text later (omega arith) is in
@@ -229,8 +282,10 @@ id_text from n text later is =
     let same : drop 15 text ∷ later ≡ (decimal from ++ (codes ":* HEADER Message-ID " ++ 123 ∷ (decimal n ++ 125 ∷ crlf))) ∷ [] = whole ∙ size in
     cc
 
-pub id_is : {E : Type 0} (awaited : Awaited) (text : List ℕ) (later : List (List ℕ)) (result : Result (Option StandIn) E) → IsHeldFront awaited → second awaited ≡ 73 → text ∷ later ≡ begun_parts awaited
-    → ((from n : ℕ) → IsNonzero32 from → IsCount n → drop 15 text ≡ decimal from ++ 58 ∷ (codes "* HEADER Message-ID " ++ 123 ∷ (decimal n ++ 125 ∷ crlf)) → IfOk result (Finds (Id from n)))
+pub id_is : {E : Type 0} (awaited : Awaited) (text : List ℕ) (later : List (List ℕ)) (result : Result (Option StandIn) E) →
+    IsHeldFront awaited → second awaited ≡ 73 → text ∷ later ≡ begun_parts awaited
+    → ((from n : ℕ) → IsNonzero32 from → IsCount n → drop 15 text
+    ≡ decimal from ++ 58 ∷ (codes "* HEADER Message-ID " ++ 123 ∷ (decimal n ++ 125 ∷ crlf)) → IfOk result (Finds (Id from n)))
     → IfOk result (Finds awaited)
 id_is Response text later result held kind is found = absurd (omega (arith, kind))
 id_is (User n) text later result held kind is found = absurd (omega (arith, kind))
@@ -254,7 +309,8 @@ unfolding ◌⌢◌
 counted n parts = refl
 
 -- the tag in front
-pub tag_front : (n : ℕ) (letter : ℕ) (first : List ℕ) (later : List (List ℕ)) → ((letter ∷ decimal n) ∷ []) ⌢ (words " " ⌢ (first ∷ later)) ≡ (letter ∷ (decimal n ++ 32 ∷ first)) ∷ later
+pub tag_front : (n : ℕ) (letter : ℕ) (first : List ℕ) (later : List (List ℕ)) →
+    ((letter ∷ decimal n) ∷ []) ⌢ (words " " ⌢ (first ∷ later)) ≡ (letter ∷ (decimal n ++ 32 ∷ first)) ∷ later
 unfolding ◌⌢◌
 tag_front n letter first later = refl
 
@@ -290,12 +346,18 @@ tagged_from Strange (first ∷ others) part later is fits some same = absurd is
 some_begun : (awaited : Awaited) → 0 < length (begun_parts awaited)
 some_begun Response = some_behind (words "AUTHENTICATE PLAIN") (line crlf) (omega arith)
 some_begun (User n) = some_behind (words "LOGIN ") (announced n) (omega arith)
-some_begun (Password name n) = some_behind (words "LOGIN ") _ (some_behind (astring_parts name) (words " " ⌢ announced n) (some_behind (words " ") (announced n) (omega arith)))
-some_begun (Id from n) = some_behind (words "UID SEARCH UID ") _ (some_behind (number from) _ (some_behind (words ":* HEADER Message-ID ") (announced n) (omega arith)))
-some_begun (Message to flags n) = some_behind (words "APPEND ") _ (some_behind (astring_parts to) _ (some_behind (words " (") _ (some_behind (line (list_text flags)) _ (some_behind (words ") ") (announced n) (omega arith)))))
+some_begun (Password name n) = some_behind (words "LOGIN ") _
+    (some_behind (astring_parts name) (words " " ⌢ announced n) (some_behind (words " ") (announced n) (omega arith)))
+some_begun (Id from n) = some_behind (words "UID SEARCH UID ") _
+    (some_behind (number from) _ (some_behind (words ":* HEADER Message-ID ") (announced n) (omega arith)))
+some_begun (Message to flags n) = some_behind (words "APPEND ") _
+    (some_behind (astring_parts to) _ (some_behind (words " (") _
+    (some_behind (line (list_text flags)) _ (some_behind (words ") ") (announced n) (omega arith)))))
 
-pub front_tagged : (tag : Tag) (awaited : Awaited) (parts : List (List ℕ)) (part : List ℕ) (later : List (List ℕ)) → IsFrontOf tag awaited parts → parts ≡ part ∷ later → Tagged tag (begun_parts awaited) part later
-front_tagged tag awaited parts part later front same = tagged_from tag (begun_parts awaited) part later front.tagged front.tag_fits (some_begun awaited) (front.text ∙ same)
+pub front_tagged : (tag : Tag) (awaited : Awaited) (parts : List (List ℕ)) (part : List ℕ) (later : List (List ℕ)) →
+    IsFrontOf tag awaited parts → parts ≡ part ∷ later → Tagged tag (begun_parts awaited) part later
+front_tagged tag awaited parts part later front same = tagged_from tag (begun_parts awaited) part later front.tagged front.tag_fits
+    (some_begun awaited) (front.text ∙ same)
 
 pub some_front : (tag : Tag) (awaited : Awaited) (parts : List (List ℕ)) → IsFrontOf tag awaited parts → length parts ≡ 0 → ⊥
 some_front tag awaited parts front none =
@@ -303,7 +365,8 @@ some_front tag awaited parts front none =
     omega (arith, some, none, ap length front.text)
 
 -- the tag that is found
-pub tag_found : (tag : Tag) (parts : List (List ℕ)) (part : List ℕ) (later : List (List ℕ)) (t : Tagged tag parts part later) (result : Option (Tag × Bor (List ℕ)))
+pub tag_found : (tag : Tag) (parts : List (List ℕ)) (part : List ℕ) (later : List (List ℕ)) (t : Tagged tag parts part later)
+    (result : Option (Tag × Bor (List ℕ)))
     → ((n : ℕ) (rest : List ℕ) → n < 2 ^ 32 → part ≡ 80 ∷ (decimal n ++ 32 ∷ rest) → MatchOption result ⊥ (λ f. (f.0 ≡ Play n) × (f.1.now ≡ rest)))
     → ((n : ℕ) (rest : List ℕ) → n < 2 ^ 32 → part ≡ 67 ∷ (decimal n ++ 32 ∷ rest) → MatchOption result ⊥ (λ f. (f.0 ≡ Count n) × (f.1.now ≡ rest)))
     → MatchOption result ⊥ (λ f. (f.0 ≡ tag) × (f.1.now ≡ t.first))

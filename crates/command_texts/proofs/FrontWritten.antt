@@ -1,5 +1,6 @@
 -- A front whose last part has another number of octets in its header is the front of a command's text too.
-use Rattle.std.proofs.Common.{◌≡◌, ℕ, ◌<◌, ◌^◌, inl, inr, None, Bool, true, false, not, ◌&&◌, ◌==◌, List, [], ◌∷◌, ◌++◌, length, decimal, codes, refl, ap, sym, ◌∙◌, subst, append_assoc, arith}
+use Rattle.std.proofs.Common.{◌≡◌, ℕ, ◌<◌, ◌^◌, inl, inr, None, Bool, true, false, not, ◌&&◌, ◌==◌, List, [], ◌∷◌, ◌++◌, length, decimal}
+use Rattle.std.proofs.Common.{codes, refl, ap, sym, ◌∙◌, subst, append_assoc, arith}
 use Rattle.std.specs.Char.{is_ascii_digit}
 use Rattle.std.specs.List.{list_all}
 use Rattle.std.proofs.lemmas.Bool.{and_parts}
@@ -88,12 +89,14 @@ five xs ys s t long long' same = omega (arith, sym (length-append xs s) ∙ ap l
 -- the end of AUTHENTICATE PLAIN is no header
 plain_apart : (g begun : List ℕ) (digit : ℕ) → digit_part begun digit ≡ (g ++ codes " AUTHENTICATE PL") ++ (65 ∷ 73 ∷ 78 ∷ 13 ∷ 10 ∷ []) → ⊥
 plain_apart g begun digit same =
-    let both = length_same begun (g ++ codes " AUTHENTICATE PL") (123 ∷ digit ∷ 125 ∷ 13 ∷ 10 ∷ []) (65 ∷ 73 ∷ 78 ∷ 13 ∷ 10 ∷ []) (five begun (g ++ codes " AUTHENTICATE PL") _ _ refl refl same) same in
+    let both = length_same begun (g ++ codes " AUTHENTICATE PL") (123 ∷ digit ∷ 125 ∷ 13 ∷ 10 ∷ []) (65 ∷ 73 ∷ 78 ∷ 13 ∷ 10 ∷ [])
+    (five begun (g ++ codes " AUTHENTICATE PL") _ _ refl refl same) same in
     let e : ◌≡◌ {A = ℕ} 123 65 = cc both.1 in
     omega arith
 
 -- a front with the header of another number
-module _ (tag : Tag) (awaited : Awaited) (before : List (List ℕ)) (begun : List ℕ) (digit n : ℕ) (is : IsDigit digit) (same : front_parts tag awaited ≡ before ++ digit_part begun digit ∷ []) where
+module _ (tag : Tag) (awaited : Awaited) (before : List (List ℕ)) (begun : List ℕ) (digit n : ℕ) (is : IsDigit digit)
+    (same : front_parts tag awaited ≡ before ++ digit_part begun digit ∷ []) where
   renumbered_from : ((m : ℕ) → mark_of (with_octets m awaited) ≡ header (decimal m) ++ crlf) → octets_of awaited < 2 ^ 64
       → front_parts tag (with_octets n awaited) ≡ before ++ (begun ++ (header (decimal n) ++ crlf)) ∷ []
   renumbered_from marks fits =
@@ -107,21 +110,25 @@ module _ (tag : Tag) (awaited : Awaited) (before : List (List ℕ)) (begun : Lis
       ∙ ap (λ b. before ++ (b ++ (header (decimal n) ++ crlf)) ∷ []) (sym begins)
 
 -- the front of AUTHENTICATE PLAIN is one part
-response_part : (tag : Tag) → IsCommandTag tag → (g : List ℕ) × (front_parts tag Response ≡ ((g ++ codes " AUTHENTICATE PL") ++ (65 ∷ 73 ∷ 78 ∷ 13 ∷ 10 ∷ [])) ∷ [])
+response_part : (tag : Tag) → IsCommandTag tag → (g : List ℕ)
+    × (front_parts tag Response ≡ ((g ++ codes " AUTHENTICATE PL") ++ (65 ∷ 73 ∷ 78 ∷ 13 ∷ 10 ∷ [])) ∷ [])
 unfolding ◌⌢◌
 response_part (Play m) is = (80 ∷ decimal m, ap (λ p. p ∷ []) (sym (append_assoc (80 ∷ decimal m) (codes " AUTHENTICATE PL") (65 ∷ 73 ∷ 78 ∷ 13 ∷ 10 ∷ []))))
 response_part (Count m) is = (67 ∷ decimal m, ap (λ p. p ∷ []) (sym (append_assoc (67 ∷ decimal m) (codes " AUTHENTICATE PL") (65 ∷ 73 ∷ 78 ∷ 13 ∷ 10 ∷ []))))
 response_part Strange is = absurd is
 
 renumbered : (tag : Tag) (awaited : Awaited) (before : List (List ℕ)) (begun : List ℕ) (digit n : ℕ) → IsCommandTag tag → IsHeldFront awaited → IsDigit digit
-    → front_parts tag awaited ≡ before ++ digit_part begun digit ∷ [] → front_parts tag (with_octets n awaited) ≡ before ++ (begun ++ (header (decimal n) ++ crlf)) ∷ []
+    → front_parts tag awaited ≡ before ++ digit_part begun digit ∷ [] →
+    front_parts tag (with_octets n awaited) ≡ before ++ (begun ++ (header (decimal n) ++ crlf)) ∷ []
 renumbered tag Response before begun digit n tagged held is same =
     let (g, one) = response_part tag tagged in
     absurd (plain_apart g begun digit (snoc_same before [] (digit_part begun digit) _ (sym same ∙ one)).1)
 renumbered tag (User m) before begun digit n tagged held is same = renumbered_from tag (User m) before begun digit n is same (λ m. refl) held.fits
-renumbered tag (Password user m) before begun digit n tagged held is same = renumbered_from tag (Password user m) before begun digit n is same (λ m. refl) held.1.fits
+renumbered tag (Password user m) before begun digit n tagged held is same =
+    renumbered_from tag (Password user m) before begun digit n is same (λ m. refl) held.1.fits
 renumbered tag (Id from m) before begun digit n tagged held is same = renumbered_from tag (Id from m) before begun digit n is same (λ m. refl) held.1.fits
-renumbered tag (Message to flags m) before begun digit n tagged held is same = renumbered_from tag (Message to flags m) before begun digit n is same (λ m. refl) held.2
+renumbered tag (Message to flags m) before begun digit n tagged held is same =
+    renumbered_from tag (Message to flags m) before begun digit n is same (λ m. refl) held.2
 
 held_with : (awaited : Awaited) (n : ℕ) → IsHeldFront awaited → n < 2 ^ 64 → (append_at awaited ≡ None → 0 < n) → IsHeldFront (with_octets n awaited)
 held_with Response n held fits some = tt
@@ -161,7 +168,8 @@ module _ (tag : Tag) (command : Command) (before : List (List ℕ)) (part final 
         tagged = sent.writable.tagged;
         tag_fits = sent.tag_fits;
         held = held_with awaited n front.held fits (λ e. some (sym append ∙ e));
-        text = renumbered tag awaited before begun digit n sent.writable.tagged front.held one (front.text ∙ ap (λ p. before ++ p ∷ []) ends) ∙ ap (λ p. before ++ p ∷ []) (sym writes) ∙ sym is;
+        text = renumbered tag awaited before begun digit n sent.writable.tagged front.held one
+            (front.text ∙ ap (λ p. before ++ p ∷ []) ends) ∙ ap (λ p. before ++ p ∷ []) (sym writes) ∙ sym is;
       }) in
       (such.0, such.1, such.2 ∙ append_with awaited n ∙ append)
 
@@ -172,10 +180,12 @@ module _ (tag : Tag) (command : Command) (before : List (List ℕ)) (part final 
 -- what a front renumbered is, of any command that a program sends
 pub renumbered_front : (tag : Tag) (command : Command) (n : ℕ) (parts : List (List ℕ)) → IsSent tag command → n < 2 ^ 64 → (append_of command ≡ None → 0 < n)
     → IsRenumbered n (parts_of tag command) parts → (other : Command) × IsFront tag other parts × (append_of other ≡ append_of command)
-renumbered_front tag command n parts sent fits some is = such_front tag command is.before is.part is.final is.written n parts sent fits some is.whole is.front is.announcing
+renumbered_front tag command n parts sent fits some is =
+    such_front tag command is.before is.part is.final is.written n parts sent fits some is.whole is.front is.announcing
 
 stand_in_from : (tag : Tag) (awaited : Awaited) (parts : List (List ℕ)) (digit : ℕ) → IsDigit digit → front_parts tag awaited ≡ parts
-    → ((m : ℕ) → mark_of (with_octets m awaited) ≡ header (decimal m) ++ crlf) → mark_of (with_octets (length (little awaited)) awaited) ≡ 123 ∷ digit ∷ 125 ∷ 13 ∷ 10 ∷ []
+    → ((m : ℕ) → mark_of (with_octets m awaited) ≡ header (decimal m) ++ crlf) →
+    mark_of (with_octets (length (little awaited)) awaited) ≡ 123 ∷ digit ∷ 125 ∷ 13 ∷ 10 ∷ []
     → IsRenumbered (octets_of awaited) (parts_of tag (stand_in awaited)) parts
 stand_in_from tag awaited parts digit one is marks little_mark =
     let cut = cut_of tag awaited in
@@ -190,7 +200,8 @@ stand_in_from tag awaited parts digit one is marks little_mark =
       announcing = announced cut.begun digit one refl refl;
     }
 
-response_from : (tag : Tag) (parts : List (List ℕ)) → IsCommandTag tag → front_parts tag Response ≡ parts → IsRenumbered 1 (parts_of tag (stand_in Response)) parts
+response_from : (tag : Tag) (parts : List (List ℕ)) → IsCommandTag tag → front_parts tag Response ≡ parts →
+    IsRenumbered 1 (parts_of tag (stand_in Response)) parts
 response_from tag parts tagged is =
     let cut = cut_of tag Response in
     let (g, one) = response_part tag tagged in
@@ -201,7 +212,8 @@ response_from tag parts tagged is =
       written = cut.begun ++ crlf;
       whole = cut.text;
       front = sym is ∙ cut.front 0;
-      announcing = as_it_is (λ begun digit d same. plain_apart g begun digit (sym same ∙ (snoc_same cut.before [] (cut.begun ++ crlf) _ (sym (cut.front 0) ∙ one)).1)) refl;
+      announcing = as_it_is (λ begun digit d same. plain_apart g begun digit
+          (sym same ∙ (snoc_same cut.before [] (cut.begun ++ crlf) _ (sym (cut.front 0) ∙ one)).1)) refl;
     }
 
 one_header : header (decimal 1) ++ crlf ≡ 123 ∷ 49 ∷ 125 ∷ 13 ∷ 10 ∷ []
@@ -211,7 +223,8 @@ none_header : header (decimal 0) ++ crlf ≡ 123 ∷ 48 ∷ 125 ∷ 13 ∷ 10 �
 none_header = ap (λ d. header d ++ crlf) (decimal_digit 0 (omega arith))
 
 -- a front is the renumbered front of its stand-in's text
-pub stand_in_front : (tag : Tag) (awaited : Awaited) (parts : List (List ℕ)) → IsFrontOf tag awaited parts → IsRenumbered (octets_of awaited) (parts_of tag (stand_in awaited)) parts
+pub stand_in_front : (tag : Tag) (awaited : Awaited) (parts : List (List ℕ)) → IsFrontOf tag awaited parts →
+    IsRenumbered (octets_of awaited) (parts_of tag (stand_in awaited)) parts
 stand_in_front tag Response parts front = response_from tag parts front.tagged front.text
 stand_in_front tag (User m) parts front = stand_in_from tag (User m) parts 49 (inr refl) front.text (λ n. refl) one_header
 stand_in_front tag (Password user m) parts front = stand_in_from tag (Password user m) parts 49 (inr refl) front.text (λ n. refl) one_header

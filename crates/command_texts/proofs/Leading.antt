@@ -78,7 +78,8 @@ begun_is (Message to flags octets) = behind_five (words "APPEND ") (astring_part
 
 -- a front ends with its mark
 pub front_is_led : (tag : Tag) (awaited : Awaited) → front_parts tag awaited ≡ leading tag awaited ⌢ line (mark_of awaited)
-front_is_led tag awaited = ap (λ p. tag_parts tag ⌢ (words " " ⌢ p)) (begun_is awaited) ∙ behind_three (tag_parts tag) (words " ") (lead awaited) (line (mark_of awaited))
+front_is_led tag awaited = ap (λ p. tag_parts tag ⌢ (words " " ⌢ p)) (begun_is awaited)
+    ∙ behind_three (tag_parts tag) (words " ") (lead awaited) (line (mark_of awaited))
 
 -- the end of a command
 abbrev pub end : List (List ℕ)
@@ -119,10 +120,12 @@ middle awaited octets = mark_of awaited ∷ awaited_text awaited octets ∷ []
 literal_middle : (n : ℕ) (octets : List ℕ) → length octets ≡ n → literal octets ≡ (header (decimal n) ++ crlf) ∷ octets ∷ []
 literal_middle n octets is = literal_is octets ∙ ap (λ m. (header (decimal m) ++ crlf) ∷ octets ∷ []) is
 
-argument_middle : (n : ℕ) (octets : List ℕ) → (length octets ≡ n) × (astring_parts octets ≡ literal octets) → astring_parts octets ≡ (header (decimal n) ++ crlf) ∷ octets ∷ []
+argument_middle : (n : ℕ) (octets : List ℕ) → (length octets ≡ n) × (astring_parts octets ≡ literal octets) →
+    astring_parts octets ≡ (header (decimal n) ++ crlf) ∷ octets ∷ []
 argument_middle n octets is = is.1 ∙ literal_middle n octets is.0
 
-command_is : (awaited : Awaited) (octets : List ℕ) → Awaits awaited octets → command_parts (filled awaited octets) ⌢ end ≡ lead awaited ⌢ (middle awaited octets ⌢ tail awaited)
+command_is : (awaited : Awaited) (octets : List ℕ) → Awaits awaited octets →
+    command_parts (filled awaited octets) ⌢ end ≡ lead awaited ⌢ (middle awaited octets ⌢ tail awaited)
 command_is Response octets is =
     parts_assoc (words "AUTHENTICATE PLAIN") (wait ⌢ line (response_of (account_of [] []))) end
     ∙ ap (λ p. words "AUTHENTICATE PLAIN" ⌢ p) (parts_assoc wait (line (response_of (account_of [] []))) end)

@@ -13,7 +13,6 @@ pub mod FrontIs
 pub mod FrontReading
 pub mod FrontWritten
 pub mod HeaderEnds
-pub mod Headings
 pub mod Leading
 pub mod NameReading
 pub mod NumberReading

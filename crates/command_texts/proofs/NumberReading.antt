@@ -25,7 +25,8 @@ parsed n x text within is p =
     let q = rw (is, no_plus n within) at p in
     q ∙ (decimal_is_IsNumeral n within).1
 
-pub not_parsed : (n : ℕ) (text : List ℕ) → n < 2 ^ 64 → text ≡ decimal n → (IsNumeral 10 (without_leading_plus text) × (digits_value 10 (without_leading_plus text) < 2 ^ 64) → ⊥) → ⊥
+pub not_parsed : (n : ℕ) (text : List ℕ) → n < 2 ^ 64 → text ≡ decimal n →
+    (IsNumeral 10 (without_leading_plus text) × (digits_value 10 (without_leading_plus text) < 2 ^ 64) → ⊥) → ⊥
 not_parsed n text within is p =
     let q = rw (is, no_plus n within) at p in
     let numeral = decimal_is_IsNumeral n within in

@@ -1,5 +1,6 @@
 -- What a command's text is made of holds no CR, but for the ends of its parts and the octets of literals.
-use Rattle.std.proofs.Common.{◌≡◌, ℕ, ◌<◌, ◌^◌, zero, suc, Bool, true, false, not, cond, ◌&&◌, ◌||◌, ◌==◌, nat_lt, List, [], ◌∷◌, ◌++◌, length, map, replicate, decimal, slice_index, refl, ap, sym, ◌∙◌, arith}
+use Rattle.std.proofs.Common.{◌≡◌, ℕ, ◌<◌, ◌^◌, zero, suc, Bool, true, false, not, cond, ◌&&◌, ◌||◌, ◌==◌, nat_lt, List, [], ◌∷◌, ◌++◌}
+use Rattle.std.proofs.Common.{length, map, replicate, decimal, slice_index, refl, ap, sym, ◌∙◌, arith}
 use Rattle.std.specs.Char.{is_ascii_digit}
 use Rattle.std.specs.List.{flat_map, list_all, join_with_byte}
 use Rattle.std.proofs.lemmas.Bool.{and_parts}
@@ -65,7 +66,8 @@ plain_escapes : (bytes : List ℕ) → list_all is_quotable bytes ≡ true → P
 plain_escapes [] all = refl
 plain_escapes (b ∷ bytes) all =
     let both = and_parts (is_quotable b) (list_all is_quotable bytes) all in
-    plain_both (escaped b) (flat_map escaped bytes) (plain_escape_from b (b == 34 || b == 92) (plain_byte b (λ e. cc (ap is_quotable e, both.0)))) (plain_escapes bytes both.1)
+    plain_both (escaped b) (flat_map escaped bytes) (plain_escape_from b (b == 34 || b == 92)
+    (plain_byte b (λ e. cc (ap is_quotable e, both.0)))) (plain_escapes bytes both.1)
 
 pub plain_quoted : (bytes : List ℕ) → list_all is_quotable bytes ≡ true → Plain (quoted bytes)
 plain_quoted bytes all = plain_both (flat_map escaped bytes) (34 ∷ []) (plain_escapes bytes all) refl
@@ -79,7 +81,8 @@ plain_joined : (c : ℕ) (words : List (List ℕ)) → is_plain c ≡ true → A
 plain_joined c [] at all = refl
 plain_joined c (x ∷ []) at all = all.0
 plain_joined c (x ∷ y ∷ rest) at all =
-    plain_both x (c ∷ join_with_byte c (y ∷ rest)) all.0 (both_true (is_plain c) (list_all is_plain (join_with_byte c (y ∷ rest))) at (plain_joined c (y ∷ rest) at all.1))
+    plain_both x (c ∷ join_with_byte c (y ∷ rest)) all.0 (both_true (is_plain c) (list_all is_plain (join_with_byte c (y ∷ rest))) at
+    (plain_joined c (y ∷ rest) at all.1))
 
 -- a list of flags
 plain_flag_from : (b : ℕ) (rest : List ℕ) (t : Bool) → (b == backslash) ≡ t → list_all is_atom_byte (cond t rest (b ∷ rest)) ≡ true → Plain (b ∷ rest)
@@ -105,8 +108,11 @@ plain_range_from low high false fits fits' = plain_both (decimal low) (58 ∷ de
 
 plain_ranges : (ranges : List UidRange) (floor : ℕ) → RisesAbove floor ranges → AllPlain (map range_text ranges)
 plain_ranges [] floor rises = tt
-plain_ranges (range ∷ ranges) floor rises =
-    (plain_range_from range.low range.high (range.low == range.high) (omega (arith, rises.0.ordered, rises.0.fits)) (omega (arith, rises.0.fits)), plain_ranges ranges _ rises.1)
+plain_ranges (range ∷ ranges) floor rises = (
+  plain_range_from range.low range.high (range.low == range.high) (omega (arith, rises.0.ordered, rises.0.fits))
+      (omega (arith, rises.0.fits)),
+  plain_ranges ranges _ rises.1,
+)
 
 pub plain_set : (ranges : List UidRange) → IsCanonical ranges → Plain (set_text ranges)
 plain_set ranges is = plain_joined 44 (map range_text ranges) refl (plain_ranges ranges 0 is)
@@ -124,7 +130,8 @@ plain_symbols : (t bytes : List ℕ) → Plain t → Plain (encode_symbols t byt
 unfolding encode_symbols
 plain_symbols t [] all = refl
 plain_symbols t (a ∷ []) all = plain_two t _ _ all
-plain_symbols t (a ∷ b ∷ []) all = plain_both (slice_index t _ ∷ slice_index t _ ∷ []) (slice_index t _ ∷ []) (plain_two t _ _ all) (both_true _ true (plain_at t _ all) refl)
+plain_symbols t (a ∷ b ∷ []) all = plain_both (slice_index t _ ∷ slice_index t _ ∷ []) (slice_index t _ ∷ []) (plain_two t _ _ all)
+    (both_true _ true (plain_at t _ all) refl)
 plain_symbols t (a ∷ b ∷ c ∷ rest) all =
     plain_both (slice_index t _ ∷ slice_index t _ ∷ slice_index t _ ∷ slice_index t _ ∷ []) (encode_symbols t rest)
     (plain_both (slice_index t _ ∷ slice_index t _ ∷ []) (slice_index t _ ∷ slice_index t _ ∷ []) (plain_two t _ _ all) (plain_two t _ _ all))
@@ -138,4 +145,5 @@ pub plain_response : (account : Credentials) → Plain (response_of account)
 unfolding response_of
 plain_response account =
     plain_both (encode_symbols standard.encode_table (0 ∷ (account.user ++ 0 ∷ account.password))) _
-    (plain_symbols standard.encode_table (0 ∷ (account.user ++ 0 ∷ account.password)) refl) (plain_padding (padding_len (length (0 ∷ (account.user ++ 0 ∷ account.password)))))
+    (plain_symbols standard.encode_table (0 ∷ (account.user ++ 0 ∷ account.password)) refl)
+    (plain_padding (padding_len (length (0 ∷ (account.user ++ 0 ∷ account.password)))))

@@ -1,5 +1,6 @@
 -- A text's parts without the last one, with another number in the header at their end.
-use Rattle.std.proofs.Common.{◌≡◌, ◌≢◌, inl, inr, ℕ, MatchOption, Result, Ok, Err, IfOk, Bool, true, false, not, Bor, Option, Some, None, List, [], ◌∷◌, ◌++◌, length, decimal, refl, ap, sym, ◌∙◌, append_assoc, arith}
+use Rattle.std.proofs.Common.{◌≡◌, ◌≢◌, inl, inr, ℕ, MatchOption, Result, Ok, Err, IfOk, Bool, true, false, not, Bor, Option, Some, None}
+use Rattle.std.proofs.Common.{List, [], ◌∷◌, ◌++◌, length, decimal, refl, ap, sym, ◌∙◌, append_assoc, arith}
 use Rattle.std.specs.Bool.{Decides}
 use Rattle.std.proofs.Math.Dec.{eqb}
 use Rattle.std.proofs.lemmas.Bool.Decides.{Decides-eqb}
@@ -12,7 +13,8 @@ use Rattle.imap_model.proofs.Cutting.{length_same}
 use Rattle.command_texts.specs.Renumbered.{HasNone, IsDigit, Announcing, as_it_is, announced, IsRenumbered, digit_part}
 
 -- a part without either header has none
-pub none_of : (part : List ℕ) → ((front : List ℕ) → part ≢ front ++ (123 ∷ 48 ∷ 125 ∷ 13 ∷ 10 ∷ [])) → ((front : List ℕ) → part ≢ front ++ (123 ∷ 49 ∷ 125 ∷ 13 ∷ 10 ∷ [])) → HasNone part
+pub none_of : (part : List ℕ) → ((front : List ℕ) → part ≢ front ++ (123 ∷ 48 ∷ 125 ∷ 13 ∷ 10 ∷ [])) →
+    ((front : List ℕ) → part ≢ front ++ (123 ∷ 49 ∷ 125 ∷ 13 ∷ 10 ∷ [])) → HasNone part
 none_of part no_zero no_one begun digit (inl is) same = no_zero begun (same ∙ ap (digit_part begun) is)
 none_of part no_zero no_one begun digit (inr is) same = no_one begun (same ∙ ap (digit_part begun) is)
 
@@ -46,7 +48,8 @@ snoc_same (a ∷ xs) (b ∷ ys) x y same =
 
 -- the parts are cut from their ends
 module _ (n : ℕ) (text parts front whole before : List (List ℕ)) (part final last written : List ℕ)
-    (cut : text ≡ front ++ final ∷ []) (cut_front : front ≡ whole ++ part ∷ []) (cut_parts : parts ≡ before ++ last ∷ []) (writes : Announcing n part written) where
+    (cut : text ≡ front ++ final ∷ []) (cut_front : front ≡ whole ++ part ∷ []) (cut_parts : parts ≡ before ++ last ∷ [])
+    (writes : Announcing n part written) where
   pub found : last ≡ written → before ≡ whole → IsRenumbered n text parts
   found same same' = record {
     before = whole;
@@ -60,7 +63,8 @@ module _ (n : ℕ) (text parts front whole before : List (List ℕ)) (part final
 
   pub needed : IsRenumbered n text parts → (last ≡ written) × (before ≡ whole)
   needed is =
-      let outer = snoc_same front (is.before ++ is.part ∷ []) final is.final (sym cut ∙ is.whole ∙ sym (append_assoc is.before (is.part ∷ []) (is.final ∷ []))) in
+      let outer = snoc_same front (is.before ++ is.part ∷ []) final is.final
+      (sym cut ∙ is.whole ∙ sym (append_assoc is.before (is.part ∷ []) (is.final ∷ []))) in
       let inner = snoc_same whole is.before part is.part (sym cut_front ∙ outer.0) in
       let ends = snoc_same before is.before last is.written (sym cut_parts ∙ is.front) in
       let announcing : Announcing n part is.written = rw inner.1 is.announcing in

@@ -34,10 +34,12 @@ pub some_long : (b : Bool) (text : List ℕ) → b ≡ (length text == 0) → b 
 some_long b text is e = grind (arith, nat_tests)
 
 -- a set's text has no fault
-pub no_fault : (uids : List UidRange) (text : List ℕ) (fault : SetFault) → IsCanonical uids → text ≡ set_text uids → 0 < length text → items_of text ≡ Err fault → ⊥
+pub no_fault : (uids : List UidRange) (text : List ℕ) (fault : SetFault) → IsCanonical uids → text ≡ set_text uids → 0 < length text →
+    items_of text ≡ Err fault → ⊥
 no_fault uids text fault is same some refused = let read = (some_spelled uids text is same some).read in cc
 
-pub set_fault : (uids : List UidRange) (text : List ℕ) (fault : SetFault) → IsCanonical uids → text ≡ set_text uids → 0 < length text → Refuses text fault → fault ≡ faults.Memory
+pub set_fault : (uids : List UidRange) (text : List ℕ) (fault : SetFault) → IsCanonical uids → text ≡ set_text uids → 0 < length text →
+    Refuses text fault → fault ≡ faults.Memory
 set_fault uids text faults.Memory is same some refused = refl
 set_fault uids text faults.Empty is same some refused = absurd (no_fault uids text _ is same some refused)
 set_fault uids text (faults.Zero at) is same some refused = absurd (no_fault uids text _ is same some refused)

@@ -41,7 +41,8 @@ last_only (Id from octets) = refl
 last_only (Message to flags octets) = refl
 
 -- the text of the stand-in: the front with the number of its own octets, and one part more
-stand_in_is : (tag : Tag) (awaited : Awaited) → parts_of tag (stand_in awaited) ≡ front_parts tag (with_octets (length (little awaited)) awaited) ++ last_of awaited ∷ []
+stand_in_is : (tag : Tag) (awaited : Awaited) → parts_of tag (stand_in awaited)
+    ≡ front_parts tag (with_octets (length (little awaited)) awaited) ++ last_of awaited ∷ []
 stand_in_is tag Response = filled_is tag Response [] tt ∙ ap (λ p. front_parts tag Response ++ last_of Response ∷ p) (last_only Response)
 stand_in_is tag (User n) = filled_is tag (User 1) (13 ∷ []) (refl, refl) ∙ ap (λ p. front_parts tag (User 1) ++ last_of (User 1) ∷ p) (last_only (User 1))
 stand_in_is tag (Password user n) = filled_is tag (Password user 1) (13 ∷ []) (refl, refl)
@@ -57,7 +58,8 @@ record Split (parts : List (List ℕ)) : Type 0 where
 split : (parts : List (List ℕ)) → 0 < length parts → Split parts
 split [] some = absurd (omega (arith, some))
 split (p ∷ []) some = record { before = []; last = p; is = refl }
-split (p ∷ q ∷ parts) some = let later = split (q ∷ parts) (omega arith) in record { before = p ∷ later.before; last = later.last; is = ap (λ r. p ∷ r) later.is }
+split (p ∷ q ∷ parts) some = let later = split (q ∷ parts) (omega arith) in
+    record { before = p ∷ later.before; last = later.last; is = ap (λ r. p ∷ r) later.is }
 
 led_alike : (tag : Tag) (n : ℕ) (awaited : Awaited) → leading tag (with_octets n awaited) ≡ leading tag awaited
 led_alike tag n Response = refl
@@ -82,13 +84,15 @@ pub cut_of : (tag : Tag) (awaited : Awaited) → IsCut tag awaited
 cut_of tag awaited =
     let led = split (leading tag awaited) (some_led tag awaited) in
     let front : (n : ℕ) → front_parts tag (with_octets n awaited) ≡ led.before ++ (led.last ++ mark_of (with_octets n awaited)) ∷ [] =
-    λ n. front_is_led tag (with_octets n awaited) ∙ ap (λ p. p ⌢ line (mark_of (with_octets n awaited))) (led_alike tag n awaited ∙ led.is) ∙ behind_last led.before led.last (line (mark_of (with_octets n awaited))) in
+    λ n. front_is_led tag (with_octets n awaited) ∙ ap (λ p. p ⌢ line (mark_of (with_octets n awaited))) (led_alike tag n awaited ∙ led.is)
+    ∙ behind_last led.before led.last (line (mark_of (with_octets n awaited))) in
     record {
       before = led.before;
       begun = led.last;
       last = last_of awaited;
       front = front;
-      text = stand_in_is tag awaited ∙ ap (λ p. p ++ last_of awaited ∷ []) (front (length (little awaited))) ∙ append_assoc led.before ((led.last ++ mark_of (with_octets (length (little awaited)) awaited)) ∷ []) (last_of awaited ∷ []);
+      text = stand_in_is tag awaited ∙ ap (λ p. p ++ last_of awaited ∷ []) (front (length (little awaited)))
+          ∙ append_assoc led.before ((led.last ++ mark_of (with_octets (length (little awaited)) awaited)) ∷ []) (last_of awaited ∷ []);
     }
 
 -- the front itself is the one of its own number of octets

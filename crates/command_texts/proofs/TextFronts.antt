@@ -1,5 +1,6 @@
 -- The whole text of a command is no front of another one's, and the first part of a text tells its tag.
-use Rattle.std.proofs.Common.{◌≡◌, ℕ, ◌<◌, ◌^◌, Bool, true, false, cond, not, ◌&&◌, nat_lt, List, [], ◌∷◌, ◌++◌, length, get_or, drop, decimal, codes, refl, ap, sym, ◌∙◌, arith}
+use Rattle.std.proofs.Common.{◌≡◌, ℕ, ◌<◌, ◌^◌, Bool, true, false, cond, not, ◌&&◌, nat_lt, List, [], ◌∷◌, ◌++◌, length, get_or, drop}
+use Rattle.std.proofs.Common.{decimal, codes, refl, ap, sym, ◌∙◌, arith}
 use Rattle.std.specs.Char.{is_ascii_digit}
 use Rattle.std.specs.List.{list_all}
 use Rattle.std.specs.Str.{str_eq_ignore_ascii_case}
@@ -26,7 +27,8 @@ use Rattle.command_texts.proofs.FrontFound.{front_found}
 use Rattle.command_texts.proofs.FrontReading.{IsLone, IsTagOf, one_name, second_is, login_rest, behind_word, announced_is, front_tagged}
 
 -- one first part has one tag, and behind it one text
-number_behind : (letter m n : ℕ) (a b : List ℕ) → letter ∷ (decimal m ++ 32 ∷ a) ≡ letter ∷ (decimal n ++ 32 ∷ b) → number m ⌢ line (32 ∷ a) ≡ number n ⌢ line (32 ∷ b)
+number_behind : (letter m n : ℕ) (a b : List ℕ) → letter ∷ (decimal m ++ 32 ∷ a) ≡ letter ∷ (decimal n ++ 32 ∷ b) →
+    number m ⌢ line (32 ∷ a) ≡ number n ⌢ line (32 ∷ b)
 unfolding ◌⌢◌
 number_behind letter m n a b same = cc
 
@@ -85,7 +87,8 @@ alone : (text : List ℕ) (later : List (List ℕ)) → text ∷ later ≡ begun
 unfolding ◌⌢◌
 alone text later is = cc
 
-no_response : (command : Command) (text : List ℕ) (later : List (List ℕ)) → IsHeld command → text ∷ later ≡ begun_parts Response → text ∷ later ≡ command_parts command ⌢ line crlf → ⊥
+no_response : (command : Command) (text : List ℕ) (later : List (List ℕ)) → IsHeld command → text ∷ later ≡ begun_parts Response →
+    text ∷ later ≡ command_parts command ⌢ line crlf → ⊥
 no_response command text later held is same =
     let kind : get_or text 1 0 ≡ 85 = second_is Response text later is in
     let one = alone text later is in
@@ -100,13 +103,15 @@ no_logout text later parts is out =
     let other : get_or text 3 0 ≡ 79 = ap (λ x. get_or x 3 0) out in
     omega arith
 
-no_login : (command : Command) (text : List ℕ) (later : List (List ℕ)) → IsHeld command → get_or text 1 0 ≡ 79 → ReadsLogin Never text later → text ∷ later ≡ command_parts command ⌢ line crlf → ⊥
+no_login : (command : Command) (text : List ℕ) (later : List (List ℕ)) → IsHeld command → get_or text 1 0 ≡ 79 →
+    ReadsLogin Never text later → text ∷ later ≡ command_parts command ⌢ line crlf → ⊥
 no_login command text later held kind login same =
     command_read Never (get_or text 1 0) text later refl
     (λ e. absurd (omega (arith, e, kind))) (λ e. login) (λ e. absurd (omega (arith, e, kind)))
     (λ e. absurd (omega (arith, e, kind))) (λ e. absurd (omega (arith, e, kind))) (λ i o u s a. absurd (o kind)) command held same
 
-no_user : (n : ℕ) (command : Command) (text : List ℕ) (later : List (List ℕ)) → IsHeld command → text ∷ later ≡ begun_parts (User n) → text ∷ later ≡ command_parts command ⌢ line crlf → ⊥
+no_user : (n : ℕ) (command : Command) (text : List ℕ) (later : List (List ℕ)) → IsHeld command → text ∷ later ≡ begun_parts (User n) →
+    text ∷ later ≡ command_parts command ⌢ line crlf → ⊥
 no_user n command text later held is same =
     let rest : drop 6 text ∷ later ≡ announced n = login_rest (User n) text later is refl in
     no_login command text later held (second_is (User n) text later is)
@@ -139,7 +144,8 @@ no_password user n command text later named held is same =
 search_rest : (from n : ℕ) (text : List ℕ) (later : List (List ℕ)) → text ∷ later ≡ begun_parts (Id from n)
     → drop 4 text ∷ later ≡ words "SEARCH UID " ⌢ (number from ⌢ (words ":* HEADER Message-ID " ⌢ announced n))
 unfolding ◌⌢◌
-search_rest from n text later is = behind_word (codes "UID ") (words "SEARCH UID " ⌢ (number from ⌢ (words ":* HEADER Message-ID " ⌢ announced n))) text later (omega arith) is
+search_rest from n text later is = behind_word (codes "UID ")
+    (words "SEARCH UID " ⌢ (number from ⌢ (words ":* HEADER Message-ID " ⌢ announced n))) text later (omega arith) is
 
 no_id : (from n : ℕ) (command : Command) (text : List ℕ) (later : List (List ℕ)) → IsNonzero32 from → IsHeld command
     → text ∷ later ≡ begun_parts (Id from n) → text ∷ later ≡ command_parts command ⌢ line crlf → ⊥
@@ -149,7 +155,8 @@ no_id from n command text later fits held is same =
     let one : get_or (drop 4 text) 0 0 ≡ 83 = byte_is 0 (codes "SEARCH UID ") (drop 4 text) later _ (omega arith) rest in
     let two : get_or (drop 4 text) 1 0 ≡ 69 = byte_is 1 (codes "SEARCH UID ") (drop 4 text) later _ (omega arith) rest in
     let behind : drop 11 (drop 4 text) ∷ later ≡ number from ⌢ (words ":* HEADER Message-ID " ⌢ announced n) =
-    behind_word (codes "SEARCH UID ") (number from ⌢ (words ":* HEADER Message-ID " ⌢ announced n)) (drop 4 text) later (some_behind (number from) _ (some_first _ _ _)) rest in
+    behind_word (codes "SEARCH UID ") (number from ⌢ (words ":* HEADER Message-ID " ⌢ announced n)) (drop 4 text) later
+    (some_behind (number from) _ (some_first _ _ _)) rest in
     command_read Never (get_or text 1 0) text later refl
     (λ e. record {
       all = λ t. omega (arith, one, ap (λ x. get_or x 0 0) t);
@@ -166,12 +173,15 @@ no_id from n command text later fits held is same =
         → number from ⌢ (words ":* HEADER Message-ID " ⌢ announced n) ≡ number uid ⌢ (words ":* HEADER Message-ID " ⌢ (astring_parts id ⌢ line crlf)) → ⊥
     behind_number uid id kept both =
         let text = astring_parts id ⌢ line crlf in
-        let numbers = cut_number from uid (words ":* HEADER Message-ID " ⌢ announced n) (words ":* HEADER Message-ID " ⌢ text) (omega (arith, fits.fits)) (omega (arith, kept.fits))
+        let numbers = cut_number from uid (words ":* HEADER Message-ID " ⌢ announced n) (words ":* HEADER Message-ID " ⌢ text)
+        (omega (arith, fits.fits)) (omega (arith, kept.fits))
         (stops_line is_ascii_digit 58 _ (announced n) refl) (stops_line is_ascii_digit 58 _ text refl) both in
-        no_argument n id (line crlf) (cut_same (codes ":* HEADER Message-ID ") (announced n) text (omega arith) (some_behind (astring_parts id) (line crlf) (omega arith)) numbers.1)
+        no_argument n id (line crlf) (cut_same (codes ":* HEADER Message-ID ") (announced n) text (omega arith)
+        (some_behind (astring_parts id) (line crlf) (omega arith)) numbers.1)
 
 -- an APPEND up to the header of its literal
-one_part : (to : List ℕ) (flags : List (List ℕ)) (n : ℕ) (text : List ℕ) (later : List (List ℕ)) → IsLone (astring_parts to) → text ∷ later ≡ begun_parts (Message to flags n) → later ≡ []
+one_part : (to : List ℕ) (flags : List (List ℕ)) (n : ℕ) (text : List ℕ) (later : List (List ℕ)) → IsLone (astring_parts to) →
+    text ∷ later ≡ begun_parts (Message to flags n) → later ≡ []
 unfolding ◌⌢◌
 one_part to flags n text later one is =
     let whole : text ∷ later ≡ (codes "APPEND " ++ (one.part ++ (codes " (" ++ (list_text flags ++ (codes ") " ++ (header (decimal n) ++ crlf)))))) ∷ []
@@ -185,7 +195,8 @@ no_message to flags n command text later name held is same =
     let one = one_part to flags n text later (one_name to name) is in
     command_read Never (get_or text 1 0) text later refl
     (λ e. absurd (omega (arith, e, kind))) (λ e. absurd (omega (arith, e, kind))) (λ e. absurd (omega (arith, e, kind)))
-    (λ e. absurd (omega (arith, e, kind))) (λ e to flags octets end behind name set text front two. let both = sym one ∙ two in cc) (λ i o u s a. absurd (a kind)) command held same
+    (λ e. absurd (omega (arith, e, kind))) (λ e to flags octets end behind name set text front two. let both = sym one ∙ two in cc)
+    (λ i o u s a. absurd (a kind)) command held same
 
 no_front : (awaited : Awaited) (command : Command) (text : List ℕ) (later : List (List ℕ)) → IsHeldFront awaited → IsHeld command
     → text ∷ later ≡ begun_parts awaited → text ∷ later ≡ command_parts command ⌢ line crlf → ⊥

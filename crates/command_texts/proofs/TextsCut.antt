@@ -1,5 +1,6 @@
 -- Each part of a command's text is a part as the server cuts them.
-use Rattle.std.proofs.Common.{◌≡◌, ℕ, ◌<◌, ◌^◌, Bool, true, false, cond, ◌&&◌, nat_lt, not, List, [], ◌∷◌, ◌++◌, length, decimal, codes, Option, Some, None, refl, ap, sym, ◌∙◌, subst, arith}
+use Rattle.std.proofs.Common.{◌≡◌, ℕ, ◌<◌, ◌^◌, Bool, true, false, cond, ◌&&◌, nat_lt, not, List, [], ◌∷◌, ◌++◌, length, decimal, codes}
+use Rattle.std.proofs.Common.{Option, Some, None, refl, ap, sym, ◌∙◌, subst, arith}
 use Rattle.std.specs.List.{list_all}
 use Rattle.std.specs.Str.{str_eq_ignore_ascii_case}
 use Rattle.std.proofs.lemmas.Bool.{and_parts}
@@ -54,11 +55,13 @@ Whole due [] = ⊥
 Whole due (part ∷ []) = Ended due part
 Whole due (part ∷ next ∷ later) = Ended due part × ((octets : ℕ) × IsDue (part ∷ []) octets × Whole octets (next ∷ later))
 
-open_cons : (due : ℕ) (part : List ℕ) (octets : ℕ) (rest : List (List ℕ)) → Ended due part → IsDue (part ∷ []) octets → Open octets rest → Open due (part ∷ rest)
+open_cons : (due : ℕ) (part : List ℕ) (octets : ℕ) (rest : List (List ℕ)) → Ended due part → IsDue (part ∷ []) octets → Open octets rest →
+    Open due (part ∷ rest)
 open_cons due part octets [] ended is rest = absurd rest
 open_cons due part octets (next ∷ later) ended is rest = (ended, (octets, is, rest))
 
-whole_cons : (due : ℕ) (part : List ℕ) (octets : ℕ) (rest : List (List ℕ)) → Ended due part → IsDue (part ∷ []) octets → Whole octets rest → Whole due (part ∷ rest)
+whole_cons : (due : ℕ) (part : List ℕ) (octets : ℕ) (rest : List (List ℕ)) → Ended due part → IsDue (part ∷ []) octets →
+    Whole octets rest → Whole due (part ∷ rest)
 whole_cons due part octets [] ended is rest = absurd rest
 whole_cons due part octets (next ∷ later) ended is rest = (ended, (octets, is, rest))
 
@@ -107,7 +110,8 @@ with_line due parts bytes is plain = open_then due parts (line bytes) is (λ oct
 digits_plain : (n : ℕ) → n < 2 ^ 64 → Plain (header (decimal n))
 digits_plain n fits = plain_both (decimal n) (125 ∷ []) (plain_number n fits) refl
 
-literal_behind : (due : ℕ) (last octets : List ℕ) → length octets < 2 ^ 64 → Begun due last → Open due (before last ((header (decimal (length octets)) ++ crlf) ∷ octets ∷ []))
+literal_behind : (due : ℕ) (last octets : List ℕ) → length octets < 2 ^ 64 → Begun due last →
+    Open due (before last ((header (decimal (length octets)) ++ crlf) ∷ octets ∷ []))
 literal_behind due last octets fits is =
     let size = header (decimal (length octets)) in
     let same : (last ++ size) ++ crlf ≡ last ++ (size ++ crlf) = append_assoc last size crlf in (
@@ -128,7 +132,8 @@ with_literal due parts octets is fits =
 bare_all : (bytes : List ℕ) → is_bare bytes ≡ true → list_all is_astring_byte bytes ≡ true
 bare_all bytes is = (and_parts (nat_lt 0 (length bytes) && not (str_eq_ignore_ascii_case bytes (codes "NIL"))) (list_all is_astring_byte bytes) is).1
 
-argument_from : (due : ℕ) (parts : List (List ℕ)) (bytes : List ℕ) (b q : Bool) → Open due parts → length bytes < 2 ^ 64 → is_bare bytes ≡ b → list_all is_quotable bytes ≡ q
+argument_from : (due : ℕ) (parts : List (List ℕ)) (bytes : List ℕ) (b q : Bool) → Open due parts → length bytes < 2 ^ 64 →
+    is_bare bytes ≡ b → list_all is_quotable bytes ≡ q
     → Open due (parts ⌢ cond b (line bytes) (cond q (line (quoted bytes)) (literal bytes)))
 argument_from due parts bytes true q is fits bare quotable = with_line due parts bytes is (plain_bare bytes (bare_all bytes bare))
 argument_from due parts bytes false true is fits bare quotable = with_line due parts (quoted bytes) is (plain_quoted bytes quotable)
@@ -181,9 +186,11 @@ plain_is : (account : Credentials) → command_parts (commands.Plain account) �
 unfolding ◌⌢◌
 plain_is account = refl
 
-plain_behind : (due : ℕ) (last response : List ℕ) → Plain response → Begun due last → Open due (before last ((codes "AUTHENTICATE PLAIN" ++ crlf) ∷ response ∷ []))
+plain_behind : (due : ℕ) (last response : List ℕ) → Plain response → Begun due last →
+    Open due (before last ((codes "AUTHENTICATE PLAIN" ++ crlf) ∷ response ∷ []))
 plain_behind due last response plain is =
-    let same : (last ++ codes "AUTHENTICATE PLAIN") ++ crlf ≡ last ++ (codes "AUTHENTICATE PLAIN" ++ crlf) = append_assoc last (codes "AUTHENTICATE PLAIN") crlf in
+    let same : (last ++ codes "AUTHENTICATE PLAIN") ++ crlf ≡ last ++ (codes "AUTHENTICATE PLAIN" ++ crlf) =
+    append_assoc last (codes "AUTHENTICATE PLAIN") crlf in
     let cut : (last ++ codes "AUTHENTICATE PLAI") ++ 78 ∷ [] ≡ last ++ codes "AUTHENTICATE PLAIN" = append_assoc last (codes "AUTHENTICATE PLAI") (78 ∷ []) in (
       subst (Ended due) same (ends due (last ++ codes "AUTHENTICATE PLAIN") (begun_more due last (codes "AUTHENTICATE PLAIN") is refl)),
       (
@@ -197,7 +204,8 @@ pass_plain : (account : Credentials) → Passes (command_parts (commands.Plain a
 unfolding Passes
 pass_plain account = λ due parts is.
     subst (λ later. Open due (parts ⌢ later)) (sym (plain_is account))
-    (open_then due parts ((codes "AUTHENTICATE PLAIN" ++ crlf) ∷ response_of account ∷ []) is (λ n last begun. plain_behind n last (response_of account) (plain_response account) begun))
+    (open_then due parts ((codes "AUTHENTICATE PLAIN" ++ crlf) ∷ response_of account ∷ []) is
+    (λ n last begun. plain_behind n last (response_of account) (plain_response account) begun))
 
 pass_mark : (since : Option Mark) → IsHeldMark since → Passes (mark_parts since)
 pass_mark None held = pass_nothing
@@ -261,8 +269,22 @@ pass_command commands.Logout held = pass_line (codes "LOGOUT") refl
 
 open_tag : (tag : Tag) → IsCommandTag tag → IsKeptTag tag → Open 0 (tag_parts tag)
 unfolding ◌⌢◌
-open_tag (Play n) is fits = record { octets = []; tail = codes "P" ++ decimal n; fits = refl; plain = plain_both (codes "P") (decimal n) refl (plain_number n (omega (arith, fits))); text = refl }
-open_tag (Count n) is fits = record { octets = []; tail = codes "C" ++ decimal n; fits = refl; plain = plain_both (codes "C") (decimal n) refl (plain_number n (omega (arith, fits))); text = refl }
+open_tag (Play n) is fits = record {
+  octets = [];
+  tail = codes "P" ++ decimal n;
+  fits = refl;
+  plain =
+      plain_both (codes "P") (decimal n) refl (plain_number n (omega (arith, fits)));
+  text = refl;
+}
+open_tag (Count n) is fits = record {
+  octets = [];
+  tail = codes "C" ++ decimal n;
+  fits = refl;
+  plain =
+      plain_both (codes "C") (decimal n) refl (plain_number n (omega (arith, fits)));
+  text = refl;
+}
 open_tag Strange is fits = absurd is
 
 -- a command's text is whole parts
@@ -294,9 +316,11 @@ rest_whole : (due : ℕ) (part : List ℕ) (earlier : List (List ℕ)) (one : Li
 rest_whole due part [] one behind whole = whole.1
 rest_whole due part (next ∷ earlier) one behind whole = whole.1
 
-part_in : (front : List (List ℕ)) (due : ℕ) (earlier : List (List ℕ)) (part : List ℕ) (behind : List (List ℕ)) → IsDue front due → Whole due (earlier ++ part ∷ behind)
+part_in : (front : List (List ℕ)) (due : ℕ) (earlier : List (List ℕ)) (part : List ℕ) (behind : List (List ℕ)) → IsDue front due →
+    Whole due (earlier ++ part ∷ behind)
     → IsPart (front ++ earlier) part
-part_in front due [] part behind is whole = ended_part (front ++ []) due part (subst (λ x. IsDue x due) (sym (append-nil front)) is) (first_ended due part behind whole)
+part_in front due [] part behind is whole = ended_part (front ++ []) due part (subst (λ x. IsDue x due) (sym (append-nil front)) is)
+    (first_ended due part behind whole)
 part_in front due (first ∷ earlier) part behind is whole =
     let rest = rest_whole due first earlier part behind whole in
     subst (λ x. IsPart x part) (append_assoc front (first ∷ []) earlier)

@@ -58,8 +58,11 @@ IsHeldFront (Message to flags octets) = IsBoxName to × IsFlagSet flags × (octe
 
 -- the mailbox that an APPEND names
 abbrev pub append_at : Awaited → Option (List ℕ)
+append_at Response = None
+append_at (User octets) = None
+append_at (Password user octets) = None
+append_at (Id from octets) = None
 append_at (Message to flags octets) = Some to
-append_at _ = None
 
 -- the parts are such a front under the tag
 pub record IsFrontOf (tag : Tag) (awaited : Awaited) (parts : List (List ℕ)) : Type 0 where

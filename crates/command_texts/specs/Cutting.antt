@@ -15,7 +15,8 @@ pub record Announces (part digits : List ℕ) : Type 0 where
 -- so many octets are due behind these parts
 abbrev pub IsDue : List (List ℕ) → ℕ → Type 0
 IsDue [] octets = octets ≡ 0
-IsDue (part ∷ []) octets = ((digits : List ℕ) → Announces part digits → octets ≡ digits_value 10 digits) × (((digits : List ℕ) → Announces part digits → ⊥) → octets ≡ 0)
+IsDue (part ∷ []) octets = ((digits : List ℕ) → Announces part digits → octets ≡ digits_value 10 digits)
+    × (((digits : List ℕ) → Announces part digits → ⊥) → octets ≡ 0)
 IsDue (part ∷ later) octets = IsDue later octets
 
 -- no CRLF stands among the bytes

@@ -25,5 +25,16 @@ pub record IsNoText (parts : List (List ℕ)) : Type 0 where
 
 -- the mailbox that an APPEND names
 abbrev pub append_of : Command → Option (List ℕ)
+append_of commands.Capability = None
+append_of (commands.Login account) = None
+append_of (commands.Plain account) = None
+append_of (commands.Enable rev2) = None
+append_of (commands.Select name since) = None
+append_of commands.FetchAll = None
+append_of (commands.FetchRow uid) = None
+append_of (commands.Search from id) = None
+append_of (commands.FetchIds uids) = None
+append_of (commands.Store uid since add flags) = None
+append_of (commands.Shift uid to) = None
 append_of (commands.Append to flags octets) = Some to
-append_of _ = None
+append_of commands.Logout = None

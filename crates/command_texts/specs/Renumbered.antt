@@ -18,7 +18,8 @@ HasNone part = (begun : List ℕ) (digit : ℕ) → IsDigit digit → part ≡ d
 -- the part with this number in that header, or the part as it is where it has none
 pub data Announcing (octets : ℕ) (part written : List ℕ) : Type 0 where
   as_it_is : HasNone part → written ≡ part → Announcing octets part written
-  announced : (begun : List ℕ) (digit : ℕ) → IsDigit digit → part ≡ digit_part begun digit → written ≡ begun ++ (header (decimal octets) ++ crlf) → Announcing octets part written
+  announced : (begun : List ℕ) (digit : ℕ) → IsDigit digit → part ≡ digit_part begun digit →
+      written ≡ begun ++ (header (decimal octets) ++ crlf) → Announcing octets part written
 
 -- the parts are all but the last one of a text, with this number in the header at their end
 pub record IsRenumbered (octets : ℕ) (text parts : List (List ℕ)) : Type 0 where

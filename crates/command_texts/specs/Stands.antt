@@ -32,8 +32,19 @@ Finds awaited found = MatchOption found ⊥ (Stands awaited)
 
 -- only the text of a message may have no octets
 abbrev pub IsPossible : Command → ℕ → Type 0
+IsPossible commands.Capability octets = 0 < octets
+IsPossible (commands.Login account) octets = 0 < octets
+IsPossible (commands.Plain account) octets = 0 < octets
+IsPossible (commands.Enable rev2) octets = 0 < octets
+IsPossible (commands.Select name since) octets = 0 < octets
+IsPossible commands.FetchAll octets = 0 < octets
+IsPossible (commands.FetchRow uid) octets = 0 < octets
+IsPossible (commands.Search from id) octets = 0 < octets
+IsPossible (commands.FetchIds uids) octets = 0 < octets
+IsPossible (commands.Store uid since add flags) octets = 0 < octets
+IsPossible (commands.Shift uid to) octets = 0 < octets
 IsPossible (commands.Append to flags text) octets = Unit {0}
-IsPossible _ octets = 0 < octets
+IsPossible commands.Logout octets = 0 < octets
 
 -- the second byte of the front without its tag, which tells the kinds apart
 abbrev pub second : Awaited → ℕ

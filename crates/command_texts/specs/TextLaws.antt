@@ -1,4 +1,5 @@
--- What holds of the texts of commands (RFC 9051, sections 2.2.1 and 4.3): each part is cut off as one, a text ends where it is whole, and its first part tells its tag.
+-- What holds of the texts of commands (RFC 9051, sections 2.2.1 and 4.3): each part is cut off as one, a text ends where
+-- it is whole, and its first part tells its tag.
 use Rattle.std.specs.Prelude.{◌≡◌, ℕ, List, ◌∷◌, ◌++◌}
 use Rattle.imap_model.specs.CommandText.{parts_of}
 use Rattle.imap_model.specs.Held.{IsSent}
@@ -18,5 +19,6 @@ NoTextIsAFront = (tag other : Tag) (command command' : Command) (parts : List (L
 
 -- texts with one first part have one tag
 abbrev pub FirstPartsTellTags : Type 0
-FirstPartsTellTags = (tag other : Tag) (command command' : Command) (part : List ℕ) (behind behind' : List (List ℕ)) → IsSent tag command → IsSent other command'
+FirstPartsTellTags = (tag other : Tag) (command command' : Command) (part : List ℕ) (behind behind' : List (List ℕ)) → IsSent tag command →
+    IsSent other command'
     → parts_of tag command ≡ part ∷ behind → parts_of other command' ≡ part ∷ behind' → tag ≡ other

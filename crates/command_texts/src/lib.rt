@@ -8,8 +8,6 @@ mod laws;
 mod octets;
 mod outcome;
 mod reading;
-#[cfg(test)]
-mod tests;
 mod texts;
 
 pub use cutting::part_end;

@@ -10,7 +10,6 @@ pub mod fronts;
 pub mod names;
 pub mod numbers;
 pub mod same;
-pub mod sent;
 pub mod sets;
 pub mod tags;
 pub mod written;

@@ -10,7 +10,6 @@ use crate::Heard;
 use crate::reading::candidates::{Candidate, candidate_of};
 use crate::reading::fronts::{Front, front_of, is_possible};
 use crate::reading::same::are_same;
-use crate::reading::sent::is_sent;
 use crate::reading::written::is_written;
 use imap_command::write;
 use imap_model::Command;
@@ -46,7 +45,7 @@ fn whole(alloc: Global, parts: &[Bytes]) -> Result<Option<Candidate>, AllocError
     let Some(found) = candidate_of(alloc, parts)? else {
         return Ok(None);
     };
-    if !is_sent(found.tag, &found.command) {
+    if !found.command.is_writable(found.tag) {
         return Ok(None);
     }
     let written = write(alloc, found.tag, &found.command)?;
@@ -68,7 +67,7 @@ fn begun(alloc: Global, parts: &[Bytes]) -> Result<Option<Front>, AllocError>
     if !is_possible(&found.stand_in) {
         return Ok(None);
     }
-    if !is_sent(found.tag, &found.stand_in.command) {
+    if !found.stand_in.command.is_writable(found.tag) {
         return Ok(None);
     }
     let written = write(alloc, found.tag, &found.stand_in.command)?;
@@ -84,6 +83,17 @@ fn append_of(command: &Command) -> Option<BoxName>
 {
     match command {
         Command::Append { to, .. } => Some(to.copy()),
-        _ => None,
+        Command::Capability
+        | Command::Login { .. }
+        | Command::Plain { .. }
+        | Command::Enable { .. }
+        | Command::Select { .. }
+        | Command::FetchAll
+        | Command::FetchRow { .. }
+        | Command::Search { .. }
+        | Command::FetchIds { .. }
+        | Command::Store { .. }
+        | Command::Shift { .. }
+        | Command::Logout => None,
     }
 }

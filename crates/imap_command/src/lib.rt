@@ -2,9 +2,8 @@
 #![tactic(auto)]
 
 mod argument;
+mod held;
 mod parts;
-#[cfg(test)]
-mod tests;
 mod words;
 mod writer;
 mod writing;

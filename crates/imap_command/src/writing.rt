@@ -3,10 +3,12 @@
 
 ghost use Rattle.std.specs.Prelude.{◌≡◌, IfOk, OnOk};
 ghost use Rattle.imap_model.specs.CommandText.{IsWritable, parts_of};
+ghost use Rattle.imap_model.specs.Held.{IsSent};
 ghost use Rattle.imap_model.specs.CommandParts.{line, number, ◌⌢◌};
 ghost use Rattle.imap_model.specs.TagText.{IsCommandTag, tag_parts};
 
 use crate::Parts;
+use crate::held::{command_fits, tag_fits};
 use crate::words::put_words;
 use crate::writer::Writer;
 use imap_model::Command;
@@ -17,8 +19,11 @@ use std::alloc::{AllocError, Global};
 /// can be written under which tags. The text of an APPEND is copied once.
 pub fn write(alloc: Global, tag: Tag, command: &Command) -> Result<Parts, AllocError>
     requires { IsWritable tag command.now }
-    ensures { IfOk result (λ parts. parts ≡ parts_of tag command.now) }
+    ensures text { IfOk result (λ parts. parts ≡ parts_of tag command.now) }
+    ensures sent { IsSent tag command.now }
 {
+    tag_fits(tag);
+    command_fits(command);
     let mut writer = Writer::new(alloc);
     put_tag(&mut writer, tag)?;
     writer.put(b" ")?;

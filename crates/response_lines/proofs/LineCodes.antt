@@ -23,7 +23,8 @@ use Rattle.response_lines.specs.Bracketed.{is_inner_byte, IsInside, FitsBrackets
 use Rattle.response_lines.specs.LineTexts.{◌⌢◌, code_text, inner_text, permanent_text, words_text}
 use Rattle.response_lines.specs.Tellable.{IsAtomic, LacksRecent}
 use Rattle.response_lines.proofs.LineFlags.{permanent_inner, permanent_spelled}
-use Rattle.response_lines.proofs.LineNumbers.{decimal_all, decimal_some, digit_inner, digit_word, a_nonzero, a_modseq, set_inner, set_some, set_word, words_inner, words_spell}
+use Rattle.response_lines.proofs.LineNumbers.{decimal_all, decimal_some, digit_inner, digit_word, a_nonzero, a_modseq, set_inner}
+use Rattle.response_lines.proofs.LineNumbers.{set_some, set_word, words_inner, words_spell}
 use Rattle.response_lines.proofs.PlainLines.{IsUnspaced, is_quiet_byte, all_each, all_join, begins_unspaced, inner_quiet, one_space, quiet_text, word_unspaced}
 
 -- a name that ends at a space, and the argument behind it
@@ -35,7 +36,16 @@ has_argument name rest h none = (32 ∷ rest, (name, refl, split_at name rest h)
 
 -- a name alone
 has_name : (name : List ℕ) → list_all is_wide_byte name ≡ true → HasName name name []
-has_name name h = (name, refl, record { wide = all_each is_wide_byte (λ byte. IsTrue (is_wide_byte byte)) (λ b is. is) name h; whole = sym (append-nil name); ends = tt })
+has_name name h = (
+  name,
+  refl,
+  record {
+    wide = all_each is_wide_byte (λ byte. IsTrue (is_wide_byte byte)) (λ b is. is) name h;
+    whole =
+        sym (append-nil name);
+    ends = tt;
+  },
+)
 
 pub number_unspaced : (n : ℕ) (more : List ℕ) → n < 2 ^ 64 → IsUnspaced (decimal n ++ more)
 number_unspaced n more h = word_unspaced (decimal n) more (decimal_some n h) (decimal_all is_word_byte digit_word n h)
@@ -60,29 +70,38 @@ inside_uidnext uid some h = record {
   spells = (decimal uid, has_argument (codes "UIDNEXT") (decimal uid) refl (number_alone uid (omega arith)), a_nonzero uid some h);
 }
 
-pub inside_validity : (validity : ℕ) → 0 < validity → validity < 2 ^ 32 → IsInside (inner_text endings.Ok (codings.UidValidity validity)) (codings.UidValidity validity)
+pub inside_validity : (validity : ℕ) → 0 < validity → validity < 2 ^ 32 →
+    IsInside (inner_text endings.Ok (codings.UidValidity validity)) (codings.UidValidity validity)
 unfolding ◌⌢◌
 inside_validity validity some h = record {
   plain = number_inner validity (omega arith);
   spells = (decimal validity, has_argument (codes "UIDVALIDITY") (decimal validity) refl (number_alone validity (omega arith)), a_nonzero validity some h);
 }
 
-pub inside_highest : (modseq : ℕ) → 0 < modseq → modseq < 2 ^ 63 → IsInside (inner_text endings.Ok (codings.HighestModSeq modseq)) (codings.HighestModSeq modseq)
+pub inside_highest : (modseq : ℕ) → 0 < modseq → modseq < 2 ^ 63 →
+    IsInside (inner_text endings.Ok (codings.HighestModSeq modseq)) (codings.HighestModSeq modseq)
 unfolding ◌⌢◌
 inside_highest modseq some h = record {
   plain = number_inner modseq (omega arith);
   spells = (decimal modseq, has_argument (codes "HIGHESTMODSEQ") (decimal modseq) refl (number_alone modseq (omega arith)), a_modseq modseq some h);
 }
 
-pub inside_capability : (words : List (List ℕ)) → words ≢ [] → AllByRecursion IsAtomic words → IsInside (inner_text endings.Ok (codings.Capability words)) (codings.Capability words)
+pub inside_capability : (words : List (List ℕ)) → words ≢ [] → AllByRecursion IsAtomic words →
+    IsInside (inner_text endings.Ok (codings.Capability words)) (codings.Capability words)
 unfolding ◌⌢◌
 inside_capability [] some all = absurd (some refl)
 inside_capability (word ∷ words) some all = record {
   plain = words_inner (word ∷ words) all;
-  spells = (some, words_text (word ∷ words), (codes "CAPABILITY", refl, split_at (codes "CAPABILITY") (word ++ words_text words) refl), words_spell (word ∷ words) all);
+  spells = (
+    some,
+    words_text (word ∷ words),
+    (codes "CAPABILITY", refl, split_at (codes "CAPABILITY") (word ++ words_text words) refl),
+    words_spell (word ∷ words) all,
+  );
 }
 
-pub inside_permanent : (keys : List (List ℕ)) (any : Bool) → IsFlagSet keys → LacksRecent keys → IsInside (inner_text endings.Ok (codings.PermanentFlags keys any)) (codings.PermanentFlags keys any)
+pub inside_permanent : (keys : List (List ℕ)) (any : Bool) → IsFlagSet keys → LacksRecent keys →
+    IsInside (inner_text endings.Ok (codings.PermanentFlags keys any)) (codings.PermanentFlags keys any)
 unfolding ◌⌢◌
 inside_permanent keys any set lacks = record {
   plain = all_join is_inner_byte (permanent_text keys any) (41 ∷ []) (permanent_inner keys any set.flags) refl;
@@ -93,7 +112,8 @@ inside_permanent keys any set lacks = record {
   );
 }
 
-pub inside_append : (validity uid : ℕ) → 0 < validity → validity < 2 ^ 32 → 0 < uid → uid < 2 ^ 32 → IsInside (inner_text endings.Ok (codings.AppendUid validity uid)) (codings.AppendUid validity uid)
+pub inside_append : (validity uid : ℕ) → 0 < validity → validity < 2 ^ 32 → 0 < uid → uid < 2 ^ 32 →
+    IsInside (inner_text endings.Ok (codings.AppendUid validity uid)) (codings.AppendUid validity uid)
 unfolding ◌⌢◌
 inside_append validity uid some h some' k = record {
   plain = all_join is_inner_byte (decimal validity) (32 ∷ decimal uid) (number_inner validity (omega arith)) (number_inner uid (omega arith));
@@ -108,14 +128,16 @@ inside_append validity uid some h some' k = record {
   );
 }
 
-pub inside_copy : (validity : ℕ) (source target : List UidRange) → 0 < validity → validity < 2 ^ 32 → IsCanonical source → source ≢ [] → IsCanonical target → target ≢ []
+pub inside_copy : (validity : ℕ) (source target : List UidRange) → 0 < validity → validity < 2 ^ 32 → IsCanonical source → source ≢ [] →
+    IsCanonical target → target ≢ []
     → IsInside (inner_text endings.Ok (codings.CopyUid validity source target)) (codings.CopyUid validity source target)
 unfolding ◌⌢◌
 inside_copy validity source target some h s s' t t' =
     let last : List ℕ = 32 ∷ set_text target in
     let later : List ℕ = 32 ∷ (set_text source ++ last) in
     record {
-      plain = all_join is_inner_byte (decimal validity) later (number_inner validity (omega arith)) (all_join is_inner_byte (set_text source) last (set_inner source s) (set_inner target t));
+      plain = all_join is_inner_byte (decimal validity) later (number_inner validity (omega arith))
+          (all_join is_inner_byte (set_text source) last (set_inner source s) (set_inner target t));
       spells = (
         decimal validity,
         set_text source,
@@ -181,7 +203,8 @@ has_inner : (inner rest : List ℕ) → list_all is_inner_byte inner ≡ true �
 has_inner inner rest h = (inner ++ 93 ∷ rest, map Single inner, rest, refl, enclosed inner rest h)
 
 -- a status text with a code, and one without
-coded_part : (inner last : List ℕ) (code : Code) → IsInside inner code → list_all is_quiet_byte last ≡ true → IsTextPart (32 ∷ 91 ∷ (inner ++ 93 ∷ 32 ∷ last)) code
+coded_part : (inner last : List ℕ) (code : Code) → IsInside inner code → list_all is_quiet_byte last ≡ true →
+    IsTextPart (32 ∷ 91 ∷ (inner ++ 93 ∷ 32 ∷ last)) code
 coded_part inner last code inside quiet =
     inr (
       91 ∷ (inner ++ 93 ∷ 32 ∷ last),
@@ -193,12 +216,19 @@ coded_part inner last code inside quiet =
 no_bracket : (b : ℕ) (more inner : List ℕ) → (b == 91) ≡ false → HasInner (b ∷ more) inner → ⊥
 no_bracket b more inner h has = let is : b ≡ 91 = (let whole : b ∷ more ≡ 91 ∷ has.0 = has.3 in cc) in grind (arith, nat_tests)
 
-pub plain_part : (b : ℕ) (more : List ℕ) → (b == 32) ≡ false → (b == 91) ≡ false → list_all is_quiet_byte (b ∷ more) ≡ true → IsTextPart (32 ∷ b ∷ more) codings.None
+pub plain_part : (b : ℕ) (more : List ℕ) → (b == 32) ≡ false → (b == 91) ≡ false → list_all is_quiet_byte (b ∷ more) ≡ true →
+    IsTextPart (32 ∷ b ∷ more) codings.None
 plain_part b more space bracket quiet =
-    inr (b ∷ more, one_space (b ∷ more) (begins_unspaced b more space), quiet_text (b ∷ more) quiet, inl (refl, λ inner has. no_bracket b more inner bracket has))
+    inr (
+      b ∷ more,
+      one_space (b ∷ more) (begins_unspaced b more space),
+      quiet_text (b ∷ more) quiet,
+      inl (refl, λ inner has. no_bracket b more inner bracket has),
+    )
 
 -- a status text that ends in a word
-pub code_part : (ending : Ending) (code : Code) (b : ℕ) (last : List ℕ) → FitsBrackets ending code → (b == 32) ≡ false → (b == 91) ≡ false → list_all is_quiet_byte (b ∷ last) ≡ true
+pub code_part : (ending : Ending) (code : Code) (b : ℕ) (last : List ℕ) → FitsBrackets ending code → (b == 32) ≡ false →
+    (b == 91) ≡ false → list_all is_quiet_byte (b ∷ last) ≡ true
     → IsTextPart (code_text ending code (b ∷ last)) code
 unfolding ◌⌢◌
 code_part ending codings.None b last fits space bracket quiet = plain_part b last space bracket quiet
@@ -216,10 +246,12 @@ code_part ending codings.Closed b last fits space bracket quiet = coded_part _ (
 code_part ending codings.Other b last fits space bracket quiet = coded_part _ (b ∷ last) _ fits quiet
 
 -- its bytes
-coded_quiet : (inner last : List ℕ) (code : Code) → IsInside inner code → list_all is_quiet_byte last ≡ true → list_all is_quiet_byte (32 ∷ 91 ∷ (inner ++ 93 ∷ 32 ∷ last)) ≡ true
+coded_quiet : (inner last : List ℕ) (code : Code) → IsInside inner code → list_all is_quiet_byte last ≡ true →
+    list_all is_quiet_byte (32 ∷ 91 ∷ (inner ++ 93 ∷ 32 ∷ last)) ≡ true
 coded_quiet inner last code inside quiet = all_join is_quiet_byte inner (93 ∷ 32 ∷ last) (inner_quiet inner inside.plain) quiet
 
-pub code_quiet : (ending : Ending) (code : Code) (last : List ℕ) → FitsBrackets ending code → list_all is_quiet_byte last ≡ true → list_all is_quiet_byte (code_text ending code last) ≡ true
+pub code_quiet : (ending : Ending) (code : Code) (last : List ℕ) → FitsBrackets ending code → list_all is_quiet_byte last ≡ true →
+    list_all is_quiet_byte (code_text ending code last) ≡ true
 unfolding ◌⌢◌
 code_quiet ending codings.None last fits quiet = quiet
 code_quiet ending (codings.Capability words) last fits quiet = coded_quiet _ last _ fits quiet

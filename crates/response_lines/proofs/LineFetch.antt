@@ -1,5 +1,5 @@
 -- FETCH lines, and what they tell.
-use Rattle.std.proofs.Common.{◌≡◌, ℕ, ◌<◌, ◌^◌, Bool, true, List, [], ◌∷◌, ◌++◌, Some, None, refl, sym, ◌∙◌, ap, arith, decimal, append_assoc}
+use Rattle.std.proofs.Common.{◌≡◌, ℕ, ◌<◌, ◌^◌, Bool, true, List, [], ◌∷◌, ◌++◌, Some, refl, sym, ◌∙◌, ap, arith, decimal, append_assoc}
 use Rattle.std.proofs.lemmas.List.{map-append}
 use Rattle.std.specs.Prelude.{codes}
 use Rattle.std.specs.List.{list_all}
@@ -8,7 +8,9 @@ use Rattle.imap_model.specs.FetchItems.{IsUidItem, IsFlagsItem, IsModSeqItem, Ar
 use Rattle.imap_model.specs.Lines.{IsSpelled}
 use Rattle.imap_model.specs.Parts.{Part, Byte, bytes}
 use Rattle.imap_model.specs.Responses.{IsFetchLine}
+use Rattle.imap_model.specs.Unfetched.{nothing_fetched}
 use Rattle.imap_model.specs.Words.{IsGap, IsNumbered}
+use Rattle.imap_model.specs.declared.fetched.Fetched.{Fetched}
 use Rattle.imap_model.specs.declared.response.Response.TheVariants as responses
 use Rattle.response_lines.specs.LineTexts.{◌⌢◌, fetch_text, flags_text, row_text}
 use Rattle.response_lines.specs.Tellable.{LacksRecent}
@@ -27,11 +29,17 @@ join_bytes a b = map-append Byte a b
 abbrev pub front_of : ℕ → List ℕ
 front_of number = 42 ∷ 32 ∷ (decimal number ++ codes " FETCH")
 
-pub numbered : (number : ℕ) (more : List ℕ) → number < 2 ^ 32 → IsNumbered (42 ∷ 32 ∷ (decimal number ++ (codes " FETCH " ++ more))) (decimal number) (codes "FETCH") (32 ∷ more)
+pub numbered : (number : ℕ) (more : List ℕ) → number < 2 ^ 32 →
+    IsNumbered (42 ∷ 32 ∷ (decimal number ++ (codes " FETCH " ++ more))) (decimal number) (codes "FETCH") (32 ∷ more)
 numbered number more h = (
   codes " FETCH " ++ more,
   codes "FETCH " ++ more,
-  (32 ∷ (decimal number ++ (codes " FETCH " ++ more)), refl, one_space (decimal number ++ (codes " FETCH " ++ more)) (number_unspaced number (codes " FETCH " ++ more) (omega arith))),
+  (
+    32 ∷ (decimal number ++ (codes " FETCH " ++ more)),
+    refl,
+    one_space (decimal number ++ (codes " FETCH " ++ more))
+        (number_unspaced number (codes " FETCH " ++ more) (omega arith)),
+  ),
   one_space (codes "FETCH " ++ more) (begins_unspaced 70 (codes "ETCH " ++ more) refl),
   record { word = codes "FETCH"; same = refl; whole = refl; ends = refl },
 )
@@ -55,13 +63,41 @@ fetch_line number more later parts some h is = record {
 
 -- UID, FLAGS and MODSEQ
 pub uid_item : (uid : ℕ) → 0 < uid → uid < 2 ^ 32 → IsUidItem (bytes (codes "UID " ++ decimal uid)) uid
-uid_item uid some h = record { name = codes "UID"; named = refl; gap = 32 ∷ []; spaces = a_gap; digits = decimal uid; number = a_nonzero uid some h; whole = refl }
+uid_item uid some h = record {
+  name = codes "UID";
+  named = refl;
+  gap = 32 ∷ [];
+  spaces = a_gap;
+  digits = decimal uid;
+  number =
+      a_nonzero uid some h;
+  whole = refl;
+}
 
-flags_item : (older : Bool) (keys : List (List ℕ)) → IsFlagSet keys → LacksRecent keys → IsFlagsItem (bytes (codes "FLAGS (" ++ (flags_text older keys ++ 41 ∷ []))) keys
-flags_item older keys set lacks = record { name = codes "FLAGS"; named = refl; gap = 32 ∷ []; spaces = a_gap; text = flags_text older keys; listed = flags_spelled older keys set lacks; whole = refl }
+flags_item : (older : Bool) (keys : List (List ℕ)) → IsFlagSet keys → LacksRecent keys →
+    IsFlagsItem (bytes (codes "FLAGS (" ++ (flags_text older keys ++ 41 ∷ []))) keys
+flags_item older keys set lacks = record {
+  name = codes "FLAGS";
+  named = refl;
+  gap = 32 ∷ [];
+  spaces = a_gap;
+  text =
+      flags_text older keys;
+  listed = flags_spelled older keys set lacks;
+  whole = refl;
+}
 
 modseq_item : (modseq : ℕ) → 0 < modseq → modseq < 2 ^ 63 → IsModSeqItem (bytes (codes "MODSEQ (" ++ (decimal modseq ++ 41 ∷ []))) modseq
-modseq_item modseq some h = record { name = codes "MODSEQ"; named = refl; gap = 32 ∷ []; spaces = a_gap; digits = decimal modseq; number = a_modseq modseq some h; whole = refl }
+modseq_item modseq some h = record {
+  name = codes "MODSEQ";
+  named = refl;
+  gap = 32 ∷ [];
+  spaces = a_gap;
+  digits = decimal modseq;
+  number =
+      a_modseq modseq some h;
+  whole = refl;
+}
 
 abbrev last_text : ℕ → List ℕ
 last_text modseq = codes "MODSEQ (" ++ (decimal modseq ++ 41 ∷ [])
@@ -72,11 +108,14 @@ middle_text older keys modseq = codes "FLAGS (" ++ (flags_text older keys ++ (co
 abbrev items_of : Bool → ℕ → List (List ℕ) → ℕ → List ℕ
 items_of older uid keys modseq = codes "UID " ++ (decimal uid ++ 32 ∷ middle_text older keys modseq)
 
-first_parts : (uid : ℕ) (more : List ℕ) → bytes (codes "UID " ++ (decimal uid ++ 32 ∷ more)) ≡ (bytes (codes "UID " ++ decimal uid) ++ bytes (32 ∷ [])) ++ bytes more
+first_parts : (uid : ℕ) (more : List ℕ) → bytes (codes "UID " ++ (decimal uid ++ 32 ∷ more))
+    ≡ (bytes (codes "UID " ++ decimal uid) ++ bytes (32 ∷ [])) ++ bytes more
 first_parts uid more =
     join_bytes (codes "UID " ++ decimal uid) (32 ∷ more) ∙ sym (append_assoc (bytes (codes "UID " ++ decimal uid)) (bytes (32 ∷ [])) (bytes more))
 
-middle_parts : (older : Bool) (keys : List (List ℕ)) (more : List ℕ) → bytes (codes "FLAGS (" ++ (flags_text older keys ++ (codes ") " ++ more))) ≡ (bytes (codes "FLAGS (" ++ (flags_text older keys ++ 41 ∷ [])) ++ bytes (32 ∷ [])) ++ bytes more
+middle_parts : (older : Bool) (keys : List (List ℕ)) (more : List ℕ) →
+    bytes (codes "FLAGS (" ++ (flags_text older keys ++ (codes ") " ++ more)))
+    ≡ (bytes (codes "FLAGS (" ++ (flags_text older keys ++ 41 ∷ [])) ++ bytes (32 ∷ [])) ++ bytes more
 middle_parts older keys more =
     ap (λ (t : List ℕ). bytes (codes "FLAGS (" ++ t)) (sym (append_assoc (flags_text older keys) (41 ∷ []) (32 ∷ more)))
     ∙ join_bytes (codes "FLAGS (" ++ (flags_text older keys ++ 41 ∷ [])) (32 ∷ more)
@@ -110,28 +149,37 @@ row_is older uid modseq keys =
     ∙ ap (λ (t : List ℕ). decimal uid ++ (codes " FLAGS (" ++ t)) (append_assoc (flags_text older keys) (codes ") " ++ last_text modseq) (41 ∷ [])
     ∙ ap (λ (t : List ℕ). flags_text older keys ++ (codes ") MODSEQ (" ++ t)) (append_assoc (decimal modseq) (41 ∷ []) (41 ∷ []))))
 
-row_quiet : (older : Bool) (uid modseq : ℕ) (keys : List (List ℕ)) → uid < 2 ^ 32 → IsFlagSet keys → modseq < 2 ^ 63 → list_all is_quiet_byte (row_text older uid keys modseq) ≡ true
+row_quiet : (older : Bool) (uid modseq : ℕ) (keys : List (List ℕ)) → uid < 2 ^ 32 → IsFlagSet keys → modseq < 2 ^ 63 →
+    list_all is_quiet_byte (row_text older uid keys modseq) ≡ true
 unfolding ◌⌢◌
 row_quiet older uid modseq keys h set k =
-    all_join is_quiet_byte (decimal uid) (codes " FLAGS (" ++ (flags_text older keys ++ (codes ") MODSEQ (" ++ (decimal modseq ++ codes "))")))) (decimal_all is_quiet_byte digit_quiet uid (omega arith))
-    (all_join is_quiet_byte (flags_text older keys) (codes ") MODSEQ (" ++ (decimal modseq ++ codes "))")) (inner_quiet (flags_text older keys) (flags_inner older keys set.flags))
+    all_join is_quiet_byte (decimal uid) (codes " FLAGS (" ++ (flags_text older keys
+    ++ (codes ") MODSEQ (" ++ (decimal modseq ++ codes "))")))) (decimal_all is_quiet_byte digit_quiet uid (omega arith))
+    (all_join is_quiet_byte (flags_text older keys) (codes ") MODSEQ (" ++ (decimal modseq ++ codes "))"))
+    (inner_quiet (flags_text older keys) (flags_inner older keys set.flags))
     (all_join is_quiet_byte (decimal modseq) (codes "))") (decimal_all is_quiet_byte digit_quiet modseq (omega arith)) refl))
 
-row_later : (older : Bool) (uid modseq : ℕ) (keys : List (List ℕ)) → bytes (32 ∷ 40 ∷ row_text older uid keys modseq) ≡ (bytes (32 ∷ 40 ∷ []) ++ bytes (items_of older uid keys modseq)) ++ bytes (41 ∷ [])
+row_later : (older : Bool) (uid modseq : ℕ) (keys : List (List ℕ)) →
+    bytes (32 ∷ 40 ∷ row_text older uid keys modseq) ≡ (bytes (32 ∷ 40 ∷ []) ++ bytes (items_of older uid keys modseq)) ++ bytes (41 ∷ [])
 row_later older uid modseq keys =
     ap (λ (t : List ℕ). bytes (32 ∷ 40 ∷ t)) (sym (row_is older uid modseq keys)) ∙ join_bytes (32 ∷ 40 ∷ items_of older uid keys modseq) (41 ∷ [])
 
 row_whole : (number : ℕ) (more : List ℕ) → bytes (42 ∷ 32 ∷ (decimal number ++ (codes " FETCH " ++ more))) ≡ bytes (front_of number) ++ bytes (32 ∷ more)
 row_whole number more = ap bytes (front_join number more) ∙ join_bytes (front_of number) (32 ∷ more)
 
+abbrev full_row : ℕ → List (List ℕ) → ℕ → Fetched
+full_row uid keys modseq = record nothing_fetched { uid = Some uid; flags = Some keys; modseq = Some modseq }
+
 -- a row
-pub row_spelled : (older : Bool) (number uid modseq : ℕ) (keys : List (List ℕ)) → 0 < number → number < 2 ^ 32 → 0 < uid → uid < 2 ^ 32 → IsFlagSet keys → LacksRecent keys → 0 < modseq → modseq < 2 ^ 63
-    → IsSpelled (responses.Fetch (record { uid = Some uid; flags = Some keys; modseq = Some modseq; ids = None })) (fetch_text older number (record { uid = Some uid; flags = Some keys; modseq = Some modseq; ids = None }))
+pub row_spelled : (older : Bool) (number uid modseq : ℕ) (keys : List (List ℕ)) → 0 < number → number < 2 ^ 32 → 0 < uid → uid < 2 ^ 32 →
+    IsFlagSet keys → LacksRecent keys → 0 < modseq → modseq < 2 ^ 63
+    → IsSpelled (responses.Fetch (full_row uid keys modseq)) (fetch_text older number (full_row uid keys modseq))
 unfolding ◌⌢◌
 row_spelled older number uid modseq keys n h some h' set lacks some' k =
     let row : List ℕ = row_text older uid keys modseq in
-    quiet_spelled (responses.Fetch (record { uid = Some uid; flags = Some keys; modseq = Some modseq; ids = None })) (42 ∷ 32 ∷ (decimal number ++ (codes " FETCH (" ++ row)))
-    (all_join is_quiet_byte (decimal number) (codes " FETCH (" ++ row) (decimal_all is_quiet_byte digit_quiet number (omega arith)) (row_quiet older uid modseq keys h' set k)) (
+    quiet_spelled (responses.Fetch (full_row uid keys modseq)) (42 ∷ 32 ∷ (decimal number ++ (codes " FETCH (" ++ row)))
+    (all_join is_quiet_byte (decimal number) (codes " FETCH (" ++ row) (decimal_all is_quiet_byte digit_quiet number (omega arith))
+    (row_quiet older uid modseq keys h' set k)) (
       bytes (32 ∷ 40 ∷ row),
       32 ∷ [],
       bytes (items_of older uid keys modseq),

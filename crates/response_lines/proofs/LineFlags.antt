@@ -1,5 +1,6 @@
 -- Lists of flags as they are written, and what they spell.
-use Rattle.std.proofs.Common.{◌≡◌, ℕ, Bool, true, false, cond, List, [], ◌∷◌, ◌++◌, refl, sym, ◌∙◌, ap, subst, arith, map, fold, length, append_assoc, inl, inr, ◌⊎◌}
+use Rattle.std.proofs.Common.{◌≡◌, ℕ, Bool, true, false, cond, List, [], ◌∷◌, ◌++◌, refl, sym, ◌∙◌, ap, subst, arith, map, fold, length}
+use Rattle.std.proofs.Common.{append_assoc, inl, inr, ◌⊎◌}
 use Rattle.std.proofs.lemmas.Bool.{and_parts}
 use Rattle.std.proofs.lemmas.Bool.Decides.{nat_tests}
 use Rattle.std.specs.Cmp.Lexicographic.{same_text}
@@ -41,7 +42,8 @@ pieces_word (b ∷ rest) h =
     let both = and_parts (not (is_space b)) (list_all (λ byte. not (is_space byte)) rest) h in
     onto_word b rest both.0 ∙ ap (onto_first b) (pieces_word rest both.1)
 
-pieces_words : (word rest : List ℕ) → list_all (λ byte. not (is_space byte)) word ≡ true → begins_with_space rest ≡ false → pieces (word ++ (32 ∷ rest)) ≡ word ∷ pieces rest
+pieces_words : (word rest : List ℕ) → list_all (λ byte. not (is_space byte)) word ≡ true → begins_with_space rest ≡ false →
+    pieces (word ++ (32 ∷ rest)) ≡ word ∷ pieces rest
 pieces_words [] rest h e = ap (λ t. cond t (pieces rest) ([] ∷ pieces rest)) e
 pieces_words (b ∷ more) rest h e =
     let both = and_parts (not (is_space b)) (list_all (λ byte. not (is_space byte)) more) h in
@@ -54,7 +56,8 @@ begins_word (b ∷ rest) (z ∷ zs) w = let both = and_parts (not (is_space b)) 
 
 pieces_join : (word : List ℕ) (words : List (List ℕ)) → IsPiece word → AllByRecursion IsPiece words → pieces (join_with_byte 32 (word ∷ words)) ≡ word ∷ words
 pieces_join word [] w all = pieces_word word w.plain
-pieces_join word (z ∷ zs) w all = pieces_words word (join_with_byte 32 (z ∷ zs)) w.plain (begins_word z zs all.0) ∙ ap (λ l. word ∷ l) (pieces_join z zs all.0 all.1)
+pieces_join word (z ∷ zs) w all = pieces_words word (join_with_byte 32 (z ∷ zs)) w.plain (begins_word z zs all.0)
+    ∙ ap (λ l. word ∷ l) (pieces_join z zs all.0 all.1)
 
 flags_join : (words : List (List ℕ)) → AllByRecursion IsPiece words → flags_of (join_with_byte 32 words) ≡ words
 flags_join [] all = refl
@@ -151,14 +154,16 @@ flags_spelled false keys set lacks = record {
 flags_spelled true keys set lacks =
     let again = with_again keys (codes "\\Recent") set.flags (record { plain = refl; some = λ e. cc }) in
     record {
-      each = subst (AllByRecursion (λ flag. IsTrue (is_flag flag))) (sym again) (all_last (λ flag. IsTrue (is_flag flag)) (map spelling keys) (codes "\\Recent") (spelt_flags keys set.flags) refl);
+      each = subst (AllByRecursion (λ flag. IsTrue (is_flag flag))) (sym again)
+          (all_last (λ flag. IsTrue (is_flag flag)) (map spelling keys) (codes "\\Recent") (spelt_flags keys set.flags) refl);
       set = sym (ap set_of again ∙ fold_last [] (map spelling keys) (codes "\\Recent") ∙ set_is keys set lacks);
     }
 
 -- no flag is `\*`
 flag_not_any : (flag : List ℕ) → is_flag flag ≡ true → is_any flag ≡ false
 flag_not_any flag h = elim (is_any flag) as (λ t. is_any flag ≡ t → t ≡ false) [
-  | true ↦ λ e. let is : flag ≡ codes "\\*" = same_text flag (codes "\\*") (sym e) in absurd (let no' : is_flag (codes "\\*") ≡ true = subst (λ (t : List ℕ). is_flag t ≡ true) is h in cc)
+  | true ↦ λ e. let is : flag ≡ codes "\\*" = same_text flag (codes "\\*") (sym e) in
+      absurd (let no' : is_flag (codes "\\*") ≡ true = subst (λ (t : List ℕ). is_flag t ≡ true) is h in cc)
   | false ↦ λ e. refl
 ] refl
 
@@ -181,7 +186,8 @@ some_any : (flags : List (List ℕ)) → AllByRecursion (λ flag. IsTrue (is_fla
 some_any [] all = refl
 some_any (f ∷ flags) all = ap (λ t. t || list_any is_any (flags ++ codes "\\*" ∷ [])) (flag_not_any f all.0) ∙ some_any flags all.1
 
-either_all : (flags : List (List ℕ)) → AllByRecursion (λ flag. IsTrue (is_flag flag)) flags → AllByRecursion (λ flag. IsTrue (is_flag flag) ⊎ IsTrue (is_any flag)) flags
+either_all : (flags : List (List ℕ)) → AllByRecursion (λ flag. IsTrue (is_flag flag)) flags →
+    AllByRecursion (λ flag. IsTrue (is_flag flag) ⊎ IsTrue (is_any flag)) flags
 either_all [] all = tt
 either_all (f ∷ flags) all = (inl all.0, either_all flags all.1)
 

@@ -1,5 +1,6 @@
 -- The lines of searches, and the sets that they tell.
-use Rattle.std.proofs.Common.{◌≡◌, ◌⊎◌, ◌↔◌, ℕ, zero, suc, ◌+◌, ◌-◌, ◌<◌, ◌≤◌, ◌^◌, Bool, true, false, List, [], ◌∷◌, ◌++◌, refl, sym, ◌∙◌, ap, subst, arith, map, decimal, inl, inr, append_assoc}
+use Rattle.std.proofs.Common.{◌≡◌, ◌⊎◌, ◌↔◌, ℕ, zero, suc, ◌+◌, ◌-◌, ◌<◌, ◌≤◌, ◌^◌, Bool, true, false, List, [], ◌∷◌, ◌++◌, refl, sym}
+use Rattle.std.proofs.Common.{◌∙◌, ap, subst, arith, map, decimal, inl, inr, append_assoc}
 use Rattle.std.proofs.lemmas.Bool.{and_parts, cases_Bool}
 use Rattle.std.proofs.lemmas.Bool.Decides.{nat_tests}
 use Rattle.std.proofs.lemmas.List.{append-nil, map-append}
@@ -67,11 +68,14 @@ pub members_are : (uids : List UidRange) (uid : ℕ) → Member uids uid ↔ Con
 members_are [] uid = (λ m. absurd m, λ h. absurd (let lt = h.1 in omega arith))
 members_are (r ∷ uids) uid = (
   λ m. elim m [
-    | inl within ↦ let above = within.above in let below = within.below in Contains-append_left (counted r.low (r.high + 1 - r.low)) (members_of uids) uid (counted_out r.low (r.high + 1 - r.low) uid above (omega arith))
+    | inl within ↦ let above = within.above in let below = within.below in
+        Contains-append_left (counted r.low (r.high + 1 - r.low)) (members_of uids) uid
+        (counted_out r.low (r.high + 1 - r.low) uid above (omega arith))
     | inr later ↦ Contains-append_right (counted r.low (r.high + 1 - r.low)) (members_of uids) uid ((members_are uids uid).0 later)
   ],
   λ h. elim (Contains-append_cases (counted r.low (r.high + 1 - r.low)) (members_of uids) uid h) [
-    | inl here ↦ let ends = counted_in r.low (r.high + 1 - r.low) uid here in inl (record { above = ends.0; below = (let last = ends.1 in let first = ends.0 in omega arith) })
+    | inl here ↦ let ends = counted_in r.low (r.high + 1 - r.low) uid here in
+        inl (record { above = ends.0; below = (let last = ends.1 in let first = ends.0 in omega arith) })
     | inr later ↦ inr ((members_are uids uid).1 later)
   ],
 )
@@ -82,13 +86,15 @@ unfolding ◌⌢◌
 count_stops least zero more stops = stops
 count_stops least (suc count) more stops = refl
 
-count_numbers : (least count : ℕ) (more numbers rest : List ℕ) → 0 < least → least + count ≤ 2 ^ 32 → Stops more → AreNumbers more numbers rest → AreNumbers (count_text least count ++ more) (counted least count ++ numbers) rest
+count_numbers : (least count : ℕ) (more numbers rest : List ℕ) → 0 < least → least + count ≤ 2 ^ 32 → Stops more →
+    AreNumbers more numbers rest → AreNumbers (count_text least count ++ more) (counted least count ++ numbers) rest
 unfolding ◌⌢◌
 count_numbers least zero more numbers rest some fits stops are = are
 count_numbers least (suc count) more numbers rest some fits stops are = (
   decimal least,
   count_text (least + 1) count ++ more,
-  subst (λ (t : List ℕ). Spaced (32 ∷ t) (decimal least ++ (count_text (least + 1) count ++ more))) (sym (append_assoc (decimal least) (count_text (least + 1) count) more))
+  subst (λ (t : List ℕ). Spaced (32 ∷ t) (decimal least ++ (count_text (least + 1) count ++ more)))
+      (sym (append_assoc (decimal least) (count_text (least + 1) count) more))
       (one_space (decimal least ++ (count_text (least + 1) count ++ more)) (number_unspaced least (count_text (least + 1) count ++ more) (omega arith))),
   a_nonzero least some (omega arith),
   count_stops (least + 1) count more stops,
@@ -107,12 +113,14 @@ members_numbers floor (r ∷ uids) rises =
     let a = rises.0.above in
     let o = rises.0.ordered in
     let f = rises.0.fits in
-    count_numbers r.low (r.high + 1 - r.low) (members_text uids) (members_of uids) [] (omega arith) (omega arith) (members_stop uids) (members_numbers (r.high + 1) uids rises.1)
+    count_numbers r.low (r.high + 1 - r.low) (members_text uids) (members_of uids) [] (omega arith) (omega arith) (members_stop uids)
+    (members_numbers (r.high + 1) uids rises.1)
 
 count_quiet : (least count : ℕ) → least + count ≤ 2 ^ 32 → list_all is_quiet_byte (count_text least count) ≡ true
 unfolding ◌⌢◌
 count_quiet least zero fits = refl
-count_quiet least (suc count) fits = all_join is_quiet_byte (decimal least) (count_text (least + 1) count) (decimal_all is_quiet_byte digit_quiet least (omega arith)) (count_quiet (least + 1) count (omega arith))
+count_quiet least (suc count) fits = all_join is_quiet_byte (decimal least) (count_text (least + 1) count)
+    (decimal_all is_quiet_byte digit_quiet least (omega arith)) (count_quiet (least + 1) count (omega arith))
 
 members_quiet : (floor : ℕ) (uids : List UidRange) → RisesAbove floor uids → list_all is_quiet_byte (members_text uids) ≡ true
 unfolding ◌⌢◌
@@ -120,7 +128,8 @@ members_quiet floor [] rises = refl
 members_quiet floor (r ∷ uids) rises =
     let o = rises.0.ordered in
     let f = rises.0.fits in
-    all_join is_quiet_byte (count_text r.low (r.high + 1 - r.low)) (members_text uids) (count_quiet r.low (r.high + 1 - r.low) (omega arith)) (members_quiet (r.high + 1) uids rises.1)
+    all_join is_quiet_byte (count_text r.low (r.high + 1 - r.low)) (members_text uids)
+    (count_quiet r.low (r.high + 1 - r.low) (omega arith)) (members_quiet (r.high + 1) uids rises.1)
 
 -- SEARCH
 pub search_spelled : (tag : Tag) (uids : List UidRange) → IsCanonical uids → IsSpelled (responses.Found uids) (found_text true tag uids)
@@ -139,7 +148,13 @@ abbrev is_own_byte : ℕ → Bool
 is_own_byte b = nat_lt 47 b && nat_lt b 91
 
 own_character : (b : ℕ) → is_own_byte b ≡ true → IsCharacter (Plain b)
-own_character b h = (λ e. grind (arith, nat_tests), λ e. grind (arith, nat_tests), λ e. grind (arith, nat_tests), λ e. grind (arith, nat_tests), λ e. grind (arith, nat_tests))
+own_character b h = (
+  λ e. grind (arith, nat_tests),
+  λ e. grind (arith, nat_tests),
+  λ e. grind (arith, nat_tests),
+  λ e. grind (arith, nat_tests),
+  λ e. grind (arith, nat_tests),
+)
 
 digit_own : (b : ℕ) → is_ascii_digit b ≡ true → is_own_byte b ≡ true
 digit_own b h = grind (arith, nat_tests)
@@ -182,7 +197,17 @@ correlates tag kept = inr (
   32 ∷ [],
   correlator tag,
   (λ e. cc, (refl, tt)),
-  record { name = codes "TAG"; named = refl; gap = 32 ∷ []; spaces = (λ e. cc, (refl, tt)); tag = quoted tag; value = tag_text tag; astring = inl (inl (quoted_tag tag kept)); whole = refl },
+  record {
+    name = codes "TAG";
+    named = refl;
+    gap = 32 ∷ [];
+    spaces = (λ e. cc, (refl, tt));
+    tag = quoted tag;
+    value =
+        tag_text tag;
+    astring = inl (inl (quoted_tag tag kept));
+    whole = refl;
+  },
   refl,
 )
 
@@ -227,7 +252,8 @@ all_quiet [] is = refl
 all_quiet (r ∷ uids) is = set_quiet (r ∷ uids) is
 
 -- ESEARCH
-tells : (tag : Tag) (uids : List UidRange) → IsKeptTag tag → IsCanonical uids → TellsExtended (bytes (codes " (TAG \"" ++ (tag_text tag ++ (codes "\") UID" ++ all_text uids)))) uids
+tells : (tag : Tag) (uids : List UidRange) → IsKeptTag tag → IsCanonical uids →
+    TellsExtended (bytes (codes " (TAG \"" ++ (tag_text tag ++ (codes "\") UID" ++ all_text uids)))) uids
 tells tag uids kept is = record {
   correlator = Byte 32 ∷ correlator tag;
   may_correlate = correlates tag kept;
@@ -239,7 +265,8 @@ tells tag uids kept is = record {
   word_first = λ e. absurd cc;
   blank = [];
   spaces = tt;
-  whole = joined tag (codes " UID" ++ all_text uids) ∙ sym (append_assoc (Byte 32 ∷ correlator tag) (bytes (codes " UID")) (bytes (all_text uids))) ∙ sym (append-nil _);
+  whole = joined tag (codes " UID" ++ all_text uids) ∙ sym (append_assoc (Byte 32 ∷ correlator tag) (bytes (codes " UID"))
+      (bytes (all_text uids))) ∙ sym (append-nil _);
   found = found_is uids;
 }
 
@@ -247,5 +274,17 @@ pub extended_spelled : (tag : Tag) (uids : List UidRange) → IsKeptTag tag → 
 unfolding ◌⌢◌
 extended_spelled tag uids kept is =
     let rest : List ℕ = codes " (TAG \"" ++ (tag_text tag ++ (codes "\") UID" ++ all_text uids)) in
-    quiet_spelled (responses.Found uids) (codes "* ESEARCH" ++ rest) (all_join is_quiet_byte (tag_text tag) (codes "\") UID" ++ all_text uids) (tag_quiet tag kept) (all_quiet uids is))
-    (inr (bytes rest, record { front = codes "* ESEARCH"; rest = rest; named = named 69 (codes "SEARCH") rest refl refl; fronted = refl; whole = refl }, tells tag uids kept is))
+    quiet_spelled (responses.Found uids) (codes "* ESEARCH" ++ rest)
+    (all_join is_quiet_byte (tag_text tag) (codes "\") UID" ++ all_text uids) (tag_quiet tag kept) (all_quiet uids is))
+    (inr (
+      bytes rest,
+      record {
+        front = codes "* ESEARCH";
+        rest = rest;
+        named = named 69 (codes "SEARCH") rest refl refl;
+        fronted =
+            refl;
+        whole = refl;
+      },
+      tells tag uids kept is,
+    ))

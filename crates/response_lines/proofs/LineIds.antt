@@ -1,5 +1,6 @@
 -- FETCH lines with Message-ID fields, which stand in a literal.
-use Rattle.std.proofs.Common.{◌≡◌, ℕ, ◌+◌, ◌<◌, ◌^◌, Bool, true, List, [], ◌∷◌, ◌++◌, Some, None, refl, sym, ◌∙◌, ap, subst, arith, length, decimal, inl, inr, append_assoc, length-append}
+use Rattle.std.proofs.Common.{◌≡◌, ℕ, ◌+◌, ◌<◌, ◌^◌, Bool, true, List, [], ◌∷◌, ◌++◌, Some, refl, sym, ◌∙◌, ap, subst, arith, length}
+use Rattle.std.proofs.Common.{decimal, inl, inr, append_assoc, length-append}
 use Rattle.std.proofs.lemmas.Fmt.{decimal_is_IsNumeral}
 use Rattle.std.proofs.lemmas.List.{append-nil}
 use Rattle.std.specs.Prelude.{IsTrue, codes}
@@ -12,6 +13,7 @@ use Rattle.imap_model.specs.Lines.{IsSpelled}
 use Rattle.imap_model.specs.Parts.{Part, Literal, IsPart, part_text, literals_from, bytes}
 use Rattle.imap_model.specs.Responses.{IsFetchLine, IsLineOf}
 use Rattle.imap_model.specs.Tagged.{is_astring_byte}
+use Rattle.imap_model.specs.Unfetched.{nothing_fetched}
 use Rattle.imap_model.specs.declared.fetched.Fetched.{Fetched}
 use Rattle.imap_model.specs.declared.response.Response.TheVariants as responses
 use Rattle.response_lines.specs.LineTexts.{◌⌢◌, fetch_text}
@@ -38,7 +40,8 @@ text_parts [] octets = sym (append_assoc (header (decimal (length octets))) (13 
 text_parts (b ∷ front) octets = ap (λ (t : List ℕ). b ∷ t) (text_parts front octets)
 
 -- where the octets stand
-span_from : (at : ℕ) (front octets : List ℕ) → literals_from at (parts_of front octets) ≡ literals_from (at + length front) (Literal (decimal (length octets)) octets ∷ bytes (41 ∷ []))
+span_from : (at : ℕ) (front octets : List ℕ) → literals_from at (parts_of front octets)
+    ≡ literals_from (at + length front) (Literal (decimal (length octets)) octets ∷ bytes (41 ∷ []))
 span_from at [] octets = ap (λ (n : ℕ). literals_from n (Literal (decimal (length octets)) octets ∷ bytes (41 ∷ []))) (omega arith)
 span_from at (b ∷ front) octets =
     span_from (at + 1) front octets ∙ ap (λ (n : ℕ). literals_from n (Literal (decimal (length octets)) octets ∷ bytes (41 ∷ []))) (omega arith)
@@ -46,7 +49,8 @@ span_from at (b ∷ front) octets =
 abbrev span_at : ℕ → ℕ → Span
 span_at low count = record { low = low; high = low + count }
 
-literal_is : (front octets : List ℕ) → span_at (0 + length (front ++ header (decimal (length octets))) + 2) (length octets) ∷ [] ≡ literals_from 0 (parts_of front octets) ++ []
+literal_is : (front octets : List ℕ) → span_at (0 + length (front ++ header (decimal (length octets))) + 2) (length octets) ∷ []
+    ≡ literals_from 0 (parts_of front octets) ++ []
 literal_is front octets =
     ap (λ (low : ℕ). span_at low (length octets) ∷ []) (let len = length-append front (header (decimal (length octets))) in omega arith)
     ∙ sym (append-nil (literals_from 0 (parts_of front octets)) ∙ span_from 0 front octets)
@@ -62,7 +66,12 @@ pub literal_spelled : (fetched : Fetched) (front octets : List ℕ) → list_all
     → IsLineOf (text_of front octets) (parts_of front octets) (responses.Fetch fetched) → IsSpelled (responses.Fetch fetched) (text_of front octets)
 literal_spelled fetched front octets quiet h of =
     let numeral = decimal_is_IsNumeral (length octets) h in
-    let frame : Frame = record { bytes = text_of front octets; literals = span_at (0 + length (front ++ header (decimal (length octets))) + 2) (length octets) ∷ []; at = 0 } in
+    let frame : Frame = record {
+      bytes = text_of front octets;
+      literals =
+          span_at (0 + length (front ++ header (decimal (length octets))) + 2) (length octets) ∷ [];
+      at = 0;
+    } in
     record {
       frame = frame;
       is_line = record {
@@ -74,7 +83,17 @@ literal_spelled fetched front octets quiet h of =
         text = opening_is front octets;
         literals = refl;
       };
-      spells = (parts_of front octets, record { lawful = lawful_parts front octets h; text = text_parts front octets; unused = []; literals = literal_is front octets }, of);
+      spells = (
+        parts_of front octets,
+        record {
+          lawful = lawful_parts front octets h;
+          text = text_parts front octets;
+          unused =
+              [];
+          literals = literal_is front octets;
+        },
+        of,
+      );
       text = refl;
     }
 
@@ -87,7 +106,12 @@ id_section = record {
   spaces = a_gap;
   field = bytes (codes "MESSAGE-ID");
   value = codes "MESSAGE-ID";
-  astring = inr (record { some = λ e. cc; each = all_each is_astring_byte (λ byte. IsTrue (is_astring_byte byte)) (λ b is. is) (codes "MESSAGE-ID") refl; whole = refl });
+  astring = inr (record {
+    some = λ e. cc;
+    each = all_each is_astring_byte (λ byte. IsTrue (is_astring_byte byte)) (λ b is. is)
+        (codes "MESSAGE-ID") refl;
+    whole = refl;
+  });
   is_id = refl;
   whole = refl;
 }
@@ -109,11 +133,19 @@ ids_item octets = record {
 }
 
 abbrev items_of : ℕ → List ℕ → List Part
-items_of uid octets = (bytes (codes "UID " ++ decimal uid) ++ bytes (32 ∷ [])) ++ (bytes (codes "BODY[HEADER.FIELDS (MESSAGE-ID)] ") ++ literal_part octets ∷ [])
+items_of uid octets = (bytes (codes "UID " ++ decimal uid) ++ bytes (32 ∷ []))
+    ++ (bytes (codes "BODY[HEADER.FIELDS (MESSAGE-ID)] ") ++ literal_part octets ∷ [])
 
 ids_items : (uid : ℕ) (octets : List ℕ) → 0 < uid → uid < 2 ^ 32 → AreItems (items_of uid octets) (UidIs uid ∷ IdsAre octets ∷ [])
-ids_items uid octets some h =
-    (bytes (codes "UID " ++ decimal uid), 32 ∷ [], bytes (codes "BODY[HEADER.FIELDS (MESSAGE-ID)] ") ++ literal_part octets ∷ [], uid_item uid some h, a_gap, refl, ids_item octets)
+ids_items uid octets some h = (
+  bytes (codes "UID " ++ decimal uid),
+  32 ∷ [],
+  bytes (codes "BODY[HEADER.FIELDS (MESSAGE-ID)] ") ++ literal_part octets ∷ [],
+  uid_item uid some h,
+  a_gap,
+  refl,
+  ids_item octets,
+)
 
 -- the text in front of the literal
 abbrev middle : ℕ → List ℕ
@@ -146,34 +178,46 @@ later_is : (uid : ℕ) (octets : List ℕ) → later_parts uid octets ≡ (bytes
 later_is uid octets =
     ap (λ (ps : List Part). bytes (32 ∷ 40 ∷ []) ++ ps)
     (ap (λ (ps : List Part). ps ++ literal_part octets ∷ bytes (41 ∷ [])) (middle_parts uid)
-    ∙ sym (append_assoc (((bytes (codes "UID " ++ decimal uid) ++ bytes (32 ∷ [])) ++ bytes (codes "BODY[HEADER.FIELDS (MESSAGE-ID)] "))) (literal_part octets ∷ []) (bytes (41 ∷ [])))
-    ∙ ap (λ (ps : List Part). ps ++ bytes (41 ∷ [])) (append_assoc (bytes (codes "UID " ++ decimal uid) ++ bytes (32 ∷ [])) (bytes (codes "BODY[HEADER.FIELDS (MESSAGE-ID)] ")) (literal_part octets ∷ [])))
+    ∙ sym (append_assoc (((bytes (codes "UID " ++ decimal uid) ++ bytes (32 ∷ [])) ++ bytes (codes "BODY[HEADER.FIELDS (MESSAGE-ID)] ")))
+    (literal_part octets ∷ []) (bytes (41 ∷ [])))
+    ∙ ap (λ (ps : List Part). ps ++ bytes (41 ∷ [])) (append_assoc (bytes (codes "UID " ++ decimal uid) ++ bytes (32 ∷ []))
+    (bytes (codes "BODY[HEADER.FIELDS (MESSAGE-ID)] ")) (literal_part octets ∷ [])))
 
 -- the line
-line_is : (number uid : ℕ) (octets : List ℕ) → text_of (before number uid) octets ≡ 42 ∷ 32 ∷ (decimal number ++ (codes " FETCH (" ++ (codes "UID " ++ (decimal uid ++ (codes " BODY[HEADER.FIELDS (MESSAGE-ID)] " ++ (header (decimal (length octets)) ++ (13 ∷ 10 ∷ (octets ++ 41 ∷ []))))))))
+line_is : (number uid : ℕ) (octets : List ℕ) → text_of (before number uid) octets
+    ≡ 42 ∷ 32 ∷ (decimal number ++ (codes " FETCH (" ++ (codes "UID "
+    ++ (decimal uid ++ (codes " BODY[HEADER.FIELDS (MESSAGE-ID)] "
+    ++ (header (decimal (length octets)) ++ (13 ∷ 10 ∷ (octets ++ 41 ∷ []))))))))
 line_is number uid octets =
-    ap (λ (t : List ℕ). 42 ∷ 32 ∷ t) (append_assoc (decimal number) (codes " FETCH (" ++ middle uid) (header (decimal (length octets)) ++ (13 ∷ 10 ∷ (octets ++ 41 ∷ [])))
-    ∙ ap (λ (t : List ℕ). decimal number ++ (codes " FETCH (UID " ++ t)) (append_assoc (decimal uid) (codes " BODY[HEADER.FIELDS (MESSAGE-ID)] ") (header (decimal (length octets)) ++ (13 ∷ 10 ∷ (octets ++ 41 ∷ [])))))
+    ap (λ (t : List ℕ). 42 ∷ 32 ∷ t) (append_assoc (decimal number) (codes " FETCH (" ++ middle uid)
+    (header (decimal (length octets)) ++ (13 ∷ 10 ∷ (octets ++ 41 ∷ [])))
+    ∙ ap (λ (t : List ℕ). decimal number ++ (codes " FETCH (UID " ++ t))
+    (append_assoc (decimal uid) (codes " BODY[HEADER.FIELDS (MESSAGE-ID)] ")
+    (header (decimal (length octets)) ++ (13 ∷ 10 ∷ (octets ++ 41 ∷ [])))))
 
-header_is : (octets : List ℕ) → header (decimal (length octets)) ++ (13 ∷ 10 ∷ (octets ++ 41 ∷ [])) ≡ (123 ∷ (decimal (length octets) ++ (125 ∷ 13 ∷ 10 ∷ octets))) ++ 41 ∷ []
+header_is : (octets : List ℕ) → header (decimal (length octets)) ++ (13 ∷ 10 ∷ (octets ++ 41 ∷ []))
+    ≡ (123 ∷ (decimal (length octets) ++ (125 ∷ 13 ∷ 10 ∷ octets))) ++ 41 ∷ []
 header_is octets =
-    ap (λ (t : List ℕ). 123 ∷ t) (append_assoc (decimal (length octets)) (125 ∷ []) (13 ∷ 10 ∷ (octets ++ 41 ∷ [])) ∙ sym (append_assoc (decimal (length octets)) (125 ∷ 13 ∷ 10 ∷ octets) (41 ∷ [])))
+    ap (λ (t : List ℕ). 123 ∷ t) (append_assoc (decimal (length octets)) (125 ∷ []) (13 ∷ 10 ∷ (octets ++ 41 ∷ []))
+    ∙ sym (append_assoc (decimal (length octets)) (125 ∷ 13 ∷ 10 ∷ octets) (41 ∷ [])))
 
 abbrev ids_row : ℕ → List ℕ → Fetched
-ids_row uid octets = record { uid = Some uid; flags = None; modseq = None; ids = Some octets }
+ids_row uid octets = record nothing_fetched { uid = Some uid; ids = Some octets }
 
 written_is : (older : Bool) (number uid : ℕ) (octets : List ℕ) → text_of (before number uid) octets ≡ fetch_text older number (ids_row uid octets)
 unfolding ◌⌢◌
 written_is older number uid octets =
     line_is number uid octets
-    ∙ ap (λ (t : List ℕ). 42 ∷ 32 ∷ (decimal number ++ (codes " FETCH (UID " ++ (decimal uid ++ (codes " BODY[HEADER.FIELDS (MESSAGE-ID)] " ++ t))))) (header_is octets)
+    ∙ ap (λ (t : List ℕ). 42 ∷ 32 ∷ (decimal number ++ (codes " FETCH (UID "
+    ++ (decimal uid ++ (codes " BODY[HEADER.FIELDS (MESSAGE-ID)] " ++ t))))) (header_is octets)
     ∙ ap (λ (t : List ℕ). 42 ∷ 32 ∷ (decimal number ++ (codes " FETCH (UID " ++ t)))
     (sym (append_assoc (decimal uid) (codes " BODY[HEADER.FIELDS (MESSAGE-ID)] ") ((123 ∷ (decimal (length octets) ++ (125 ∷ 13 ∷ 10 ∷ octets))) ++ 41 ∷ [])))
 
 pub ids_spelled : (older : Bool) (number uid : ℕ) (octets : List ℕ) → 0 < number → number < 2 ^ 32 → 0 < uid → uid < 2 ^ 32 → length octets < 2 ^ 64
     → IsSpelled (responses.Fetch (ids_row uid octets)) (fetch_text older number (ids_row uid octets))
 ids_spelled older number uid octets n h some k long =
-    let more : List ℕ = codes "(UID " ++ (decimal uid ++ (codes " BODY[HEADER.FIELDS (MESSAGE-ID)] " ++ (header (decimal (length octets)) ++ (13 ∷ 10 ∷ (octets ++ 41 ∷ []))))) in
+    let more : List ℕ = codes "(UID " ++ (decimal uid ++ (codes " BODY[HEADER.FIELDS (MESSAGE-ID)] "
+    ++ (header (decimal (length octets)) ++ (13 ∷ 10 ∷ (octets ++ 41 ∷ []))))) in
     let line = fetch_line number more (later_parts uid octets) (parts_of (before number uid) octets) n h (before_parts number uid octets) in
     subst (IsSpelled (responses.Fetch (ids_row uid octets))) (written_is older number uid octets)
     (literal_spelled (ids_row uid octets) (before number uid) octets (before_quiet number uid h k) long (

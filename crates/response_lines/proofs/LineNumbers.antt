@@ -24,7 +24,8 @@ range_digit c within = grind (arith, nat_tests)
 
 digits_all : (text : List ℕ) → AllDigits 10 text → list_all is_ascii_digit text ≡ true
 digits_all [] all = refl
-digits_all (c ∷ cs) all = let both = tells_digits.parts c cs all in both_true (is_ascii_digit c) (list_all is_ascii_digit cs) (range_digit c both.0) (digits_all cs both.1)
+digits_all (c ∷ cs) all = let both = tells_digits.parts c cs all in
+    both_true (is_ascii_digit c) (list_all is_ascii_digit cs) (range_digit c both.0) (digits_all cs both.1)
 
 -- a number's bytes
 pub decimal_all : (p : ℕ → Bool) → ((b : ℕ) → is_ascii_digit b ≡ true → p b ≡ true) → (n : ℕ) → n < 2 ^ 64 → list_all p (decimal n) ≡ true
@@ -58,7 +59,8 @@ a_modseq n some h = let numeral = decimal_is_IsNumeral n (omega arith) in (recor
 -- a set's bytes: digits, commas and colons
 module _ (p : ℕ → Bool) (each : (b : ℕ) → is_ascii_digit b ≡ true → p b ≡ true) (comma : p 44 ≡ true) (colon : p 58 ≡ true) where
   both_ends : (low high : ℕ) → low < 2 ^ 64 → high < 2 ^ 64 → list_all p (decimal low ++ 58 ∷ decimal high) ≡ true
-  both_ends low high h k = all_join p (decimal low) (58 ∷ decimal high) (decimal_all p each low h) (both_true (p 58) (list_all p (decimal high)) colon (decimal_all p each high k))
+  both_ends low high h k = all_join p (decimal low) (58 ∷ decimal high) (decimal_all p each low h)
+      (both_true (p 58) (list_all p (decimal high)) colon (decimal_all p each high k))
 
   range_all : (low high : ℕ) (same : Bool) → low < 2 ^ 64 → high < 2 ^ 64 → list_all p (cond same (decimal low) (decimal low ++ 58 ∷ decimal high)) ≡ true
   range_all low high true h k = decimal_all p each low h
@@ -127,7 +129,8 @@ words_spell (word ∷ words) all =
       words_spell words all.1,
     )
 
-pub words_all : (p : ℕ → Bool) → ((b : ℕ) → is_atom_byte b ≡ true → p b ≡ true) → p 32 ≡ true → (words : List (List ℕ)) → AllByRecursion IsAtomic words → list_all p (words_text words) ≡ true
+pub words_all : (p : ℕ → Bool) → ((b : ℕ) → is_atom_byte b ≡ true → p b ≡ true) → p 32 ≡ true → (words : List (List ℕ)) →
+    AllByRecursion IsAtomic words → list_all p (words_text words) ≡ true
 unfolding ◌⌢◌
 words_all p each space [] all = refl
 words_all p each space (word ∷ words) all =

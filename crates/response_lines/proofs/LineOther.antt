@@ -22,20 +22,24 @@ quiet_parts (b ∷ text) h =
 no_brace : (text : List ℕ) (front more : List Part) → list_all is_quiet_byte text ≡ true → bytes text ≡ front ++ Byte 123 ∷ more → ⊥
 no_brace [] [] more h is = cc
 no_brace [] (p ∷ front) more h is = cc
-no_brace (b ∷ text) [] more h is = let first : b ≡ 123 = cc in absurd (let bad : is_quiet_byte 123 ≡ true = subst (λ (x : ℕ). is_quiet_byte x ≡ true) first (and_parts (is_quiet_byte b) (list_all is_quiet_byte text) h).0 in cc)
+no_brace (b ∷ text) [] more h is = let first : b ≡ 123 = cc in
+    absurd (let bad : is_quiet_byte 123 ≡ true = subst (λ (x : ℕ). is_quiet_byte x ≡ true) first
+    (and_parts (is_quiet_byte b) (list_all is_quiet_byte text) h).0 in cc)
 no_brace (b ∷ text) (p ∷ front) more h is = no_brace text front more (and_parts (is_quiet_byte b) (list_all is_quiet_byte text) h).1 cc
 
 quiet_end : (text : List ℕ) → list_all is_quiet_byte text ≡ true → EndInHeader (bytes text) → ⊥
 quiet_end text h ends = no_brace text ends.0 (bytes (ends.1 ++ 125 ∷ [])) h ends.3
 
 -- behind one space there is one text
-one_rest : (gap behind : List ℕ) (b : ℕ) (more : List ℕ) → (b == 32) ≡ false → AllByRecursion (λ byte. byte ≡ 32) gap → b ∷ more ≡ gap ++ behind → behind ≡ b ∷ more
+one_rest : (gap behind : List ℕ) (b : ℕ) (more : List ℕ) → (b == 32) ≡ false → AllByRecursion (λ byte. byte ≡ 32) gap →
+    b ∷ more ≡ gap ++ behind → behind ≡ b ∷ more
 one_rest [] behind b more other all is = sym is
 one_rest (g ∷ gap) behind b more other all is =
     let first : b ≡ 32 = (let h : g ≡ 32 = all.0 in cc) in
     absurd (let bad : (32 == 32) ≡ false = subst (λ (x : ℕ). (x == 32) ≡ false) first other in cc)
 
-gap_rest : (gap behind : List ℕ) (b : ℕ) (more : List ℕ) → (b == 32) ≡ false → gap ≢ [] → AllByRecursion (λ byte. byte ≡ 32) gap → 32 ∷ b ∷ more ≡ gap ++ behind → behind ≡ b ∷ more
+gap_rest : (gap behind : List ℕ) (b : ℕ) (more : List ℕ) → (b == 32) ≡ false → gap ≢ [] → AllByRecursion (λ byte. byte ≡ 32) gap →
+    32 ∷ b ∷ more ≡ gap ++ behind → behind ≡ b ∷ more
 gap_rest [] behind b more other some all is = absurd (some refl)
 gap_rest (g ∷ gap) behind b more other some all is = one_rest gap behind b more other all.1 (let rest : b ∷ more ≡ gap ++ behind = cc in rest)
 
@@ -87,7 +91,11 @@ other_spelled zero = quiet_spelled responses.Other (codes "* 0 RECENT") refl (re
 other_spelled (suc zero) = quiet_spelled responses.Other (codes "* FLAGS (\\Answered \\Flagged \\Deleted \\Seen \\Draft)") refl (record {
   word = codes "FLAGS";
   later = codes " (\\Answered \\Flagged \\Deleted \\Seen \\Draft)";
-  untagged = (codes " FLAGS (\\Answered \\Flagged \\Deleted \\Seen \\Draft)", refl, one_space (codes "FLAGS (\\Answered \\Flagged \\Deleted \\Seen \\Draft)") (begins_unspaced 70 _ refl));
+  untagged = (
+    codes " FLAGS (\\Answered \\Flagged \\Deleted \\Seen \\Draft)",
+    refl,
+    one_space (codes "FLAGS (\\Answered \\Flagged \\Deleted \\Seen \\Draft)") (begins_unspaced 70 _ refl),
+  );
   is_word = is_a_word (codes "FLAGS") (λ e. cc) refl;
   ends = refl;
   strange = inr (not_digits 70 (codes "LAGS") (λ h. omega arith), refl);

@@ -1,6 +1,7 @@
 -- A FETCH line spells what it is of, where that can be told and held.
 use Rattle.std.proofs.Common.{ℕ, ◌<◌, ◌^◌, Bool, List, Some, None, Option}
 use Rattle.imap_model.specs.Lines.{IsSpelled}
+use Rattle.imap_model.specs.Unfetched.{nothing_fetched}
 use Rattle.imap_model.specs.declared.fetched.Fetched.{Fetched}
 use Rattle.imap_model.specs.declared.response.Response.TheVariants as responses
 use Rattle.response_lines.specs.LineTexts.{fetch_text}
@@ -9,12 +10,14 @@ use Rattle.response_lines.proofs.LineFetch.{row_spelled}
 use Rattle.response_lines.proofs.LineIds.{ids_spelled}
 
 abbrev fetched_with : Option ℕ → Option (List (List ℕ)) → Option ℕ → Option (List ℕ) → Fetched
-fetched_with uid flags modseq ids = record { uid = uid; flags = flags; modseq = modseq; ids = ids }
+fetched_with uid flags modseq ids = record nothing_fetched { uid = uid; flags = flags; modseq = modseq; ids = ids }
 
-spelled_with : (older : Bool) (number : ℕ) (u : Option ℕ) (f : Option (List (List ℕ))) (m : Option ℕ) (i : Option (List ℕ)) → 0 < number → number < 2 ^ 32 → IsTellableRow u f m i → RowFits u f m i
+spelled_with : (older : Bool) (number : ℕ) (u : Option ℕ) (f : Option (List (List ℕ))) (m : Option ℕ) (i : Option (List ℕ)) → 0 < number →
+    number < 2 ^ 32 → IsTellableRow u f m i → RowFits u f m i
     → IsSpelled (responses.Fetch (fetched_with u f m i)) (fetch_text older number (fetched_with u f m i))
 spelled_with older number (Some uid) (Some flags) (Some modseq) (Some ids) some h tells fits = absurd tells
-spelled_with older number (Some uid) (Some flags) (Some modseq) None some h tells fits = row_spelled older number uid modseq flags some h fits.0.nonzero fits.0.fits fits.1 tells fits.2.positive fits.2.fits
+spelled_with older number (Some uid) (Some flags) (Some modseq) None some h tells fits =
+    row_spelled older number uid modseq flags some h fits.0.nonzero fits.0.fits fits.1 tells fits.2.positive fits.2.fits
 spelled_with older number (Some uid) (Some flags) None (Some ids) some h tells fits = absurd tells
 spelled_with older number (Some uid) (Some flags) None None some h tells fits = absurd tells
 spelled_with older number (Some uid) None (Some modseq) (Some ids) some h tells fits = absurd tells
@@ -30,6 +33,7 @@ spelled_with older number None None (Some modseq) None some h tells fits = absur
 spelled_with older number None None None (Some ids) some h tells fits = absurd tells
 spelled_with older number None None None None some h tells fits = absurd tells
 
-pub fetch_spelled : (older : Bool) (number : ℕ) (f : Fetched) → 0 < number → number < 2 ^ 32 → IsTellableRow f.uid f.flags f.modseq f.ids → RowFits f.uid f.flags f.modseq f.ids
+pub fetch_spelled : (older : Bool) (number : ℕ) (f : Fetched) → 0 < number → number < 2 ^ 32 → IsTellableRow f.uid f.flags f.modseq f.ids →
+    RowFits f.uid f.flags f.modseq f.ids
     → IsSpelled (responses.Fetch f) (fetch_text older number f)
 fetch_spelled older number f some h tells fits = spelled_with older number f.uid f.flags f.modseq f.ids some h tells fits

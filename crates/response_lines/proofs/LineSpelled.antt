@@ -23,7 +23,8 @@ use Rattle.imap_model.specs.declared.ending.Ending.{Ending}
 use Rattle.imap_model.specs.declared.ending.Ending.TheVariants as endings
 use Rattle.imap_model.specs.declared.response.Response.TheVariants as responses
 use Rattle.response_lines.specs.Bracketed.{FitsBrackets}
-use Rattle.response_lines.specs.LineTexts.{◌⌢◌, capability_text, code_text, done_text, enabled_text, exists_text, preauth_text, tag_text, untagged_text, vanished_text, words_text}
+use Rattle.response_lines.specs.LineTexts.{◌⌢◌, capability_text, code_text, done_text, enabled_text, exists_text, preauth_text, tag_text}
+use Rattle.response_lines.specs.LineTexts.{untagged_text, vanished_text, words_text}
 use Rattle.response_lines.specs.Tellable.{IsAtomic}
 use Rattle.response_lines.proofs.LineCodes.{code_part, code_quiet, code_stops, number_unspaced, plain_part, set_alone}
 use Rattle.response_lines.proofs.LineNumbers.{a_number, decimal_all, digit_quiet, set_quiet, words_quiet, words_spell, words_stop}
@@ -31,8 +32,11 @@ use Rattle.response_lines.proofs.PlainLines.{IsUnspaced, is_quiet_byte, all_each
 
 -- a line that begins with `*` and a word
 pub named : (b : ℕ) (name rest : List ℕ) → (b == 32) ≡ false → Stops rest → IsNamed (42 ∷ 32 ∷ b ∷ (name ++ rest)) (b ∷ name) rest
-named b name rest space stops =
-    (b ∷ (name ++ rest), (32 ∷ b ∷ (name ++ rest), refl, one_space (b ∷ (name ++ rest)) (begins_unspaced b (name ++ rest) space)), record { word = b ∷ name; same = refl; whole = refl; ends = stops })
+named b name rest space stops = (
+  b ∷ (name ++ rest),
+  (32 ∷ b ∷ (name ++ rest), refl, one_space (b ∷ (name ++ rest)) (begins_unspaced b (name ++ rest) space)),
+  record { word = b ∷ name; same = refl; whole = refl; ends = stops },
+)
 
 -- OK, NO and BAD
 ending_unspaced : (ending : Ending) (more : List ℕ) → IsUnspaced (ending_word ending ++ more)
@@ -46,11 +50,20 @@ ending_quiet endings.No = refl
 ending_quiet endings.Bad = refl
 
 ending_named : (ending : Ending) (rest : List ℕ) → Stops rest → IsNamed (42 ∷ 32 ∷ (ending_word ending ++ rest)) (ending_word ending) rest
-ending_named ending rest stops =
-    (ending_word ending ++ rest, (32 ∷ (ending_word ending ++ rest), refl, one_space (ending_word ending ++ rest) (ending_unspaced ending rest)), record { word = ending_word ending; same = refl; whole = refl; ends = stops })
+ending_named ending rest stops = (
+  ending_word ending ++ rest,
+  (
+    32 ∷ (ending_word ending ++ rest),
+    refl,
+    one_space (ending_word ending ++ rest) (ending_unspaced ending rest),
+  ),
+  record { word = ending_word ending; same = refl; whole = refl; ends = stops },
+)
 
-status_quiet : (ending : Ending) (code : Code) → FitsBrackets ending code → list_all is_quiet_byte (ending_word ending ++ code_text ending code (codes "done")) ≡ true
-status_quiet ending code fits = all_join is_quiet_byte (ending_word ending) (code_text ending code (codes "done")) (ending_quiet ending) (code_quiet ending code (codes "done") fits refl)
+status_quiet : (ending : Ending) (code : Code) → FitsBrackets ending code →
+    list_all is_quiet_byte (ending_word ending ++ code_text ending code (codes "done")) ≡ true
+status_quiet ending code fits = all_join is_quiet_byte (ending_word ending) (code_text ending code (codes "done")) (ending_quiet ending)
+    (code_quiet ending code (codes "done") fits refl)
 
 pub untagged_spelled : (ending : Ending) (code : Code) → FitsBrackets ending code → IsSpelled (responses.Untagged ending code) (untagged_text ending code)
 unfolding ◌⌢◌
@@ -63,16 +76,23 @@ pub preauth_spelled : (code : Code) → FitsBrackets endings.Ok code → IsSpell
 unfolding ◌⌢◌
 preauth_spelled code fits =
     let rest : List ℕ = code_text endings.Ok code (codes "done") in
-    quiet_spelled (responses.Preauth code) (codes "* PREAUTH" ++ rest) (code_quiet endings.Ok code (codes "done") fits refl)
-    (rest, refl, named 80 (codes "REAUTH") rest refl (code_stops endings.Ok code (codes "done")), code_part endings.Ok code 100 (codes "one") fits refl refl refl)
+    quiet_spelled (responses.Preauth code) (codes "* PREAUTH" ++ rest) (code_quiet endings.Ok code (codes "done") fits refl) (
+      rest,
+      refl,
+      named 80 (codes "REAUTH") rest refl (code_stops endings.Ok code (codes "done")),
+      code_part endings.Ok code 100 (codes "one") fits refl refl refl,
+    )
 
 -- tags
 digit_tag : (b : ℕ) → is_ascii_digit b ≡ true → is_tag_byte b ≡ true
 digit_tag b h = grind (arith, nat_tests)
 
 lettered_tag : (letter n : ℕ) → is_tag_byte letter ≡ true → n < 2 ^ 32 → IsTag (letter ∷ decimal n)
-lettered_tag letter n h k =
-    (λ e. cc, all_each is_tag_byte (λ byte. IsTrue (is_tag_byte byte)) (λ b is. is) (letter ∷ decimal n) (both_true (is_tag_byte letter) _ h (decimal_all is_tag_byte digit_tag n (omega arith))))
+lettered_tag letter n h k = (
+  λ e. cc,
+  all_each is_tag_byte (λ byte. IsTrue (is_tag_byte byte)) (λ b is. is) (letter ∷ decimal n)
+      (both_true (is_tag_byte letter) _ h (decimal_all is_tag_byte digit_tag n (omega arith))),
+)
 
 pub tag_quiet : (tag : Tag) → IsKeptTag tag → list_all is_quiet_byte (tag_text tag) ≡ true
 unfolding ◌⌢◌
@@ -93,7 +113,8 @@ done_spelled tag ending code some kept fits =
     let rest : List ℕ = code_text ending code (codes "done") in
     let behind : List ℕ = ending_word ending ++ rest in
     let names = tag_names tag some kept in
-    quiet_spelled (responses.Done tag ending code) (tag_text tag ++ 32 ∷ behind) (all_join is_quiet_byte (tag_text tag) (32 ∷ behind) (tag_quiet tag kept) (status_quiet ending code fits)) (
+    quiet_spelled (responses.Done tag ending code) (tag_text tag ++ 32 ∷ behind)
+    (all_join is_quiet_byte (tag_text tag) (32 ∷ behind) (tag_quiet tag kept) (status_quiet ending code fits)) (
       tag_text tag,
       32 ∷ behind,
       behind,
@@ -108,7 +129,8 @@ done_spelled tag ending code some kept fits =
     )
 
 pub bye_spelled : IsSpelled responses.Bye (codes "* BYE bye")
-bye_spelled = quiet_spelled responses.Bye (codes "* BYE bye") refl (codes " bye", codings.None, refl, named 66 (codes "YE") (codes " bye") refl refl, plain_part 98 (codes "ye") refl refl refl)
+bye_spelled = quiet_spelled responses.Bye (codes "* BYE bye") refl
+    (codes " bye", codings.None, refl, named 66 (codes "YE") (codes " bye") refl refl, plain_part 98 (codes "ye") refl refl refl)
 
 pub go_spelled : IsSpelled responses.Go (codes "+ go on")
 go_spelled = quiet_spelled responses.Go (codes "+ go on") refl (codes " go on", codings.None, refl, refl, plain_part 103 (codes "o on") refl refl refl)
@@ -128,7 +150,8 @@ enabled_spelled words all =
 pub exists_spelled : (count : ℕ) → count < 2 ^ 32 → IsSpelled (responses.Exists count) (exists_text count)
 unfolding ◌⌢◌
 exists_spelled count h =
-    quiet_spelled (responses.Exists count) (42 ∷ 32 ∷ (decimal count ++ codes " EXISTS")) (all_join is_quiet_byte (decimal count) (codes " EXISTS") (decimal_all is_quiet_byte digit_quiet count (omega arith)) refl) (
+    quiet_spelled (responses.Exists count) (42 ∷ 32 ∷ (decimal count ++ codes " EXISTS"))
+    (all_join is_quiet_byte (decimal count) (codes " EXISTS") (decimal_all is_quiet_byte digit_quiet count (omega arith)) refl) (
       decimal count,
       [],
       refl,
@@ -144,13 +167,23 @@ exists_spelled count h =
     )
 
 set_spaced : (uids : List UidRange) → IsCanonical uids → uids ≢ [] → Spaced (32 ∷ set_text uids) (set_text uids ++ [])
-set_spaced uids is some = subst (λ (r : List ℕ). Spaced (32 ∷ set_text uids) r) (sym (append-nil (set_text uids))) (one_space (set_text uids) (set_alone uids is some))
+set_spaced uids is some = subst (λ (r : List ℕ). Spaced (32 ∷ set_text uids) r) (sym (append-nil (set_text uids)))
+    (one_space (set_text uids) (set_alone uids is some))
 
-pub vanished_spelled : (earlier : Bool) (uids : List UidRange) → IsCanonical uids → uids ≢ [] → IsSpelled (responses.Vanished earlier uids) (vanished_text earlier uids)
+pub vanished_spelled : (earlier : Bool) (uids : List UidRange) → IsCanonical uids → uids ≢ [] →
+    IsSpelled (responses.Vanished earlier uids) (vanished_text earlier uids)
 unfolding ◌⌢◌
 vanished_spelled false uids is some =
-    quiet_spelled (responses.Vanished false uids) (codes "* VANISHED " ++ set_text uids) (set_quiet uids is)
-    (32 ∷ set_text uids, set_text uids, [], refl, named 86 (codes "ANISHED") (32 ∷ set_text uids) refl refl, set_spaced uids is some, set_spells uids is (some_of uids some), tt)
+    quiet_spelled (responses.Vanished false uids) (codes "* VANISHED " ++ set_text uids) (set_quiet uids is) (
+      32 ∷ set_text uids,
+      set_text uids,
+      [],
+      refl,
+      named 86 (codes "ANISHED") (32 ∷ set_text uids) refl refl,
+      set_spaced uids is some,
+      set_spells uids is (some_of uids some),
+      tt,
+    )
 vanished_spelled true uids is some =
     quiet_spelled (responses.Vanished true uids) (codes "* VANISHED (EARLIER) " ++ set_text uids) (set_quiet uids is) (
       codes " (EARLIER) " ++ set_text uids,

@@ -28,7 +28,8 @@ all_join p a b h k = list_all-append p a b ∙ both_true (list_all p a) (list_al
 
 pub all_weaker : (p q : ℕ → Bool) → ((b : ℕ) → p b ≡ true → q b ≡ true) → (text : List ℕ) → list_all p text ≡ true → list_all q text ≡ true
 all_weaker p q each [] h = refl
-all_weaker p q each (b ∷ text) h = let both = and_parts (p b) (list_all p text) h in both_true (q b) (list_all q text) (each b both.0) (all_weaker p q each text both.1)
+all_weaker p q each (b ∷ text) h = let both = and_parts (p b) (list_all p text) h in
+    both_true (q b) (list_all q text) (each b both.0) (all_weaker p q each text both.1)
 
 pub all_each : (p : ℕ → Bool) (P : ℕ → Type 0) → ((b : ℕ) → p b ≡ true → P b) → (text : List ℕ) → list_all p text ≡ true → AllByRecursion P text
 all_each p P each [] h = tt
@@ -87,7 +88,17 @@ pub quiet_spelled : (response : Response) (line : List ℕ) → list_all is_quie
 quiet_spelled response line quiet of = record {
   frame = record { bytes = line; literals = []; at = 0 };
   is_line = record { openings = []; last = line; opened = tt; plain = quiet_lf line quiet; closed = quiet_closed line quiet; text = refl; literals = refl };
-  spells = (bytes line, record { lawful = lawful_bytes line; text = text_of_bytes line; unused = []; literals = sym (append-nil (literals_from 0 (bytes line)) ∙ no_literals line 0) }, of);
+  spells = (
+    bytes line,
+    record {
+      lawful = lawful_bytes line;
+      text = text_of_bytes line;
+      unused = [];
+      literals =
+          sym (append-nil (literals_from 0 (bytes line)) ∙ no_literals line 0);
+    },
+    of,
+  );
   text = refl;
 }
 

@@ -110,7 +110,8 @@ since_tells : (since : Option Mark) (b : Mailbox) → AreTellable (plain.told_si
 since_tells None b = tt
 since_tells (Some mark) b =
     either AreTellable (mark.validity == b.validity) (plain.told_above mark.modseq b) []
-    (all_append IsTellable (plain.vanished_of (plain.gone_above mark.modseq b.gone)) _ (vanished_tells (plain.gone_above mark.modseq b.gone)) (rows_tell (filter (λ m. nat_lt mark.modseq m.modseq) b.messages))) tt
+    (all_append IsTellable (plain.vanished_of (plain.gone_above mark.modseq b.gone)) _
+    (vanished_tells (plain.gone_above mark.modseq b.gone)) (rows_tell (filter (λ m. nat_lt mark.modseq m.modseq) b.messages))) tt
 
 older_tells : (c : plain.Choices) → AreTellable (plain.older_told c)
 older_tells c = either AreTellable (plain.has_rev2 c) [] (responses.Other ∷ responses.Other ∷ responses.Other ∷ []) tt (tt, (tt, (tt, tt)))
@@ -119,7 +120,8 @@ closed_tells : (selected : Option (List ℕ)) → AreTellable (plain.closed_told
 closed_tells None = tt
 closed_tells (Some name) = (tt, tt)
 
-select_tells : (c : plain.Choices) (selected : Option (List ℕ)) (name : List ℕ) (since : Option Mark) (s : Server) (o : Option Mailbox) → Tells (plain.select_turn c selected name since s o).replies
+select_tells : (c : plain.Choices) (selected : Option (List ℕ)) (name : List ℕ) (since : Option Mark) (s : Server) (o : Option Mailbox) →
+    Tells (plain.select_turn c selected name since s o).replies
 select_tells c selected name since s None = record { untagged = tt; code = tt }
 select_tells c selected name since s (Some b) = record {
   untagged = all_append IsTellable (plain.closed_told selected) (plain.select_told c since b) (closed_tells selected)
@@ -131,42 +133,54 @@ select_tells c selected name since s (Some b) = record {
 code_tells : (c : plain.Choices) (b : Mailbox) → IsTellableCode (plain.fetch_code c b)
 code_tells c b = either IsTellableCode (plain.has_rev2 c) codings.None (codings.HighestModSeq b.highest) tt tt
 
-question_tells : (selected : Option (List ℕ)) (s : Server) (reply : Mailbox → Replies) (o : Option Mailbox) → ((b : Mailbox) → Tells (reply b)) → Tells (plain.question_turn selected s reply o).replies
+question_tells : (selected : Option (List ℕ)) (s : Server) (reply : Mailbox → Replies) (o : Option Mailbox) →
+    ((b : Mailbox) → Tells (reply b)) → Tells (plain.question_turn selected s reply o).replies
 question_tells selected s reply None each = record { untagged = tt; code = tt }
 question_tells selected s reply (Some b) each = each b
 
 -- changes
-change_tells : (selected : Option (List ℕ)) (tag : Tag) (name : List ℕ) (change : Change) (s : Server) (reply : Server → Replies) → ((t : Server) → Tells (reply t)) → Tells (plain.change_turn selected tag name change s reply).replies
+change_tells : (selected : Option (List ℕ)) (tag : Tag) (name : List ℕ) (change : Change) (s : Server) (reply : Server → Replies) →
+    ((t : Server) → Tells (reply t)) → Tells (plain.change_turn selected tag name change s reply).replies
 change_tells selected tag name change s reply each =
     either (λ (t : plain.Turn). Tells t.replies) (is_some (broken_rule s.boxes name change)) (plain.answered selected s (plain.denied codings.Other))
-    (plain.answered selected (with_change (Ours tag) name change s) (reply (with_change (Ours tag) name change s))) (record { untagged = tt; code = tt }) (each (with_change (Ours tag) name change s))
+    (plain.answered selected (with_change (Ours tag) name change s) (reply (with_change (Ours tag) name change s)))
+    (record { untagged = tt; code = tt }) (each (with_change (Ours tag) name change s))
 
 one_some : (uid : ℕ) → only uid ≢ []
 one_some uid e = cc
 
-store_tells : (name : List ℕ) (tag : Tag) (uid since : ℕ) (add : Bool) (asked : List (List ℕ)) (s : Server) (o : Option Message) → Tells (plain.store_message name tag uid since add asked s o).replies
+store_tells : (name : List ℕ) (tag : Tag) (uid since : ℕ) (add : Bool) (asked : List (List ℕ)) (s : Server) (o : Option Message) →
+    Tells (plain.store_message name tag uid since add asked s o).replies
 store_tells name tag uid since add asked s None = record { untagged = tt; code = tt }
 store_tells name tag uid since add asked s (Some m) =
     let change : Change = changes.SetFlags uid (plain.stored_flags add asked m.flags) in
     let reply : Server → Replies = λ t. plain.accepted (plain.row_in uid (box_at name t.boxes)) codings.None in
-    either (λ (t : plain.Turn). Tells t.replies) (nat_lt since m.modseq) (plain.answered (Some name) s (plain.denied (codings.Modified (only uid)))) (plain.change_turn (Some name) tag name change s reply)
-    (record { untagged = tt; code = one_some uid }) (change_tells (Some name) tag name change s reply (λ t. record { untagged = in_tells uid (box_at name t.boxes); code = tt }))
+    either (λ (t : plain.Turn). Tells t.replies) (nat_lt since m.modseq)
+    (plain.answered (Some name) s (plain.denied (codings.Modified (only uid)))) (plain.change_turn (Some name) tag name change s reply)
+    (record { untagged = tt; code = one_some uid }) (change_tells (Some name) tag name change s reply
+    (λ t. record { untagged = in_tells uid (box_at name t.boxes); code = tt }))
 
-store_in_tells : (name : List ℕ) (tag : Tag) (uid since : ℕ) (add : Bool) (asked : List (List ℕ)) (s : Server) (o : Option Mailbox) → Tells (plain.store_in name tag uid since add asked s o).replies
+store_in_tells : (name : List ℕ) (tag : Tag) (uid since : ℕ) (add : Bool) (asked : List (List ℕ)) (s : Server) (o : Option Mailbox) →
+    Tells (plain.store_in name tag uid since add asked s o).replies
 store_in_tells name tag uid since add asked s None = record { untagged = tt; code = tt }
 store_in_tells name tag uid since add asked s (Some b) = store_tells name tag uid since add asked s (message_at uid b.messages)
 
-store_turn_tells : (selected : Option (List ℕ)) (tag : Tag) (uid since : ℕ) (add : Bool) (asked : List (List ℕ)) (s : Server) → Tells (plain.store_turn selected tag uid since add asked s).replies
+store_turn_tells : (selected : Option (List ℕ)) (tag : Tag) (uid since : ℕ) (add : Bool) (asked : List (List ℕ)) (s : Server) →
+    Tells (plain.store_turn selected tag uid since add asked s).replies
 store_turn_tells None tag uid since add asked s = record { untagged = tt; code = tt }
 store_turn_tells (Some name) tag uid since add asked s = store_in_tells name tag uid since add asked s (box_at name s.boxes)
 
-move_tells : (name : List ℕ) (tag : Tag) (uid : ℕ) (to : List ℕ) (s : Server) (target : Mailbox) (o : Option Message) → Tells (plain.move_message name tag uid to s target o).replies
+move_tells : (name : List ℕ) (tag : Tag) (uid : ℕ) (to : List ℕ) (s : Server) (target : Mailbox) (o : Option Message) →
+    Tells (plain.move_message name tag uid to s target o).replies
 move_tells name tag uid to s target None = record { untagged = tt; code = tt }
 move_tells name tag uid to s target (Some m) =
-    let reply : Server → Replies = λ t. plain.accepted (plain.coded (plain.copied_code uid to target.uidnext t) ∷ responses.Vanished false (only uid) ∷ []) codings.None in
-    change_tells (Some name) tag name (changes.Shift uid to target.uidnext) s reply (λ t. record { untagged = ((one_some uid, one_some target.uidnext), (one_some uid, tt)); code = tt })
+    let reply : Server → Replies = λ t. plain.accepted (plain.coded (plain.copied_code uid to target.uidnext t) ∷ responses.Vanished false
+    (only uid) ∷ []) codings.None in
+    change_tells (Some name) tag name (changes.Shift uid to target.uidnext) s reply
+    (λ t. record { untagged = ((one_some uid, one_some target.uidnext), (one_some uid, tt)); code = tt })
 
-move_in_tells : (name : List ℕ) (tag : Tag) (uid : ℕ) (to : List ℕ) (s : Server) (o target : Option Mailbox) → Tells (plain.move_in name tag uid to s o target).replies
+move_in_tells : (name : List ℕ) (tag : Tag) (uid : ℕ) (to : List ℕ) (s : Server) (o target : Option Mailbox) →
+    Tells (plain.move_in name tag uid to s o target).replies
 move_in_tells name tag uid to s None target = record { untagged = tt; code = tt }
 move_in_tells name tag uid to s (Some b) None = record { untagged = tt; code = tt }
 move_in_tells name tag uid to s (Some b) (Some target) = move_tells name tag uid to s target (message_at uid b.messages)
@@ -175,7 +189,8 @@ move_turn_tells : (selected : Option (List ℕ)) (tag : Tag) (uid : ℕ) (to : L
 move_turn_tells None tag uid to s = record { untagged = tt; code = tt }
 move_turn_tells (Some name) tag uid to s = move_in_tells name tag uid to s (box_at name s.boxes) (box_at to s.boxes)
 
-append_tells : (selected : Option (List ℕ)) (tag : Tag) (to : List ℕ) (flags : List (List ℕ)) (text : List ℕ) (s : Server) (o : Option Mailbox) → Tells (plain.append_turn selected tag to flags text s o).replies
+append_tells : (selected : Option (List ℕ)) (tag : Tag) (to : List ℕ) (flags : List (List ℕ)) (text : List ℕ) (s : Server)
+    (o : Option Mailbox) → Tells (plain.append_turn selected tag to flags text s o).replies
 append_tells selected tag to flags text s None = record { untagged = tt; code = tt }
 append_tells selected tag to flags text s (Some b) =
     let reply : Server → Replies = λ t. plain.accepted [] (codings.AppendUid (validity_of (box_at to t.boxes)) b.uidnext) in
@@ -190,28 +205,40 @@ enabled_tell : (c : plain.Choices) (rev2 : Bool) → AllByRecursion IsAtomic (pl
 enabled_tell c true = all_filter IsAtomic (plain.is_offered c.offers) (codes "IMAP4rev2" ∷ codes "QRESYNC" ∷ []) ((λ e. cc, refl), ((λ e. cc, refl), tt))
 enabled_tell c false = all_filter IsAtomic (plain.is_offered c.offers) (codes "QRESYNC" ∷ []) ((λ e. cc, refl), tt)
 
-turn_tells : (c : plain.Choices) (selected : Option (List ℕ)) (tag : Tag) (command : Command) (s : Server) → AllByRecursion IsAtomic c.offers → Tells (plain.turn_of c selected tag command s).replies
+turn_tells : (c : plain.Choices) (selected : Option (List ℕ)) (tag : Tag) (command : Command) (s : Server) →
+    AllByRecursion IsAtomic c.offers → Tells (plain.turn_of c selected tag command s).replies
 turn_tells c selected tag commands.Capability s all = record { untagged = offers_tell c.offers all; code = tt }
 turn_tells c selected tag (commands.Login account) s all = record { untagged = tt; code = tt }
 turn_tells c selected tag (commands.Plain account) s all = record { untagged = tt; code = tt }
 turn_tells c selected tag (commands.Enable rev2) s all = record { untagged = (enabled_tell c rev2, tt); code = tt }
 turn_tells c selected tag (commands.Select name since) s all = select_tells c selected name since s (box_at name s.boxes)
 turn_tells c selected tag commands.FetchAll s all =
-    question_tells selected s _ (selected_box selected s.boxes) (λ b. record { untagged = rows_tell (filter plain.any_message b.messages); code = code_tells c b })
+    question_tells selected s _ (selected_box selected s.boxes) (λ b. record {
+      untagged =
+          rows_tell (filter plain.any_message b.messages);
+      code = code_tells c b;
+    })
 turn_tells c selected tag (commands.FetchRow uid) s all =
     question_tells selected s _ (selected_box selected s.boxes) (λ b. record { untagged = if_tells (message_at uid b.messages); code = code_tells c b })
 turn_tells c selected tag (commands.Search from id) s all =
     question_tells selected s _ (selected_box selected s.boxes) (λ b. record { untagged = (tt, tt); code = tt })
 turn_tells c selected tag (commands.FetchIds uids) s all =
-    question_tells selected s _ (selected_box selected s.boxes) (λ b. record { untagged = ids_tell (filter (plain.is_named uids) b.messages); code = code_tells c b })
+    question_tells selected s _ (selected_box selected s.boxes) (λ b. record {
+      untagged =
+          ids_tell (filter (plain.is_named uids) b.messages);
+      code = code_tells c b;
+    })
 turn_tells c selected tag (commands.Store uid since add flags) s all = store_turn_tells selected tag uid since add flags s
 turn_tells c selected tag (commands.Shift uid to) s all = move_turn_tells selected tag uid to s
 turn_tells c selected tag (commands.Append to flags text) s all =
-    either (λ (t : plain.Turn). Tells t.replies) (plain.is_closed c.closed to) (plain.answered selected s (plain.denied codings.Other)) (plain.append_turn selected tag to flags text s (box_at to s.boxes)) (record { untagged = tt; code = tt }) (append_tells selected tag to flags text s (box_at to s.boxes))
+    either (λ (t : plain.Turn). Tells t.replies) (plain.is_closed c.closed to) (plain.answered selected s (plain.denied codings.Other))
+    (plain.append_turn selected tag to flags text s (box_at to s.boxes)) (record { untagged = tt; code = tt })
+    (append_tells selected tag to flags text s (box_at to s.boxes))
 turn_tells c selected tag commands.Logout s all = record { untagged = (tt, tt); code = tt }
 
 -- with the completion
-pub told_tellable : (c : plain.Choices) (selected : Option (List ℕ)) (tag : Tag) (command : Command) (s : Server) → AllByRecursion IsAtomic c.offers → IsCommandTag tag
+pub told_tellable : (c : plain.Choices) (selected : Option (List ℕ)) (tag : Tag) (command : Command) (s : Server) →
+    AllByRecursion IsAtomic c.offers → IsCommandTag tag
     → AreTellable (told_in tag (plain.turn_of c selected tag command s).replies)
 told_tellable c selected tag command s all own =
     let tells = turn_tells c selected tag command s all in

@@ -1,5 +1,6 @@
 -- One write behind another, and what is known where it succeeds.
-use Rattle.std.proofs.Common.{◌≡◌, ℕ, zero, suc, decimal, ◌+◌, ◌-◌, ◌<◌, true, List, [], ◌∷◌, ◌++◌, Result, Ok, Err, length, take, get_or, refl, sym, ◌∙◌, ap, subst, arith, append_assoc, add-one}
+use Rattle.std.proofs.Common.{◌≡◌, ℕ, zero, suc, decimal, ◌+◌, ◌-◌, ◌<◌, true, List, [], ◌∷◌, ◌++◌, Result, Ok, Err, length, take, get_or}
+use Rattle.std.proofs.Common.{refl, sym, ◌∙◌, ap, subst, arith, append_assoc, add-one}
 use Rattle.std.proofs.Math.Seq.{take-suc}
 use Rattle.std.proofs.lemmas.Bool.Decides.{nat_tests}
 use Rattle.std.proofs.lemmas.List.{append-nil}
@@ -36,10 +37,12 @@ last_two r o a b x z h k = on_ok_more r (z ≡ x ⌢ b) (z ≡ o ⌢ (a ⌢ b)) 
 pub last_three : {T E : Type 0} (r : Result T E) (o a b d x y z : List ℕ) → x ≡ o ⌢ a → y ≡ x ⌢ b → OnOk r (z ≡ y ⌢ d) → OnOk r (z ≡ o ⌢ (a ⌢ (b ⌢ d)))
 last_three r o a b d x y z h k l = last_two r o a (b ⌢ d) x z h (last_two r x b d y z k l)
 
-pub last_four : {T E : Type 0} (r : Result T E) (o a b d e x y z w : List ℕ) → x ≡ o ⌢ a → y ≡ x ⌢ b → z ≡ y ⌢ d → OnOk r (w ≡ z ⌢ e) → OnOk r (w ≡ o ⌢ (a ⌢ (b ⌢ (d ⌢ e))))
+pub last_four : {T E : Type 0} (r : Result T E) (o a b d e x y z w : List ℕ) → x ≡ o ⌢ a → y ≡ x ⌢ b → z ≡ y ⌢ d → OnOk r (w ≡ z ⌢ e) →
+    OnOk r (w ≡ o ⌢ (a ⌢ (b ⌢ (d ⌢ e))))
 last_four r o a b d e x y z w h k l m = last_two r o a (b ⌢ (d ⌢ e)) x w h (last_three r x b d e y z w k l m)
 
-pub last_five : {T E : Type 0} (r : Result T E) (o a b d e f x y z w v : List ℕ) → x ≡ o ⌢ a → y ≡ x ⌢ b → z ≡ y ⌢ d → w ≡ z ⌢ e → OnOk r (v ≡ w ⌢ f) → OnOk r (v ≡ o ⌢ (a ⌢ (b ⌢ (d ⌢ (e ⌢ f)))))
+pub last_five : {T E : Type 0} (r : Result T E) (o a b d e f x y z w v : List ℕ) → x ≡ o ⌢ a → y ≡ x ⌢ b → z ≡ y ⌢ d → w ≡ z ⌢ e →
+    OnOk r (v ≡ w ⌢ f) → OnOk r (v ≡ o ⌢ (a ⌢ (b ⌢ (d ⌢ (e ⌢ f)))))
 last_five r o a b d e f x y z w v h k l m n = last_two r o a (b ⌢ (d ⌢ (e ⌢ f))) x v h (last_four r x b d e f y z w v k l m n)
 
 -- where a number is known
@@ -53,8 +56,10 @@ none_here out f [] ys none is h = sym (append-nil out) ∙ ap (λ (t : List ℕ)
 none_here out f (x ∷ xs) ys none is h = absurd (grind (arith, nat_tests))
 
 -- a text, and words behind it
-pub last_words : {T E : Type 0} (r : Result T E) (o a x z : List ℕ) (slice words : List (List ℕ)) → slice ≡ words → x ≡ o ⌢ a → OnOk r (z ≡ x ⌢ words_text slice) → OnOk r (z ≡ o ⌢ (a ⌢ words_text words))
-last_words r o a x z slice words same h k = subst (λ (ws : List (List ℕ)). OnOk r (z ≡ o ⌢ (a ⌢ words_text ws))) same (last_two r o a (words_text slice) x z h k)
+pub last_words : {T E : Type 0} (r : Result T E) (o a x z : List ℕ) (slice words : List (List ℕ)) → slice ≡ words → x ≡ o ⌢ a →
+    OnOk r (z ≡ x ⌢ words_text slice) → OnOk r (z ≡ o ⌢ (a ⌢ words_text words))
+last_words r o a x z slice words same h k = subst (λ (ws : List (List ℕ)). OnOk r (z ≡ o ⌢ (a ⌢ words_text ws))) same
+    (last_two r o a (words_text slice) x z h k)
 
 -- a number more
 count_push : (least count : ℕ) → count_text least (suc count) ≡ count_text least count ⌢ (codes " " ⌢ decimal (least + count))
@@ -65,16 +70,19 @@ count_push least (suc count) =
     ∙ ap (λ (t : List ℕ). 32 ∷ t) (sym (append_assoc (decimal least) (count_text (least + 1) count) (32 ∷ decimal (least + 1 + count))))
     ∙ ap (λ (n : ℕ). count_text least (suc count) ++ 32 ∷ decimal n) (omega arith)
 
-pub next_number : (step least : ℕ) (o x y z : List ℕ) → x ≡ o ⌢ count_text least step → y ≡ x ⌢ codes " " → z ≡ y ⌢ decimal (least + step) → z ≡ o ⌢ count_text least (step + 1)
+pub next_number : (step least : ℕ) (o x y z : List ℕ) → x ≡ o ⌢ count_text least step → y ≡ x ⌢ codes " " →
+    z ≡ y ⌢ decimal (least + step) → z ≡ o ⌢ count_text least (step + 1)
 unfolding ◌⌢◌
 next_number step least o x y z h k l =
-    l ∙ ap (λ (t : List ℕ). t ++ decimal (least + step)) (k ∙ ap (λ (t : List ℕ). t ++ codes " ") h) ∙ append_assoc (o ++ count_text least step) (codes " ") (decimal (least + step))
+    l ∙ ap (λ (t : List ℕ). t ++ decimal (least + step)) (k ∙ ap (λ (t : List ℕ). t ++ codes " ") h)
+    ∙ append_assoc (o ++ count_text least step) (codes " ") (decimal (least + step))
     ∙ append_assoc o (count_text least step) (codes " " ++ decimal (least + step))
     ∙ ap (λ (t : List ℕ). o ++ t) (sym (count_push least step))
     ∙ ap (λ (n : ℕ). o ++ count_text least n) (sym (add-one step))
 
 -- a range more
-members_push : (ranges : List UidRange) (range : UidRange) → members_text (ranges ++ range ∷ []) ≡ members_text ranges ⌢ count_text range.low (range.high + 1 - range.low)
+members_push : (ranges : List UidRange) (range : UidRange) →
+    members_text (ranges ++ range ∷ []) ≡ members_text ranges ⌢ count_text range.low (range.high + 1 - range.low)
 unfolding ◌⌢◌
 members_push [] range = append-nil (count_text range.low (range.high + 1 - range.low))
 members_push (r ∷ ranges) range =
@@ -82,7 +90,8 @@ members_push (r ∷ ranges) range =
     ∙ sym (append_assoc (count_text r.low (r.high + 1 - r.low)) (members_text ranges) (count_text range.low (range.high + 1 - range.low)))
 
 pub next_range : (i : ℕ) (ranges : List UidRange) (other : UidRange) (o x z : List ℕ) → i < length ranges → x ≡ o ⌢ members_text (take i ranges)
-    → z ≡ x ⌢ count_text (get_or ranges i other).low ((get_or ranges i other).high + 1 - (get_or ranges i other).low) → z ≡ o ⌢ members_text (take (i + 1) ranges)
+    → z ≡ x ⌢ count_text (get_or ranges i other).low ((get_or ranges i other).high + 1 - (get_or ranges i other).low) →
+    z ≡ o ⌢ members_text (take (i + 1) ranges)
 unfolding ◌⌢◌
 next_range i ranges other o x z lt h l =
     l ∙ ap (λ (t : List ℕ). t ++ count_text (get_or ranges i other).low ((get_or ranges i other).high + 1 - (get_or ranges i other).low)) h
@@ -94,7 +103,8 @@ next_range i ranges other o x z lt h l =
 words_push : (words : List (List ℕ)) (word : List ℕ) → words_text (words ++ word ∷ []) ≡ words_text words ⌢ (codes " " ⌢ word)
 unfolding ◌⌢◌
 words_push [] word = ap (λ (t : List ℕ). 32 ∷ t) (append-nil word)
-words_push (w ∷ words) word = ap (λ (t : List ℕ). 32 ∷ (w ++ t)) (words_push words word) ∙ ap (λ (t : List ℕ). 32 ∷ t) (sym (append_assoc w (words_text words) (32 ∷ word)))
+words_push (w ∷ words) word = ap (λ (t : List ℕ). 32 ∷ (w ++ t)) (words_push words word)
+    ∙ ap (λ (t : List ℕ). 32 ∷ t) (sym (append_assoc w (words_text words) (32 ∷ word)))
 
 pub next_word : (i : ℕ) (words : List (List ℕ)) (word slice o x y z : List ℕ) → i < length words → word ≡ get_or words i word → slice ≡ word
     → x ≡ o ⌢ words_text (take i words) → y ≡ x ⌢ codes " " → z ≡ y ⌢ slice → z ≡ o ⌢ words_text (take (i + 1) words)
@@ -104,4 +114,5 @@ next_word i words word slice o x y z lt is same h k l =
     ∙ append_assoc o (words_text (take i words)) (codes " " ++ slice)
     ∙ ap (λ (t : List ℕ). o ++ (words_text (take i words) ++ (codes " " ++ t))) same
     ∙ ap (λ (t : List ℕ). o ++ t) (sym (words_push (take i words) word))
-    ∙ ap (λ (ws : List (List ℕ)). o ++ words_text ws) (ap (λ (ws : List (List ℕ)). ws) (ap (λ (v : List ℕ). take i words ++ v ∷ []) is ∙ sym (take-suc words i word lt)) ∙ ap (λ (n : ℕ). take n words) (sym (add-one i)))
+    ∙ ap (λ (ws : List (List ℕ)). o ++ words_text ws) (ap (λ (ws : List (List ℕ)). ws)
+    (ap (λ (v : List ℕ). take i words ++ v ∷ []) is ∙ sym (take-suc words i word lt)) ∙ ap (λ (n : ℕ). take n words) (sym (add-one i)))

@@ -21,11 +21,19 @@ LacksRecent flags = told_flags flags ≡ flags
 
 -- a code that can be spelled: no code lists nothing
 abbrev pub IsTellableCode : Code → Type 0
+IsTellableCode codings.None = Unit {0}
 IsTellableCode (codings.Capability words) = (words ≢ []) × AllByRecursion IsAtomic words
+IsTellableCode (codings.UidNext uid) = Unit {0}
+IsTellableCode (codings.UidValidity validity) = Unit {0}
 IsTellableCode (codings.PermanentFlags flags any) = LacksRecent flags
+IsTellableCode (codings.HighestModSeq modseq) = Unit {0}
+IsTellableCode codings.NoModSeq = Unit {0}
+IsTellableCode codings.UidNotSticky = Unit {0}
+IsTellableCode (codings.AppendUid validity uid) = Unit {0}
 IsTellableCode (codings.CopyUid validity source target) = (source ≢ []) × (target ≢ [])
 IsTellableCode (codings.Modified uids) = uids ≢ []
-IsTellableCode _ = Unit {0}
+IsTellableCode codings.Closed = Unit {0}
+IsTellableCode codings.Other = Unit {0}
 
 -- what is told of a message: its UID, flags and mod-sequence, or its UID and its Message-ID fields
 abbrev pub IsTellableRow : Option ℕ → Option (List (List ℕ)) → Option ℕ → Option (List ℕ) → Type 0
@@ -43,12 +51,16 @@ RowFits uid flags modseq ids = ⊥
 abbrev pub IsTellable : Response → Type 0
 IsTellable (responses.Done tag ending code) = IsCommandTag tag × IsTellableCode code
 IsTellable (responses.Untagged ending code) = IsTellableCode code
+IsTellable responses.Bye = Unit {0}
 IsTellable (responses.Preauth code) = IsTellableCode code
+IsTellable responses.Go = Unit {0}
 IsTellable (responses.Capability words) = (words ≢ []) × AllByRecursion IsAtomic words
 IsTellable (responses.Enabled words) = AllByRecursion IsAtomic words
+IsTellable (responses.Exists count) = Unit {0}
 IsTellable (responses.Fetch f) = IsTellableRow f.uid f.flags f.modseq f.ids
 IsTellable (responses.Vanished earlier uids) = uids ≢ []
-IsTellable _ = Unit {0}
+IsTellable (responses.Found uids) = Unit {0}
+IsTellable responses.Other = Unit {0}
 
 -- each of the responses is one
 abbrev pub AreTellable : List Response → Type 0

@@ -230,6 +230,17 @@ pub fn is_possible(stand_in: &StandIn) -> bool
     let has_some = stand_in.octets > 0;
     match stand_in.command {
         Command::Append { .. } => true,
-        _ => has_some,
+        Command::Capability
+        | Command::Login { .. }
+        | Command::Plain { .. }
+        | Command::Enable { .. }
+        | Command::Select { .. }
+        | Command::FetchAll
+        | Command::FetchRow { .. }
+        | Command::Search { .. }
+        | Command::FetchIds { .. }
+        | Command::Store { .. }
+        | Command::Shift { .. }
+        | Command::Logout => has_some,
     }
 }

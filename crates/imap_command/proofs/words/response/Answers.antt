@@ -9,6 +9,8 @@ unfolding response_of
 returns c =
     encoded standard c.encode.result c.deref.result.now _
     (message_is _ _ _ _ _ _ _ c.new-message.ensures.items c.in_ok-push.ensures.items
-    (c.in_ok-extend_from_slice.ensures.items ∙ ap (λ x. c.push.new.self.items ++ x) (c.as_bytes.ensures.value ∙ c.user.ensures)) c.in_ok-push-2.ensures.items
-    (c.deref.ensures.value ∙ c.in_ok-extend_from_slice-2.ensures.items ∙ ap (λ x. c.push-2.new.self.items ++ x) (c.as_bytes-2.ensures.value ∙ c.password.ensures)))
+    (c.in_ok-extend_from_slice.ensures.items ∙ ap (λ x. c.push.new.self.items ++ x)
+    (c.as_bytes.ensures.value ∙ c.user.ensures.text)) c.in_ok-push-2.ensures.items
+    (c.deref.ensures.value ∙ c.in_ok-extend_from_slice-2.ensures.items
+    ∙ ap (λ x. c.push-2.new.self.items ++ x) (c.as_bytes-2.ensures.value ∙ c.password.ensures.text)))
     c.encode.ensures.text

@@ -3,8 +3,18 @@ use Rattle.command_texts.proofs.CandidateReading.{ReadsUids, ReadsSelect, ReadsA
 use Rattle.command_texts.proofs.reading.candidates.command.Goals as goal
 
 pub returns-then-kind-eq73 : goal.returns-then-kind-eq73
-returns-then-kind-eq73 c = command_read (λ x. IfOk c.on_uids.result (λ found. found ≡ Some x)) c.byte_at-kind.result c.args.text.now c.args.later.now c.byte_at-kind.ensures
-    (λ k. subst (λ t. ReadsUids (λ x. IfOk c.on_uids.result (λ found. found ≡ Some x)) t c.args.later.now) c.behind.ensures (record { all = c.on_uids.ensures.all; row = c.on_uids.ensures.row; ids = c.on_uids.ensures.ids; shift = c.on_uids.ensures.shift; search = c.on_uids.ensures.search; store = c.on_uids.ensures.store }))
+returns-then-kind-eq73 c = command_read (λ x. IfOk c.on_uids.result
+    (λ found. found ≡ Some x)) c.byte_at-kind.result c.args.text.now c.args.later.now c.byte_at-kind.ensures
+    (λ k. subst (λ t. ReadsUids (λ x. IfOk c.on_uids.result (λ found. found ≡ Some x)) t c.args.later.now) c.behind.ensures
+    (record {
+      all = c.on_uids.ensures.all;
+      row = c.on_uids.ensures.row;
+      ids = c.on_uids.ensures.ids;
+      shift =
+          c.on_uids.ensures.shift;
+      search = c.on_uids.ensures.search;
+      store = c.on_uids.ensures.store;
+    }))
     (λ k. absurd (omega (arith, k, c.if-kind-eq73.true)))
     (λ k. absurd (omega (arith, k, c.if-kind-eq73.true)))
     (λ k. absurd (omega (arith, k, c.if-kind-eq73.true)))
@@ -12,7 +22,8 @@ returns-then-kind-eq73 c = command_read (λ x. IfOk c.on_uids.result (λ found. 
     (λ a b d e f. absurd (a c.if-kind-eq73.true))
 
 pub returns-then-kind-eq79 : goal.returns-then-kind-eq79
-returns-then-kind-eq79 c = command_read (λ x. IfOk c.login_or_logout.result (λ found. found ≡ Some x)) c.byte_at-kind.result c.args.text.now c.args.later.now c.byte_at-kind.ensures
+returns-then-kind-eq79 c = command_read (λ x. IfOk c.login_or_logout.result
+    (λ found. found ≡ Some x)) c.byte_at-kind.result c.args.text.now c.args.later.now c.byte_at-kind.ensures
     (λ k. absurd (omega (arith, k, c.if-kind-eq79.true)))
     (λ k. record { login = c.login_or_logout.ensures.login; logout = c.login_or_logout.ensures.logout })
     (λ k. absurd (omega (arith, k, c.if-kind-eq79.true)))
@@ -21,7 +32,8 @@ returns-then-kind-eq79 c = command_read (λ x. IfOk c.login_or_logout.result (λ
     (λ a b d e f. absurd (b c.if-kind-eq79.true))
 
 pub returns-then-kind-eq85 : goal.returns-then-kind-eq85
-returns-then-kind-eq85 c = command_read (λ x. IfOk c.plain.result (λ found. found ≡ Some x)) c.byte_at-kind.result c.args.text.now c.args.later.now c.byte_at-kind.ensures
+returns-then-kind-eq85 c = command_read (λ x. IfOk c.plain.result
+    (λ found. found ≡ Some x)) c.byte_at-kind.result c.args.text.now c.args.later.now c.byte_at-kind.ensures
     (λ k. absurd (omega (arith, k, c.if-kind-eq85.true)))
     (λ k. absurd (omega (arith, k, c.if-kind-eq85.true)))
     (λ k. c.plain.ensures)
@@ -30,7 +42,8 @@ returns-then-kind-eq85 c = command_read (λ x. IfOk c.plain.result (λ found. fo
     (λ a b d e f. absurd (d c.if-kind-eq85.true))
 
 pub returns-then-kind-eq69 : goal.returns-then-kind-eq69
-returns-then-kind-eq69 c = command_read (λ x. IfOk c.select.result (λ found. found ≡ Some x)) c.byte_at-kind.result c.args.text.now c.args.later.now c.byte_at-kind.ensures
+returns-then-kind-eq69 c = command_read (λ x. IfOk c.select.result
+    (λ found. found ≡ Some x)) c.byte_at-kind.result c.args.text.now c.args.later.now c.byte_at-kind.ensures
     (λ k. absurd (omega (arith, k, c.if-kind-eq69.true)))
     (λ k. absurd (omega (arith, k, c.if-kind-eq69.true)))
     (λ k. absurd (omega (arith, k, c.if-kind-eq69.true)))
@@ -39,7 +52,8 @@ returns-then-kind-eq69 c = command_read (λ x. IfOk c.select.result (λ found. f
     (λ a b d e f. absurd (e c.if-kind-eq69.true))
 
 pub returns-then-kind-eq80 : goal.returns-then-kind-eq80
-returns-then-kind-eq80 c = command_read (λ x. IfOk c.append.result (λ found. found ≡ Some x)) c.byte_at-kind.result c.args.text.now c.args.later.now c.byte_at-kind.ensures
+returns-then-kind-eq80 c = command_read (λ x. IfOk c.append.result
+    (λ found. found ≡ Some x)) c.byte_at-kind.result c.args.text.now c.args.later.now c.byte_at-kind.ensures
     (λ k. absurd (omega (arith, k, c.if-kind-eq80.true)))
     (λ k. absurd (omega (arith, k, c.if-kind-eq80.true)))
     (λ k. absurd (omega (arith, k, c.if-kind-eq80.true)))

@@ -9,20 +9,23 @@ returns-then-byte_at-eq13-clause-some c = λ v m held held' is. absurd (omega (a
 
 pub returns-in_err-validity_of-clause-some : goal.returns-in_err-validity_of-clause-some
 returns-in_err-validity_of-clause-some c = λ v m held held' is.
-    let one = c.until.ensures.cut (decimal v) (decimal m ++ 41 ∷ 41 ∷ crlf) (digits_lack 32 v (omega (arith, held.fits)) refl) (c.behind.ensures ∙ ap (drop 11) is) in
+    let one = c.until.ensures.cut (decimal v) (decimal m ++ 41 ∷ 41 ∷ crlf) (digits_lack 32 v (omega (arith, held.fits)) refl)
+    (c.behind.ensures ∙ ap (drop 11) is) in
     let found = c.in_err-validity_of.ensures v held one.0 in
     absurd cc
 
 pub returns-in_err-modseq_of-clause-some : goal.returns-in_err-modseq_of-clause-some
 returns-in_err-modseq_of-clause-some c = λ v m held held' is.
-    let one = c.until.ensures.cut (decimal v) (decimal m ++ 41 ∷ 41 ∷ crlf) (digits_lack 32 v (omega (arith, held.fits)) refl) (c.behind.ensures ∙ ap (drop 11) is) in
+    let one = c.until.ensures.cut (decimal v) (decimal m ++ 41 ∷ 41 ∷ crlf) (digits_lack 32 v (omega (arith, held.fits)) refl)
+    (c.behind.ensures ∙ ap (drop 11) is) in
     let two = c.until-2.ensures.cut (decimal m) (41 ∷ crlf) (digits_lack 41 m (omega (arith, held'.fits)) refl) one.1 in
     let found = c.in_err-modseq_of.ensures m held' two.0 in
     absurd cc
 
 pub returns-clause-some : goal.returns-clause-some
 returns-clause-some c = λ v m held held' is.
-    let one = c.until.ensures.cut (decimal v) (decimal m ++ 41 ∷ 41 ∷ crlf) (digits_lack 32 v (omega (arith, held.fits)) refl) (c.behind.ensures ∙ ap (drop 11) is) in
+    let one = c.until.ensures.cut (decimal v) (decimal m ++ 41 ∷ 41 ∷ crlf) (digits_lack 32 v (omega (arith, held.fits)) refl)
+    (c.behind.ensures ∙ ap (drop 11) is) in
     let two = c.until-2.ensures.cut (decimal m) (41 ∷ crlf) (digits_lack 41 m (omega (arith, held'.fits)) refl) one.1 in
     let first = c.in_ok-validity_of.ensures v held one.0 in
     let second = c.in_ok-modseq_of.ensures m held' two.0 in

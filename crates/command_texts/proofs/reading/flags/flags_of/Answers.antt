@@ -5,7 +5,8 @@ use Rattle.command_texts.proofs.reading.flags.flags_of.Goals as goal
 
 pub returns-in_default : goal.returns-in_default
 returns-in_default c = λ keys set is.
-    let n = next keys _ _ _ _ set (c.loop-left.invariant keys set is) (some_long _ _ c.is_empty.ensures c.loop-left-test.true) (record { cut = c.until.ensures.cut; missing = c.until.ensures.missing }) in
+    let n = next keys _ _ _ _ set (c.loop-left.invariant keys set is) (some_long _ _ c.is_empty.ensures c.loop-left-test.true)
+    (record { cut = c.until.ensures.cut; missing = c.until.ensures.missing }) in
     let found = c.in_ok-key.ensures n.key n.is_key n.flag in
     absurd (let none = c.in_default.is in cc)
 
@@ -14,7 +15,8 @@ loop-left-smaller c = c.until.ensures.shorter (some_long _ _ c.is_empty.ensures 
 
 pub loop-left-preserved : goal.loop-left-preserved
 loop-left-preserved c = λ keys set is.
-    let n = next keys _ _ _ _ set (c.loop-left.invariant keys set is) (some_long _ _ c.is_empty.ensures c.loop-left-test.true) (record { cut = c.until.ensures.cut; missing = c.until.ensures.missing }) in
+    let n = next keys _ _ _ _ set (c.loop-left.invariant keys set is) (some_long _ _ c.is_empty.ensures c.loop-left-test.true)
+    (record { cut = c.until.ensures.cut; missing = c.until.ensures.missing }) in
     let found = c.in_ok-key.ensures n.key n.is_key n.flag in
     let told = c.in-Some.is in
     let same : c.in-Some.key ≡ n.key = cc in

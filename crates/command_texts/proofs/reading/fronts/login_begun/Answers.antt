@@ -6,7 +6,8 @@ pub returns-then-not-is_empty-clause-password : goal.returns-then-not-is_empty-c
 returns-then-not-is_empty-clause-password c = λ name n user count is. c.password_begun.ensures name n user count (is ∙ password_text name n)
 
 pub returns-then-byte_at-eq123-clause-password : goal.returns-then-byte_at-eq123-clause-password
-returns-then-byte_at-eq123-clause-password c = λ name n user count is. absurd (lone_text name _ _ n c.if-not-is_empty.ensures is (sym c.byte_at.ensures ∙ c.if-byte_at-eq123.true))
+returns-then-byte_at-eq123-clause-password c = λ name n user count is. absurd
+    (lone_text name _ _ n c.if-not-is_empty.ensures is (sym c.byte_at.ensures ∙ c.if-byte_at-eq123.true))
 
 pub returns-clause-password : goal.returns-clause-password
 returns-clause-password c = λ name n user count is. c.password_begun-2.ensures name n user count (is ∙ password_text name n)

@@ -10,4 +10,5 @@ pub returns-in-Ok : goal.returns-in-Ok
 returns-in-Ok c = λ uids is same. ap Some (set_read uids _ _ is same (some_long _ _ c.is_empty.ensures c.if-is_empty.false) c.in-Ok.ensures.value)
 
 pub returns-in-Err : goal.returns-in-Err
-returns-in-Err c = λ uids is same. only_err _ _ (c.refused.ensures (set_fault uids _ _ is same (some_long _ _ c.is_empty.ensures c.if-is_empty.false) c.in-Err.ensures.fault))
+returns-in-Err c = λ uids is same. only_err _ _ (c.refused.ensures
+    (set_fault uids _ _ is same (some_long _ _ c.is_empty.ensures c.if-is_empty.false) c.in-Err.ensures.fault))
