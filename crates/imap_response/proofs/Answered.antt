@@ -55,7 +55,8 @@ bad_excess (Some fault) said at is = true≢false (sym (ap is_bad is) ∙ large_
 
 module _ (size : ℕ) where
   -- a response is given where the whole reading gives it without an excess
-  ok_by : (w k : Result Said ℕ) (response : Response) → Alike KeptSaid w k → answer_to size k ≡ Ok response → w ≡ Ok (record { response = response; excess = None })
+  ok_by : (w k : Result Said ℕ) (response : Response) → Alike KeptSaid w k → answer_to size k ≡ Ok response →
+      w ≡ Ok (record { response = response; excess = None })
   ok_by (Ok w) (Ok k) response alike is =
       let given = ok_excess k.excess k.response response is in
       let none : w.excess ≡ None = sym alike.is.0 ∙ given.0 in
@@ -73,13 +74,15 @@ module _ (size : ℕ) where
   bad_by (Err left) k at alike is = (left, refl)
 
   -- a limit is told where the whole reading gives a response
-  large_by : (w k : Result Said ℕ) (limit : Limit) (number : ℕ) → Alike KeptSaid w k → answer_to size k ≡ Err (faults.TooLarge limit number) → (said : Said) × (w ≡ Ok said)
+  large_by : (w k : Result Said ℕ) (limit : Limit) (number : ℕ) → Alike KeptSaid w k →
+      answer_to size k ≡ Err (faults.TooLarge limit number) → (said : Said) × (w ≡ Ok said)
   large_by (Ok w) k limit number alike is = (w, refl)
   large_by (Err left) (Ok k) limit number alike is = absurd alike.is
   large_by (Err left) (Err right) limit number alike is = absurd (true≢false (sym (ap is_large is)))
 
   -- no limit is told where the whole reading gives no excess
-  none_large : (w k : Result Said ℕ) (response : Response) (limit : Limit) (number : ℕ) → Alike KeptSaid w k → answer_to size k ≡ Err (faults.TooLarge limit number) → w ≡ Ok (record { response = response; excess = None }) → ⊥
+  none_large : (w k : Result Said ℕ) (response : Response) (limit : Limit) (number : ℕ) → Alike KeptSaid w k →
+      answer_to size k ≡ Err (faults.TooLarge limit number) → w ≡ Ok (record { response = response; excess = None }) → ⊥
   none_large (Ok w) (Ok k) response limit number alike is whole_is =
       let none : k.excess ≡ None = alike.is.0 ∙ ap (excess_of None) whole_is in
       true≢false (ap is_ok (ap (said_whole k.response) (sym none) ∙ is))
@@ -89,7 +92,8 @@ module _ (size : ℕ) where
 module _ (frame : Frame) (size : ℕ) (result : Result Response ResponseFault) (answer : Answers (answer_to size (reading kept frame)) result) where
   -- what is given the whole reading gives without an excess
   given_whole : (response : Response) → result ≡ Ok response → reading whole frame ≡ Ok (record { response = response; excess = None })
-  given_whole response is = ok_by size (reading whole frame) (reading kept frame) response (reading_kept frame) (subst (Answers (answer_to size (reading kept frame))) is answer)
+  given_whole response is = ok_by size (reading whole frame) (reading kept frame) response (reading_kept frame)
+      (subst (Answers (answer_to size (reading kept frame))) is answer)
 
   -- what is given is spelled
   spelled_ok : (response : Response) → result ≡ Ok response → Spells frame response
@@ -102,25 +106,30 @@ module _ (frame : Frame) (size : ℕ) (result : Result Response ResponseFault) (
   -- where a place is told nothing is spelled
   pub none_spelled : (at : ℕ) → result ≡ Err (faults.BadForm at) → (response : Response) → Spells frame response → ⊥
   none_spelled at is response =
-      let failed = bad_by size (reading whole frame) (reading kept frame) at (reading_kept frame) (subst (Answers (answer_to size (reading kept frame))) is answer) in
+      let failed = bad_by size (reading whole frame) (reading kept frame) at (reading_kept frame)
+      (subst (Answers (answer_to size (reading kept frame))) is answer) in
       nothing_spelled frame failed.0 response failed.1
 
   -- where a limit is told something is spelled
   pub some_spelled : (limit : Limit) (number : ℕ) → result ≡ Err (faults.TooLarge limit number) → (response : Response) × Spells frame response
   some_spelled limit number is =
-      let said = large_by size (reading whole frame) (reading kept frame) limit number (reading_kept frame) (subst (Answers (answer_to size (reading kept frame))) is answer) in
+      let said = large_by size (reading whole frame) (reading kept frame) limit number (reading_kept frame)
+      (subst (Answers (answer_to size (reading kept frame))) is answer) in
       (said.0.response, reading_spells frame said.0 said.1)
 
   -- where a limit is told nothing within the limits is spelled
   pub none_within : (limit : Limit) (number : ℕ) → result ≡ Err (faults.TooLarge limit number) → (response : Response) → SpellsWithin frame response → ⊥
   none_within limit number is response within =
-      none_large size (reading whole frame) (reading kept frame) response limit number (reading_kept frame) (subst (Answers (answer_to size (reading kept frame))) is answer) ((within_gives frame response).0 within)
+      none_large size (reading whole frame) (reading kept frame) response limit number (reading_kept frame)
+      (subst (Answers (answer_to size (reading kept frame))) is answer) ((within_gives frame response).0 within)
 
-pub given_within : (frame : Frame) (size : ℕ) (result : Result Response ResponseFault) → Answers (answer_to size (reading kept frame)) result → IfOk result (SpellsWithin frame)
+pub given_within : (frame : Frame) (size : ℕ) (result : Result Response ResponseFault) →
+    Answers (answer_to size (reading kept frame)) result → IfOk result (SpellsWithin frame)
 given_within frame size (Ok response) answer = within_ok frame size (Ok response) answer response refl
 given_within frame size (Err fault) answer = tt
 
-pub given_spelled : (frame : Frame) (size : ℕ) (result : Result Response ResponseFault) → Answers (answer_to size (reading kept frame)) result → IfOk result (Spells frame)
+pub given_spelled : (frame : Frame) (size : ℕ) (result : Result Response ResponseFault) →
+    Answers (answer_to size (reading kept frame)) result → IfOk result (Spells frame)
 given_spelled frame size (Ok response) answer = spelled_ok frame size (Ok response) answer response refl
 given_spelled frame size (Err fault) answer = tt
 

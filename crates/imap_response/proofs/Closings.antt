@@ -1,12 +1,13 @@
 -- One byte more of the pass that looks for the first right bracket outside quoted strings.
-use Rattle.std.proofs.Common.{◌≡◌, ℕ, suc, pred, ◌+◌, ◌<◌, ◌≤◌, Bool, true, false, List, [], ◌∷◌, length, drop, get_or, Option, Some, None, refl, sym, ◌∙◌, ap, inl, inr, arith}
+use Rattle.std.proofs.Common.{◌≡◌, ℕ, suc, pred, ◌+◌, ◌<◌, ◌≤◌, Bool, true, false, List, [], ◌∷◌, length, drop, get_or, Option, Some}
+use Rattle.std.proofs.Common.{None, refl, sym, ◌∙◌, ap, inl, inr, arith}
 use Rattle.std.proofs.lemmas.Bool.{cases_Bool, true≢false}
 use Rattle.std.proofs.lemmas.Bool.Decides.{nat_tests}
 use Rattle.std.specs.Prelude.{◌==◌, option_map}
 use Rattle.std.specs.Option.{option_or, is_some, IfSome}
 use Rattle.imap_tokens.specs.Scan.{quoted_from}
 use Rattle.imap_tokens.specs.Tokens.{is_escaped, is_forbidden}
-use Rattle.imap_response.specs.TextParts.{closing_from, to_skip}
+use Rattle.imap_response.specs.ReadTextParts.{closing_from, to_skip}
 use Rattle.imap_response.specs.Closing.{first_inside, ends, goes_on, escapes, behind_string, scanned}
 use Rattle.imap_response.proofs.Steps.{here, none_left}
 
@@ -36,7 +37,8 @@ bracket : (at b : ℕ) (more : List ℕ) → (b == 93) ≡ true → closing_from
 unfolding closing_from
 bracket at b more is = rw is refl
 
-quote : (at b : ℕ) (more : List ℕ) → (b == 93) ≡ false → (b == 34) ≡ true → closing_from 0 at (b ∷ more) ≡ closing_from (to_skip (quoted_from false 1 more)) (at + 1) more
+quote : (at b : ℕ) (more : List ℕ) → (b == 93) ≡ false → (b == 34) ≡ true →
+    closing_from 0 at (b ∷ more) ≡ closing_from (to_skip (quoted_from false 1 more)) (at + 1) more
 unfolding closing_from
 quote at b more other is = rw (other, is) refl
 
@@ -77,8 +79,10 @@ goes_plain : (q inside : Option ℕ) (at b : ℕ) (more : List ℕ) → (b == 34
     → behind_string (option_map (λ k. k + 1) q) inside at (b ∷ more) ≡ behind_string q (first_inside inside b at) (at + 1) more
 goes_plain (Some n) inside at b more other = skipped n at b more
 goes_plain None inside at b more other = elim (cases_Bool (b == 93)) [
-  | inl is ↦ ap (option_or inside) (bracket at b more is) ∙ or_same inside at (closing_from 0 (at + 1) more) ∙ ap (λ o. option_or o (closing_from 0 (at + 1) more)) (sym (rw is refl))
-  | inr no_bracket ↦ ap (option_or inside) (plain at b more no_bracket other) ∙ ap (λ o. option_or o (closing_from 0 (at + 1) more)) (sym (rw no_bracket (or_none inside)))
+  | inl is ↦ ap (option_or inside) (bracket at b more is) ∙ or_same inside at (closing_from 0 (at + 1) more)
+      ∙ ap (λ o. option_or o (closing_from 0 (at + 1) more)) (sym (rw is refl))
+  | inr no_bracket ↦ ap (option_or inside) (plain at b more no_bracket other)
+      ∙ ap (λ o. option_or o (closing_from 0 (at + 1) more)) (sym (rw no_bracket (or_none inside)))
 ]
 
 quoted_escaped : (b : ℕ) (more : List ℕ) → is_escaped b ≡ true → quoted_from true 0 (b ∷ more) ≡ quoted_from false (0 + 1) more
@@ -121,11 +125,13 @@ cons_ends false escaped inside at b more is = absurd (true≢false (sym is))
 cons_goes : (quoted escaped : Bool) (inside : Option ℕ) (at b : ℕ) (more : List ℕ) → goes_on quoted escaped b ≡ true
     → scanned quoted escaped inside at (b ∷ more) ≡ scanned quoted (escapes escaped b) (first_inside inside b at) (at + 1) more
 cons_goes true true inside at b more is =
-    ap (λ q. behind_string q inside at (b ∷ more)) (quoted_escaped b more is ∙ shift false 0 more) ∙ goes_escaped (quoted_from false 0 more) inside at b more is refl
+    ap (λ q. behind_string q inside at (b ∷ more)) (quoted_escaped b more is ∙ shift false 0 more)
+    ∙ goes_escaped (quoted_from false 0 more) inside at b more is refl
 cons_goes true false inside at b more is =
     let other : (b == 34) ≡ false = grind (arith, nat_tests) in
     let good : is_forbidden b ≡ false = grind (arith, nat_tests) in
-    ap (λ q. behind_string q inside at (b ∷ more)) (quoted_plain b more other good ∙ shift (b == 92) 0 more) ∙ goes_plain (quoted_from (b == 92) 0 more) inside at b more other
+    ap (λ q. behind_string q inside at (b ∷ more)) (quoted_plain b more other good ∙ shift (b == 92) 0 more)
+    ∙ goes_plain (quoted_from (b == 92) 0 more) inside at b more other
 cons_goes false escaped inside at b more is = absurd (true≢false (sym is))
 
 -- it does neither, or none began
@@ -138,8 +144,10 @@ cons_fails true false inside at b more open_yet stops =
     ap (λ q. behind_string q inside at (b ∷ more)) (quoted_bad b more open_yet bad)
 
 -- a string may begin
-cons_begins : (at b : ℕ) (more : List ℕ) (quoted : Bool) → (b == 93) ≡ false → quoted ≡ (b == 34) → closing_from 0 at (b ∷ more) ≡ scanned quoted false None (at + 1) more
-cons_begins at b more true other is = quote at b more other (sym is) ∙ ap (λ q. closing_from (to_skip q) (at + 1) more) (shift false 0 more) ∙ begun (quoted_from false 0 more) (at + 1) more
+cons_begins : (at b : ℕ) (more : List ℕ) (quoted : Bool) → (b == 93) ≡ false → quoted ≡ (b == 34) →
+    closing_from 0 at (b ∷ more) ≡ scanned quoted false None (at + 1) more
+cons_begins at b more true other is = quote at b more other (sym is)
+    ∙ ap (λ q. closing_from (to_skip q) (at + 1) more) (shift false 0 more) ∙ begun (quoted_from false 0 more) (at + 1) more
 cons_begins at b more false other is = plain at b more other (sym is)
 
 some_of : (o : Option ℕ) → is_some o ≡ true → (n : ℕ) × (o ≡ Some n)
@@ -169,18 +177,21 @@ module _ (text : List ℕ) (i : ℕ) (quoted escaped : Bool) (inside : Option �
       → scanned quoted (escapes escaped (get_or text i 0)) (first_inside inside (get_or text i 0) i) (i + 1) (drop (i + 1) text) ≡ whole
   string_goes test is found = sym (cons_goes quoted escaped inside i (get_or text i 0) _ (sym is ∙ found)) ∙ now
 
-  module _ (test further : Bool) (is : test ≡ ends quoted escaped (get_or text i 0)) (other : test ≡ false) (goes : further ≡ goes_on quoted escaped (get_or text i 0)) (stops : further ≡ false) where
+  module _ (test further : Bool) (is : test ≡ ends quoted escaped (get_or text i 0)) (other : test ≡ false)
+      (goes : further ≡ goes_on quoted escaped (get_or text i 0)) (stops : further ≡ false) where
     failed : option_or inside (closing_from 0 i (get_or text i 0 ∷ drop (i + 1) text)) ≡ whole
     failed = sym (cons_fails quoted escaped inside i (get_or text i 0) _ (sym is ∙ other) (sym goes ∙ stops)) ∙ now
 
     pub was_inside : is_some inside ≡ true → inside ≡ whole
-    was_inside found = let some = some_of inside found in some.1 ∙ sym (ap (λ o. option_or o (closing_from 0 i (get_or text i 0 ∷ drop (i + 1) text))) some.1) ∙ failed
+    was_inside found = let some = some_of inside found in some.1
+        ∙ sym (ap (λ o. option_or o (closing_from 0 i (get_or text i 0 ∷ drop (i + 1) text))) some.1) ∙ failed
 
     pub at_bracket : is_some inside ≡ false → (get_or text i 0 == 93) ≡ true → Some i ≡ whole
     at_bracket lacks is_bracket = let none = none_of inside lacks in sym (bracket i (get_or text i 0) (drop (i + 1) text) is_bracket)
         ∙ sym (ap (λ o. option_or o (closing_from 0 i (get_or text i 0 ∷ drop (i + 1) text))) none) ∙ failed
 
-    pub may_begin : (begun : Bool) → is_some inside ≡ false → (get_or text i 0 == 93) ≡ false → begun ≡ (get_or text i 0 == 34) → scanned begun false inside (i + 1) (drop (i + 1) text) ≡ whole
+    pub may_begin : (begun : Bool) → is_some inside ≡ false → (get_or text i 0 == 93) ≡ false → begun ≡ (get_or text i 0 == 34) →
+        scanned begun false inside (i + 1) (drop (i + 1) text) ≡ whole
     may_begin begun lacks no_bracket is_quote = let none = none_of inside lacks in ap (λ o. scanned begun false o (i + 1) (drop (i + 1) text)) none
         ∙ sym (cons_begins i (get_or text i 0) (drop (i + 1) text) begun no_bracket is_quote)
         ∙ sym (ap (λ o. option_or o (closing_from 0 i (get_or text i 0 ∷ drop (i + 1) text))) none) ∙ failed
@@ -189,5 +200,7 @@ nil_scanned : (quoted escaped : Bool) (inside : Option ℕ) (at : ℕ) → scann
 nil_scanned true escaped inside at = ap (λ q. behind_string q inside at []) (quoted_nil escaped) ∙ ap (option_or inside) (closing_nil 0 at) ∙ or_none inside
 nil_scanned false escaped inside at = ap (option_or inside) (closing_nil 0 at) ∙ or_none inside
 
-pub at_text_end : (text : List ℕ) (i : ℕ) (quoted escaped : Bool) (inside whole : Option ℕ) → i ≡ length text → scanned quoted escaped inside i (drop i text) ≡ whole → inside ≡ whole
-at_text_end text i quoted escaped inside whole all so_far = sym (nil_scanned quoted escaped inside i) ∙ sym (ap (scanned quoted escaped inside i) (none_left text i all)) ∙ so_far
+pub at_text_end : (text : List ℕ) (i : ℕ) (quoted escaped : Bool) (inside whole : Option ℕ) → i ≡ length text →
+    scanned quoted escaped inside i (drop i text) ≡ whole → inside ≡ whole
+at_text_end text i quoted escaped inside whole all so_far = sym (nil_scanned quoted escaped inside i)
+    ∙ sym (ap (scanned quoted escaped inside i) (none_left text i all)) ∙ so_far

@@ -1,6 +1,7 @@
 -- What is kept of lists of flags that are too large changes neither where reading fails nor which excess is told, and without
 -- an excess it changes nothing.
-use Rattle.std.proofs.Common.{◌≡◌, ℕ, zero, suc, ◌+◌, min, Bool, true, false, List, [], ◌∷◌, length, take, drop, codes, Option, Some, None, Result, Ok, Err, refl, sym, ◌∙◌, ap, subst}
+use Rattle.std.proofs.Common.{◌≡◌, ℕ, zero, suc, ◌+◌, min, Bool, true, false, List, [], ◌∷◌, length, take, drop, codes, Option, Some}
+use Rattle.std.proofs.Common.{None, Result, Ok, Err, refl, sym, ◌∙◌, ap, subst}
 use Rattle.std.proofs.lemmas.Bool.{true≢false}
 use Rattle.std.specs.Prelude.{is_some, ◌==◌, ◌||◌, if◌then◌else◌}
 use Rattle.std.specs.Option.{option_or}
@@ -23,15 +24,16 @@ use Rattle.imap_response.specs.declared.line.Said.{Said}
 use Rattle.imap_response.specs.declared.text_part.Coded.{Coded}
 use Rattle.imap_response.specs.Reads.{◌>>=◌, or_else}
 use Rattle.imap_response.specs.Leaf.{gap_at, mark_at, end_at, word_at, wide_at, same_word, is_digits}
-use Rattle.imap_response.specs.Numbers.{nonzero_at, modseq_at}
+use Rattle.imap_response.specs.ReadNumbers.{nonzero_at, modseq_at}
 use Rattle.imap_response.specs.Tags.{tag_misfit, tag_of}
 use Rattle.imap_response.specs.Flags.{Keep, kept, whole, list_len, list_text, fits_list, listed, listed_permanent, flags_at, permanent_at}
-use Rattle.imap_response.specs.Codes.{closed_at, permanent_flags_at, plain_code_at, code_at, plainly}
-use Rattle.imap_response.specs.TextParts.{closing_from, within, code_up_to, code_in, text_misfit, with_misfit, text_at}
+use Rattle.imap_response.specs.ReadCodes.{closed_at, permanent_flags_at, plain_code_at, code_at, plainly}
+use Rattle.imap_response.specs.ReadTextParts.{closing_from, within, code_up_to, code_in, text_misfit, with_misfit, text_at}
 use Rattle.imap_response.specs.Left.{Left, at_left, mark_in}
-use Rattle.imap_response.specs.Values.{value_at}
+use Rattle.imap_response.specs.ReadValues.{value_at}
 use Rattle.imap_response.specs.Items.{is_atom, sectioned_at, named_item_at, item_at, with_told, items_from, items_at, nothing}
-use Rattle.imap_response.specs.Lines.{simply, ending_of, fits_tag, done_at, tagged_at, named_line_at, status_at, fetch_at, exists_at, second_word, other_at, numbered_at, ended_at, untagged_at, line_at}
+use Rattle.imap_response.specs.ReadLines.{simply, ending_of, fits_tag, done_at, tagged_at, named_line_at, status_at, fetch_at, exists_at}
+use Rattle.imap_response.specs.ReadLines.{second_word, other_at, numbered_at, ended_at, untagged_at, line_at}
 use Rattle.imap_response.specs.Reading.{reading, whole_of}
 
 abbrev GoTogether : {A : Type 0} → (A → A → Type 0) → Result A ℕ → Result A ℕ → Type 0
@@ -44,7 +46,8 @@ GoTogether R (Err left) (Err right) = left ≡ right
 pub record Alike {A : Type 0} (R : A → A → Type 0) (a b : Result A ℕ) : Type 0 where
   pub is : GoTogether R a b
 
-alike_bind : {A B : Type 0} (R : A → A → Type 0) (S : B → B → Type 0) (a b : Result A ℕ) (f g : A → Result B ℕ) → Alike R a b → ((x y : A) → R x y → Alike S (f x) (g y)) → Alike S (a >>= f) (b >>= g)
+alike_bind : {A B : Type 0} (R : A → A → Type 0) (S : B → B → Type 0) (a b : Result A ℕ) (f g : A → Result B ℕ) → Alike R a b →
+    ((x y : A) → R x y → Alike S (f x) (g y)) → Alike S (a >>= f) (b >>= g)
 alike_bind R S (Ok x) (Ok y) f g r on = on x y r.is
 alike_bind R S (Ok x) (Err right) f g r on = absurd r.is
 alike_bind R S (Err left) (Ok y) f g r on = absurd r.is
@@ -54,7 +57,8 @@ alike_after : {A B : Type 0} (S : B → B → Type 0) (a : Result A ℕ) (f g : 
 alike_after S (Ok x) f g on = on x
 alike_after S (Err left) f g on = record { is = refl }
 
-alike_or : {A B : Type 0} (S : B → B → Type 0) (a : Result A ℕ) (f g : A → Result B ℕ) (other further : Result B ℕ) → ((x : A) → Alike S (f x) (g x)) → Alike S other further → Alike S (or_else a f other) (or_else a g further)
+alike_or : {A B : Type 0} (S : B → B → Type 0) (a : Result A ℕ) (f g : A → Result B ℕ) (other further : Result B ℕ) →
+    ((x : A) → Alike S (f x) (g x)) → Alike S other further → Alike S (or_else a f other) (or_else a g further)
 alike_or S (Ok x) f g other further on r = on x
 alike_or S (Err left) f g other further on r = r
 
@@ -62,7 +66,8 @@ alike_same : {A : Type 0} (R : A → A → Type 0) (a : Result A ℕ) → ((x : 
 alike_same R (Ok x) same = record { is = same x }
 alike_same R (Err left) same = record { is = refl }
 
-alike_if : {A : Type 0} (R : A → A → Type 0) (test : Bool) (x x' y y' : Result A ℕ) → Alike R x x' → Alike R y y' → Alike R (if test then x else y) (if test then x' else y')
+alike_if : {A : Type 0} (R : A → A → Type 0) (test : Bool) (x x' y y' : Result A ℕ) → Alike R x x' → Alike R y y' →
+    Alike R (if test then x else y) (if test then x' else y')
 alike_if R true x x' y y' first second = first
 alike_if R false x x' y y' first second = second
 
@@ -123,7 +128,8 @@ starred_kept (Some fault) flags = (refl, λ e. some_none fault e)
 ok_listed : (flags : List (List ℕ)) (rest : List ℕ) → Alike (Beside KeptListed) (Ok (listed whole flags, rest)) (Ok (listed kept flags, rest))
 ok_listed flags rest = record { is = (pick_kept (first_fault_of flags) flags, refl) }
 
-ok_starred : (flags : List (List ℕ)) (rest : List ℕ) → Alike (Beside KeptListed) (Ok (listed_permanent whole flags, rest)) (Ok (listed_permanent kept flags, rest))
+ok_starred : (flags : List (List ℕ)) (rest : List ℕ) → Alike (Beside KeptListed) (Ok (listed_permanent whole flags, rest))
+    (Ok (listed_permanent kept flags, rest))
 ok_starred flags rest = record { is = (starred_kept (first_fault_of (flags_alone flags)) flags, refl) }
 
 flags_kept : (text : List ℕ) → Alike (Beside KeptListed) (flags_at whole text) (flags_at kept text)
@@ -147,7 +153,8 @@ code_of flags = record { code = codings.PermanentFlags flags.flags flags.any; ex
 ok_code : (x y : Listed) → KeptListed x y → Alike KeptCoded (Ok (code_of x)) (Ok (code_of y))
 ok_code x y r = record { is = (r.0, λ e. ap code_of (r.1 e)) }
 
-closed_kept : (x y : Listed × List ℕ) → Beside KeptListed x y → Alike KeptCoded (closed_at x.1 >>= λ end. Ok (code_of x.0)) (closed_at y.1 >>= λ end. Ok (code_of y.0))
+closed_kept : (x y : Listed × List ℕ) → Beside KeptListed x y →
+    Alike KeptCoded (closed_at x.1 >>= λ end. Ok (code_of x.0)) (closed_at y.1 >>= λ end. Ok (code_of y.0))
 closed_kept x y r = rw r.1 (alike_after KeptCoded (closed_at x.1) (λ end. Ok (code_of x.0)) (λ end. Ok (code_of y.0)) (λ end. ok_code x.0 y.0 r.0))
 
 permanent_flags_kept : (text : List ℕ) → Alike KeptCoded (permanent_flags_at whole text) (permanent_flags_at kept text)
@@ -173,7 +180,8 @@ code_up_to_kept text (Some size) = within_kept (length (take size text)) (length
 code_in_kept : (text : List ℕ) → Alike KeptCoded (code_in whole text) (code_in kept text)
 unfolding code_in
 code_in_kept [] = record { is = same_coded (plainly codings.None) }
-code_in_kept (byte ∷ more) = alike_if KeptCoded (byte == 91) _ _ _ _ (code_up_to_kept more (closing_from 0 0 more)) (alike_same KeptCoded (Ok (plainly codings.None)) same_coded)
+code_in_kept (byte ∷ more) = alike_if KeptCoded (byte == 91) _ _ _ _ (code_up_to_kept more (closing_from 0 0 more))
+    (alike_same KeptCoded (Ok (plainly codings.None)) same_coded)
 
 with_misfit_kept : (misfit : Option ℕ) (a b : Result Coded ℕ) → Alike KeptCoded a b → Alike KeptCoded (with_misfit misfit a) (with_misfit misfit b)
 with_misfit_kept None a b r = r
@@ -193,7 +201,16 @@ same_read read = alike_same (Beside KeptTold) read same_item
 
 flags_item_kept : (left : Left) (x y : Listed × List ℕ) → Beside KeptListed x y
     → Alike (Beside KeptTold) (Ok (tellings.Flags x.0.flags x.0.excess, at_left left x.1)) (Ok (tellings.Flags y.0.flags y.0.excess, at_left left y.1))
-flags_item_kept left x y r = record { is = ((y.0.flags, ap (λ excess. tellings.Flags y.0.flags excess) r.0.0, λ e. ap (λ l. l.flags) (r.0.1 e)), ap (at_left left) r.1) }
+flags_item_kept left x y r = record {
+  is = (
+    (
+      y.0.flags,
+      ap (λ excess. tellings.Flags y.0.flags excess) r.0.0,
+      λ e. ap (λ l. l.flags) (r.0.1 e),
+    ),
+    ap (at_left left) r.1,
+  );
+}
 
 named_item_kept : (name : List ℕ) (left : Left) → Alike (Beside KeptTold) (named_item_at whole name left) (named_item_at kept name left)
 unfolding named_item_at
@@ -202,7 +219,8 @@ named_item_kept name left =
     (alike_if (Beside KeptTold) (same_word name (codes "FLAGS")) _ _ _ _
     (alike_bind (Beside KeptListed) (Beside KeptTold) (flags_at whole left.text) (flags_at kept left.text) _ _ (flags_kept left.text) (flags_item_kept left))
     (alike_if (Beside KeptTold) (same_word name (codes "MODSEQ")) _ _ _ _
-    (same_read (mark_at 40 left.text >>= λ inside. modseq_at inside >>= λ modseq. mark_at 41 modseq.1 >>= λ behind. Ok (tellings.ModSeq modseq.0, at_left left behind)))
+    (same_read (mark_at 40 left.text >>= λ inside. modseq_at inside >>= λ modseq. mark_at 41 modseq.1 >>= λ behind. Ok
+    (tellings.ModSeq modseq.0, at_left left behind)))
     (same_read (value_at left >>= λ value. Ok (tellings.Nothing, value)))))
 
 item_kept : (left : Left) → Alike (Beside KeptTold) (item_at whole left) (item_at kept left)
@@ -255,12 +273,14 @@ behind_kept n w k x y r t more =
 items_from_kept : (n : ℕ) (w k : Gathered) (left : Left) → KeptGathered w k → Alike (Beside KeptGathered) (items_from whole n w left) (items_from kept n k left)
 unfolding items_from
 items_from_kept zero w k left r = record { is = refl }
-items_from_kept (suc n) w k left r = alike_bind (Beside KeptTold) (Beside KeptGathered) (item_at whole left) (item_at kept left) (behind_item whole n w) (behind_item kept n k) (item_kept left)
+items_from_kept (suc n) w k left r = alike_bind (Beside KeptTold) (Beside KeptGathered) (item_at whole left) (item_at kept left)
+    (behind_item whole n w) (behind_item kept n k) (item_kept left)
     (λ x y t. behind_kept n w k x y r t (items_from_kept n))
 
 items_kept : (left : Left) → Alike (Beside KeptGathered) (items_at whole left) (items_at kept left)
 unfolding items_at
-items_kept left = alike_after (Beside KeptGathered) (mark_in 40 left) _ _ (λ inside. items_from_kept (length inside.text) nothing nothing inside (refl, λ e. refl))
+items_kept left = alike_after (Beside KeptGathered) (mark_in 40 left) _ _
+    (λ inside. items_from_kept (length inside.text) nothing nothing inside (refl, λ e. refl))
 
 -- lines
 abbrev said_by : Response → Option FlagFault → Said
@@ -269,10 +289,13 @@ said_by response excess = record { response = response; excess = excess }
 ok_said : (say : Code → Response) (x y : Coded) → KeptCoded x y → Alike KeptSaid (Ok (said_by (say x.code) x.excess)) (Ok (said_by (say y.code) y.excess))
 ok_said say x y r = record { is = (r.0, λ e. ap (λ c. said_by (say c.code) c.excess) (r.1 e)) }
 
-ok_fetch : (x y : Gathered) → KeptGathered x y → Alike KeptSaid (Ok (said_by (responses.Fetch x.fetched) x.excess)) (Ok (said_by (responses.Fetch y.fetched) y.excess))
+ok_fetch : (x y : Gathered) → KeptGathered x y → Alike KeptSaid (Ok (said_by (responses.Fetch x.fetched) x.excess))
+    (Ok (said_by (responses.Fetch y.fetched) y.excess))
 ok_fetch x y r = record { is = (r.0, λ e. ap (λ g. said_by (responses.Fetch g.fetched) g.excess) (r.1 e)) }
 
-coded_kept : (say : Code → Response) (rest : List ℕ) → Alike KeptSaid (text_at whole rest >>= λ coded. Ok (said_by (say coded.code) coded.excess)) (text_at kept rest >>= λ coded. Ok (said_by (say coded.code) coded.excess))
+coded_kept : (say : Code → Response) (rest : List ℕ) → Alike KeptSaid
+    (text_at whole rest >>= λ coded. Ok (said_by (say coded.code) coded.excess))
+    (text_at kept rest >>= λ coded. Ok (said_by (say coded.code) coded.excess))
 coded_kept say rest = alike_bind KeptCoded KeptSaid (text_at whole rest) (text_at kept rest) _ _ (text_kept rest) (λ x y r. ok_said say x y r)
 
 same_line : (read : Result Said ℕ) → Alike KeptSaid read read
@@ -295,26 +318,32 @@ status_kept name left behind =
     (same_line (named_line_at name left behind >>= λ response. Ok (simply response))))
 
 ended_items : (x y : Gathered × Left) → Beside KeptGathered x y
-    → Alike KeptSaid (end_at x.1.text >>= λ end. Ok (said_by (responses.Fetch x.0.fetched) x.0.excess)) (end_at y.1.text >>= λ end. Ok (said_by (responses.Fetch y.0.fetched) y.0.excess))
+    → Alike KeptSaid (end_at x.1.text >>= λ end. Ok (said_by (responses.Fetch x.0.fetched) x.0.excess))
+    (end_at y.1.text >>= λ end. Ok (said_by (responses.Fetch y.0.fetched) y.0.excess))
 ended_items x y r =
-    let here : Alike KeptSaid (end_at x.1.text >>= λ end. Ok (said_by (responses.Fetch x.0.fetched) x.0.excess)) (end_at x.1.text >>= λ end. Ok (said_by (responses.Fetch y.0.fetched) y.0.excess)) =
+    let here : Alike KeptSaid (end_at x.1.text >>= λ end. Ok (said_by (responses.Fetch x.0.fetched) x.0.excess))
+    (end_at x.1.text >>= λ end. Ok (said_by (responses.Fetch y.0.fetched) y.0.excess)) =
     alike_after KeptSaid (end_at x.1.text) _ _ (λ end. ok_fetch x.0 y.0 r.0) in
-    subst (λ left. Alike KeptSaid (end_at x.1.text >>= λ end. Ok (said_by (responses.Fetch x.0.fetched) x.0.excess)) (end_at left.text >>= λ end. Ok (said_by (responses.Fetch y.0.fetched) y.0.excess))) (sym r.1) here
+    subst (λ left. Alike KeptSaid (end_at x.1.text >>= λ end. Ok (said_by (responses.Fetch x.0.fetched) x.0.excess))
+    (end_at left.text >>= λ end. Ok (said_by (responses.Fetch y.0.fetched) y.0.excess))) (sym r.1) here
 
 fetch_kept : (left : Left) → Alike KeptSaid (fetch_at whole left) (fetch_at kept left)
 unfolding fetch_at
 fetch_kept left = alike_after KeptSaid (gap_at left.text) _ _ (λ text.
-    alike_bind (Beside KeptGathered) KeptSaid (items_at whole (at_left left text)) (items_at kept (at_left left text)) _ _ (items_kept (at_left left text)) ended_items)
+    alike_bind (Beside KeptGathered) KeptSaid (items_at whole (at_left left text)) (items_at kept (at_left left text)) _ _
+    (items_kept (at_left left text)) ended_items)
 
 numbered_kept : (left : Left) → Alike KeptSaid (numbered_at whole left) (numbered_at kept left)
 unfolding numbered_at
 numbered_kept left =
     let second = second_word (gap_at (word_at left.text).1) in
     alike_if KeptSaid (same_word second.0 (codes "EXISTS")) _ _ _ _ (same_line (exists_at left.text second.1))
-    (alike_if KeptSaid (same_word second.0 (codes "FETCH")) _ _ _ _ (alike_after KeptSaid (nonzero_at left.text) _ _ (λ number. fetch_kept (at_left left second.1)))
+    (alike_if KeptSaid (same_word second.0 (codes "FETCH")) _ _ _ _
+    (alike_after KeptSaid (nonzero_at left.text) _ _ (λ number. fetch_kept (at_left left second.1)))
     (same_line (other_at left >>= λ _. Ok (simply responses.Other))))
 
-ended_kept : (name : List ℕ) (left : Left) (behind : List ℕ) (ending : Option Ending) → Alike KeptSaid (ended_at whole name left behind ending) (ended_at kept name left behind ending)
+ended_kept : (name : List ℕ) (left : Left) (behind : List ℕ) (ending : Option Ending) →
+    Alike KeptSaid (ended_at whole name left behind ending) (ended_at kept name left behind ending)
 ended_kept name left behind None = status_kept name left behind
 ended_kept name left behind (Some ending) = coded_kept (λ code. responses.Untagged ending code) behind
 

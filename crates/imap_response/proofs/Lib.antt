@@ -1,5 +1,6 @@
 pub mod Answered
 pub mod Closings
+pub mod Heard
 pub mod Keeping
 pub mod LoopLemmas
 pub mod NumberLemmas

@@ -1,5 +1,6 @@
 -- One turn of each loop over what is left of a line.
-use Rattle.std.proofs.Common.{◌≡◌, ℕ, zero, suc, ◌+◌, ◌-◌, ◌<◌, ◌≤◌, Bool, true, false, List, [], ◌∷◌, ◌++◌, length, Result, Ok, Err, refl, sym, ◌∙◌, ap, append_assoc, append-nil, arith}
+use Rattle.std.proofs.Common.{◌≡◌, ℕ, zero, suc, ◌+◌, ◌-◌, ◌<◌, ◌≤◌, Bool, true, false, List, [], ◌∷◌, ◌++◌, length, Result, Ok, Err}
+use Rattle.std.proofs.Common.{refl, sym, ◌∙◌, ap, append_assoc, append-nil, arith}
 use Rattle.std.proofs.lemmas.Bool.{eqb-true}
 use Rattle.std.proofs.lemmas.Bool.Decides.{nat_tests}
 use Rattle.std.specs.Prelude.{◌==◌, if◌then◌else◌}
@@ -11,10 +12,11 @@ use Rattle.imap_response.specs.Reads.{◌>>=◌, Fails, IsPlace}
 use Rattle.imap_response.specs.Leaf.{blank_at}
 use Rattle.imap_response.specs.WordLists.{next_word_at, words_from, words_at}
 use Rattle.imap_response.specs.Left.{Left, next_at}
-use Rattle.imap_response.specs.Values.{closes, deeper_by, list_from, is_bracket, section_from}
+use Rattle.imap_response.specs.ReadValues.{closes, deeper_by, list_from, is_bracket, section_from}
 
 -- a misfit of the first reading is one of the whole
-pub broken : {A B : Type 0} (misfit : Misfit) (read : Result A ℕ) (f : A → Result B ℕ) (whole : Result B ℕ) → Fails misfit read → whole ≡ (read >>= f) → Fails misfit whole
+pub broken : {A B : Type 0} (misfit : Misfit) (read : Result A ℕ) (f : A → Result B ℕ) (whole : Result B ℕ) → Fails misfit read →
+    whole ≡ (read >>= f) → Fails misfit whole
 broken (misfits.At left) read f whole fails is = rw (is, fails) refl
 broken misfits.Memory read f whole fails is = tt
 
@@ -32,7 +34,8 @@ pub is_blank : (blank text : List ℕ) (test : Bool) → blank ≡ blank_at text
 is_blank blank text test is tested found = ap length (sym is) ∙ eqb-true _ _ (sym tested ∙ found)
 
 pub not_blank : (blank text : List ℕ) (test : Bool) → blank ≡ blank_at text → test ≡ (length blank == 0) → test ≡ false → 0 < length (blank_at text)
-not_blank blank text test is tested other = let e : (length (blank_at text) == 0) ≡ false = ap (λ b. length b == 0) (sym is) ∙ sym tested ∙ other in grind (arith, nat_tests)
+not_blank blank text test is tested other = let e : (length (blank_at text) == 0) ≡ false =
+    ap (λ b. length b == 0) (sym is) ∙ sym tested ∙ other in grind (arith, nat_tests)
 
 turn : (n k : ℕ) → k < n → n - k ≡ suc (n - (k + 1))
 turn n k within = omega (arith, within)
@@ -42,15 +45,18 @@ out n k over = omega (arith, over)
 
 -- lists
 pub list_step : (n k deeper : ℕ) (left : Left) → k < n
-    → list_from (n - k) deeper left ≡ (next_at left >>= λ token. if closes token.0 deeper then Ok token.2 else list_from (n - (k + 1)) (deeper_by token.0 deeper) token.2)
+    → list_from (n - k) deeper left ≡ (next_at left >>= λ token. if closes token.0 deeper then Ok token.2 else list_from (n - (k + 1))
+    (deeper_by token.0 deeper) token.2)
 unfolding list_from
 list_step n k deeper left within = rw (turn n k within) refl
 
-pub list_closed : (n k deeper : ℕ) (left behind : Left) (kind : TokenKind) (text : List ℕ) → k < n → next_at left ≡ Ok (kind, text, behind) → closes kind deeper ≡ true
+pub list_closed : (n k deeper : ℕ) (left behind : Left) (kind : TokenKind) (text : List ℕ) → k < n →
+    next_at left ≡ Ok (kind, text, behind) → closes kind deeper ≡ true
     → list_from (n - k) deeper left ≡ Ok behind
 list_closed n k deeper left behind kind text within read is = list_step n k deeper left within ∙ rw (read, is) refl
 
-pub list_on : (n k deeper : ℕ) (left behind : Left) (kind : TokenKind) (text : List ℕ) → k < n → next_at left ≡ Ok (kind, text, behind) → closes kind deeper ≡ false
+pub list_on : (n k deeper : ℕ) (left behind : Left) (kind : TokenKind) (text : List ℕ) → k < n → next_at left ≡ Ok (kind, text, behind) →
+    closes kind deeper ≡ false
     → list_from (n - k) deeper left ≡ list_from (n - (k + 1)) (deeper_by kind deeper) behind
 list_on n k deeper left behind kind text within read is = list_step n k deeper left within ∙ rw (read, is) refl
 
@@ -115,17 +121,20 @@ pub words_step : (n k : ℕ) (text : List ℕ) → k < n → 0 < length (blank_a
 unfolding words_from
 words_step n k text within some = let test : (length (blank_at text) == 0) ≡ false = grind (arith, nat_tests) in rw (turn n k within, test) refl
 
-broken_words : {A : Type 0} (misfit : Misfit) (front : List (List ℕ)) (read : Result A ℕ) (f : A → Result (List (List ℕ) × List ℕ) ℕ) (whole : Result (List (List ℕ) × List ℕ) ℕ)
+broken_words : {A : Type 0} (misfit : Misfit) (front : List (List ℕ)) (read : Result A ℕ) (f : A → Result (List (List ℕ) × List ℕ) ℕ)
+    (whole : Result (List (List ℕ) × List ℕ) ℕ)
     → Fails misfit read → whole ≡ with_words front (read >>= f) → Fails misfit whole
 broken_words (misfits.At left) front read f whole fails is = rw (is, fails) refl
 broken_words misfits.Memory front read f whole fails is = tt
 
-pub words_break : (misfit : Misfit) (front : List (List ℕ)) (n k : ℕ) (text : List ℕ) (whole : Result (List (List ℕ) × List ℕ) ℕ) → k < n → 0 < length (blank_at text)
+pub words_break : (misfit : Misfit) (front : List (List ℕ)) (n k : ℕ) (text : List ℕ) (whole : Result (List (List ℕ) × List ℕ) ℕ) → k < n →
+    0 < length (blank_at text)
     → Fails misfit (next_word_at text) → with_words front (words_from (n - k) text) ≡ whole → Fails misfit whole
 words_break misfit front n k text whole within some fails is =
     broken_words misfit front _ _ whole fails (sym is ∙ ap (with_words front) (words_step n k text within some))
 
-one_word : (front : List (List ℕ)) (word : List ℕ) (read : Result (List (List ℕ) × List ℕ) ℕ) → with_words front (read >>= λ words. Ok (word ∷ words.0, words.1)) ≡ with_words (front ++ word ∷ []) read
+one_word : (front : List (List ℕ)) (word : List ℕ) (read : Result (List (List ℕ) × List ℕ) ℕ) →
+    with_words front (read >>= λ words. Ok (word ∷ words.0, words.1)) ≡ with_words (front ++ word ∷ []) read
 one_word front word (Ok read) = rw (append_assoc front (word ∷ []) read.0) refl
 one_word front word (Err left) = refl
 

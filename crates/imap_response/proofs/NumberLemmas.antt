@@ -1,5 +1,5 @@
 -- A number is read from digits alone, and in one way.
-use Rattle.std.proofs.Common.{◌≡◌, ℕ, ◌<◌, ◌≤◌, Bool, true, false, List, [], ◌∷◌, length, take, Some, None, refl, ◌∙◌, ap, subst, inl, inr, arith}
+use Rattle.std.proofs.Common.{◌≡◌, ℕ, ◌<◌, ◌≤◌, Bool, true, false, List, [], ◌∷◌, length, take, Option, Some, None, refl, ◌∙◌, ap, subst, inl, inr, arith}
 use Rattle.std.proofs.Math.Seq.{take-length}
 use Rattle.std.proofs.lemmas.Bool.{cases_Bool}
 use Rattle.std.proofs.lemmas.Bool.Decides.{nat_tests}
@@ -14,29 +14,29 @@ use Rattle.std.specs.Int.{IsInRange}
 use Rattle.std.specs.Str.Parse.{AllDigits, digits_value}
 use Rattle.mail_base.specs.Number.{IsNumberUpTo}
 use Rattle.imap_response.specs.Leaf.{is_digits}
-use Rattle.imap_response.specs.Numbers.{number_of, nonzero}
+use Rattle.imap_response.specs.ReadNumbers.{number_of, nonzero}
 
 digit_in_range : (c : ℕ) → is_ascii_digit c ≡ true → IsInRange 48 57 c
 digit_in_range c is = grind (arith, nat_tests)
 
-range_is_digit : (c : ℕ) → IsInRange 48 57 c → is_ascii_digit c ≡ true
+pub range_is_digit : (c : ℕ) → IsInRange 48 57 c → is_ascii_digit c ≡ true
 range_is_digit c within = grind (arith, nat_tests)
 
-digits_front : (text : List ℕ) → AllDigits 10 (take (prefix_len is_ascii_digit text) text)
+pub digits_front : (text : List ℕ) → AllDigits 10 (take (prefix_len is_ascii_digit text) text)
 digits_front text =
     let digits = take (prefix_len is_ascii_digit text) text in
     (numerals_by_value _ tells_by_index).to digits (λ i within.
     let below : i < prefix_len is_ascii_digit text = rw length-prefix_len at within in
     rw (get_or-take _ text i 0 below) (digit_in_range _ (prefix_len_passes is_ascii_digit text i 0 below)))
 
-all_run : (text : List ℕ) → AllDigits 10 text → prefix_len is_ascii_digit text ≡ length text
+pub all_run : (text : List ℕ) → AllDigits 10 text → prefix_len is_ascii_digit text ≡ length text
 all_run [] all = refl
 all_run (c ∷ cs) all = rw (range_is_digit c (digit_from_value c all.0)) (omega (arith, all_run cs all.1))
 
-run_all : (text : List ℕ) → prefix_len is_ascii_digit text ≡ length text → AllDigits 10 text
+pub run_all : (text : List ℕ) → prefix_len is_ascii_digit text ≡ length text → AllDigits 10 text
 run_all text whole = subst (AllDigits 10) (ap (λ n. take n text) whole ∙ take-length text) (digits_front text)
 
-abbrev test_of : ℕ → List ℕ → Bool
+abbrev pub test_of : ℕ → List ℕ → Bool
 test_of largest text = is_digits text && nat_le (digits_value 10 text) largest
 
 is_true : (largest n : ℕ) (text : List ℕ) → IsNumberUpTo largest text n → test_of largest text ≡ true
@@ -46,7 +46,7 @@ is_true largest n text is =
     let fits : digits_value 10 text ≤ largest = omega (arith, is.value, is.fits) in
     grind (arith, nat_tests)
 
-true_is : (largest : ℕ) (text : List ℕ) → test_of largest text ≡ true → IsNumberUpTo largest text (digits_value 10 text)
+pub true_is : (largest : ℕ) (text : List ℕ) → test_of largest text ≡ true → IsNumberUpTo largest text (digits_value 10 text)
 true_is largest text test =
     let some : 0 < length text = grind (arith, nat_tests) in
     let whole : prefix_len is_ascii_digit text ≡ length text = grind (arith, nat_tests) in
@@ -67,8 +67,8 @@ number_none largest text none = elim (cases_Bool (test_of largest text)) [
 ]
 
 -- the same for a number that isn't 0
-pub nonzero_some : (largest n : ℕ) (text : List ℕ) → IsNumberUpTo largest text n → 0 < n → nonzero (number_of largest text) ≡ Some n
-nonzero_some largest n text is positive = let test : (n == 0) ≡ false = grind (arith, nat_tests) in rw (number_some largest n text is, test) refl
+pub nonzero_reads : (o : Option ℕ) (n : ℕ) → o ≡ Some n → 0 < n → nonzero o ≡ Some n
+nonzero_reads o n is positive = let test : (n == 0) ≡ false = grind (arith, nat_tests) in rw (is, test) refl
 
 pub nonzero_none : (largest : ℕ) (text : List ℕ) → ((n : ℕ) → IsNumberUpTo largest text n → 0 < n → ⊥) → nonzero (number_of largest text) ≡ None
 unfolding number_of

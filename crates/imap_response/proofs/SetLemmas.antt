@@ -15,7 +15,8 @@ use Rattle.imap_response.specs.Sets.{put_range, set_of_ranges, set_at}
 abbrev joined : UidRange → UidRange → UidRange
 joined first range = record { low = min first.low range.low; high = max first.high range.high }
 
-pub put_rises : (floor : ℕ) (range : UidRange) (ranges : List UidRange) → IsRange floor range → RisesAbove floor ranges → RisesAbove floor (put_range range ranges)
+pub put_rises : (floor : ℕ) (range : UidRange) (ranges : List UidRange) → IsRange floor range → RisesAbove floor ranges →
+    RisesAbove floor (put_range range ranges)
 unfolding put_range
 put_rises floor range [] is rises = (is, tt)
 put_rises floor range (first ∷ later) is rises = elim (cases_Bool (nat_lt (range.high + 1) first.low)) [
@@ -25,7 +26,12 @@ put_rises floor range (first ∷ later) is rises = elim (cases_Bool (nat_lt (ran
     | inl before ↦ let above = ltb-true _ _ before in
         rw (apart, before) (rises.0, put_rises (first.high + 1) range later (record { above = above; ordered = is.ordered; fits = is.fits }) rises.1)
     | inr not ↦
-        let merged : IsRange floor (joined first range) = record { above = omega (arith, is.above, rises.0.above); ordered = omega (arith, is.ordered, rises.0.ordered); fits = omega (arith, is.fits, rises.0.fits) } in
+        let merged : IsRange floor (joined first range) = record {
+          above = omega (arith, is.above, rises.0.above);
+          ordered =
+              omega (arith, is.ordered, rises.0.ordered);
+          fits = omega (arith, is.fits, rises.0.fits);
+        } in
         let lower : floor ≤ first.high + 1 = omega (arith, rises.0.above, rises.0.ordered) in
         rw (apart, not) (put_rises floor (joined first range) later merged (RisesAbove-weaker floor (first.high + 1) later lower rises.1))
   ]
@@ -35,7 +41,8 @@ within_joined : (a b c d uid : ℕ) → a ≤ b → c ≤ d → a ≤ d + 1 → 
     → IsWithin (min a c) (max b d) uid ↔ (IsWithin c d uid ⊎ IsWithin a b uid)
 within_joined a b c d uid ab cd ad cb = grind arith
 
-pub put_member : (range : UidRange) (ranges : List UidRange) (uid : ℕ) → IsRange 0 range → AllByRecursion (IsRange 0) ranges → Member (put_range range ranges) uid ↔ (IsWithin range.low range.high uid ⊎ Member ranges uid)
+pub put_member : (range : UidRange) (ranges : List UidRange) (uid : ℕ) → IsRange 0 range → AllByRecursion (IsRange 0) ranges →
+    Member (put_range range ranges) uid ↔ (IsWithin range.low range.high uid ⊎ Member ranges uid)
 unfolding put_range
 put_member range [] uid is all = (λ m. m, λ m. m)
 put_member range (first ∷ later) uid is all = elim (cases_Bool (nat_lt (range.high + 1) first.low)) [
@@ -43,7 +50,12 @@ put_member range (first ∷ later) uid is all = elim (cases_Bool (nat_lt (range.
   | inr apart ↦ elim (cases_Bool (nat_lt (first.high + 1) range.low)) [
     | inl before ↦ let more = put_member range later uid is all.1 in rw (apart, before) (grind (arith, more.0, more.1))
     | inr not ↦
-        let merged : IsRange 0 (joined first range) = record { above = omega (arith, is.above, all.0.above); ordered = omega (arith, is.ordered, all.0.ordered); fits = omega (arith, is.fits, all.0.fits) } in
+        let merged : IsRange 0 (joined first range) = record {
+          above = omega (arith, is.above, all.0.above);
+          ordered =
+              omega (arith, is.ordered, all.0.ordered);
+          fits = omega (arith, is.fits, all.0.fits);
+        } in
         let more = put_member (joined first range) later uid merged all.1 in
         let both = within_joined first.low first.high range.low range.high uid all.0.ordered is.ordered (ltb-false _ _ apart) (ltb-false _ _ not) in
         rw (apart, not) (grind (arith, more.0, more.1, both.0, both.1))
@@ -52,7 +64,10 @@ put_member range (first ∷ later) uid is all = elim (cases_Bool (nat_lt (range.
 
 pub all_rises : (floor : ℕ) (ranges : List UidRange) → RisesAbove floor ranges → AllByRecursion (IsRange 0) ranges
 all_rises floor [] rises = tt
-all_rises floor (range ∷ ranges) rises = (record { above = omega (arith, rises.0.above); ordered = rises.0.ordered; fits = rises.0.fits }, all_rises (range.high + 1) ranges rises.1)
+all_rises floor (range ∷ ranges) rises = (
+  record { above = omega (arith, rises.0.above); ordered = rises.0.ordered; fits = rises.0.fits },
+  all_rises (range.high + 1) ranges rises.1,
+)
 
 -- the set has one list
 pub set_canonical : (ranges : List UidRange) → AllByRecursion (IsRange 0) ranges → IsCanonical (set_of_ranges ranges)

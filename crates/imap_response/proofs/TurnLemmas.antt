@@ -1,5 +1,6 @@
 -- One turn of each loop over items, numbers, pairs and other lines.
-use Rattle.std.proofs.Common.{◌≡◌, ℕ, zero, suc, ◌+◌, ◌-◌, ◌<◌, ◌≤◌, true, false, List, [], ◌∷◌, ◌++◌, length, drop, Result, Ok, Err, refl, sym, ◌∙◌, ap, append_assoc, append-nil, arith}
+use Rattle.std.proofs.Common.{◌≡◌, ℕ, zero, suc, ◌+◌, ◌-◌, ◌<◌, ◌≤◌, true, false, List, [], ◌∷◌, ◌++◌, length, drop, Result, Ok, Err}
+use Rattle.std.proofs.Common.{refl, sym, ◌∙◌, ap, append_assoc, append-nil, arith}
 use Rattle.std.proofs.lemmas.Bool.{lt-ltb, le-ltb, ne_eqb, eq-eqb}
 use Rattle.std.proofs.lemmas.Bool.Decides.{nat_tests}
 use Rattle.std.specs.Prelude.{◌==◌, nat_lt, if◌then◌else◌}
@@ -11,13 +12,13 @@ use Rattle.imap_response.specs.declared.fetch.Gathered.{Gathered}
 use Rattle.imap_response.specs.declared.fetch.Told.{Told}
 use Rattle.imap_response.specs.Reads.{◌>>=◌, or_else, Fails, IsPlace}
 use Rattle.imap_response.specs.Leaf.{blank_at, gap_at, mark_at}
-use Rattle.imap_response.specs.Numbers.{nonzero_at}
+use Rattle.imap_response.specs.ReadNumbers.{nonzero_at}
 use Rattle.imap_response.specs.WordLists.{no_header, header_start}
 use Rattle.imap_response.specs.Flags.{Keep}
 use Rattle.imap_response.specs.Left.{Left, at_left, behind_token}
 use Rattle.imap_response.specs.Items.{item_at, items_from, with_told}
-use Rattle.imap_response.specs.Searches.{begins_with, search_end_at, numbers_from, pair_at, pairs_from}
-use Rattle.imap_response.specs.Lines.{literal_len, begins_forbidden, other_from}
+use Rattle.imap_response.specs.ReadSearches.{begins_with, search_end_at, numbers_from, pair_at, pairs_from}
+use Rattle.imap_response.specs.ReadLines.{literal_len, begins_forbidden, other_from}
 use Rattle.imap_response.proofs.LoopLemmas.{at_place, broken}
 
 turn : (n k : ℕ) → k < n → n - k ≡ suc (n - (k + 1))
@@ -38,16 +39,20 @@ pub items_broken : (misfit : Misfit) (keep : Keep) (n k : ℕ) (gathered : Gathe
     → Fails misfit (item_at keep left) → items_from keep (n - k) gathered left ≡ whole → Fails misfit whole
 items_broken misfit keep n k gathered left whole within fails is = broken misfit _ _ whole fails (sym is ∙ items_step keep n k gathered left within)
 
-pub items_closed : (keep : Keep) (n k : ℕ) (gathered : Gathered) (left behind : Left) (told : Told) (end : List ℕ) → k < n → item_at keep left ≡ Ok (told, behind)
+pub items_closed : (keep : Keep) (n k : ℕ) (gathered : Gathered) (left behind : Left) (told : Told) (end : List ℕ) → k < n →
+    item_at keep left ≡ Ok (told, behind)
     → mark_at 41 behind.text ≡ Ok end → items_from keep (n - k) gathered left ≡ Ok (with_told gathered told, at_left behind end)
 items_closed keep n k gathered left behind told end within read closed = items_step keep n k gathered left within ∙ rw (read, closed) refl
 
-module _ (keep : Keep) (n k : ℕ) (gathered : Gathered) (left behind : Left) (told : Told) (misfit : Misfit) (within : k < n) (read : item_at keep left ≡ Ok (told, behind))
+module _ (keep : Keep) (n k : ℕ) (gathered : Gathered) (left behind : Left) (told : Told) (misfit : Misfit) (within : k < n)
+    (read : item_at keep left ≡ Ok (told, behind))
     (place : IsPlace misfit) (open_yet : Fails misfit (mark_at 41 behind.text)) where
-  items_go : items_from keep (n - k) gathered left ≡ (gap_at behind.text >>= λ after. items_from keep (n - (k + 1)) (with_told gathered told) (at_left behind after))
+  items_go : items_from keep (n - k) gathered left ≡ (gap_at behind.text >>= λ after. items_from keep (n - (k + 1))
+      (with_told gathered told) (at_left behind after))
   items_go = let marked = at_place misfit (mark_at 41 behind.text) place open_yet in items_step keep n k gathered left within ∙ rw (read, marked.1) refl
 
-  pub items_stuck : (other : Misfit) (whole : Result (Gathered × Left) ℕ) → Fails other (gap_at behind.text) → items_from keep (n - k) gathered left ≡ whole → Fails other whole
+  pub items_stuck : (other : Misfit) (whole : Result (Gathered × Left) ℕ) → Fails other (gap_at behind.text) →
+      items_from keep (n - k) gathered left ≡ whole → Fails other whole
   items_stuck other whole fails is = broken other _ _ whole fails (sym is ∙ items_go)
 
   pub items_on : (after : List ℕ) → gap_at behind.text ≡ Ok after
@@ -97,16 +102,19 @@ broken_numbers : {A : Type 0} (misfit : Misfit) (front : List ℕ) (read : Resul
 broken_numbers (misfits.At left) front read f whole fails is = sym is ∙ rw fails refl
 broken_numbers misfits.Memory front read f whole fails is = tt
 
-one_number : (front : List ℕ) (number : ℕ) (read : Result (List ℕ) ℕ) → with_numbers front (read >>= λ numbers. Ok (number ∷ numbers)) ≡ with_numbers (front ++ number ∷ []) read
+one_number : (front : List ℕ) (number : ℕ) (read : Result (List ℕ) ℕ) →
+    with_numbers front (read >>= λ numbers. Ok (number ∷ numbers)) ≡ with_numbers (front ++ number ∷ []) read
 one_number front number (Ok numbers) = rw (append_assoc front (number ∷ []) numbers) refl
 one_number front number (Err left) = refl
 
 pub numbers_gap : (misfit : Misfit) (front : List ℕ) (n k : ℕ) (text : List ℕ) (whole : Result (List ℕ) ℕ) → k < n → 0 < length (blank_at text)
     → Fails misfit (gap_at text) → with_numbers front (numbers_from (n - k) text) ≡ whole → Fails misfit whole
 numbers_gap misfit front n k text whole within some fails is =
-    broken_numbers misfit front (gap_at text) (number_behind (n - (k + 1))) whole fails (ap (with_numbers front) (sym (numbers_step front n k text within some)) ∙ is)
+    broken_numbers misfit front (gap_at text) (number_behind (n - (k + 1))) whole fails
+    (ap (with_numbers front) (sym (numbers_step front n k text within some)) ∙ is)
 
-module _ (front : List ℕ) (n k : ℕ) (text after : List ℕ) (whole : Result (List ℕ) ℕ) (within : k < n) (some : 0 < length (blank_at text)) (gap : gap_at text ≡ Ok after)
+module _ (front : List ℕ) (n k : ℕ) (text after : List ℕ) (whole : Result (List ℕ) ℕ) (within : k < n) (some : 0 < length (blank_at text))
+    (gap : gap_at text ≡ Ok after)
     (is : with_numbers front (numbers_from (n - k) text) ≡ whole) where
   behind_gap : with_numbers front (number_behind (n - (k + 1)) after) ≡ whole
   behind_gap = sym (ap (with_numbers front) (numbers_step front n k text within some ∙ rw gap refl)) ∙ is

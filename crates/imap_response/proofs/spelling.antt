@@ -29,7 +29,6 @@ pub mod Pairs
 pub mod Passing
 pub mod PieceRuns
 pub mod Quoted
-pub mod Ranges
 pub mod Results
 pub mod Runs
 pub mod SetBytes

@@ -3,7 +3,7 @@ use Rattle.std.specs.Prelude.{ℕ, zero, Bool, true, false, ◌&&◌, ◌==◌, 
 use Rattle.std.specs.Option.{option_or}
 use Rattle.imap_tokens.specs.Scan.{quoted_from}
 use Rattle.imap_tokens.specs.Tokens.{is_escaped, is_forbidden}
-use Rattle.imap_response.specs.TextParts.{closing_from}
+use Rattle.imap_response.specs.ReadTextParts.{closing_from}
 
 -- the first right bracket of a string that may fail
 abbrev pub first_inside : Option ℕ → ℕ → ℕ → Option ℕ

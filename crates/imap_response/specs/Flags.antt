@@ -1,5 +1,6 @@
 -- Flags between parentheses (RFC 9051, section 9, flag-list and flag-perm), as they are read.
-use Rattle.std.specs.Prelude.{ℕ, ◌+◌, ◌-◌, Bool, true, false, ◌&&◌, ◌||◌, ◌==◌, not, List, [], ◌∷◌, length, take, drop, Option, Some, None, Result, Ok, Err, if◌then◌else◌}
+use Rattle.std.specs.Prelude.{ℕ, ◌+◌, ◌-◌, Bool, true, false, ◌&&◌, ◌||◌, ◌==◌, not, List, [], ◌∷◌, length, take, drop, Option, Some}
+use Rattle.std.specs.Prelude.{None, Result, Ok, Err, if◌then◌else◌}
 use Rattle.std.specs.List.{prefix_len, list_all, list_any}
 use Rattle.flag_set.specs.Flag.{is_flag, is_atom_byte}
 use Rattle.flag_set.specs.FlagList.{flags_of, set_of, flags_alone, is_any, first_fault_of}
@@ -54,7 +55,12 @@ listed keep flags = record { flags = set_of (keep (first_fault_of flags) flags);
 -- the set of the flags among these, and whether the star is among them
 abbrev pub listed_permanent : Keep → List (List ℕ) → Listed
 listed_permanent keep flags =
-    record { flags = set_of (flags_alone (keep (first_fault_of (flags_alone flags)) flags)); any = list_any is_any (keep (first_fault_of (flags_alone flags)) flags); excess = first_fault_of (flags_alone flags) }
+    record {
+      flags = set_of (flags_alone (keep (first_fault_of (flags_alone flags)) flags));
+      any =
+          list_any is_any (keep (first_fault_of (flags_alone flags)) flags);
+      excess = first_fault_of (flags_alone flags);
+    }
 
 -- flags in parentheses
 unfoldable pub flags_at : Keep → List ℕ → Result (Listed × List ℕ) ℕ

@@ -1,5 +1,6 @@
 -- The items of a FETCH response (RFC 9051, section 9, msg-att; RFC 7162, section 3.1.4.2), as they are read.
-use Rattle.std.specs.Prelude.{ℕ, zero, suc, Bool, true, false, ◌&&◌, ◌==◌, not, nat_lt, List, [], ◌∷◌, length, drop, codes, Some, None, Result, Ok, Err, if◌then◌else◌}
+use Rattle.std.specs.Prelude.{ℕ, zero, suc, Bool, true, false, ◌&&◌, ◌==◌, not, nat_lt, List, [], ◌∷◌, length, drop, codes, Some, None}
+use Rattle.std.specs.Prelude.{Result, Ok, Err, if◌then◌else◌}
 use Rattle.std.specs.Option.{option_or}
 use Rattle.std.specs.List.{prefix_len}
 use Rattle.std.specs.Str.{bytes_eq}
@@ -9,11 +10,11 @@ use Rattle.imap_response.specs.declared.fetch.Told.{Told}
 use Rattle.imap_response.specs.declared.fetch.Told.TheVariants as tellings
 use Rattle.imap_response.specs.Reads.{◌>>=◌, or_else}
 use Rattle.imap_response.specs.Leaf.{gap_at, mark_at, named_at, wide_at, same_word, is_digits}
-use Rattle.imap_response.specs.Numbers.{nonzero_at, modseq_at}
+use Rattle.imap_response.specs.ReadNumbers.{nonzero_at, modseq_at}
 use Rattle.imap_response.specs.Flags.{Keep, flags_at}
 use Rattle.imap_response.specs.Left.{Left, at_left, mark_in}
-use Rattle.imap_response.specs.Strings.{nstring_at, id_field_at}
-use Rattle.imap_response.specs.Values.{value_at, section_at}
+use Rattle.imap_response.specs.ReadStrings.{nstring_at, id_field_at}
+use Rattle.imap_response.specs.ReadValues.{value_at, section_at}
 
 -- a run is an atom: neither NIL nor digits alone
 abbrev pub is_atom : List ℕ → Bool
@@ -70,7 +71,9 @@ unfoldable pub named_item_at : Keep → List ℕ → Left → Result (Told × Le
 named_item_at keep name left =
     if same_word name (codes "UID") then (nonzero_at left.text >>= λ uid. Ok (tellings.Uid uid.0, at_left left uid.1))
     else (if same_word name (codes "FLAGS") then (flags_at keep left.text >>= λ flags. Ok (tellings.Flags flags.0.flags flags.0.excess, at_left left flags.1))
-    else (if same_word name (codes "MODSEQ") then (mark_at 40 left.text >>= λ inside. modseq_at inside >>= λ modseq. mark_at 41 modseq.1 >>= λ behind. Ok (tellings.ModSeq modseq.0, at_left left behind))
+    else (if same_word name (codes "MODSEQ") then
+    (mark_at 40 left.text >>= λ inside. modseq_at inside >>= λ modseq. mark_at 41 modseq.1 >>= λ behind. Ok
+    (tellings.ModSeq modseq.0, at_left left behind))
     else (value_at left >>= λ value. Ok (tellings.Nothing, value))))
 
 -- an item

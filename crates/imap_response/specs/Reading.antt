@@ -10,7 +10,7 @@ use Rattle.imap_response.specs.declared.fault.ResponseFault.TheVariants as fault
 use Rattle.imap_response.specs.declared.line.Said.{Said}
 use Rattle.imap_response.specs.Flags.{Keep}
 use Rattle.imap_response.specs.Left.{Left}
-use Rattle.imap_response.specs.Lines.{line_at}
+use Rattle.imap_response.specs.ReadLines.{line_at}
 
 -- the frame, of which all is left
 abbrev pub whole_of : Frame → Left

@@ -4,7 +4,7 @@ use Rattle.mail_base.specs.declared.tag.Tag.{Tag}
 use Rattle.mail_base.specs.declared.tag.Tag.TheVariants.{Play, Count, Strange}
 use Rattle.imap_model.specs.Tagged.{is_tag_byte}
 use Rattle.imap_model.specs.Values.{is_wide_byte}
-use Rattle.imap_response.specs.Numbers.{number_of}
+use Rattle.imap_response.specs.ReadNumbers.{number_of}
 
 -- Where the first token begins that doesn't fit a tag. So many bytes stand in front, and the last token began there.
 unfoldable pub tag_misfit : ℕ → ℕ → List ℕ → Option ℕ

@@ -1,5 +1,6 @@
 -- Words with spaces before each (RFC 9051, section 9, capability-data), as they are read. A word doesn't end with a literal's header.
-use Rattle.std.specs.Prelude.{ℕ, zero, suc, ◌+◌, ◌-◌, Bool, false, ◌&&◌, ◌==◌, nat_eq, nat_lt, List, [], ◌∷◌, length, drop, Option, Some, None, Result, Ok, Err, if◌then◌else◌}
+use Rattle.std.specs.Prelude.{ℕ, zero, suc, ◌+◌, ◌-◌, Bool, false, ◌&&◌, ◌==◌, nat_eq, nat_lt, List, [], ◌∷◌, length, drop, Option, Some}
+use Rattle.std.specs.Prelude.{None, Result, Ok, Err, if◌then◌else◌}
 use Rattle.std.specs.List.{prefix_len, starts_with}
 use Rattle.std.specs.Char.{is_ascii_digit}
 use Rattle.imap_response.specs.Reads.{◌>>=◌}
@@ -7,7 +8,8 @@ use Rattle.imap_response.specs.Leaf.{blank_at, gap_at, word_at}
 
 -- the text is a literal's header behind its `{`: digits and `}`
 abbrev pub is_header_rest : List ℕ → Bool
-is_header_rest text = nat_lt 0 (prefix_len is_ascii_digit text) && length text == prefix_len is_ascii_digit text + 1 && starts_with nat_eq (drop (prefix_len is_ascii_digit text) text) (125 ∷ [])
+is_header_rest text = nat_lt 0 (prefix_len is_ascii_digit text) && length text == prefix_len is_ascii_digit text + 1 && starts_with nat_eq
+    (drop (prefix_len is_ascii_digit text) text) (125 ∷ [])
 
 -- the text is a literal's header
 abbrev pub is_header : List ℕ → Bool

@@ -2,7 +2,7 @@
 
 ghost use Rattle.std.specs.Prelude.{IfOk};
 ghost use Rattle.imap_model.specs.Small.{IsSmallCode};
-ghost use Rattle.imap_response.specs.Codes.{closed_at, bare_at, capability_at, uid_next_at, uid_validity_at, highest_modseq_at, append_uid_at, copy_uid_at, modified_at, plain_code_at, permanent_flags_at, code_at};
+ghost use Rattle.imap_response.specs.ReadCodes.{closed_at, bare_at, capability_at, uid_next_at, uid_validity_at, highest_modseq_at, append_uid_at, copy_uid_at, modified_at, plain_code_at, permanent_flags_at, code_at};
 ghost use Rattle.imap_response.specs.Flags.{kept};
 ghost use Rattle.imap_response.specs.Reads.{Gives};
 
@@ -15,7 +15,7 @@ use imap_model::Code;
 use std::alloc::Global;
 
 // The code that the text between the brackets is.
-#[tactic(auto, unfolding(crate::specs::Codes::code_at))]
+#[tactic(auto, unfolding(crate::specs::ReadCodes::code_at))]
 pub(crate) fn code_of(alloc: Global, text: &[u8]) -> Result<Coded, Misfit>
     ensures small { IfOk result (λ coded. IsSmallCode coded.code) }
     ensures value { Gives (λ code. code) result (code_at kept text.now) }
@@ -31,7 +31,7 @@ pub(crate) fn code_of(alloc: Global, text: &[u8]) -> Result<Coded, Misfit>
 }
 
 // Every code but PERMANENTFLAGS.
-#[tactic(auto, unfolding(crate::specs::Codes::plain_code_at))]
+#[tactic(auto, unfolding(crate::specs::ReadCodes::plain_code_at))]
 fn plain_code(alloc: Global, name: &[u8], rest: &[u8]) -> Result<Code, Misfit>
     ensures small { IfOk result IsSmallCode }
     ensures value { Gives (λ code. code) result (plain_code_at name.now rest.now) }
@@ -62,7 +62,7 @@ fn plain_code(alloc: Global, name: &[u8], rest: &[u8]) -> Result<Code, Misfit>
 }
 
 // The code ends here.
-#[tactic(auto, unfolding(crate::specs::Codes::closed_at))]
+#[tactic(auto, unfolding(crate::specs::ReadCodes::closed_at))]
 fn closed(text: &[u8]) -> Result<(), Misfit>
     ensures { Gives (λ done. done) result (closed_at text.now) }
 {
@@ -72,7 +72,7 @@ fn closed(text: &[u8]) -> Result<(), Misfit>
     Err(Misfit::At { left: text.len() })
 }
 
-#[tactic(auto, unfolding(crate::specs::Codes::bare_at))]
+#[tactic(auto, unfolding(crate::specs::ReadCodes::bare_at))]
 fn bare(text: &[u8], code: Code) -> Result<Code, Misfit>
     requires { IsSmallCode code }
     ensures small { IfOk result IsSmallCode }
@@ -82,7 +82,7 @@ fn bare(text: &[u8], code: Code) -> Result<Code, Misfit>
     Ok(code)
 }
 
-#[tactic(auto, unfolding(crate::specs::Codes::capability_at))]
+#[tactic(auto, unfolding(crate::specs::ReadCodes::capability_at))]
 fn capability(alloc: Global, text: &[u8]) -> Result<Code, Misfit>
     ensures small { IfOk result IsSmallCode }
     ensures value { Gives (λ code. code) result (capability_at text.now) }
@@ -95,7 +95,7 @@ fn capability(alloc: Global, text: &[u8]) -> Result<Code, Misfit>
     Ok(Code::Capability(list))
 }
 
-#[tactic(auto, unfolding(crate::specs::Codes::uid_next_at))]
+#[tactic(auto, unfolding(crate::specs::ReadCodes::uid_next_at))]
 fn uid_next(text: &[u8]) -> Result<Code, Misfit>
     ensures small { IfOk result IsSmallCode }
     ensures value { Gives (λ code. code) result (uid_next_at text.now) }
@@ -105,7 +105,7 @@ fn uid_next(text: &[u8]) -> Result<Code, Misfit>
     Ok(Code::UidNext(uid_of(number)))
 }
 
-#[tactic(auto, unfolding(crate::specs::Codes::uid_validity_at))]
+#[tactic(auto, unfolding(crate::specs::ReadCodes::uid_validity_at))]
 fn uid_validity(text: &[u8]) -> Result<Code, Misfit>
     ensures small { IfOk result IsSmallCode }
     ensures value { Gives (λ code. code) result (uid_validity_at text.now) }
@@ -115,7 +115,7 @@ fn uid_validity(text: &[u8]) -> Result<Code, Misfit>
     Ok(Code::UidValidity(validity_of(number)))
 }
 
-#[tactic(auto, unfolding(crate::specs::Codes::permanent_flags_at))]
+#[tactic(auto, unfolding(crate::specs::ReadCodes::permanent_flags_at))]
 fn permanent_flags(alloc: Global, text: &[u8]) -> Result<Coded, Misfit>
     ensures small { IfOk result (λ coded. IsSmallCode coded.code) }
     ensures value { Gives (λ code. code) result (permanent_flags_at kept text.now) }
@@ -131,7 +131,7 @@ fn permanent_flags(alloc: Global, text: &[u8]) -> Result<Coded, Misfit>
     })
 }
 
-#[tactic(auto, unfolding(crate::specs::Codes::highest_modseq_at))]
+#[tactic(auto, unfolding(crate::specs::ReadCodes::highest_modseq_at))]
 fn highest_modseq(text: &[u8]) -> Result<Code, Misfit>
     ensures small { IfOk result IsSmallCode }
     ensures value { Gives (λ code. code) result (highest_modseq_at text.now) }
@@ -141,7 +141,7 @@ fn highest_modseq(text: &[u8]) -> Result<Code, Misfit>
     Ok(Code::HighestModSeq(modseq_of(number)))
 }
 
-#[tactic(auto, unfolding(crate::specs::Codes::append_uid_at))]
+#[tactic(auto, unfolding(crate::specs::ReadCodes::append_uid_at))]
 fn append_uid(text: &[u8]) -> Result<Code, Misfit>
     ensures small { IfOk result IsSmallCode }
     ensures value { Gives (λ code. code) result (append_uid_at text.now) }
@@ -155,7 +155,7 @@ fn append_uid(text: &[u8]) -> Result<Code, Misfit>
     })
 }
 
-#[tactic(auto, unfolding(crate::specs::Codes::copy_uid_at))]
+#[tactic(auto, unfolding(crate::specs::ReadCodes::copy_uid_at))]
 fn copy_uid(alloc: Global, text: &[u8]) -> Result<Code, Misfit>
     ensures small { IfOk result IsSmallCode }
     ensures value { Gives (λ code. code) result (copy_uid_at text.now) }
@@ -171,7 +171,7 @@ fn copy_uid(alloc: Global, text: &[u8]) -> Result<Code, Misfit>
     })
 }
 
-#[tactic(auto, unfolding(crate::specs::Codes::modified_at))]
+#[tactic(auto, unfolding(crate::specs::ReadCodes::modified_at))]
 fn modified(alloc: Global, text: &[u8]) -> Result<Code, Misfit>
     ensures small { IfOk result IsSmallCode }
     ensures value { Gives (λ code. code) result (modified_at text.now) }

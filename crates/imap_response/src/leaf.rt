@@ -3,7 +3,7 @@
 ghost use Rattle.std.specs.Prelude.{◌≡◌, ◌<◌, ◌^◌, IfOk, IfErr, IfSome};
 ghost use Rattle.imap_response.specs.Reads.{Gives, IsPlace};
 ghost use Rattle.imap_response.specs.Leaf.{gap_at, blank_at, end_at, mark_at, word_at, wide_at, named_at};
-ghost use Rattle.imap_response.specs.Numbers.{number_of, nonzero, number_at, nonzero_at, modseq_at};
+ghost use Rattle.imap_response.specs.ReadNumbers.{number_of, nonzero, number_at, nonzero_at, modseq_at};
 ghost use Rattle.imap_response.specs.Sets.{IsUidNumber, set_at};
 
 use crate::fault::Misfit;
@@ -94,7 +94,7 @@ pub(crate) fn number_of(text: &[u8]) -> Option<u32>
 }
 
 // A number of 32 bits.
-#[tactic(auto, unfolding(crate::specs::Numbers::number_at))]
+#[tactic(auto, unfolding(crate::specs::ReadNumbers::number_at))]
 pub(crate) fn number_in(text: &[u8]) -> Result<(u32, &[u8]), Misfit>
     ensures { Gives (λ read. (read.0, read.1.now)) result (number_at text.now) }
 {
@@ -106,7 +106,7 @@ pub(crate) fn number_in(text: &[u8]) -> Result<(u32, &[u8]), Misfit>
 }
 
 // A nonzero number of 32 bits.
-#[tactic(auto, unfolding(crate::specs::Numbers::nonzero_at))]
+#[tactic(auto, unfolding(crate::specs::ReadNumbers::nonzero_at))]
 pub(crate) fn nonzero_in(text: &[u8]) -> Result<(u32, &[u8]), Misfit>
     ensures uid { IfOk result (λ read. IsUidNumber read.0) }
     ensures value { Gives (λ read. (read.0, read.1.now)) result (nonzero_at text.now) }
@@ -152,7 +152,7 @@ fn modseq_in_whole(text: &[u8]) -> Option<u64>
 }
 
 // A mod-sequence.
-#[tactic(auto, unfolding(crate::specs::Numbers::modseq_at))]
+#[tactic(auto, unfolding(crate::specs::ReadNumbers::modseq_at))]
 pub(crate) fn modseq_in(text: &[u8]) -> Result<(u64, &[u8]), Misfit>
     ensures within { IfOk result (λ read. (0 < read.0) × (read.0 < 2 ^ 63)) }
     ensures value { Gives (λ read. (read.0, read.1.now)) result (modseq_at text.now) }

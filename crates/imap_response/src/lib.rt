@@ -12,19 +12,9 @@ mod other;
 mod rest;
 mod runs;
 mod search;
-#[cfg(test)]
-mod slow;
-#[cfg(test)]
-mod slow_tests;
 mod strings;
 mod tag;
-#[cfg(test)]
-mod tests;
 mod text_part;
-#[cfg(test)]
-mod transcripts;
-#[cfg(test)]
-mod value_tests;
 mod values;
 mod word_list;
 

@@ -9,7 +9,7 @@ ghost use Rattle.imap_response.specs.Faults.{IsPlaced};
 ghost use Rattle.imap_response.specs.Flags.{kept};
 ghost use Rattle.imap_response.specs.Leaf.{gap_at};
 ghost use Rattle.imap_response.specs.Left.{left_of};
-ghost use Rattle.imap_response.specs.Lines.{simply, ending_of, fits_tag, tagged_at, capability_line_at, enabled_at, vanished_set_at, vanished_at, named_line_at, status_at, fetch_at, exists_at, second_word, numbered_at, untagged_at, line_at};
+ghost use Rattle.imap_response.specs.ReadLines.{simply, ending_of, fits_tag, tagged_at, capability_line_at, enabled_at, vanished_set_at, vanished_at, named_line_at, status_at, fetch_at, exists_at, second_word, numbered_at, untagged_at, line_at};
 ghost use Rattle.imap_response.specs.Reading.{Answers, answer_to, reading, said_whole, too_large};
 ghost use Rattle.imap_response.specs.Reads.{Gives};
 ghost use Rattle.imap_response.specs.Tags.{tag_misfit};
@@ -121,7 +121,7 @@ fn plain(response: Response) -> Said
     }
 }
 
-#[tactic(auto, unfolding(crate::specs::Lines::line_at))]
+#[tactic(auto, unfolding(crate::specs::ReadLines::line_at))]
 fn line<'a>(alloc: Global, rest: Rest<'a>) -> Result<Said, Misfit>
     ensures small { IfOk result (λ said. IsSmall said.response) }
     ensures value { Gives (λ said. said) result (line_at kept (left_of rest.entry)) }
@@ -141,7 +141,7 @@ fn line<'a>(alloc: Global, rest: Rest<'a>) -> Result<Said, Misfit>
 }
 
 // A completion.
-#[tactic(auto, unfolding(crate::specs::Lines::tagged_at))]
+#[tactic(auto, unfolding(crate::specs::ReadLines::tagged_at))]
 fn tagged(alloc: Global, text: &[u8]) -> Result<Said, Misfit>
     ensures small { IfOk result (λ said. IsSmall said.response) }
     ensures value { Gives (λ said. said) result (tagged_at kept text.now) }
@@ -194,7 +194,7 @@ fn ending_of(name: &[u8]) -> Option<Ending>
 }
 
 // What stands behind `*` and the spaces.
-#[tactic(auto, unfolding(crate::specs::Lines::untagged_at))]
+#[tactic(auto, unfolding(crate::specs::ReadLines::untagged_at))]
 fn untagged<'a>(alloc: Global, rest: Rest<'a>) -> Result<Said, Misfit>
     ensures small { IfOk result (λ said. IsSmall said.response) }
     ensures value { Gives (λ said. said) result (untagged_at kept (left_of rest.entry)) }
@@ -224,7 +224,7 @@ fn untagged<'a>(alloc: Global, rest: Rest<'a>) -> Result<Said, Misfit>
 }
 
 // BYE and PREAUTH, and what isn't a status response: its word, the line from that word on, and what stands behind it.
-#[tactic(auto, unfolding(crate::specs::Lines::status_at))]
+#[tactic(auto, unfolding(crate::specs::ReadLines::status_at))]
 fn status<'a>(alloc: Global, name: &[u8], rest: Rest<'a>, behind: &'a [u8]) -> Result<Said, Misfit>
     ensures small { IfOk result (λ said. IsSmall said.response) }
     ensures value { Gives (λ said. said) result (status_at kept name.now (left_of rest.entry) behind.now) }
@@ -247,7 +247,7 @@ fn status<'a>(alloc: Global, name: &[u8], rest: Rest<'a>, behind: &'a [u8]) -> R
 }
 
 // An untagged line that is no status response.
-#[tactic(auto, unfolding(crate::specs::Lines::named_line_at))]
+#[tactic(auto, unfolding(crate::specs::ReadLines::named_line_at))]
 fn named_line<'a>(
     alloc: Global,
     name: &[u8],
@@ -274,7 +274,7 @@ fn named_line<'a>(
 }
 
 // One word or more, to the line's end.
-#[tactic(auto, unfolding(crate::specs::Lines::capability_line_at))]
+#[tactic(auto, unfolding(crate::specs::ReadLines::capability_line_at))]
 fn capability(alloc: Global, text: &[u8]) -> Result<Response, Misfit>
     ensures small { IfOk result IsSmall }
     ensures value { Gives (λ response. response) result (capability_line_at text.now) }
@@ -287,7 +287,7 @@ fn capability(alloc: Global, text: &[u8]) -> Result<Response, Misfit>
     Ok(Response::Capability(list))
 }
 
-#[tactic(auto, unfolding(crate::specs::Lines::enabled_at))]
+#[tactic(auto, unfolding(crate::specs::ReadLines::enabled_at))]
 fn enabled(alloc: Global, text: &[u8]) -> Result<Response, Misfit>
     ensures small { IfOk result IsSmall }
     ensures value { Gives (λ response. response) result (enabled_at text.now) }
@@ -298,7 +298,7 @@ fn enabled(alloc: Global, text: &[u8]) -> Result<Response, Misfit>
 }
 
 // A line with a number in front.
-#[tactic(auto, unfolding(crate::specs::Lines::numbered_at))]
+#[tactic(auto, unfolding(crate::specs::ReadLines::numbered_at))]
 fn numbered<'a>(alloc: Global, rest: Rest<'a>) -> Result<Said, Misfit>
     ensures small { IfOk result (λ said. IsSmall said.response) }
     ensures value { Gives (λ said. said) result (numbered_at kept (left_of rest.entry)) }
@@ -327,7 +327,7 @@ fn second_word(text: &[u8]) -> (&[u8], &[u8])
 }
 
 // How many messages there are, in front of the text, to the line's end.
-#[tactic(auto, unfolding(crate::specs::Lines::exists_at))]
+#[tactic(auto, unfolding(crate::specs::ReadLines::exists_at))]
 fn exists(text: &[u8], later: &[u8]) -> Result<Said, Misfit>
     ensures small { IfOk result (λ said. IsSmall said.response) }
     ensures value { Gives (λ said. said) result (exists_at text.now later.now) }
@@ -338,7 +338,7 @@ fn exists(text: &[u8], later: &[u8]) -> Result<Said, Misfit>
 }
 
 // A message's items, behind the word FETCH.
-#[tactic(auto, unfolding(crate::specs::Lines::fetch_at))]
+#[tactic(auto, unfolding(crate::specs::ReadLines::fetch_at))]
 fn fetch<'a>(alloc: Global, rest: Rest<'a>) -> Result<Said, Misfit>
     ensures small { IfOk result (λ said. IsSmall said.response) }
     ensures value { Gives (λ said. said) result (fetch_at kept (left_of rest.entry)) }
@@ -352,7 +352,7 @@ fn fetch<'a>(alloc: Global, rest: Rest<'a>) -> Result<Said, Misfit>
 }
 
 // What stands behind the word VANISHED.
-#[tactic(auto, unfolding(crate::specs::Lines::vanished_at))]
+#[tactic(auto, unfolding(crate::specs::ReadLines::vanished_at))]
 fn vanished(alloc: Global, text: &[u8]) -> Result<Response, Misfit>
     ensures small { IfOk result IsSmall }
     ensures value { Gives (λ response. response) result (vanished_at text.now) }
@@ -368,7 +368,7 @@ fn vanished(alloc: Global, text: &[u8]) -> Result<Response, Misfit>
 }
 
 // A set of UIDs, to the line's end.
-#[tactic(auto, unfolding(crate::specs::Lines::vanished_set_at))]
+#[tactic(auto, unfolding(crate::specs::ReadLines::vanished_set_at))]
 fn vanished_set(alloc: Global, earlier: bool, text: &[u8]) -> Result<Response, Misfit>
     ensures small { IfOk result IsSmall }
     ensures value { Gives (λ response. response) result (vanished_set_at earlier text.now) }

@@ -2,7 +2,7 @@
 
 ghost use Rattle.std.specs.Prelude.{◌≡◌, ◌≤◌, length};
 ghost use Rattle.imap_response.specs.Left.{left_of, behind_token};
-ghost use Rattle.imap_response.specs.Lines.{literal_len, begins_forbidden, other_at};
+ghost use Rattle.imap_response.specs.ReadLines.{literal_len, begins_forbidden, other_at};
 ghost use Rattle.imap_response.specs.Reads.{Gives};
 ghost use Rattle.imap_response.specs.WordLists.{no_header, header_start};
 

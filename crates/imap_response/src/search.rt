@@ -5,7 +5,7 @@ ghost use Rattle.std.specs.List.{AllByRecursion};
 ghost use Rattle.uid_sets.specs.UidSet.{IsCanonical, Member};
 ghost use Rattle.imap_response.specs.Left.{left_of};
 ghost use Rattle.imap_response.specs.Reads.{Gives};
-ghost use Rattle.imap_response.specs.Searches.{begins_with, search_end_at, numbers_from, found_at, search_tag_at, correlator_at, uid_word_at, pair_at, pairs_from, extended_at};
+ghost use Rattle.imap_response.specs.ReadSearches.{begins_with, search_end_at, numbers_from, found_at, search_tag_at, correlator_at, uid_word_at, pair_at, pairs_from, extended_at};
 ghost use Rattle.imap_response.specs.Sets.{IsUidNumber, IsIn, set_of_numbers};
 
 use crate::fault::Misfit;
@@ -18,7 +18,7 @@ use std::alloc::{AllocError, Global};
 use uid_sets::UidSet;
 
 // What stands behind the word SEARCH.
-#[tactic(auto, unfolding(crate::specs::Searches::found_at))]
+#[tactic(auto, unfolding(crate::specs::ReadSearches::found_at))]
 pub(crate) fn found(alloc: Global, text: &[u8]) -> Result<UidSet, Misfit>
     ensures { Gives (λ uids. uids) result (found_at text.now) }
 {
@@ -83,7 +83,7 @@ fn begins_with(byte: u8, text: &[u8]) -> bool
 }
 
 // A mod-sequence in parentheses, and the line's end.
-#[tactic(auto, unfolding(crate::specs::Searches::search_end_at))]
+#[tactic(auto, unfolding(crate::specs::ReadSearches::search_end_at))]
 fn search_end(text: &[u8]) -> Result<(), Misfit>
     ensures { Gives (λ done. done) result (search_end_at text.now) }
 {
@@ -93,7 +93,7 @@ fn search_end(text: &[u8]) -> Result<(), Misfit>
 }
 
 // What stands behind the word ESEARCH.
-#[tactic(auto, unfolding(crate::specs::Searches::extended_at))]
+#[tactic(auto, unfolding(crate::specs::ReadSearches::extended_at))]
 pub(crate) fn extended<'a>(alloc: Global, rest: Rest<'a>) -> Result<UidSet, Misfit>
     ensures { Gives (λ uids. uids) result (extended_at (left_of rest.entry)) }
 {
@@ -103,7 +103,7 @@ pub(crate) fn extended<'a>(alloc: Global, rest: Rest<'a>) -> Result<UidSet, Misf
 }
 
 // The tag of the search, if it is told: what stands behind it.
-#[tactic(auto, unfolding(crate::specs::Searches::correlator_at))]
+#[tactic(auto, unfolding(crate::specs::ReadSearches::correlator_at))]
 fn correlator<'a>(rest: Rest<'a>) -> Result<Rest<'a>, Misfit>
     ensures { Gives left_of result (correlator_at (left_of rest.entry)) }
 {
@@ -120,7 +120,7 @@ fn correlator<'a>(rest: Rest<'a>) -> Result<Rest<'a>, Misfit>
 }
 
 // The word TAG and an astring in parentheses.
-#[tactic(auto, unfolding(crate::specs::Searches::search_tag_at))]
+#[tactic(auto, unfolding(crate::specs::ReadSearches::search_tag_at))]
 fn search_tag<'a>(rest: Rest<'a>) -> Result<Rest<'a>, Misfit>
     ensures { Gives left_of result (search_tag_at (left_of rest.entry)) }
 {
@@ -130,7 +130,7 @@ fn search_tag<'a>(rest: Rest<'a>) -> Result<Rest<'a>, Misfit>
 }
 
 // The word UID, if it stands there behind spaces: what stands behind it.
-#[tactic(auto, unfolding(crate::specs::Searches::uid_word_at))]
+#[tactic(auto, unfolding(crate::specs::ReadSearches::uid_word_at))]
 fn uid_word(text: &[u8]) -> Result<&[u8], Misfit>
     ensures { Gives (λ rest. rest.now) result (uid_word_at text.now) }
 {
@@ -160,7 +160,7 @@ fn pairs<'a>(alloc: Global, rest: Rest<'a>) -> Result<UidSet, Misfit>
 }
 
 // A pair: the set that counts behind it, and what stands behind it.
-#[tactic(auto, unfolding(crate::specs::Searches::pair_at))]
+#[tactic(auto, unfolding(crate::specs::ReadSearches::pair_at))]
 fn pair<'a>(alloc: Global, set: UidSet, rest: Rest<'a>) -> Result<(UidSet, Rest<'a>), Misfit>
     ensures { Gives (λ read. (read.0, left_of read.1)) result (pair_at set (left_of rest.entry)) }
 {

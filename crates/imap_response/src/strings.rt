@@ -3,7 +3,7 @@
 ghost use Rattle.std.specs.Prelude.{◌≡◌, ◌≤◌, length, IfOk, IfErr};
 ghost use Rattle.imap_response.specs.Reads.{Gives, IsPlace};
 ghost use Rattle.imap_response.specs.Left.{left_of, mark_in};
-ghost use Rattle.imap_response.specs.Strings.{unquoted, octets, nstring_at, astring_len, astring_at, is_id, id_field_at};
+ghost use Rattle.imap_response.specs.ReadStrings.{unquoted, octets, nstring_at, astring_len, astring_at, is_id, id_field_at};
 
 use crate::fault::Misfit;
 use crate::leaf::mark;
@@ -15,7 +15,7 @@ use mail_base::{Bytes, Span};
 use std::alloc::{AllocError, Global};
 
 // A string or NIL: the bytes that it stands for, and what stands behind it.
-#[tactic(auto, unfolding(crate::specs::Strings::nstring_at))]
+#[tactic(auto, unfolding(crate::specs::ReadStrings::nstring_at))]
 pub(crate) fn nstring<'a>(alloc: Global, rest: Rest<'a>) -> Result<(Bytes, Rest<'a>), Misfit>
     ensures { Gives (λ read. (read.0, left_of read.1)) result (nstring_at (left_of rest.entry)) }
 {
@@ -72,7 +72,7 @@ fn unquoted(alloc: Global, token: &[u8]) -> Result<Bytes, AllocError>
 }
 
 // An astring: what stands behind it.
-#[tactic(auto, unfolding(crate::specs::Strings::astring_at))]
+#[tactic(auto, unfolding(crate::specs::ReadStrings::astring_at))]
 pub(crate) fn astring<'a>(rest: Rest<'a>) -> Result<Rest<'a>, Misfit>
     ensures { Gives left_of result (astring_at (left_of rest.entry)) }
 {
@@ -101,7 +101,7 @@ fn astring_len(text: &[u8]) -> usize
 }
 
 // An astring that stands for Message-ID in any case: what stands behind it.
-#[tactic(auto, unfolding(crate::specs::Strings::id_field_at))]
+#[tactic(auto, unfolding(crate::specs::ReadStrings::id_field_at))]
 pub(crate) fn id_field<'a>(rest: Rest<'a>) -> Result<Rest<'a>, Misfit>
     ensures value { Gives left_of result (id_field_at (left_of rest.entry)) }
     ensures place { IfErr result IsPlace }

@@ -6,7 +6,7 @@ ghost use Rattle.imap_response.specs.Flags.{kept};
 ghost use Rattle.imap_response.specs.Leaf.{is_forbidden};
 ghost use Rattle.imap_response.specs.Reads.{Fails, Gives};
 ghost use Rattle.imap_response.specs.Closing.{first_inside, ends, goes_on, escapes};
-ghost use Rattle.imap_response.specs.TextParts.{plain_len, text_misfit, closing_from, code_up_to, within, with_misfit, code_in, text_at};
+ghost use Rattle.imap_response.specs.ReadTextParts.{plain_len, is_cut, opened_at, text_misfit, closing_from, code_up_to, within, with_misfit, code_in, text_at};
 ghost use Rattle.imap_response.specs.declared.text_part.Coded.{Coded};
 
 use crate::code::code_of;
@@ -35,7 +35,7 @@ fn uncoded() -> Coded
 }
 
 // What stands behind the word of a status response.
-#[tactic(auto, unfolding(crate::specs::TextParts::text_at))]
+#[tactic(auto, unfolding(crate::specs::ReadTextParts::text_at))]
 pub(crate) fn text_part(alloc: Global, text: &[u8]) -> Result<Coded, Misfit>
     ensures small { IfOk result (λ coded. IsSmallCode coded.code) }
     ensures value { Gives (λ coded. coded) result (text_at kept text.now) }
@@ -68,14 +68,14 @@ fn first_misfit(coded: Result<Coded, Misfit>, left: usize) -> Misfit
     }
 }
 
-// How many bytes of the text are left at its first CR, LF or NUL, or at the literal's header in front of that or at the
-// text's end.
+// How many bytes of the text are left at its first CR, LF or NUL, or at the header of a literal that is opened in front of
+// that.
 fn text_misfit(text: &[u8]) -> Option<usize>
     ensures { result ≡ text_misfit text.now }
 {
     let plain = plain_len(text);
-    let (front, _) = text.split_at(plain);
-    match header_start(front) {
+    let (front, rest) = text.split_at(plain);
+    match opened_at(front, rest) {
         Some(at) => Some(text.len().saturating_sub(at)),
         None => {
             if plain < text.len() {
@@ -85,6 +85,24 @@ fn text_misfit(text: &[u8]) -> Option<usize>
             }
         }
     }
+}
+
+// Where a literal is opened: the header begins with which the front ends, if nothing or CRLF stands behind it.
+fn opened_at(front: &[u8], rest: &[u8]) -> Option<usize>
+    ensures { result ≡ opened_at front.now rest.now }
+{
+    if is_cut(rest) {
+        header_start(front)
+    } else {
+        None
+    }
+}
+
+// Whether the text ends here, or CRLF stands here.
+fn is_cut(rest: &[u8]) -> bool
+    ensures { result ≡ is_cut rest.now }
+{
+    rest.is_empty() || rest.starts_with(b"\r\n")
 }
 
 #[tactic(auto, using(crate::proofs::RunLemmas::run_within))]
@@ -102,7 +120,7 @@ pub(crate) fn is_forbidden(byte: u8) -> bool
 }
 
 // The code between the brackets at the text's front.
-#[tactic(auto, unfolding(crate::specs::TextParts::code_in))]
+#[tactic(auto, unfolding(crate::specs::ReadTextParts::code_in))]
 fn code_in(alloc: Global, text: &[u8]) -> Result<Coded, Misfit>
     ensures small { IfOk result (λ coded. IsSmallCode coded.code) }
     ensures value { Gives (λ coded. coded) result (code_in kept text.now) }

@@ -3,14 +3,14 @@
 ghost use Rattle.std.specs.Prelude.{◌≡◌, ◌<◌, ◌+◌, ◌^◌};
 ghost use Rattle.imap_response.specs.Reads.{Gives};
 ghost use Rattle.imap_response.specs.Left.{left_of};
-ghost use Rattle.imap_response.specs.Values.{closes, is_bracket, deeper_by, list_at, value_at, section_at};
+ghost use Rattle.imap_response.specs.ReadValues.{closes, is_bracket, deeper_by, list_at, value_at, section_at};
 
 use crate::fault::Misfit;
 use crate::rest::{Rest, next};
 use imap_tokens::TokenKind;
 
 // A value: what stands behind it.
-#[tactic(auto, unfolding(crate::specs::Values::value_at))]
+#[tactic(auto, unfolding(crate::specs::ReadValues::value_at))]
 pub(crate) fn value<'a>(rest: Rest<'a>) -> Result<Rest<'a>, Misfit>
     ensures { Gives left_of result (value_at (left_of rest.entry)) }
 {

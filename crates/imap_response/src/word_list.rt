@@ -2,44 +2,21 @@
 
 ghost use Rattle.std.specs.Prelude.{◌≡◌, IfOk};
 ghost use Rattle.imap_response.specs.Reads.{Gives};
-ghost use Rattle.imap_response.specs.WordLists.{is_header_rest, is_header, header_start, plain_word_at, next_word_at, words_at};
+ghost use Rattle.imap_response.specs.WordLists.{header_start, plain_word_at, next_word_at, words_at};
 
 use crate::fault::Misfit;
 use crate::leaf::{blank, gap, word};
-use crate::runs::digits_len;
-use mail_base::{Bytes, Words};
+use mail_base::{Bytes, Words, literal_at_end};
 use std::alloc::{AllocError, Global};
-
-// Whether the text is a literal's header behind its `{`: digits and `}`.
-fn is_header_rest(text: &[u8]) -> bool
-    ensures { result ≡ is_header_rest text.now }
-{
-    let digits = digits_len(text);
-    let (_, rest) = text.split_at(digits);
-    digits > 0 && text.len() == digits + 1 && rest.starts_with(b"}")
-}
-
-// Whether the text is a literal's header.
-fn is_header(text: &[u8]) -> bool
-    ensures { result ≡ is_header text.now }
-{
-    match text.split_first() {
-        Some((b'{', more)) => is_header_rest(more),
-        _ => false,
-    }
-}
 
 // Where the header begins with which the text ends, if it ends with one.
 pub(crate) fn header_start(text: &[u8]) -> Option<usize>
     ensures { result ≡ header_start 0 text.now }
 {
-    for at in 0..text.len() {
-        let (_, rest) = text.split_at(at);
-        if is_header(rest) {
-            return Some(at);
-        }
+    match literal_at_end(text) {
+        Some(header) => Some(header.at),
+        None => None,
     }
-    None
 }
 
 // A word of a byte or more that doesn't end with a header, and what stands behind it.

@@ -1,6 +1,5 @@
 pub mod Cuts
 pub mod Ends
-pub mod Headers
 pub mod Lines
 pub mod Literals
 pub mod Parts

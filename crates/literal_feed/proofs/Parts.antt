@@ -1,12 +1,13 @@
 -- A part that is too long, that ends a line, or that opens a literal.
-use Rattle.std.proofs.Common.{◌≡◌, ◌≢◌, ◌⊎◌, inl, inr, ℕ, suc, ◌+◌, ◌-◌, ◌<◌, ◌≤◌, List, [], ◌∷◌, ◌++◌, length, take, drop, refl, sym, ◌∙◌, ap, subst, arith, get_or, drop-cons, length-append, length-take, append_assoc, take-append-drop}
+use Rattle.std.proofs.Common.{◌≡◌, ◌≢◌, ◌⊎◌, inl, inr, ℕ, suc, ◌+◌, ◌-◌, ◌<◌, ◌≤◌, List, [], ◌∷◌, ◌++◌, length, take, drop, refl, sym}
+use Rattle.std.proofs.Common.{◌∙◌, ap, subst, arith, get_or, drop-cons, length-append, length-take, append_assoc, take-append-drop}
 use Rattle.std.proofs.lemmas.Bool.{cases_lt}
 use Rattle.mail_base.specs.Frames.{NoLf, GoesOn, HasLongLine, PartFault, told}
 use Rattle.mail_base.specs.declared.frame.FeedFault.TheVariants as faults
 use Rattle.std.specs.Str.Parse.{IsNumeral, digits_value}
 use Rattle.mail_base.specs.Frames.{header, HasLargeLiteral}
-use Rattle.literal_feed.specs.declared.header.Header.{Header}
-use Rattle.literal_feed.specs.Headers.{EndsIn}
+use Rattle.mail_base.specs.declared.literal_header.LiteralHeader.{LiteralHeader}
+use Rattle.mail_base.specs.LiteralHeaders.{EndsIn}
 use Rattle.literal_feed.specs.Parts.{Counts, IsLastPart, IsLiteralPart}
 use Rattle.mail_base.proofs.Lf.{no_lf-front, no_lf-back}
 
@@ -65,7 +66,8 @@ goes_on_from : (behind more : List ℕ) → (behind ≡ [] → ⊥) → NoLf beh
 goes_on_from [] more some plain = absurd (some refl)
 goes_on_from (b ∷ behind) more some plain = plain.0
 
-pub long : (used : ℕ) (tail part more : List ℕ) (size room : ℕ) → tail ≡ part ++ more → NoLf part → Counts part size → used + room ≡ 1048576 → room < size → HasLongLine used tail (take room part) (get_or part room 0) (drop (suc room) part ++ more)
+pub long : (used : ℕ) (tail part more : List ℕ) (size room : ℕ) → tail ≡ part ++ more → NoLf part → Counts part size →
+    used + room ≡ 1048576 → room < size → HasLongLine used tail (take room part) (get_or part room 0) (drop (suc room) part ++ more)
 long used tail part more size room is plain counts fits past =
     let there : room < length part = omega (arith, counts-le part size counts, past) in
     let at = cut part room there in
@@ -77,18 +79,33 @@ long used tail part more size room is plain counts fits past =
       full = omega (arith, length-take room part, there, fits);
       goes_on = behind.0;
       no_end = λ cr. goes_on_from (drop (suc room) part) more
-          (λ none. omega (arith, past, there, length-take room part, counts.cr (take room part) (at ∙ ap (λ (b : ℕ). take room part ++ b ∷ drop (suc room) part) cr ∙ ap (λ (t : List ℕ). take room part ++ 13 ∷ t) none)))
+          (λ none. omega (
+            arith,
+            past,
+            there,
+            length-take room part,
+            counts.cr (take room part)
+                (at ∙ ap (λ (b : ℕ). take room part ++ b ∷ drop (suc room) part) cr ∙ ap (λ (t : List ℕ). take room part ++ 13 ∷ t) none),
+          ))
           behind.1;
     }
 
-pub long_fault : (at part used : ℕ) (tail front more : List ℕ) (size room place : ℕ) → tail ≡ front ++ more → NoLf front → Counts front size → used ≤ 1048576 → room ≡ 1048576 - used → room < size → place ≡ told (at + (part + room)) → PartFault (at + part) used tail (faults.LineTooLong place)
+pub long_fault : (at part used : ℕ) (tail front more : List ℕ) (size room place : ℕ) → tail ≡ front ++ more → NoLf front →
+    Counts front size → used ≤ 1048576 → room ≡ 1048576 - used → room < size → place ≡ told (at + (part + room)) →
+    PartFault (at + part) used tail (faults.LineTooLong place)
 long_fault at part used tail front more size room place is plain counts fits room_is past told_at =
     let there : room < length front = omega (arith, counts-le front size counts, past) in
-    let size_is : at + (part + room) ≡ at + part + length (take room front) = omega (arith, length-take room front, there) in
-    (take room front, get_or front room 0, drop (suc room) front ++ more, long used tail front more size room is plain counts (omega (arith, room_is, fits)) past, told_at ∙ ap told size_is)
+    let size_is : at + (part + room) ≡ at + part + length (take room front) = omega (arith, length-take room front, there) in (
+      take room front,
+      get_or front room 0,
+      drop (suc room) front ++ more,
+      long used tail front more size room is plain counts (omega (arith, room_is, fits)) past,
+      told_at ∙ ap told size_is,
+    )
 
 -- A part that ends with CR, and the LF behind it.
-module _ (used : ℕ) (part body rest : List ℕ) (b size : ℕ) (is : part ≡ body ++ b ∷ []) (cr : b ≡ 13) (plain : NoLf part) (counts : Counts part size) (fits : used ≤ 1048576) (few : size ≤ 1048576 - used) where
+module _ (used : ℕ) (part body rest : List ℕ) (b size : ℕ) (is : part ≡ body ++ b ∷ []) (cr : b ≡ 13) (plain : NoLf part)
+    (counts : Counts part size) (fits : used ≤ 1048576) (few : size ≤ 1048576 - used) where
   part_is : part ≡ body ++ 13 ∷ []
   part_is = is ∙ ap (λ (x : ℕ). body ++ x ∷ []) cr
 
@@ -104,7 +121,9 @@ module _ (used : ℕ) (part body rest : List ℕ) (b size : ℕ) (is : part ≡ 
   pub last_part : ((front digits : List ℕ) → IsNumeral 10 digits → body ≡ front ++ header digits → ⊥) → IsLastPart used (part ++ 10 ∷ rest) body rest
   last_part closed = record { text = crlf; plain = body_plain; closed = closed; short = body_short }
 
-  pub literal_part : (front digits : List ℕ) (told : Header) → EndsIn body front digits told → told.octets ≤ 33554432 → IsLiteralPart used (part ++ 10 ∷ rest) front digits rest × (told.octets ≡ digits_value 10 digits) × (length body ≡ length (front ++ header digits))
+  pub literal_part : (front digits : List ℕ) (told : LiteralHeader) → EndsIn body front digits told → told.octets ≤ 33554432 →
+      IsLiteralPart used (part ++ 10 ∷ rest) front digits rest × (told.octets ≡ digits_value 10 digits)
+      × (length body ≡ length (front ++ header digits))
   literal_part front digits told ends within = (
     record {
       text = crlf ∙ ap (λ (t : List ℕ). t ++ 13 ∷ 10 ∷ rest) ends.text;
@@ -117,7 +136,8 @@ module _ (used : ℕ) (part body rest : List ℕ) (b size : ℕ) (is : part ≡ 
     ap length ends.text,
   )
 
-  pub large_part : (front digits : List ℕ) (told : Header) → EndsIn body front digits told → 33554432 < told.octets → HasLargeLiteral used (part ++ 10 ∷ rest) front digits rest
+  pub large_part : (front digits : List ℕ) (told : LiteralHeader) → EndsIn body front digits told → 33554432 < told.octets →
+      HasLargeLiteral used (part ++ 10 ∷ rest) front digits rest
   large_part front digits told ends past = record {
     text = crlf ∙ ap (λ (t : List ℕ). t ++ 13 ∷ 10 ∷ rest) ends.text;
     plain = no_lf-front front (header digits) (subst NoLf ends.text body_plain);

@@ -1,4 +1,3 @@
-pub mod Headers
 pub mod Lines
 pub mod Parts
 pub mod Stream

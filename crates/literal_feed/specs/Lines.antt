@@ -33,17 +33,21 @@ pub record IsInLiteral (line : List ℕ) (part used : ℕ) (openings : List Open
 abbrev pub Stands : List ℕ → Cursor → Type 0
 Stands line cursor =
     ((openings : List Opening) × (tail : List ℕ) × IsInPart line cursor.part cursor.searched cursor.counted openings tail)
-    ⊎ ((cursor.searched ≡ cursor.part) × (openings : List Opening) × (front : List ℕ) × (digits : List ℕ) × (octets : List ℕ) × IsInLiteral line cursor.part cursor.counted openings front digits octets)
+    ⊎ ((cursor.searched ≡ cursor.part) × (openings : List Opening) × (front : List ℕ) × (digits : List ℕ) × (octets : List ℕ)
+    × IsInLiteral line cursor.part cursor.counted openings front digits octets)
 
 -- the line isn't whole, and has no fault so far
 abbrev pub IsOpenLine : List ℕ → Type 0
 IsOpenLine line =
-    ((openings : List Opening) × (tail : List ℕ) × AllByRecursion IsOpening openings × (line ≡ flat_map opening_text openings ++ tail) × IsOpenPart (counted openings) tail)
-    ⊎ ((part : ℕ) × (used : ℕ) × (openings : List Opening) × (front : List ℕ) × (digits : List ℕ) × (octets : List ℕ) × IsInLiteral line part used openings front digits octets)
+    ((openings : List Opening) × (tail : List ℕ) × AllByRecursion IsOpening openings × (line ≡ flat_map opening_text openings ++ tail)
+    × IsOpenPart (counted openings) tail)
+    ⊎ ((part : ℕ) × (used : ℕ) × (openings : List Opening) × (front : List ℕ) × (digits : List ℕ) × (octets : List ℕ)
+    × IsInLiteral line part used openings front digits octets)
 
 -- the line is whole, without its CRLF of this size
 abbrev pub IsWholeLine : List ℕ → ℕ → Type 0
-IsWholeLine line size = (openings : List Opening) × (last : List ℕ) × (rest : List ℕ) × BeginsWith line openings last rest × (size ≡ length (line_text openings last))
+IsWholeLine line size = (openings : List Opening) × (last : List ℕ) × (rest : List ℕ) × BeginsWith line openings last rest
+    × (size ≡ length (line_text openings last))
 
 -- the line, which has this place, was found so
 abbrev pub FoundAs : ℕ → List ℕ → Found → Type 0

@@ -2,16 +2,9 @@
 #![tactic(auto)]
 
 mod feed;
-mod header;
 mod line;
 mod part;
 mod pending;
 mod progress;
-#[cfg(test)]
-mod slow;
-#[cfg(test)]
-mod tests;
-#[cfg(test)]
-mod transcripts;
 
 pub use feed::Feed;

@@ -1,11 +1,10 @@
 //! How a part of a line ends (RFC 9051, sections 2.2, 4.3 and 9).
 
-ghost use Rattle.std.specs.Prelude.{◌≡◌, ℕ, ◌+◌, ◌-◌, ◌<◌, ◌≤◌, ◌^◌, ◌++◌, ◌∷◌, List, length, take, drop, slice_index, IfSome, IfNone};
+ghost use Rattle.std.specs.Prelude.{◌≡◌, ℕ, ◌+◌, ◌-◌, ◌<◌, ◌≤◌, ◌^◌, ◌++◌, ◌∷◌, List, length, take, drop, min, slice_index, IfSome, IfNone};
 ghost use Rattle.mail_base.specs.Frames.{told, NoLf};
 ghost use Rattle.literal_feed.specs.Parts.{Counts, GoesOnAs};
 
-use crate::header::{Header, header_of};
-use mail_base::FeedFault;
+use mail_base::{FeedFault, literal_at_end};
 use memchr::memchr;
 
 /// The bytes of the longest line, without its literals' octets and its CRLFs.
@@ -13,6 +12,9 @@ pub(crate) const MAX_LINE: usize = 1_048_576;
 
 /// The octets of the largest literal.
 pub(crate) const MAX_LITERAL: u64 = 33_554_432;
+
+// The largest number of octets that is told.
+const MOST_ASKED: u64 = 9_223_372_036_854_775_807;
 
 /// How far a line was read, by places in it.
 #[derive(Clone, Copy)]
@@ -44,6 +46,13 @@ pub(crate) fn told(at: u64, by: usize) -> u64
     ensures { result ≡ told (at + by) }
 {
     at.saturating_add(by as u64)
+}
+
+// So many octets as they are told.
+fn asked(octets: u64) -> u64
+    ensures { result ≡ min octets 9223372036854775807 }
+{
+    octets.min(MOST_ASKED)
 }
 
 // How many bytes of a part count, if its last CR may be that of its CRLF.
@@ -110,15 +119,15 @@ fn ended(part: &[u8], cursor: Cursor, at: u64) -> Step
         });
     };
     let end = cursor.part + body.len();
-    match header_of(body) {
+    match literal_at_end(body) {
         None => Step::Last(end),
         Some(header) if header.octets <= MAX_LITERAL => Step::Opens(
             end + 2,
             header.octets as usize,
         ),
-        Some(Header { at: brace, octets }) => Step::Bad(FeedFault::LiteralTooLarge {
-            at: told(at, cursor.part + brace),
-            asked: octets,
+        Some(header) => Step::Bad(FeedFault::LiteralTooLarge {
+            at: told(at, cursor.part + header.at),
+            asked: asked(header.octets),
         }),
     }
 }

@@ -1,5 +1,6 @@
 -- An excess is told exactly where a set of flags passes the limits.
-use Rattle.std.proofs.Common.{◌≡◌, ℕ, Bool, true, false, not, cond, List, [], ◌∷◌, length, take, codes, Option, Some, None, refl, sym, ◌∙◌, subst, inl, inr, drop, Result, Ok}
+use Rattle.std.proofs.Common.{◌≡◌, ℕ, Bool, true, false, not, cond, List, [], ◌∷◌, length, take, codes, Option, Some, None, refl, sym}
+use Rattle.std.proofs.Common.{◌∙◌, subst, inl, inr, drop, Result, Ok}
 use Rattle.std.specs.Prelude.{◌==◌}
 use Rattle.std.specs.List.{AllByRecursion}
 use Rattle.flag_set.specs.declared.flag_fault.FlagFault.{FlagFault}
@@ -9,15 +10,16 @@ use Rattle.imap_model.specs.declared.code.Code.{Code}
 use Rattle.imap_model.specs.declared.code.Code.TheVariants as codings
 use Rattle.imap_response.specs.declared.flags.Listed.{Listed}
 use Rattle.imap_response.specs.declared.text_part.Coded.{Coded}
-use Rattle.imap_response.specs.Codes.{closed_at, plain_code_at, plainly, permanent_flags_at, code_at}
+use Rattle.imap_response.specs.ReadCodes.{closed_at, plain_code_at, plainly, permanent_flags_at, code_at}
 use Rattle.imap_response.specs.Flags.{whole, flags_at, permanent_at}
 use Rattle.imap_response.specs.Leaf.{gap_at, wide_at, same_word}
 use Rattle.imap_response.specs.Reads.{◌>>=◌}
-use Rattle.imap_response.specs.TextParts.{closing_from, code_up_to, code_in, text_misfit, text_at}
+use Rattle.imap_response.specs.ReadTextParts.{closing_from, code_up_to, code_in, text_misfit, text_at}
 use Rattle.imap_response.specs.Within.{IsSetWithin, IsCodeWithin}
 use Rattle.imap_response.proofs.spelling.Choices.{Chosen, choice}
 use Rattle.imap_response.proofs.spelling.CodeRows
-use Rattle.imap_response.proofs.spelling.Codes.{coded, behind_flags, closing, listing, capability_spells, append_uid_spells, copy_uid_spells, rows, plain_is, plain_coded, code_is}
+use Rattle.imap_response.proofs.spelling.Codes.{coded, behind_flags, closing, listing, capability_spells, append_uid_spells}
+use Rattle.imap_response.proofs.spelling.Codes.{copy_uid_spells, rows, plain_is, plain_coded, code_is}
 use Rattle.imap_response.proofs.spelling.FlagLimits.{within_none, none_within}
 use Rattle.imap_response.proofs.spelling.Flags.{Give, list_spells, all_flags, all_stand, MayStand, test_flags, of_flags, test_permanent, of_permanent}
 use Rattle.imap_response.proofs.spelling.Results.{ok_is, ok_either, ok_bind}
@@ -40,7 +42,9 @@ listed_agrees text read is =
     let w = list_spells test_flags false of_flags text read is in
     subst (λ (l : Listed). Agrees l.excess (IsSetWithin l.flags)) (sym w.3) (flags_agree (flags_of w.0) (all_flags (flags_of w.0) w.2))
 
-alone_from : (flag : List ℕ) (flags : List (List ℕ)) (t : Bool) → is_any flag ≡ t → MayStand flag → AllByRecursion (λ flag. is_flag flag ≡ true) (flags_alone flags) → AllByRecursion (λ flag. is_flag flag ≡ true) (cond (not t) (flag ∷ flags_alone flags) (flags_alone flags))
+alone_from : (flag : List ℕ) (flags : List (List ℕ)) (t : Bool) → is_any flag ≡ t → MayStand flag →
+    AllByRecursion (λ flag. is_flag flag ≡ true) (flags_alone flags) →
+    AllByRecursion (λ flag. is_flag flag ≡ true) (cond (not t) (flag ∷ flags_alone flags) (flags_alone flags))
 alone_from flag flags true is may all = all
 alone_from flag flags false is (inl flagged) all = (flagged, all)
 alone_from flag flags false is (inr any) all = absurd cc
@@ -53,7 +57,8 @@ permanent_agrees : (text : List ℕ) (read : Give) → permanent_at whole text �
 unfolding permanent_at
 permanent_agrees text read is =
     let w = list_spells test_permanent true of_permanent text read is in
-    subst (λ (l : Listed). Agrees l.excess (IsSetWithin l.flags)) (sym w.3) (flags_agree (flags_alone (flags_of w.0)) (alone_flags (flags_of w.0) (all_stand (flags_of w.0) w.2)))
+    subst (λ (l : Listed). Agrees l.excess (IsSetWithin l.flags)) (sym w.3)
+    (flags_agree (flags_alone (flags_of w.0)) (alone_flags (flags_of w.0) (all_stand (flags_of w.0) w.2)))
 
 -- codes
 abbrev pub CodeAgrees : Coded → Type 0
@@ -88,11 +93,13 @@ plain_within name text code is = elim (choice name (rows text) (Ok codings.Other
 
 code_agrees : (inner : List ℕ) (read : Coded) → code_at whole inner ≡ Ok read → CodeAgrees read
 code_agrees inner read is =
-    elim (ok_either (same_word (wide_at inner).0 (codes "PERMANENTFLAGS")) (permanent_flags_at whole (wide_at inner).1) (plain_code_at (wide_at inner).0 (wide_at inner).1 >>= plain_coded) read (sym (code_is inner) ∙ is)) [
+    elim (ok_either (same_word (wide_at inner).0 (codes "PERMANENTFLAGS")) (permanent_flags_at whole (wide_at inner).1)
+    (plain_code_at (wide_at inner).0 (wide_at inner).1 >>= plain_coded) read (sym (code_is inner) ∙ is)) [
       | inl flags ↦ flags_code (wide_at inner).1 read flags.1
       | inr plain ↦
           let code = ok_bind (plain_code_at (wide_at inner).0 (wide_at inner).1) plain_coded read plain.1 in
-          subst CodeAgrees (ok_is (plainly code.0) read code.2) (no_excess (IsCodeWithin code.0) (plain_within (wide_at inner).0 (wide_at inner).1 code.0 code.1))
+          subst CodeAgrees (ok_is (plainly code.0) read code.2) (no_excess (IsCodeWithin code.0)
+          (plain_within (wide_at inner).0 (wide_at inner).1 code.0 code.1))
     ]
 
 -- text parts
@@ -101,14 +108,16 @@ none_agrees read is = subst CodeAgrees (ok_is (plainly codings.None) read is) (n
 
 up_to_agrees : (more : List ℕ) (o : Option ℕ) (read : Coded) → code_up_to whole more o ≡ Ok read → CodeAgrees read
 up_to_agrees more None read is = none_agrees read is
-up_to_agrees more (Some k) read is = code_agrees (take k more) read (within_ok (length (take k more)) (length (drop k more)) (code_at whole (take k more)) read is)
+up_to_agrees more (Some k) read is = code_agrees (take k more) read
+    (within_ok (length (take k more)) (length (drop k more)) (code_at whole (take k more)) read is)
 
 in_agrees : (text : List ℕ) (read : Coded) → code_in whole text ≡ Ok read → CodeAgrees read
 in_agrees [] read is = none_agrees read (sym code_in_none ∙ is)
-in_agrees (b ∷ more) read is = elim (ok_either (b == 91) (code_up_to whole more (closing_from 0 0 more)) (Ok (plainly codings.None)) read (sym (code_in_is b more) ∙ is)) [
-  | inl here ↦ up_to_agrees more (closing_from 0 0 more) read here.1
-  | inr none ↦ none_agrees read none.1
-]
+in_agrees (b ∷ more) read is = elim (ok_either (b == 91) (code_up_to whole more (closing_from 0 0 more)) (Ok (plainly codings.None)) read
+    (sym (code_in_is b more) ∙ is)) [
+      | inl here ↦ up_to_agrees more (closing_from 0 0 more) read here.1
+      | inr none ↦ none_agrees read none.1
+    ]
 
 pub text_agrees : (rest : List ℕ) (read : Coded) → text_at whole rest ≡ Ok read → CodeAgrees read
 text_agrees [] read is = none_agrees read (sym text_at_none ∙ is)

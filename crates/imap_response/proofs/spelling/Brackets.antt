@@ -1,12 +1,13 @@
 -- The first `]` outside quoted strings: what is read, and what is spelled.
-use Rattle.std.proofs.Common.{◌≡◌, ◌≢◌, ℕ, zero, suc, ◌+◌, ◌≤◌, true, false, List, [], ◌∷◌, ◌++◌, length, Option, Some, None, refl, ap, sym, ◌∙◌, subst, inl, inr, arith, append_assoc, length-append}
+use Rattle.std.proofs.Common.{◌≡◌, ◌≢◌, ℕ, zero, suc, ◌+◌, ◌≤◌, true, false, List, [], ◌∷◌, ◌++◌, length, Option, Some, None, refl, ap}
+use Rattle.std.proofs.Common.{sym, ◌∙◌, subst, inl, inr, arith, append_assoc, length-append}
 use Rattle.std.proofs.lemmas.Bool.{cases_Bool}
 use Rattle.std.specs.Prelude.{◌==◌}
 use Rattle.std.specs.List.{AllByRecursion, flat_map}
 use Rattle.imap_tokens.specs.Scan.{quoted_size}
 use Rattle.imap_model.specs.Strings.{Character, IsCharacter, character_text, quoted_text, BeginsQuoted}
 use Rattle.imap_model.specs.TextParts.{Stretch, String, Single, Encloses}
-use Rattle.imap_response.specs.TextParts.{to_skip, closing_from}
+use Rattle.imap_response.specs.ReadTextParts.{to_skip, closing_from}
 use Rattle.imap_response.proofs.spelling.Quoted.{IsQuotedFront, quoted_spells, quoted_reads, no_quoted, none_quoted}
 use Rattle.imap_response.proofs.spelling.Results.{is_byte, byte_is, not_byte, byte_not}
 
@@ -23,7 +24,8 @@ close_here : (at b : ℕ) (more : List ℕ) → (b == 93) ≡ true → closing_f
 unfolding closing_from
 close_here at b more test = rw test refl
 
-close_quote : (at b : ℕ) (more : List ℕ) → (b == 93) ≡ false → (b == 34) ≡ true → closing_from zero at (b ∷ more) ≡ closing_from (to_skip (quoted_size more)) (at + 1) more
+close_quote : (at b : ℕ) (more : List ℕ) → (b == 93) ≡ false → (b == 34) ≡ true →
+    closing_from zero at (b ∷ more) ≡ closing_from (to_skip (quoted_size more)) (at + 1) more
 unfolding closing_from
 close_quote at b more test test' = rw (test, test') refl
 
@@ -55,7 +57,8 @@ quoted_skipped cs b more rest at lawful whole =
     ∙ ap (λ (k : ℕ). closing_from zero k rest) e
 
 -- what is spelled is read
-pub closing_reads : (stretches : List Stretch) (text inner rest : List ℕ) (at : ℕ) → Encloses stretches text inner rest → closing_from zero at text ≡ Some (at + length inner)
+pub closing_reads : (stretches : List Stretch) (text inner rest : List ℕ) (at : ℕ) → Encloses stretches text inner rest →
+    closing_from zero at text ≡ Some (at + length inner)
 closing_reads [] text inner rest at is =
     let e : at ≡ at + length inner = omega (arith, ap length is.0) in
     ap (closing_from zero at) is.1 ∙ close_here at 93 rest refl ∙ ap (λ (k : ℕ). Some k) e
@@ -63,7 +66,8 @@ closing_reads (String cs ∷ stretches) [] inner rest at is =
     absurd (let none : [] ≡ quoted_text cs ++ is.1 = is.4 ∙ ap (λ (q : List ℕ). q ++ is.1) is.3.whole in cc)
 closing_reads (String cs ∷ stretches) (b ∷ more) inner rest at is =
     let whole : b ∷ more ≡ quoted_text cs ++ is.1 = is.4 ∙ ap (λ (q : List ℕ). q ++ is.1) is.3.whole in
-    let len : length inner ≡ length (quoted_text cs) + length is.2 = ap length is.5 ∙ length-append is.0 is.2 ∙ ap (λ (q : List ℕ). length q + length is.2) is.3.whole in
+    let len : length inner ≡ length (quoted_text cs) + length is.2 =
+    ap length is.5 ∙ length-append is.0 is.2 ∙ ap (λ (q : List ℕ). length q + length is.2) is.3.whole in
     let e : at + length (quoted_text cs) + length is.2 ≡ at + length inner = omega (arith, len) in
     quoted_skipped cs b more is.1 at is.3.lawful whole ∙ closing_reads stretches is.1 is.2 rest (at + length (quoted_text cs)) is.6 ∙ ap (λ (k : ℕ). Some k) e
 closing_reads (Single byte ∷ stretches) text inner rest at is =
@@ -103,7 +107,8 @@ closed_single b more at k other no_string w = record {
   place = omega (arith, w.place);
 }
 
-closed_string : (cs : List Character) (text rest : List ℕ) (at k : ℕ) → AllByRecursion IsCharacter cs → text ≡ quoted_text cs ++ rest → IsClosed rest (at + length (quoted_text cs)) k → IsClosed text at k
+closed_string : (cs : List Character) (text rest : List ℕ) (at k : ℕ) → AllByRecursion IsCharacter cs → text ≡ quoted_text cs ++ rest →
+    IsClosed rest (at + length (quoted_text cs)) k → IsClosed text at k
 closed_string cs text rest at k lawful whole w = record {
   stretches = String cs ∷ w.stretches;
   inner = quoted_text cs ++ w.inner;
@@ -120,7 +125,8 @@ starts_plain b more other there =
 rest_shorter : (cs : List Character) (b : ℕ) (more rest : List ℕ) (n : ℕ) → b ∷ more ≡ quoted_text cs ++ rest → suc (length more) ≤ suc n → length rest ≤ n
 rest_shorter cs b more rest n whole fits = omega (arith, ap length whole, length-append (quoted_text cs) rest)
 
-quote_spells : (n b : ℕ) (more : List ℕ) (at k : ℕ) (o : Option ℕ) → suc (length more) ≤ suc n → quoted_size more ≡ o → b ≡ 34 → closing_from (to_skip o) (at + 1) more ≡ Some k
+quote_spells : (n b : ℕ) (more : List ℕ) (at k : ℕ) (o : Option ℕ) → suc (length more) ≤ suc n → quoted_size more ≡ o → b ≡ 34 →
+    closing_from (to_skip o) (at + 1) more ≡ Some k
     → ((text : List ℕ) (at k : ℕ) → length text ≤ n → closing_from zero at text ≡ Some k → IsClosed text at k) → IsClosed (b ∷ more) at k
 quote_spells n b more at k None fits size here is later =
     closed_single b more at k (λ e. omega (arith, e, here)) (subst (λ (x : ℕ). BeginsQuoted (x ∷ more) → ⊥) (sym here) (no_quoted more size))
@@ -129,7 +135,8 @@ quote_spells n b more at k (Some m) fits size here is later =
     let w = quoted_spells more m size in
     let whole : b ∷ more ≡ quoted_text w.0 ++ w.1 = ap (λ (x : ℕ). x ∷ more) here ∙ w.2.whole in
     let on = quoted_skipped w.0 b more w.1 at w.2.lawful whole in
-    let there : closing_from zero at (b ∷ more) ≡ Some k = close_quote at b more (ap (λ (x : ℕ). x == 93) here) (byte_is b 34 here) ∙ ap (λ (o : Option ℕ). closing_from (to_skip o) (at + 1) more) size ∙ is in
+    let there : closing_from zero at (b ∷ more) ≡ Some k = close_quote at b more (ap (λ (x : ℕ). x == 93) here) (byte_is b 34 here)
+    ∙ ap (λ (o : Option ℕ). closing_from (to_skip o) (at + 1) more) size ∙ is in
     closed_string w.0 (b ∷ more) w.1 at k w.2.lawful whole
     (later w.1 (at + length (quoted_text w.0)) k (rest_shorter w.0 b more w.1 n whole fits) (sym on ∙ there))
 
@@ -150,6 +157,7 @@ closing_spells (suc n) (b ∷ more) at k fits is = elim (cases_Bool (b == 93)) [
 pub enclosed : (stretches : List Stretch) (text inner rest : List ℕ) → Encloses stretches text inner rest → text ≡ inner ++ 93 ∷ rest
 enclosed [] text inner rest is = is.1 ∙ ap (λ (t : List ℕ). t ++ 93 ∷ rest) (sym is.0)
 enclosed (String cs ∷ stretches) text inner rest is =
-    is.4 ∙ ap (λ (t : List ℕ). is.0 ++ t) (enclosed stretches is.1 is.2 rest is.6) ∙ sym (append_assoc is.0 is.2 (93 ∷ rest)) ∙ ap (λ (t : List ℕ). t ++ 93 ∷ rest) (sym is.5)
+    is.4 ∙ ap (λ (t : List ℕ). is.0 ++ t) (enclosed stretches is.1 is.2 rest is.6) ∙ sym (append_assoc is.0 is.2 (93 ∷ rest))
+    ∙ ap (λ (t : List ℕ). t ++ 93 ∷ rest) (sym is.5)
 enclosed (Single byte ∷ stretches) text inner rest is =
     is.4 ∙ ap (λ (t : List ℕ). byte ∷ t) (enclosed stretches is.0 is.1 rest is.6) ∙ ap (λ (t : List ℕ). t ++ 93 ∷ rest) (sym is.5)

@@ -24,7 +24,8 @@ abbrev pub IsNone : {A : Type 0} → List ℕ → List (List ℕ × Result A ℕ
 IsNone word [] = Unit {0}
 IsNone word (row ∷ rows) = (same_word word row.0 ≡ false) × IsNone word rows
 
-pub choice : {A : Type 0} (word : List ℕ) (rows : List (List ℕ × Result A ℕ)) (other : Result A ℕ) (x : A) → choose word rows other ≡ Ok x → Chosen word rows x ⊎ (IsNone word rows × (other ≡ Ok x))
+pub choice : {A : Type 0} (word : List ℕ) (rows : List (List ℕ × Result A ℕ)) (other : Result A ℕ) (x : A) →
+    choose word rows other ≡ Ok x → Chosen word rows x ⊎ (IsNone word rows × (other ≡ Ok x))
 choice word [] other x is = inr (tt, is)
 choice word (row ∷ rows) other x is = elim (ok_either (same_word word row.0) row.1 (choose word rows other) x is) [
   | inl here ↦ inl (inl (same_is word row.0 here.0, here.1))
@@ -57,20 +58,24 @@ or_none false y is = (refl, is)
 none_or : (x y : Bool) → x ≡ false → y ≡ false → (x || y) ≡ false
 none_or x y is is' = rw (is, is') refl
 
-pub none_of : (names : List (List ℕ)) (word : List ℕ) → list_any (λ known. str_eq_ignore_ascii_case known word) names ≡ false → AllByRecursion (λ name. same_word word name ≡ false) names
+pub none_of : (names : List (List ℕ)) (word : List ℕ) → list_any (λ known. str_eq_ignore_ascii_case known word) names ≡ false →
+    AllByRecursion (λ name. same_word word name ≡ false) names
 none_of [] word is = tt
 none_of (name ∷ names) word is =
     let both = or_none (str_eq_ignore_ascii_case name word) (list_any (λ known. str_eq_ignore_ascii_case known word) names) is in
     (sym (turned word name) ∙ both.0, none_of names word both.1)
 
-pub of_none : (names : List (List ℕ)) (word : List ℕ) → AllByRecursion (λ name. same_word word name ≡ false) names → list_any (λ known. str_eq_ignore_ascii_case known word) names ≡ false
+pub of_none : (names : List (List ℕ)) (word : List ℕ) → AllByRecursion (λ name. same_word word name ≡ false) names →
+    list_any (λ known. str_eq_ignore_ascii_case known word) names ≡ false
 of_none [] word all = refl
-of_none (name ∷ names) word all = none_or (str_eq_ignore_ascii_case name word) (list_any (λ known. str_eq_ignore_ascii_case known word) names) (turned word name ∙ all.0) (of_none names word all.1)
+of_none (name ∷ names) word all = none_or (str_eq_ignore_ascii_case name word)
+    (list_any (λ known. str_eq_ignore_ascii_case known word) names) (turned word name ∙ all.0) (of_none names word all.1)
 
 -- a word in another case is chosen alike
 pub same_test : (word name other : List ℕ) → SameWord word name → same_word word other ≡ same_word name other
 same_test word name other same = ap (λ (low : List ℕ). bytes_eq low (map to_ascii_lowercase other)) same
 
-pub choose_same : {A : Type 0} (word name : List ℕ) (rows : List (List ℕ × Result A ℕ)) (other : Result A ℕ) → SameWord word name → choose word rows other ≡ choose name rows other
+pub choose_same : {A : Type 0} (word name : List ℕ) (rows : List (List ℕ × Result A ℕ)) (other : Result A ℕ) → SameWord word name →
+    choose word rows other ≡ choose name rows other
 choose_same word name [] other same = refl
 choose_same word name (row ∷ rows) other same = rw (same_test word name row.0 same, choose_same word name rows other same) refl

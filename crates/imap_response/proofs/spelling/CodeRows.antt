@@ -11,9 +11,9 @@ use Rattle.uid_sets.specs.SequenceSet.{Spells}
 use Rattle.uid_sets.specs.declared.uid.UidRange.{UidRange}
 use Rattle.imap_response.specs.Leaf.{gap_at}
 use Rattle.imap_response.specs.Reads.{◌>>=◌}
-use Rattle.imap_response.specs.Numbers.{nonzero_at, modseq_at}
+use Rattle.imap_response.specs.ReadNumbers.{nonzero_at, modseq_at}
 use Rattle.imap_response.specs.Sets.{set_at}
-use Rattle.imap_response.specs.Codes.{closed_at, bare_at, uid_next_at, uid_validity_at, highest_modseq_at, modified_at}
+use Rattle.imap_response.specs.ReadCodes.{closed_at, bare_at, uid_next_at, uid_validity_at, highest_modseq_at, modified_at}
 use Rattle.imap_response.proofs.spelling.Results.{len_none, ok_is, ok_first, ok_bind, bind_ok}
 use Rattle.imap_response.proofs.spelling.Words.{gap_spells, gap_reads}
 use Rattle.imap_response.proofs.spelling.Numbers.{IsFront, nonzero_at_spells, nonzero_at_reads, modseq_at_spells, modseq_at_reads}
@@ -78,7 +78,8 @@ module _ {A : Type 0} (N : List ℕ → A → Type 0) (reader : List ℕ → Res
       (bind_ok (closed_at []) (ended code_as (x, [])) tt (code_as x) closed_here refl)
 
   -- behind spaces
-  pub only_spells : (text : List ℕ) (code : Code) → (gap_at text >>= one_at reader code_as) ≡ Ok code → (argument : List ℕ) × (x : A) × Spaced text argument × N argument x × (code_as x ≡ code)
+  pub only_spells : (text : List ℕ) (code : Code) → (gap_at text >>= one_at reader code_as) ≡ Ok code →
+      (argument : List ℕ) × (x : A) × Spaced text argument × N argument x × (code_as x ≡ code)
   only_spells text code is =
       let after = ok_bind (gap_at text) (one_at reader code_as) code is in
       let w = last_spells after.0 code after.2 in
@@ -89,18 +90,21 @@ module _ {A : Type 0} (N : List ℕ → A → Type 0) (reader : List ℕ → Res
       bind_ok (gap_at text) (one_at reader code_as) argument (code_as x) (gap_reads text argument spaced) (last_reads argument x is)
 
   -- in front of something that begins with spaces
-  pub first_spells : (text : List ℕ) (f : One A → Result Code ℕ) (code : Code) → (reader text >>= f) ≡ Ok code → (x : A) × (run : List ℕ) × (rest : List ℕ) × N run x × (text ≡ run ++ rest) × (f (x, rest) ≡ Ok code)
+  pub first_spells : (text : List ℕ) (f : One A → Result Code ℕ) (code : Code) → (reader text >>= f) ≡ Ok code →
+      (x : A) × (run : List ℕ) × (rest : List ℕ) × N run x × (text ≡ run ++ rest) × (f (x, rest) ≡ Ok code)
   first_spells text f code is =
       let read = ok_bind (reader text) f code is in
       let front = spells text read.0.0 read.0.1 read.1 in
       (read.0.0, front.run, read.0.1, front.spells, front.whole, read.2)
 
-  pub first_reads : (run rest later : List ℕ) (x : A) (f : One A → Result Code ℕ) (code : Code) → N run x → Spaced rest later → f (x, rest) ≡ Ok code → (reader (run ++ rest) >>= f) ≡ Ok code
+  pub first_reads : (run rest later : List ℕ) (x : A) (f : One A → Result Code ℕ) (code : Code) → N run x → Spaced rest later →
+      f (x, rest) ≡ Ok code → (reader (run ++ rest) >>= f) ≡ Ok code
   first_reads run rest later x f code is spaced more =
       bind_ok (reader (run ++ rest)) f (x, rest) code (reads (run ++ rest) x rest (is_before N run rest later x is spaced)) more
 
 -- the codes with one number or set
-pub uid_next_spells : (text : List ℕ) (code : Code) → uid_next_at text ≡ Ok code → (argument : List ℕ) × (n : ℕ) × Spaced text argument × IsNonzero argument n × (codings.UidNext n ≡ code)
+pub uid_next_spells : (text : List ℕ) (code : Code) → uid_next_at text ≡ Ok code →
+    (argument : List ℕ) × (n : ℕ) × Spaced text argument × IsNonzero argument n × (codings.UidNext n ≡ code)
 unfolding uid_next_at
 uid_next_spells text code is = only_spells IsNonzero nonzero_at codings.UidNext nonzero_at_spells nonzero_at_reads text code is
 
@@ -108,7 +112,8 @@ pub uid_next_reads : (text argument : List ℕ) (n : ℕ) → Spaced text argume
 unfolding uid_next_at
 uid_next_reads text argument n spaced is = only_reads IsNonzero nonzero_at codings.UidNext nonzero_at_spells nonzero_at_reads text argument n spaced is
 
-pub uid_validity_spells : (text : List ℕ) (code : Code) → uid_validity_at text ≡ Ok code → (argument : List ℕ) × (n : ℕ) × Spaced text argument × IsNonzero argument n × (codings.UidValidity n ≡ code)
+pub uid_validity_spells : (text : List ℕ) (code : Code) → uid_validity_at text ≡ Ok code →
+    (argument : List ℕ) × (n : ℕ) × Spaced text argument × IsNonzero argument n × (codings.UidValidity n ≡ code)
 unfolding uid_validity_at
 uid_validity_spells text code is = only_spells IsNonzero nonzero_at codings.UidValidity nonzero_at_spells nonzero_at_reads text code is
 
@@ -116,7 +121,8 @@ pub uid_validity_reads : (text argument : List ℕ) (n : ℕ) → Spaced text ar
 unfolding uid_validity_at
 uid_validity_reads text argument n spaced is = only_reads IsNonzero nonzero_at codings.UidValidity nonzero_at_spells nonzero_at_reads text argument n spaced is
 
-pub highest_modseq_spells : (text : List ℕ) (code : Code) → highest_modseq_at text ≡ Ok code → (argument : List ℕ) × (n : ℕ) × Spaced text argument × IsModSeq argument n × (codings.HighestModSeq n ≡ code)
+pub highest_modseq_spells : (text : List ℕ) (code : Code) → highest_modseq_at text ≡ Ok code →
+    (argument : List ℕ) × (n : ℕ) × Spaced text argument × IsModSeq argument n × (codings.HighestModSeq n ≡ code)
 unfolding highest_modseq_at
 highest_modseq_spells text code is = only_spells IsModSeq modseq_at codings.HighestModSeq modseq_at_spells modseq_at_reads text code is
 
@@ -124,11 +130,13 @@ pub highest_modseq_reads : (text argument : List ℕ) (n : ℕ) → Spaced text 
 unfolding highest_modseq_at
 highest_modseq_reads text argument n spaced is = only_reads IsModSeq modseq_at codings.HighestModSeq modseq_at_spells modseq_at_reads text argument n spaced is
 
-pub modified_spells : (text : List ℕ) (code : Code) → modified_at text ≡ Ok code → (argument : List ℕ) × (uids : List UidRange) × Spaced text argument × Spells argument uids × (codings.Modified uids ≡ code)
+pub modified_spells : (text : List ℕ) (code : Code) → modified_at text ≡ Ok code →
+    (argument : List ℕ) × (uids : List UidRange) × Spaced text argument × Spells argument uids × (codings.Modified uids ≡ code)
 unfolding modified_at
 modified_spells text code is = only_spells Spells set_at codings.Modified set_at_spells set_at_reads text code is
 
-pub modified_reads : (text argument : List ℕ) (uids : List UidRange) → Spaced text argument → Spells argument uids → modified_at text ≡ Ok (codings.Modified uids)
+pub modified_reads : (text argument : List ℕ) (uids : List UidRange) → Spaced text argument → Spells argument uids →
+    modified_at text ≡ Ok (codings.Modified uids)
 unfolding modified_at
 modified_reads text argument uids spaced is = only_reads Spells set_at codings.Modified set_at_spells set_at_reads text argument uids spaced is
 

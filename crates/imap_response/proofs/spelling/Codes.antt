@@ -1,5 +1,6 @@
 -- Codes: what is read, and what is spelled.
-use Rattle.std.proofs.Common.{◌≡◌, ◌≢◌, ℕ, Bool, true, false, cond, List, [], ◌∷◌, ◌++◌, length, codes, refl, ap, sym, ◌∙◌, subst, inl, inr, arith, Result, Ok, Err}
+use Rattle.std.proofs.Common.{◌≡◌, ◌≢◌, ℕ, Bool, true, false, cond, List, [], ◌∷◌, ◌++◌, length, codes, refl, ap, sym, ◌∙◌, subst, inl}
+use Rattle.std.proofs.Common.{inr, arith, Result, Ok, Err}
 use Rattle.std.specs.Prelude.{◌==◌}
 use Rattle.imap_model.specs.declared.code.Code.{Code}
 use Rattle.imap_model.specs.declared.code.Code.TheVariants as codings
@@ -15,11 +16,12 @@ use Rattle.imap_response.specs.declared.flags.Listed.{Listed}
 use Rattle.imap_response.specs.declared.text_part.Coded.{Coded}
 use Rattle.imap_response.specs.Leaf.{gap_at, wide_at, same_word}
 use Rattle.imap_response.specs.Reads.{◌>>=◌}
-use Rattle.imap_response.specs.Numbers.{nonzero_at}
+use Rattle.imap_response.specs.ReadNumbers.{nonzero_at}
 use Rattle.imap_response.specs.Sets.{set_at}
 use Rattle.imap_response.specs.WordLists.{words_at}
 use Rattle.imap_response.specs.Flags.{whole, permanent_at}
-use Rattle.imap_response.specs.Codes.{closed_at, bare_at, capability_at, uid_next_at, uid_validity_at, highest_modseq_at, append_uid_at, copy_uid_at, modified_at, permanent_flags_at, plain_code_at, plainly, code_at}
+use Rattle.imap_response.specs.ReadCodes.{closed_at, bare_at, capability_at, uid_next_at, uid_validity_at, highest_modseq_at}
+use Rattle.imap_response.specs.ReadCodes.{append_uid_at, copy_uid_at, modified_at, permanent_flags_at, plain_code_at, plainly, code_at}
 use Rattle.imap_response.proofs.spelling.Results.{ok_is, ok_second, ok_either, ok_bind, bind_ok, some_items, items_some}
 use Rattle.imap_response.proofs.spelling.Runs.{IsCut, reading_cuts, cut_front, cut_behind}
 use Rattle.imap_response.proofs.spelling.Words.{gap_spells, gap_reads}
@@ -41,14 +43,19 @@ capable words done = Ok (codings.Capability words.0)
 abbrev some_words : Words → Result Code ℕ
 some_words words = cond (length words.0 == 0) (Err (length words.1)) (closed_at words.1 >>= capable words)
 
-pub capability_spells : (text : List ℕ) (code : Code) → capability_at text ≡ Ok code → (words : List (List ℕ)) × (words ≢ []) × AreWords text words [] × (codings.Capability words ≡ code)
+pub capability_spells : (text : List ℕ) (code : Code) → capability_at text ≡ Ok code →
+    (words : List (List ℕ)) × (words ≢ []) × AreWords text words [] × (codings.Capability words ≡ code)
 unfolding capability_at
 capability_spells text code is =
     let words = ok_bind (words_at text) some_words code is in
     let some = ok_second (length words.0.0 == 0) (length words.0.1) (closed_at words.0.1 >>= capable words.0) code words.2 in
     let done = ok_bind (closed_at words.0.1) (capable words.0) code some.1 in
-    let spelled = words_spells (length text) text words.0 (omega arith) words.1 in
-    (words.0.0, items_some words.0.0 some.0, subst (AreWords text words.0.0) (CodeRows.closed_spells words.0.1 done.1) spelled.0, ok_is (codings.Capability words.0.0) code done.2)
+    let spelled = words_spells (length text) text words.0 (omega arith) words.1 in (
+      words.0.0,
+      items_some words.0.0 some.0,
+      subst (AreWords text words.0.0) (CodeRows.closed_spells words.0.1 done.1) spelled.0,
+      ok_is (codings.Capability words.0.0) code done.2,
+    )
 
 capability_reads : (text : List ℕ) (words : List (List ℕ)) → words ≢ [] → AreWords text words [] → capability_at text ≡ Ok (codings.Capability words)
 unfolding capability_at
@@ -73,15 +80,28 @@ unfolding append_uid_at
 append_uid_spells text code is =
     let after = ok_bind (gap_at text) numbers_at code is in
     let first = CodeRows.first_spells IsNonzero nonzero_at codings.UidNext nonzero_at_spells nonzero_at_reads after.0 behind_validity code after.2 in
-    let second = CodeRows.only_spells IsNonzero nonzero_at (appended first.0) nonzero_at_spells nonzero_at_reads first.2 code first.5 in
-    (after.0, first.1, first.0, first.2, second.0, second.1, subst (Spaced text) first.4 (gap_spells text after.0 after.1), first.3, second.2, second.3, second.4)
+    let second = CodeRows.only_spells IsNonzero nonzero_at (appended first.0) nonzero_at_spells nonzero_at_reads first.2 code first.5 in (
+      after.0,
+      first.1,
+      first.0,
+      first.2,
+      second.0,
+      second.1,
+      subst (Spaced text) first.4 (gap_spells text after.0 after.1),
+      first.3,
+      second.2,
+      second.3,
+      second.4,
+    )
 
-append_uid_reads : (text first later second : List ℕ) (validity uid : ℕ) → Spaced text (first ++ later) → IsNonzero first validity → Spaced later second → IsNonzero second uid
+append_uid_reads : (text first later second : List ℕ) (validity uid : ℕ) → Spaced text (first ++ later) → IsNonzero first validity →
+    Spaced later second → IsNonzero second uid
     → append_uid_at text ≡ Ok (codings.AppendUid validity uid)
 unfolding append_uid_at
 append_uid_reads text first later second validity uid spaced is spaced' is' =
     bind_ok (gap_at text) numbers_at (first ++ later) (codings.AppendUid validity uid) (gap_reads text (first ++ later) spaced)
-    (CodeRows.first_reads IsNonzero nonzero_at codings.UidNext nonzero_at_spells nonzero_at_reads first later second validity behind_validity (codings.AppendUid validity uid) is spaced'
+    (CodeRows.first_reads IsNonzero nonzero_at codings.UidNext nonzero_at_spells nonzero_at_reads first later second validity
+    behind_validity (codings.AppendUid validity uid) is spaced'
     (CodeRows.only_reads IsNonzero nonzero_at (appended validity) nonzero_at_spells nonzero_at_reads later second uid spaced' is'))
 
 -- a validity and two sets
@@ -114,7 +134,8 @@ pub record IsCopied (text : List ℕ) (validity : ℕ) (source target : List Uid
   pub spells_target : Spells third target
 
 pub copy_uid_spells : (text : List ℕ) (code : Code) → copy_uid_at text ≡ Ok code
-    → (validity : ℕ) × (source : List UidRange) × (target : List UidRange) × IsCopied text validity source target × (codings.CopyUid validity source target ≡ code)
+    → (validity : ℕ) × (source : List UidRange) × (target : List UidRange) × IsCopied text validity source target
+    × (codings.CopyUid validity source target ≡ code)
 unfolding copy_uid_at
 copy_uid_spells text code is =
     let after = ok_bind (gap_at text) copies_at code is in
@@ -141,14 +162,18 @@ copy_uid_spells text code is =
       target.4,
     )
 
-copy_uid_reads : (text : List ℕ) (validity : ℕ) (source target : List UidRange) → IsCopied text validity source target → copy_uid_at text ≡ Ok (codings.CopyUid validity source target)
+copy_uid_reads : (text : List ℕ) (validity : ℕ) (source target : List UidRange) → IsCopied text validity source target →
+    copy_uid_at text ≡ Ok (codings.CopyUid validity source target)
 unfolding copy_uid_at
 copy_uid_reads text validity source target w =
     let code : Code = codings.CopyUid validity source target in
     bind_ok (gap_at text) copies_at (w.first ++ w.later) (codings.CopyUid validity source target) (gap_reads text (w.first ++ w.later) w.spaced)
-    (CodeRows.first_reads IsNonzero nonzero_at codings.UidNext nonzero_at_spells nonzero_at_reads w.first w.later (w.second ++ w.last) validity behind_copied (codings.CopyUid validity source target) w.number w.spaced_source
-    (bind_ok (gap_at w.later) (sets_at validity) (w.second ++ w.last) (codings.CopyUid validity source target) (gap_reads w.later (w.second ++ w.last) w.spaced_source)
-    (CodeRows.first_reads Spells set_at codings.Modified set_at_spells set_at_reads w.second w.last w.third source (behind_source validity) (codings.CopyUid validity source target) w.spells_source w.spaced_target
+    (CodeRows.first_reads IsNonzero nonzero_at codings.UidNext nonzero_at_spells nonzero_at_reads w.first w.later
+    (w.second ++ w.last) validity behind_copied (codings.CopyUid validity source target) w.number w.spaced_source
+    (bind_ok (gap_at w.later) (sets_at validity) (w.second ++ w.last) (codings.CopyUid validity source target)
+    (gap_reads w.later (w.second ++ w.last) w.spaced_source)
+    (CodeRows.first_reads Spells set_at codings.Modified set_at_spells set_at_reads w.second w.last w.third source (behind_source validity)
+    (codings.CopyUid validity source target) w.spells_source w.spaced_target
     (CodeRows.only_reads Spells set_at (copied validity source) set_at_spells set_at_reads w.last w.third target w.spaced_target w.spells_target))))
 
 -- flags that can be changed for good
@@ -168,7 +193,8 @@ abbrev pub listing : List ℕ → Result Coded ℕ
 listing after = permanent_at whole after >>= closing
 
 permanent_flags_spells : (text : List ℕ) (read : Coded) → permanent_flags_at whole text ≡ Ok read
-    → (list : List ℕ) × (keys : List (List ℕ)) × (any : Bool) × Spaced text (40 ∷ (list ++ 41 ∷ [])) × ArePermanent list keys any × (codings.PermanentFlags keys any ≡ read.code)
+    → (list : List ℕ) × (keys : List (List ℕ)) × (any : Bool) × Spaced text (40 ∷ (list ++ 41 ∷ [])) × ArePermanent list keys any
+    × (codings.PermanentFlags keys any ≡ read.code)
 unfolding permanent_flags_at
 permanent_flags_spells text read is =
     let after = ok_bind (gap_at text) listing read is in
@@ -176,8 +202,15 @@ permanent_flags_spells text read is =
     let done = ok_bind (closed_at flags.0.1) (behind_flags flags.0) read flags.2 in
     let w = permanent_spells after.0 flags.0 flags.1 in
     let none = CodeRows.closed_spells flags.0.1 done.1 in
-    let same = ok_is (coded flags.0.0) read done.2 in
-    (w.0, flags.0.0.flags, flags.0.0.any, subst (Spaced text) (w.1 ∙ ap (λ (r : List ℕ). 40 ∷ (w.0 ++ 41 ∷ r)) none) (gap_spells text after.0 after.1), w.2, ap (λ (c : Coded). c.code) same)
+    let same = ok_is (coded flags.0.0) read done.2 in (
+      w.0,
+      flags.0.0.flags,
+      flags.0.0.any,
+      subst (Spaced text) (w.1 ∙ ap (λ (r : List ℕ). 40 ∷ (w.0 ++ 41 ∷ r)) none)
+          (gap_spells text after.0 after.1),
+      w.2,
+      ap (λ (c : Coded). c.code) same,
+    )
 
 permanent_flags_reads : (text list : List ℕ) (keys : List (List ℕ)) (any : Bool) → Spaced text (40 ∷ (list ++ 41 ∷ [])) → ArePermanent list keys any
     → (read : Coded) × (permanent_flags_at whole text ≡ Ok read) × (read.code ≡ codings.PermanentFlags keys any)
@@ -218,8 +251,10 @@ Row = List ℕ × Result Code ℕ
 
 abbrev pub rows : List ℕ → List Row
 rows text = (codes "CAPABILITY", capability_at text) ∷ (codes "UIDNEXT", uid_next_at text) ∷ (codes "UIDVALIDITY", uid_validity_at text)
-    ∷ (codes "HIGHESTMODSEQ", highest_modseq_at text) ∷ (codes "NOMODSEQ", bare_at codings.NoModSeq text) ∷ (codes "UIDNOTSTICKY", bare_at codings.UidNotSticky text)
-    ∷ (codes "CLOSED", bare_at codings.Closed text) ∷ (codes "APPENDUID", append_uid_at text) ∷ (codes "COPYUID", copy_uid_at text) ∷ (codes "MODIFIED", modified_at text) ∷ []
+    ∷ (codes "HIGHESTMODSEQ", highest_modseq_at text) ∷ (codes "NOMODSEQ", bare_at codings.NoModSeq text) ∷
+    (codes "UIDNOTSTICKY", bare_at codings.UidNotSticky text)
+    ∷ (codes "CLOSED", bare_at codings.Closed text) ∷ (codes "APPENDUID", append_uid_at text) ∷ (codes "COPYUID", copy_uid_at text) ∷
+    (codes "MODIFIED", modified_at text) ∷ []
 
 pub plain_is : (name text : List ℕ) → plain_code_at name text ≡ choose name (rows text) (Ok codings.Other)
 unfolding plain_code_at
@@ -257,13 +292,26 @@ module _ (inner : List ℕ) (code : Code) where
   row_spells (inr (inr (inr (inr (inr (inr (inr (inr (inl row))))))))) =
       let w = copy_uid_spells (wide_at inner).1 code row.1 in
       let c = w.3 in
-      as_code (codings.CopyUid w.0 w.1 w.2) w.4 (c.first, c.second, c.third, c.later, c.last, ((wide_at inner).1, has_name inner (codes "COPYUID") row.0, c.spaced), c.number, c.spaced_source, c.spells_source, c.spaced_target, c.spells_target)
+      as_code (codings.CopyUid w.0 w.1 w.2) w.4 (
+        c.first,
+        c.second,
+        c.third,
+        c.later,
+        c.last,
+        ((wide_at inner).1, has_name inner (codes "COPYUID") row.0, c.spaced),
+        c.number,
+        c.spaced_source,
+        c.spells_source,
+        c.spaced_target,
+        c.spells_target,
+      )
   row_spells (inr (inr (inr (inr (inr (inr (inr (inr (inr (inl row)))))))))) =
       let w = CodeRows.modified_spells (wide_at inner).1 code row.1 in
       as_code (codings.Modified w.1) w.4 (w.0, ((wide_at inner).1, has_name inner (codes "MODIFIED") row.0, w.2), w.3)
   row_spells (inr (inr (inr (inr (inr (inr (inr (inr (inr (inr row)))))))))) = absurd row
 
-other_spells : (inner : List ℕ) → same_word (wide_at inner).0 (codes "PERMANENTFLAGS") ≡ false → IsNone (wide_at inner).0 (rows (wide_at inner).1) → IsCode inner codings.Other
+other_spells : (inner : List ℕ) → same_word (wide_at inner).0 (codes "PERMANENTFLAGS") ≡ false →
+    IsNone (wide_at inner).0 (rows (wide_at inner).1) → IsCode inner codings.Other
 other_spells inner not_flags none = (
   (wide_at inner).0,
   (wide_at inner).1,
@@ -274,18 +322,21 @@ other_spells inner not_flags none = (
 abbrev pub plain_coded : Code → Result Coded ℕ
 plain_coded code = Ok (plainly code)
 
-pub code_is : (inner : List ℕ) → code_at whole inner ≡ cond (same_word (wide_at inner).0 (codes "PERMANENTFLAGS")) (permanent_flags_at whole (wide_at inner).1) (plain_code_at (wide_at inner).0 (wide_at inner).1 >>= plain_coded)
+pub code_is : (inner : List ℕ) → code_at whole inner ≡ cond (same_word (wide_at inner).0 (codes "PERMANENTFLAGS"))
+    (permanent_flags_at whole (wide_at inner).1) (plain_code_at (wide_at inner).0 (wide_at inner).1 >>= plain_coded)
 unfolding code_at
 code_is inner = refl
 
-plain_spells : (inner : List ℕ) (code : Code) → same_word (wide_at inner).0 (codes "PERMANENTFLAGS") ≡ false → plain_code_at (wide_at inner).0 (wide_at inner).1 ≡ Ok code → IsCode inner code
+plain_spells : (inner : List ℕ) (code : Code) → same_word (wide_at inner).0 (codes "PERMANENTFLAGS") ≡ false →
+    plain_code_at (wide_at inner).0 (wide_at inner).1 ≡ Ok code → IsCode inner code
 plain_spells inner code not_flags is =
     elim (choice (wide_at inner).0 (rows (wide_at inner).1) (Ok codings.Other) code (sym (plain_is (wide_at inner).0 (wide_at inner).1) ∙ is)) [
       | inl row ↦ row_spells inner code row
       | inr none ↦ subst (IsCode inner) (ok_is codings.Other code none.1) (other_spells inner not_flags none.0)
     ]
 
-flags_spells : (inner : List ℕ) (read : Coded) → SameWord (wide_at inner).0 (codes "PERMANENTFLAGS") → permanent_flags_at whole (wide_at inner).1 ≡ Ok read → IsCode inner read.code
+flags_spells : (inner : List ℕ) (read : Coded) → SameWord (wide_at inner).0 (codes "PERMANENTFLAGS") →
+    permanent_flags_at whole (wide_at inner).1 ≡ Ok read → IsCode inner read.code
 flags_spells inner read same is =
     let w = permanent_flags_spells (wide_at inner).1 read is in
     subst (IsCode inner) w.5 (w.0, ((wide_at inner).1, has_name inner (codes "PERMANENTFLAGS") same, w.3), w.4)
@@ -293,7 +344,8 @@ flags_spells inner read same is =
 -- what is read is spelled so
 pub code_spells : (inner : List ℕ) (read : Coded) → code_at whole inner ≡ Ok read → IsCode inner read.code
 code_spells inner read is =
-    elim (ok_either (same_word (wide_at inner).0 (codes "PERMANENTFLAGS")) (permanent_flags_at whole (wide_at inner).1) (plain_code_at (wide_at inner).0 (wide_at inner).1 >>= plain_coded) read (sym (code_is inner) ∙ is)) [
+    elim (ok_either (same_word (wide_at inner).0 (codes "PERMANENTFLAGS")) (permanent_flags_at whole (wide_at inner).1)
+    (plain_code_at (wide_at inner).0 (wide_at inner).1 >>= plain_coded) read (sym (code_is inner) ∙ is)) [
       | inl flags ↦ flags_spells inner read (same_is (wide_at inner).0 (codes "PERMANENTFLAGS") flags.0) flags.1
       | inr plain ↦
           let code = ok_bind (plain_code_at (wide_at inner).0 (wide_at inner).1) plain_coded read plain.1 in
@@ -321,13 +373,16 @@ named_reads inner name argument code named not_flags row =
     split_reads inner named.0 argument code named.2 (same_test named.0 name (codes "PERMANENTFLAGS") named.1 ∙ not_flags)
     (choose_same named.0 name (rows argument) (Ok codings.Other) named.1 ∙ row)
 
-flags_reads : (inner later list : List ℕ) (keys : List (List ℕ)) (any : Bool) → HasName inner (codes "PERMANENTFLAGS") later → Spaced later (40 ∷ (list ++ 41 ∷ [])) → ArePermanent list keys any
+flags_reads : (inner later list : List ℕ) (keys : List (List ℕ)) (any : Bool) → HasName inner (codes "PERMANENTFLAGS") later →
+    Spaced later (40 ∷ (list ++ 41 ∷ [])) → ArePermanent list keys any
     → Reads inner (codings.PermanentFlags keys any)
 flags_reads inner later list keys any named spaced are =
     let cut = split_cut inner named.0 later named.2 in
     let front = cut_front is_wide_byte inner named.0 later cut in
     let behind = cut_behind is_wide_byte inner named.0 later cut in
-    let test : same_word (wide_at inner).0 (codes "PERMANENTFLAGS") ≡ true = ap (λ (w : List ℕ). same_word w (codes "PERMANENTFLAGS")) front ∙ same_test named.0 (codes "PERMANENTFLAGS") (codes "PERMANENTFLAGS") named.1 in
+    let test : same_word (wide_at inner).0 (codes "PERMANENTFLAGS") ≡ true =
+    ap (λ (w : List ℕ). same_word w (codes "PERMANENTFLAGS")) front
+    ∙ same_test named.0 (codes "PERMANENTFLAGS") (codes "PERMANENTFLAGS") named.1 in
     let w = permanent_flags_reads later list keys any spaced are in
     (w.0, code_is inner ∙ rw test (ap (permanent_flags_at whole) behind ∙ w.1), w.2)
 
@@ -351,10 +406,24 @@ code_reads inner (codings.HighestModSeq modseq) is =
 code_reads inner codings.NoModSeq is = named_reads inner (codes "NOMODSEQ") [] codings.NoModSeq is refl (CodeRows.bare_reads codings.NoModSeq)
 code_reads inner codings.UidNotSticky is = named_reads inner (codes "UIDNOTSTICKY") [] codings.UidNotSticky is refl (CodeRows.bare_reads codings.UidNotSticky)
 code_reads inner (codings.AppendUid validity uid) is =
-    named_reads inner (codes "APPENDUID") is.3.0 (codings.AppendUid validity uid) is.3.1 refl (append_uid_reads is.3.0 is.0 is.2 is.1 validity uid is.3.2 is.4 is.5 is.6)
+    named_reads inner (codes "APPENDUID") is.3.0 (codings.AppendUid validity uid) is.3.1 refl
+    (append_uid_reads is.3.0 is.0 is.2 is.1 validity uid is.3.2 is.4 is.5 is.6)
 code_reads inner (codings.CopyUid validity source target) is =
     named_reads inner (codes "COPYUID") is.5.0 (codings.CopyUid validity source target) is.5.1 refl
-    (copy_uid_reads is.5.0 validity source target (record { first = is.0; second = is.1; third = is.2; later = is.3; last = is.4; spaced = is.5.2; number = is.6; spaced_source = is.7; spells_source = is.8; spaced_target = is.9; spells_target = is.10 }))
+    (copy_uid_reads is.5.0 validity source target (record {
+      first = is.0;
+      second = is.1;
+      third = is.2;
+      later = is.3;
+      last = is.4;
+      spaced =
+          is.5.2;
+      number = is.6;
+      spaced_source = is.7;
+      spells_source = is.8;
+      spaced_target = is.9;
+      spells_target = is.10;
+    }))
 code_reads inner (codings.Modified uids) is =
     named_reads inner (codes "MODIFIED") is.1.0 (codings.Modified uids) is.1.1 refl (CodeRows.modified_reads is.1.0 is.0 uids is.1.2 is.2)
 code_reads inner codings.Closed is = named_reads inner (codes "CLOSED") [] codings.Closed is refl (CodeRows.bare_reads codings.Closed)

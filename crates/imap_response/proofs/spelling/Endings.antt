@@ -7,7 +7,7 @@ use Rattle.imap_model.specs.declared.ending.Ending.TheVariants as endings
 use Rattle.imap_model.specs.Responses.{ending_word}
 use Rattle.imap_model.specs.Words.{SameWord, Spaced, Begins, is_word_byte}
 use Rattle.imap_response.specs.Leaf.{same_word, gap_at, word_at}
-use Rattle.imap_response.specs.Lines.{ending_of, second_word}
+use Rattle.imap_response.specs.ReadLines.{ending_of, second_word}
 use Rattle.imap_response.proofs.spelling.Choices.{same_test}
 use Rattle.imap_response.proofs.spelling.Names.{same_is, same_solid}
 use Rattle.imap_response.proofs.spelling.WordLists.{IsWordCut, word_cuts}
@@ -16,14 +16,20 @@ use Rattle.imap_response.proofs.spelling.Words.{gap_reads}
 -- the word names this ending, or none
 pub data IsEnding (word : List ℕ) : Type 0 where
   named : (ending : Ending) → SameWord word (ending_word ending) → ending_of word ≡ Some ending → IsEnding word
-  other : same_word word (codes "OK") ≡ false → same_word word (codes "NO") ≡ false → same_word word (codes "BAD") ≡ false → ending_of word ≡ None → IsEnding word
+  other : same_word word (codes "OK") ≡ false → same_word word (codes "NO") ≡ false → same_word word (codes "BAD") ≡ false →
+      ending_of word ≡ None → IsEnding word
 
 pub ending_reads : (word : List ℕ) (ending : Ending) → SameWord word (ending_word ending) → ending_of word ≡ Some ending
 ending_reads word endings.Ok same = rw (same_test word (codes "OK") (codes "OK") same) refl
 ending_reads word endings.No same = rw (same_test word (codes "NO") (codes "OK") same, same_test word (codes "NO") (codes "NO") same) refl
-ending_reads word endings.Bad same = rw (same_test word (codes "BAD") (codes "OK") same, same_test word (codes "BAD") (codes "NO") same, same_test word (codes "BAD") (codes "BAD") same) refl
+ending_reads word endings.Bad same = rw (
+  same_test word (codes "BAD") (codes "OK") same,
+  same_test word (codes "BAD") (codes "NO") same,
+  same_test word (codes "BAD") (codes "BAD") same,
+) refl
 
-none_is : (word : List ℕ) → same_word word (codes "OK") ≡ false → same_word word (codes "NO") ≡ false → same_word word (codes "BAD") ≡ false → ending_of word ≡ None
+none_is : (word : List ℕ) → same_word word (codes "OK") ≡ false → same_word word (codes "NO") ≡ false →
+    same_word word (codes "BAD") ≡ false → ending_of word ≡ None
 none_is word a b c = rw (a, b, c) refl
 
 pub ending_cases : (word : List ℕ) → IsEnding word

@@ -1,5 +1,6 @@
 -- What an ESEARCH found: what is read, and what is spelled.
-use Rattle.std.proofs.Common.{◌≡◌, ◌≢◌, ℕ, Bool, true, false, cond, List, [], ◌∷◌, ◌++◌, codes, refl, ap, sym, ◌∙◌, subst, inl, inr, append_assoc, Result, Ok, Err}
+use Rattle.std.proofs.Common.{◌≡◌, ◌≢◌, ℕ, Bool, true, false, cond, List, [], ◌∷◌, ◌++◌, codes, refl, ap, sym, ◌∙◌, subst, inl, inr}
+use Rattle.std.proofs.Common.{append_assoc, Result, Ok, Err}
 use Rattle.std.specs.List.{AllByRecursion}
 use Rattle.imap_model.specs.Parts.{Part, Byte, bytes}
 use Rattle.imap_model.specs.Strings.{IsAstring}
@@ -11,8 +12,8 @@ use Rattle.imap_model.proofs.Cutting.{Stops as Ends}
 use Rattle.imap_response.specs.Leaf.{is_space, gap_at, mark_at, named_at}
 use Rattle.imap_response.specs.Reads.{◌>>=◌, or_else}
 use Rattle.imap_response.specs.Left.{Left, at_left, mark_in}
-use Rattle.imap_response.specs.Strings.{astring_at}
-use Rattle.imap_response.specs.Searches.{begins_with, search_tag_at, correlator_at, uid_word_at}
+use Rattle.imap_response.specs.ReadStrings.{astring_at}
+use Rattle.imap_response.specs.ReadSearches.{begins_with, search_tag_at, correlator_at, uid_word_at}
 use Rattle.imap_response.proofs.spelling.IdSections.{gap_wide}
 use Rattle.imap_response.proofs.spelling.ItemReads.{named_atom, value_solid, wide_solid}
 use Rattle.imap_response.proofs.spelling.Names.{IsNamed, named_spells, named_reads}
@@ -60,12 +61,25 @@ tag_spells left behind fits is =
     let value = astring_spells (at_left left after.0) tag.0 fits3 tag.1 in
     let fits4 = fits_behind (at_left left after.0) value.0 tag.0 value.3 in
     let close = mark_in_front 41 tag.0 behind fits4 tag.2 in
-    let front = repart left (at_left left after.0) ((bytes (40 ∷ []) ++ bytes named.word) ++ bytes gap.gap) (bytes (40 ∷ (named.word ++ gap.gap))) (tag_front_parts named.word gap.gap)
-    (joined left (bytes (40 ∷ []) ++ bytes named.word) (at_left left name.0) (bytes gap.gap) (at_left left after.0) (joined left (bytes (40 ∷ [])) (at_left left inside.0) (bytes named.word) (at_left left name.0) one two) gap.passes) in
+    let front = repart left (at_left left after.0) ((bytes (40 ∷ []) ++ bytes named.word) ++ bytes gap.gap)
+    (bytes (40 ∷ (named.word ++ gap.gap))) (tag_front_parts named.word gap.gap)
+    (joined left (bytes (40 ∷ []) ++ bytes named.word) (at_left left name.0) (bytes gap.gap) (at_left left after.0)
+    (joined left (bytes (40 ∷ [])) (at_left left inside.0) (bytes named.word) (at_left left name.0) one two) gap.passes) in
     record {
       parts = bytes (40 ∷ (named.word ++ gap.gap)) ++ value.0 ++ bytes (41 ∷ []);
-      correlator = record { name = named.word; named = named.same; gap = gap.gap; spaces = gap.spaces; tag = value.0; value = value.1; astring = value.2; whole = refl };
-      passes = joined left (bytes (40 ∷ (named.word ++ gap.gap)) ++ value.0) tag.0 (bytes (41 ∷ [])) behind (joined left (bytes (40 ∷ (named.word ++ gap.gap))) (at_left left after.0) value.0 tag.0 front value.3) close;
+      correlator = record {
+        name = named.word;
+        named = named.same;
+        gap = gap.gap;
+        spaces = gap.spaces;
+        tag = value.0;
+        value =
+            value.1;
+        astring = value.2;
+        whole = refl;
+      };
+      passes = joined left (bytes (40 ∷ (named.word ++ gap.gap)) ++ value.0) tag.0 (bytes (41 ∷ [])) behind
+          (joined left (bytes (40 ∷ (named.word ++ gap.gap))) (at_left left after.0) value.0 tag.0 front value.3) close;
     }
 
 not_blank : (b : ℕ) → is_astring_byte b ≡ true → is_space b ≡ false
@@ -84,19 +98,30 @@ astring_solid left behind parts value (inr bare) passes =
 tag_reads : (left behind : Left) (parts : List Part) → IsCorrelator parts → Passes left parts behind → search_tag_at left ≡ Ok behind
 unfolding search_tag_at
 tag_reads left behind parts c passes =
-    let all = repart left behind parts (((bytes (40 ∷ []) ++ bytes c.name) ++ bytes c.gap) ++ c.tag ++ bytes (41 ∷ [])) (c.whole ∙ ap (λ (p : List Part). p ++ c.tag ++ bytes (41 ∷ [])) (sym (tag_front_parts c.name c.gap))) passes in
+    let all = repart left behind parts (((bytes (40 ∷ []) ++ bytes c.name) ++ bytes c.gap) ++ c.tag ++ bytes (41 ∷ []))
+    (c.whole ∙ ap (λ (p : List Part). p ++ c.tag ++ bytes (41 ∷ [])) (sym (tag_front_parts c.name c.gap))) passes in
     let five = split left (((bytes (40 ∷ []) ++ bytes c.name) ++ bytes c.gap) ++ c.tag) (bytes (41 ∷ [])) behind all in
     let four = split left ((bytes (40 ∷ []) ++ bytes c.name) ++ bytes c.gap) c.tag five.0 five.1 in
     let three = split left (bytes (40 ∷ []) ++ bytes c.name) (bytes c.gap) four.0 four.1 in
     let two = split left (bytes (40 ∷ [])) (bytes c.name) three.0 three.1 in
-    let named : IsNamed (codes "TAG") two.0.text three.0.text = record { word = c.name; same = c.named; whole = pass_bytes two.0 c.name three.0 two.2; ends = gap_wide c.gap four.0.text three.0.text c.spaces (pass_bytes three.0 c.gap four.0 three.2) } in
-    let back : at_left left four.0.text ≡ four.0 = pass_left left (40 ∷ (c.name ++ c.gap)) four.0 (repart left four.0 ((bytes (40 ∷ []) ++ bytes c.name) ++ bytes c.gap) (bytes (40 ∷ (c.name ++ c.gap))) (tag_front_parts c.name c.gap) four.1) in
+    let named : IsNamed (codes "TAG") two.0.text three.0.text = record {
+      word = c.name;
+      same = c.named;
+      whole =
+          pass_bytes two.0 c.name three.0 two.2;
+      ends = gap_wide c.gap four.0.text three.0.text c.spaces
+          (pass_bytes three.0 c.gap four.0 three.2);
+    } in
+    let back : at_left left four.0.text ≡ four.0 = pass_left left (40 ∷ (c.name ++ c.gap)) four.0
+    (repart left four.0 ((bytes (40 ∷ []) ++ bytes c.name) ++ bytes c.gap) (bytes (40 ∷ (c.name ++ c.gap)))
+    (tag_front_parts c.name c.gap) four.1) in
     let solid = astring_solid four.0 five.0 c.tag c.value c.astring four.2 in
     let close = subst (Ends is_astring_byte) (sym (pass_bytes five.0 (41 ∷ []) behind five.2)) refl in
     bind_ok (mark_at 40 left.text) (tag_name left) two.0.text behind (mark_there 40 left two.0 two.1)
     (bind_ok (named_at (codes "TAG") two.0.text) (tag_gap left) three.0.text behind (named_reads (codes "TAG") two.0.text three.0.text refl named)
     (bind_ok (gap_at three.0.text) (tag_value left) four.0.text behind (gap_there three.0 four.0 c.gap c.spaces solid three.2)
-    (bind_ok (astring_at (at_left left four.0.text)) tag_close five.0 behind (ap astring_at back ∙ astring_reads four.0 five.0 c.tag c.value c.astring four.2 close)
+    (bind_ok (astring_at (at_left left four.0.text)) tag_close five.0 behind
+    (ap astring_at back ∙ astring_reads four.0 five.0 c.tag c.value c.astring four.2 close)
     (mark_in_there 41 five.0 behind five.2))))
 
 abbrev by_paren : Left → List ℕ → Result Left ℕ
@@ -130,13 +155,15 @@ correlator_spells left behind fits is = elim (ok_or_else (gap_at left.text) (by_
   | inr none ↦ no_tag left behind fits none.2
 ]
 
-tag_first : (left behind : Left) (parts : List Part) → IsCorrelator parts → Passes left parts behind → (Ends is_space left.text) × (begins_with 40 left.text ≡ true)
+tag_first : (left behind : Left) (parts : List Part) → IsCorrelator parts → Passes left parts behind →
+    (Ends is_space left.text) × (begins_with 40 left.text ≡ true)
 tag_first left behind parts c passes =
     let all = repart left behind parts (bytes (40 ∷ (c.name ++ c.gap)) ++ c.tag ++ bytes (41 ∷ [])) c.whole passes in
     let text = all.text in
     (subst (Ends is_space) (sym text) refl, ap (begins_with 40) text)
 
-pub tag_read : (left behind : Left) (gap : List ℕ) (parts : List Part) → IsGap gap → IsCorrelator parts → Passes left (bytes gap ++ parts) behind → correlator_at left ≡ Ok behind
+pub tag_read : (left behind : Left) (gap : List ℕ) (parts : List Part) → IsGap gap → IsCorrelator parts →
+    Passes left (bytes gap ++ parts) behind → correlator_at left ≡ Ok behind
 tag_read left behind gap parts spaces c passes =
     let cut = split left (bytes gap) parts behind passes in
     let first = tag_first cut.0 behind parts c cut.2 in
@@ -144,7 +171,8 @@ tag_read left behind gap parts spaces c passes =
     ∙ ap (λ (t : Bool). cond t (search_tag_at (at_left left cut.0.text)) (Ok left)) first.1
     ∙ ap search_tag_at (pass_left left gap cut.0 cut.1) ∙ tag_reads cut.0 behind parts c cut.2
 
-none_from : (left : Left) (r : Result (List ℕ) ℕ) → ((after : List ℕ) → r ≡ Ok after → begins_with 40 after ≡ false) → or_else r (by_paren left) (Ok left) ≡ Ok left
+none_from : (left : Left) (r : Result (List ℕ) ℕ) → ((after : List ℕ) → r ≡ Ok after → begins_with 40 after ≡ false) →
+    or_else r (by_paren left) (Ok left) ≡ Ok left
 none_from left (Err e) other = refl
 none_from left (Ok after) other = rw (other after refl) refl
 
@@ -175,7 +203,8 @@ no_err r e x is is' = cc
 same_result : (r : Result (List ℕ) ℕ) (x y : List ℕ) → r ≡ Ok x → r ≡ Ok y → x ≡ y
 same_result r x y is is' = cc
 
-no_word : (text rest : List ℕ) → ◌≡◌ {A = Result (List ℕ) ℕ} (Ok text) (Ok rest) → ((after behind : List ℕ) → gap_at text ≡ Ok after → named_at (codes "UID") after ≡ Ok behind → ⊥) → IsUidFront text rest
+no_word : (text rest : List ℕ) → ◌≡◌ {A = Result (List ℕ) ℕ} (Ok text) (Ok rest) →
+    ((after behind : List ℕ) → gap_at text ≡ Ok after → named_at (codes "UID") after ≡ Ok behind → ⊥) → IsUidFront text rest
 no_word text rest is other = subst (IsUidFront text) (ok_is text rest is) (record { word = []; may = inl refl; whole = refl; none = λ e. other })
 
 gap_some : (gap word : List ℕ) → gap ≢ [] → gap ++ word ≢ []
@@ -204,9 +233,16 @@ word_spells text rest is = elim (ok_or_else (gap_at text) (by_uid text) (Ok text
 word_solid : (word rest : List ℕ) → SameWord word (codes "UID") → Ends is_space (word ++ rest)
 word_solid word rest same = wide_solid word rest (named_atom word (codes "UID") same (λ e. cc) refl refl refl).wide
 
-pub word_read : (text rest gap word : List ℕ) → IsGap gap → SameWord word (codes "UID") → text ≡ (gap ++ word) ++ rest → Ends is_wide_byte rest → uid_word_at text ≡ Ok rest
+pub word_read : (text rest gap word : List ℕ) → IsGap gap → SameWord word (codes "UID") → text ≡ (gap ++ word) ++ rest →
+    Ends is_wide_byte rest → uid_word_at text ≡ Ok rest
 word_read text rest gap word spaces same is ends =
-    let spaced : Spaced text (word ++ rest) = record { gap = gap; spaces = spaces; whole = is ∙ append_assoc gap word rest; no_more = no_space (word ++ rest) (word_solid word rest same) } in
+    let spaced : Spaced text (word ++ rest) = record {
+      gap = gap;
+      spaces = spaces;
+      whole = is ∙ append_assoc gap word rest;
+      no_more =
+          no_space (word ++ rest) (word_solid word rest same);
+    } in
     let named : IsNamed (codes "UID") (word ++ rest) rest = record { word = word; same = same; whole = refl; ends = ends } in
     word_is text ∙ or_else_ok (gap_at text) (by_uid text) (Ok text) (word ++ rest) (gap_reads text (word ++ rest) spaced)
     ∙ or_else_ok (named_at (codes "UID") (word ++ rest)) as_behind (Ok text) rest (named_reads (codes "UID") (word ++ rest) rest refl named)
@@ -214,9 +250,11 @@ word_read text rest gap word spaces same is ends =
 text_named : (text : List ℕ) (r : Result (List ℕ) ℕ) → ((behind : List ℕ) → r ≡ Ok behind → ⊥) → or_else r as_behind (Ok text) ≡ Ok text
 text_named text r other = or_else_err r as_behind (Ok text) other
 
-text_from : (text : List ℕ) (r : Result (List ℕ) ℕ) → ((after behind : List ℕ) → r ≡ Ok after → named_at (codes "UID") after ≡ Ok behind → ⊥) → or_else r (by_uid text) (Ok text) ≡ Ok text
+text_from : (text : List ℕ) (r : Result (List ℕ) ℕ) → ((after behind : List ℕ) → r ≡ Ok after → named_at (codes "UID") after ≡ Ok behind →
+    ⊥) → or_else r (by_uid text) (Ok text) ≡ Ok text
 text_from text (Err e) other = refl
 text_from text (Ok after) other = text_named text (named_at (codes "UID") after) (λ behind named. other after behind refl named)
 
-pub no_word_read : (text : List ℕ) → ((after behind : List ℕ) → gap_at text ≡ Ok after → named_at (codes "UID") after ≡ Ok behind → ⊥) → uid_word_at text ≡ Ok text
+pub no_word_read : (text : List ℕ) → ((after behind : List ℕ) → gap_at text ≡ Ok after → named_at (codes "UID") after ≡ Ok behind → ⊥) →
+    uid_word_at text ≡ Ok text
 no_word_read text other = word_is text ∙ text_from text (gap_at text) other

@@ -1,5 +1,6 @@
 -- What an ESEARCH found, whole: what is read, and what is spelled.
-use Rattle.std.proofs.Common.{◌≡◌, ◌≢◌, ℕ, true, false, List, [], ◌∷◌, ◌++◌, length, codes, refl, ap, sym, ◌∙◌, subst, inl, inr, arith, append_assoc, Result, Ok}
+use Rattle.std.proofs.Common.{◌≡◌, ◌≢◌, ℕ, true, false, List, [], ◌∷◌, ◌++◌, length, codes, refl, ap, sym, ◌∙◌, subst, inl, inr, arith}
+use Rattle.std.proofs.Common.{append_assoc, Result, Ok}
 use Rattle.uid_sets.specs.declared.uid.UidRange.{UidRange}
 use Rattle.imap_model.specs.Parts.{Part, bytes}
 use Rattle.imap_model.specs.Searches.{MayCorrelate, Pair, ArePairs, MayCountUids, BeginsWithUid, TellsExtended}
@@ -9,13 +10,14 @@ use Rattle.imap_model.proofs.Cutting.{Stops as Ends}
 use Rattle.imap_response.specs.Leaf.{is_space, gap_at, named_at}
 use Rattle.imap_response.specs.Reads.{◌>>=◌}
 use Rattle.imap_response.specs.Left.{Left, at_left}
-use Rattle.imap_response.specs.Searches.{begins_with, correlator_at, uid_word_at, pairs_from, extended_at}
+use Rattle.imap_response.specs.ReadSearches.{begins_with, correlator_at, uid_word_at, pairs_from, extended_at}
 use Rattle.imap_response.proofs.spelling.CodeRows.{space_first}
 use Rattle.imap_response.proofs.spelling.Extended.{correlator_spells, tag_read, none_read, word_spells, word_read, no_word_read}
 use Rattle.imap_response.proofs.spelling.ItemReads.{named_atom, wide_solid}
 use Rattle.imap_response.proofs.spelling.Names.{IsNamed, named_spells, named_reads, same_wide}
 use Rattle.imap_response.proofs.spelling.Pairs.{pairs_spell, pairs_read, pairs_wide, first_pair, pair_text, pair_atom, blank_text}
-use Rattle.imap_response.proofs.spelling.Passing.{Passes, Fits, text_of, bytes_pass, pass_bytes, pass_left, none_passed, split, joined, fits_behind, bytes_joined, text_joined, bytes_text}
+use Rattle.imap_response.proofs.spelling.Passing.{Passes, Fits, text_of, bytes_pass, pass_bytes, pass_left, none_passed, split, joined}
+use Rattle.imap_response.proofs.spelling.Passing.{fits_behind, bytes_joined, text_joined, bytes_text}
 use Rattle.imap_response.proofs.spelling.Results.{byte_not, ok_bind, bind_ok}
 use Rattle.imap_response.proofs.spelling.Runs.{IsCut, cut_front, all_right}
 use Rattle.imap_response.proofs.spelling.Steps.{repart}
@@ -39,28 +41,41 @@ pub record IsExtendedFront (left : Left) (uids : List UidRange) : Type 0 where
   pub none : end.text ≡ []
 
 -- a text that begins so is read as the word UID
-word_there : (text gap word more : List ℕ) → IsGap gap → SameWord word (codes "UID") → text ≡ gap ++ (word ++ 32 ∷ more) → (gap_at text ≡ Ok (word ++ 32 ∷ more)) × (named_at (codes "UID") (word ++ 32 ∷ more) ≡ Ok (32 ∷ more))
+word_there : (text gap word more : List ℕ) → IsGap gap → SameWord word (codes "UID") → text ≡ gap ++ (word ++ 32 ∷ more) →
+    (gap_at text ≡ Ok (word ++ 32 ∷ more)) × (named_at (codes "UID") (word ++ 32 ∷ more) ≡ Ok (32 ∷ more))
 word_there text gap word more spaces same is =
     let wide = (named_atom word (codes "UID") same (λ e. cc) refl refl refl).wide in
-    let spaced : Spaced text (word ++ 32 ∷ more) = record { gap = gap; spaces = spaces; whole = is; no_more = no_space (word ++ 32 ∷ more) (wide_solid word (32 ∷ more) wide) } in
+    let spaced : Spaced text (word ++ 32 ∷ more) = record {
+      gap = gap;
+      spaces = spaces;
+      whole = is;
+      no_more =
+          no_space (word ++ 32 ∷ more) (wide_solid word (32 ∷ more) wide);
+    } in
     let named : IsNamed (codes "UID") (word ++ 32 ∷ more) (32 ∷ more) = record { word = word; same = same; whole = refl; ends = refl } in
     (gap_reads text (word ++ 32 ∷ more) spaced, named_reads (codes "UID") (word ++ 32 ∷ more) (32 ∷ more) refl named)
 
-uid_text : (left end : Left) (told : List Part) (blank gap word : List ℕ) (value : List Part) → Passes left (told ++ bytes blank) end → told ≡ bytes (gap ++ word ++ 32 ∷ []) ++ value → left.text ≡ gap ++ (word ++ 32 ∷ (text_of value ++ (text_of (bytes blank) ++ end.text)))
+uid_text : (left end : Left) (told : List Part) (blank gap word : List ℕ) (value : List Part) → Passes left (told ++ bytes blank) end →
+    told ≡ bytes (gap ++ word ++ 32 ∷ []) ++ value → left.text ≡ gap
+    ++ (word ++ 32 ∷ (text_of value ++ (text_of (bytes blank) ++ end.text)))
 uid_text left end told blank gap word value passes is =
     passes.text
     ∙ ap (λ (t : List ℕ). t ++ end.text) (text_joined told (bytes blank) ∙ ap (λ (p : List Part). text_of p ++ text_of (bytes blank)) is)
     ∙ append_assoc (text_of (bytes (gap ++ word ++ 32 ∷ []) ++ value)) (text_of (bytes blank)) end.text
-    ∙ ap (λ (t : List ℕ). t ++ (text_of (bytes blank) ++ end.text)) (text_joined (bytes (gap ++ word ++ 32 ∷ [])) value ∙ ap (λ (t : List ℕ). t ++ text_of value) (bytes_text (gap ++ word ++ 32 ∷ [])))
+    ∙ ap (λ (t : List ℕ). t ++ (text_of (bytes blank) ++ end.text))
+    (text_joined (bytes (gap ++ word ++ 32 ∷ [])) value ∙ ap (λ (t : List ℕ). t ++ text_of value) (bytes_text (gap ++ word ++ 32 ∷ [])))
     ∙ append_assoc (gap ++ word ++ 32 ∷ []) (text_of value) (text_of (bytes blank) ++ end.text)
     ∙ append_assoc (gap ++ word) (32 ∷ []) (text_of value ++ (text_of (bytes blank) ++ end.text))
     ∙ append_assoc gap word (32 ∷ (text_of value ++ (text_of (bytes blank) ++ end.text)))
 
-not_uid : (left end : Left) (told : List Part) (blank : List ℕ) → Passes left (told ++ bytes blank) end → ((after behind : List ℕ) → gap_at left.text ≡ Ok after → named_at (codes "UID") after ≡ Ok behind → ⊥) → BeginsWithUid told → ⊥
+not_uid : (left end : Left) (told : List Part) (blank : List ℕ) → Passes left (told ++ bytes blank) end →
+    ((after behind : List ℕ) → gap_at left.text ≡ Ok after → named_at (codes "UID") after ≡ Ok behind → ⊥) → BeginsWithUid told → ⊥
 not_uid left end told blank passes none begins =
     let more : List ℕ = text_of begins.2 ++ (text_of (bytes blank) ++ end.text) in
-    let there = word_there left.text begins.0 begins.1 (text_of begins.2 ++ (text_of (bytes blank) ++ end.text)) begins.3 begins.4 (uid_text left end told blank begins.0 begins.1 begins.2 passes begins.5) in
-    none (begins.1 ++ 32 ∷ (text_of begins.2 ++ (text_of (bytes blank) ++ end.text))) (32 ∷ (text_of begins.2 ++ (text_of (bytes blank) ++ end.text))) there.0 there.1
+    let there = word_there left.text begins.0 begins.1 (text_of begins.2 ++ (text_of (bytes blank) ++ end.text)) begins.3 begins.4
+    (uid_text left end told blank begins.0 begins.1 begins.2 passes begins.5) in
+    none (begins.1 ++ 32 ∷ (text_of begins.2 ++ (text_of (bytes blank) ++ end.text)))
+    (32 ∷ (text_of begins.2 ++ (text_of (bytes blank) ++ end.text))) there.0 there.1
 
 pub extended_spells : (left : Left) (uids : List UidRange) → Fits left → extended_at left ≡ Ok uids → IsExtendedFront left uids
 extended_spells left uids fits is =
@@ -90,8 +105,11 @@ extended_spells left uids fits is =
         found = pairs.counts;
       };
       end = pairs.end;
-      passes = repart left pairs.end ((tag.parts ++ bytes word.word) ++ (pairs.told ++ bytes pairs.blank)) (tag.parts ++ bytes word.word ++ pairs.told ++ bytes pairs.blank) (sym (append_assoc (tag.parts ++ bytes word.word) pairs.told (bytes pairs.blank)))
-          (joined left (tag.parts ++ bytes word.word) (at_left behind.0 text.0) (pairs.told ++ bytes pairs.blank) pairs.end (joined left tag.parts behind.0 (bytes word.word) (at_left behind.0 text.0) tag.passes one) pairs.passes);
+      passes = repart left pairs.end ((tag.parts ++ bytes word.word) ++ (pairs.told ++ bytes pairs.blank))
+          (tag.parts ++ bytes word.word ++ pairs.told ++ bytes pairs.blank)
+          (sym (append_assoc (tag.parts ++ bytes word.word) pairs.told (bytes pairs.blank)))
+          (joined left (tag.parts ++ bytes word.word) (at_left behind.0 text.0) (pairs.told ++ bytes pairs.blank) pairs.end
+          (joined left tag.parts behind.0 (bytes word.word) (at_left behind.0 text.0) tag.passes one) pairs.passes);
       none = pairs.none;
     }
 
@@ -147,30 +165,38 @@ uid_blank text spaces after behind gapped named =
     no_letters w.word behind empty w.same
 
 -- the pairs
-pair_words : (left mid : Left) (before name between : List ℕ) (value : List Part) → Passes left (bytes (before ++ name ++ between) ++ value) mid → left.text ≡ before ++ (name ++ (between ++ (text_of value ++ mid.text)))
+pair_words : (left mid : Left) (before name between : List ℕ) (value : List Part) →
+    Passes left (bytes (before ++ name ++ between) ++ value) mid → left.text ≡ before ++ (name ++ (between ++ (text_of value ++ mid.text)))
 pair_words left mid before name between value passes =
-    pair_text left mid before name between value passes ∙ append_assoc (before ++ name) between (text_of value ++ mid.text) ∙ append_assoc before name (between ++ (text_of value ++ mid.text))
+    pair_text left mid before name between value passes ∙ append_assoc (before ++ name) between (text_of value ++ mid.text)
+    ∙ append_assoc before name (between ++ (text_of value ++ mid.text))
 
-pairs_paren : (pairs : List Pair) (left end : Left) (told : List Part) (blank : List ℕ) → ArePairs told pairs → AreSpaces blank → Passes left (told ++ bytes blank) end → end.text ≡ [] → NoParen left.text
+pairs_paren : (pairs : List Pair) (left end : Left) (told : List Part) (blank : List ℕ) → ArePairs told pairs → AreSpaces blank →
+    Passes left (told ++ bytes blank) end → end.text ≡ [] → NoParen left.text
 pairs_paren [] left end told blank are spaces passes none =
     let text = blank_text left end blank (subst (λ (p : List Part). Passes left (p ++ bytes blank) end) are passes) none in
     subst NoParen (sym text) (paren_blank blank spaces)
 pairs_paren (pair ∷ pairs) left end told blank are spaces passes none =
     let w = first_pair left end told are.0 are.1 are.2 are.3 are.4 blank are.8 passes in
-    paren_word left.text are.0 are.1 (are.2 ++ (text_of are.3 ++ w.mid.text)) are.5 (pair_atom are.1 are.3 pair are.7).wide (pair_words left w.mid are.0 are.1 are.2 are.3 w.first)
+    paren_word left.text are.0 are.1 (are.2 ++ (text_of are.3 ++ w.mid.text)) are.5 (pair_atom are.1 are.3 pair are.7).wide
+    (pair_words left w.mid are.0 are.1 are.2 are.3 w.first)
 
-gap_split : (before name between : List ℕ) (value later told : List Part) → IsGap between → told ≡ bytes (before ++ name ++ between) ++ value ++ later → IsGap before → SameWord name (codes "UID") → BeginsWithUid told
+gap_split : (before name between : List ℕ) (value later told : List Part) → IsGap between →
+    told ≡ bytes (before ++ name ++ between) ++ value ++ later → IsGap before → SameWord name (codes "UID") → BeginsWithUid told
 gap_split before name [] value later told spaces is spaces' same = absurd (spaces.0 refl)
 gap_split before name (b ∷ between) value later told spaces is spaces' same =
     let here : b ≡ 32 = spaces.1.0 in
     let form : bytes (before ++ name ++ b ∷ between) ++ value ++ later ≡ bytes (before ++ name ++ 32 ∷ []) ++ ((bytes between ++ value) ++ later) =
     ap (λ (x : ℕ). bytes (before ++ name ++ x ∷ between) ++ value ++ later) here
-    ∙ ap (λ (p : List Part). p ++ value ++ later) (bytes_joined (before ++ name) (32 ∷ between) ∙ sym (append_assoc (bytes (before ++ name)) (bytes (32 ∷ [])) (bytes between)) ∙ ap (λ (p : List Part). p ++ bytes between) (sym (bytes_joined (before ++ name) (32 ∷ []))))
+    ∙ ap (λ (p : List Part). p ++ value ++ later) (bytes_joined (before ++ name) (32 ∷ between)
+    ∙ sym (append_assoc (bytes (before ++ name)) (bytes (32 ∷ [])) (bytes between))
+    ∙ ap (λ (p : List Part). p ++ bytes between) (sym (bytes_joined (before ++ name) (32 ∷ []))))
     ∙ ap (λ (p : List Part). p ++ later) (append_assoc (bytes (before ++ name ++ 32 ∷ [])) (bytes between) value)
     ∙ append_assoc (bytes (before ++ name ++ 32 ∷ [])) (bytes between ++ value) later in
     (before, name, (bytes between ++ value) ++ later, spaces', same, is ∙ form)
 
-pairs_uid : (pairs : List Pair) (left end : Left) (told : List Part) (blank : List ℕ) → ArePairs told pairs → AreSpaces blank → Passes left (told ++ bytes blank) end → end.text ≡ [] → (BeginsWithUid told → ⊥) → NoUid left.text
+pairs_uid : (pairs : List Pair) (left end : Left) (told : List Part) (blank : List ℕ) → ArePairs told pairs → AreSpaces blank →
+    Passes left (told ++ bytes blank) end → end.text ≡ [] → (BeginsWithUid told → ⊥) → NoUid left.text
 pairs_uid [] left end told blank are spaces passes none first =
     let text = blank_text left end blank (subst (λ (p : List Part). Passes left (p ++ bytes blank) end) are passes) none in
     subst NoUid (sym text) (uid_blank blank spaces)
@@ -178,11 +204,15 @@ pairs_uid (pair ∷ pairs) left end told blank are spaces passes none first = λ
     let w = first_pair left end told are.0 are.1 are.2 are.3 are.4 blank are.8 passes in
     let more : List ℕ = are.2 ++ (text_of are.3 ++ w.mid.text) in
     let wide = (pair_atom are.1 are.3 pair are.7).wide in
-    let there = same_result (gap_at left.text) after (are.1 ++ (are.2 ++ (text_of are.3 ++ w.mid.text))) gapped (gap_is left.text are.0 are.1 (are.2 ++ (text_of are.3 ++ w.mid.text)) are.5 wide (pair_words left w.mid are.0 are.1 are.2 are.3 w.first)) in
+    let there = same_result (gap_at left.text) after (are.1 ++ (are.2 ++ (text_of are.3 ++ w.mid.text))) gapped
+    (gap_is left.text are.0 are.1 (are.2 ++ (text_of are.3 ++ w.mid.text)) are.5 wide
+    (pair_words left w.mid are.0 are.1 are.2 are.3 w.first)) in
     let n = named_spells (codes "UID") after behind named in
     let one : IsCut is_wide_byte after n.word behind = record { all = same_wide n.word (codes "UID") n.same refl; ends = n.ends; whole = n.whole } in
-    let two : IsCut is_wide_byte after are.1 (are.2 ++ (text_of are.3 ++ w.mid.text)) = record { all = wide.1; ends = gap_ends are.2 (text_of are.3 ++ w.mid.text) are.6; whole = there } in
-    let same : n.word ≡ are.1 = sym (cut_front is_wide_byte after n.word behind one) ∙ cut_front is_wide_byte after are.1 (are.2 ++ (text_of are.3 ++ w.mid.text)) two in
+    let two : IsCut is_wide_byte after are.1 (are.2 ++ (text_of are.3 ++ w.mid.text)) =
+    record { all = wide.1; ends = gap_ends are.2 (text_of are.3 ++ w.mid.text) are.6; whole = there } in
+    let same : n.word ≡ are.1 = sym (cut_front is_wide_byte after n.word behind one)
+    ∙ cut_front is_wide_byte after are.1 (are.2 ++ (text_of are.3 ++ w.mid.text)) two in
     first (gap_split are.0 are.1 are.2 are.3 are.4 told are.6 are.8 are.5 (subst (λ (x : List ℕ). SameWord x (codes "UID")) same n.same))
 
 -- the word and what stands in front of the pairs
@@ -190,19 +220,22 @@ pub record Counted (left : Left) (behind : Left) : Type 0 where
   pub read : uid_word_at left.text ≡ Ok behind.text
   pub paren : NoParen left.text
 
-counted : (left mid end : Left) (word : List ℕ) (pairs : List Pair) (told : List Part) (blank : List ℕ) → MayCountUids word → (word ≡ [] → BeginsWithUid told → ⊥) → ArePairs told pairs → AreSpaces blank
+counted : (left mid end : Left) (word : List ℕ) (pairs : List Pair) (told : List Part) (blank : List ℕ) → MayCountUids word →
+    (word ≡ [] → BeginsWithUid told → ⊥) → ArePairs told pairs → AreSpaces blank
     → Passes left (bytes word) mid → Passes mid (told ++ bytes blank) end → end.text ≡ [] → Counted left mid
 counted left mid end word pairs told blank (inl nothing) first are spaces front passes none =
     let same : left.text ≡ mid.text = pass_bytes left word mid front ∙ ap (λ (w : List ℕ). w ++ mid.text) nothing in
     record {
-      read = no_word_read left.text (subst NoUid (sym same) (pairs_uid pairs mid end told blank are spaces passes none (first nothing))) ∙ ap (λ (t : List ℕ). Ok t) same;
+      read = no_word_read left.text (subst NoUid (sym same) (pairs_uid pairs mid end told blank are spaces passes none (first nothing)))
+          ∙ ap (λ (t : List ℕ). Ok t) same;
       paren = subst NoParen (sym same) (pairs_paren pairs mid end told blank are spaces passes none);
     }
 counted left mid end word pairs told blank (inr uid) first are spaces front passes none =
     let whole : left.text ≡ (uid.0 ++ uid.1) ++ mid.text = pass_bytes left word mid front ∙ ap (λ (w : List ℕ). w ++ mid.text) uid.4 in
     record {
       read = word_read left.text mid.text uid.0 uid.1 uid.2 uid.3 whole (pairs_wide pairs mid end told blank are spaces passes none);
-      paren = paren_word left.text uid.0 uid.1 mid.text uid.2 (named_atom uid.1 (codes "UID") uid.3 (λ e. cc) refl refl refl).wide (whole ∙ append_assoc uid.0 uid.1 mid.text);
+      paren = paren_word left.text uid.0 uid.1 mid.text uid.2 (named_atom uid.1 (codes "UID") uid.3 (λ e. cc) refl refl refl).wide
+          (whole ∙ append_assoc uid.0 uid.1 mid.text);
     }
 
 tag_there : (left mid : Left) (parts : List Part) → MayCorrelate parts → NoParen mid.text → Passes left parts mid → correlator_at left ≡ Ok mid
@@ -211,14 +244,17 @@ tag_there left mid parts (inl nothing) paren passes =
     none_read left (subst (λ (l : Left). NoParen l.text) (sym same) paren) ∙ ap (λ (l : Left). Ok l) same
 tag_there left mid parts (inr tag) paren passes = tag_read left mid tag.0 tag.1 tag.2 tag.3 (repart left mid parts (bytes tag.0 ++ tag.1) tag.4 passes)
 
-pub extended_reads : (left end : Left) (parts : List Part) (uids : List UidRange) → TellsExtended parts uids → Passes left parts end → end.text ≡ [] → extended_at left ≡ Ok uids
+pub extended_reads : (left end : Left) (parts : List Part) (uids : List UidRange) → TellsExtended parts uids → Passes left parts end →
+    end.text ≡ [] → extended_at left ≡ Ok uids
 extended_reads left end parts uids t passes none =
-    let all = repart left end parts ((t.correlator ++ bytes t.word) ++ (t.told ++ bytes t.blank)) (t.whole ∙ append_assoc (t.correlator ++ bytes t.word) t.told (bytes t.blank)) passes in
+    let all = repart left end parts ((t.correlator ++ bytes t.word) ++ (t.told ++ bytes t.blank))
+    (t.whole ∙ append_assoc (t.correlator ++ bytes t.word) t.told (bytes t.blank)) passes in
     let back = split left (t.correlator ++ bytes t.word) (t.told ++ bytes t.blank) end all in
     let front = split left t.correlator (bytes t.word) back.0 back.1 in
     let w = counted front.0 back.0 end t.word t.pairs t.told t.blank t.may_count t.word_first t.are_pairs t.spaces front.2 back.2 none in
     let pairs : by_pairs front.0 back.0.text ≡ Ok uids =
     ap (λ (l : Left). pairs_from (length back.0.text) [] l) (pass_left front.0 t.word back.0 front.2)
-    ∙ pairs_read t.pairs (length back.0.text) [] back.0 end t.told t.blank t.are_pairs t.spaces back.2 none (omega arith) ∙ ap (λ (u : List UidRange). Ok u) (sym t.found) in
+    ∙ pairs_read t.pairs (length back.0.text) [] back.0 end t.told t.blank t.are_pairs t.spaces back.2 none (omega arith)
+    ∙ ap (λ (u : List UidRange). Ok u) (sym t.found) in
     extended_is left ∙ bind_ok (correlator_at left) by_word front.0 uids (tag_there left front.0 t.correlator t.may_correlate w.paren front.1)
     (bind_ok (uid_word_at front.0.text) (by_pairs front.0) back.0.text uids w.read pairs)

@@ -50,7 +50,8 @@ few_none keys few = let test : nat_lt MAX_FLAGS (length keys) ≡ false = grind 
 short_none : (flag : List ℕ) → is_flag flag ≡ true → length flag ≤ MAX_FLAG → refusal flag ≡ None
 short_none flag is short = let test : nat_lt MAX_FLAG (length flag) ≡ false = grind (arith, nat_tests) in rw (test, is) refl
 
-put_from : (key first : List ℕ) (rest : List (List ℕ)) (o : Ordering) → length rest ≤ length (put key rest) → length (first ∷ rest) ≤ length (match_ordering o (key ∷ first ∷ rest) (first ∷ rest) (first ∷ put key rest))
+put_from : (key first : List ℕ) (rest : List (List ℕ)) (o : Ordering) → length rest ≤ length (put key rest) →
+    length (first ∷ rest) ≤ length (match_ordering o (key ∷ first ∷ rest) (first ∷ rest) (first ∷ put key rest))
 put_from key first rest Less more = omega arith
 put_from key first rest Equal more = omega arith
 put_from key first rest Greater more = omega (arith, more)
@@ -59,7 +60,8 @@ put_in : (key : List ℕ) (keys : List (List ℕ)) → length keys ≤ length (p
 put_in key [] = omega arith
 put_in key (first ∷ rest) = put_from key first rest (order key first) (put_in key rest)
 
-keys_from : (key first : List ℕ) (rest : List (List ℕ)) (o : Ordering) → order key first ≡ o → (AllKeys IsShort (put key rest) → IsShort key × AllKeys IsShort rest)
+keys_from : (key first : List ℕ) (rest : List (List ℕ)) (o : Ordering) → order key first ≡ o →
+    (AllKeys IsShort (put key rest) → IsShort key × AllKeys IsShort rest)
     → AllKeys IsShort (match_ordering o (key ∷ first ∷ rest) (first ∷ rest) (first ∷ put key rest)) → IsShort key × AllKeys IsShort (first ∷ rest)
 keys_from key first rest Less is more all = (all.0, all.1)
 keys_from key first rest Equal is more all = (subst IsShort (sym (order_same key first is)) all.0, all)
@@ -75,7 +77,8 @@ kept_in key keys within =
     (both.0, record { few = omega (arith, put_in key keys, within.few); short = both.1 })
 
 -- the set with a flag that keeps the limits
-flag_in_from : (keys : List (List ℕ)) (flag : List ℕ) (t : Bool) → bytes_eq (key_of flag) recent ≡ t → IsSetWithin (cond t keys (put (key_of flag) keys)) → IsShort flag × IsSetWithin keys
+flag_in_from : (keys : List (List ℕ)) (flag : List ℕ) (t : Bool) → bytes_eq (key_of flag) recent ≡ t →
+    IsSetWithin (cond t keys (put (key_of flag) keys)) → IsShort flag × IsSetWithin keys
 flag_in_from keys flag true is within =
     let same = bytes_equal (key_of flag) recent is in
     let len : length flag ≡ length recent = sym (key_len flag) ∙ ap length same in
@@ -89,12 +92,17 @@ flag_in : (keys : List (List ℕ)) (flag : List ℕ) → IsSetWithin (with_flag 
 flag_in keys flag within = flag_in_from keys flag (bytes_eq (key_of flag) recent) refl within
 
 -- a list whose set keeps the limits has no fault
-within_by : (flags keys : List (List ℕ)) → AllByRecursion (λ flag. is_flag flag ≡ true) flags → IsSetWithin (fold with_flag keys flags) → IsSetWithin keys × (fault_behind keys flags ≡ None)
+within_by : (flags keys : List (List ℕ)) → AllByRecursion (λ flag. is_flag flag ≡ true) flags → IsSetWithin (fold with_flag keys flags) →
+    IsSetWithin keys × (fault_behind keys flags ≡ None)
 within_by [] keys all within = (within, refl)
 within_by (flag ∷ flags) keys all within =
     let more = within_by flags (with_flag keys flag) all.1 within in
-    let here = flag_in keys flag more.0 in
-    (here.1, none_or (next_fault keys flag) (fault_behind (with_flag keys flag) flags) (none_or (refusal flag) (excess (with_flag keys flag)) (short_none flag all.0 here.0) (few_none (with_flag keys flag) more.0.few)) more.1)
+    let here = flag_in keys flag more.0 in (
+      here.1,
+      none_or (next_fault keys flag) (fault_behind (with_flag keys flag) flags)
+          (none_or (refusal flag) (excess (with_flag keys flag)) (short_none flag all.0 here.0)
+          (few_none (with_flag keys flag) more.0.few)) more.1,
+    )
 
 pub within_none : (flags : List (List ℕ)) → AllByRecursion (λ flag. is_flag flag ≡ true) flags → IsSetWithin (set_of flags) → first_fault_of flags ≡ None
 within_none flags all within = (within_by flags [] all within).1
@@ -109,7 +117,11 @@ none_by [] keys within none = within
 none_by (flag ∷ flags) keys within none =
     let both = or_none (next_fault keys flag) (fault_behind (with_flag keys flag) flags) none in
     let here = or_none (refusal flag) (excess (with_flag keys flag)) both.0 in
-    none_by flags (with_flag keys flag) (record { few = excess_none (with_flag keys flag) here.1; short = more_short keys flag (bytes_eq (key_of flag) recent) (accepted flag here.0).0 within.short }) both.1
+    none_by flags (with_flag keys flag) (record {
+      few = excess_none (with_flag keys flag) here.1;
+      short =
+          more_short keys flag (bytes_eq (key_of flag) recent) (accepted flag here.0).0 within.short;
+    }) both.1
 
 pub none_within : (flags : List (List ℕ)) → first_fault_of flags ≡ None → IsSetWithin (set_of flags)
 none_within flags none = none_by flags [] (record { few = omega arith; short = tt }) none

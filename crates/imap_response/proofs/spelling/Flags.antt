@@ -1,5 +1,6 @@
 -- Flags in parentheses: what is read, and what is spelled.
-use Rattle.std.proofs.Common.{◌≡◌, ℕ, Bool, true, false, cond, not, List, [], ◌∷◌, ◌++◌, length, drop, codes, refl, ap, sym, ◌∙◌, subst, inl, inr, ◌⊎◌, nat_lt, Result, Ok}
+use Rattle.std.proofs.Common.{◌≡◌, ℕ, Bool, true, false, cond, not, List, [], ◌∷◌, ◌++◌, length, drop, codes, refl, ap, sym, ◌∙◌, subst}
+use Rattle.std.proofs.Common.{inl, inr, ◌⊎◌, nat_lt, Result, Ok}
 use Rattle.std.proofs.lemmas.Bool.{cases_Bool, and_parts}
 use Rattle.std.proofs.lemmas.List.{take-append-drop}
 use Rattle.std.specs.Prelude.{◌&&◌, ◌||◌, ◌==◌}
@@ -56,7 +57,9 @@ spaces_from : (u : Bool) (texts : List (List ℕ)) → AllInside (cond u texts (
 spaces_from true texts all = all
 spaces_from false texts all = all.1
 
-pieces_from : (b : ℕ) (text : List ℕ) (t : Bool) → is_space b ≡ t → AllInside (cond t (cond (begins_with_space text) (pieces text) ([] ∷ pieces text)) (onto_first b (pieces text))) → (is_inside b ≡ true) × AllInside (pieces text)
+pieces_from : (b : ℕ) (text : List ℕ) (t : Bool) → is_space b ≡ t →
+    AllInside (cond t (cond (begins_with_space text) (pieces text) ([] ∷ pieces text)) (onto_first b (pieces text))) →
+    (is_inside b ≡ true) × AllInside (pieces text)
 pieces_from b text true is all = (space_inside b is, spaces_from (begins_with_space text) (pieces text) all)
 pieces_from b text false is all = onto_inside b (pieces text) all
 
@@ -147,7 +150,9 @@ list_spells test permanent of text read is =
     let begins = mark_spells 40 text open_.0 open_.1 in
     let ends = mark_spells 41 (drop (list_len open_.0) open_.0) close.0 close.1 in
     let same = ok_is (of (list_text open_.0), close.0) read close.2 in
-    let listed : IsListed text (list_text open_.0) close.0 = begins ∙ ap (λ (t : List ℕ). 40 ∷ t) (sym (take-append-drop (list_len open_.0) open_.0) ∙ ap (λ (t : List ℕ). list_text open_.0 ++ t) ends) in
+    let listed : IsListed text (list_text open_.0) close.0 = begins
+    ∙ ap (λ (t : List ℕ). 40 ∷ t) (sym (take-append-drop (list_len open_.0) open_.0)
+    ∙ ap (λ (t : List ℕ). list_text open_.0 ++ t) ends) in
     subst (λ (r : Give). (list : List ℕ) × IsListed text list r.1 × (test list ≡ true) × (r.0 ≡ of list)) same
     (list_text open_.0, listed, fits_ok (test (list_text open_.0)) permanent open_.0 fits.1, refl)
 
@@ -156,13 +161,15 @@ list_reads : (test : List ℕ → Bool) (permanent : Bool) (of : List ℕ → Li
 list_reads test permanent of text list rest is all passes =
     let inside : List ℕ = list ++ 41 ∷ rest in
     let front : list_text (list ++ 41 ∷ rest) ≡ list = cut_front is_inside (list ++ 41 ∷ rest) list (41 ∷ rest) (list_cut list rest all) in
-    let behind : drop (list_len (list ++ 41 ∷ rest)) (list ++ 41 ∷ rest) ≡ 41 ∷ rest = cut_behind is_inside (list ++ 41 ∷ rest) list (41 ∷ rest) (list_cut list rest all) in
+    let behind : drop (list_len (list ++ 41 ∷ rest)) (list ++ 41 ∷ rest) ≡ 41 ∷ rest =
+    cut_behind is_inside (list ++ 41 ∷ rest) list (41 ∷ rest) (list_cut list rest all) in
     let passes' : test (list_text (list ++ 41 ∷ rest)) ≡ true = ap test front ∙ passes in
     let fits : fits_list (test (list_text (list ++ 41 ∷ rest))) permanent (list ++ 41 ∷ rest) ≡ Ok tt = rw passes' refl in
     let close : mark_at 41 (drop (list_len (list ++ 41 ∷ rest)) (list ++ 41 ∷ rest)) ≡ Ok rest = mark_reads 41 _ rest behind in
     bind_ok (mark_at 40 text) (behind_mark test permanent of) (list ++ 41 ∷ rest) (of list, rest) (mark_reads 40 text (list ++ 41 ∷ rest) is)
     (bind_ok (fits_list (test (list_text (list ++ 41 ∷ rest))) permanent (list ++ 41 ∷ rest)) (behind_test of (list ++ 41 ∷ rest)) tt (of list, rest) fits
-    (bind_ok (mark_at 41 (drop (list_len (list ++ 41 ∷ rest)) (list ++ 41 ∷ rest))) (behind_list (of (list_text (list ++ 41 ∷ rest)))) rest (of list, rest) close
+    (bind_ok (mark_at 41 (drop (list_len (list ++ 41 ∷ rest)) (list ++ 41 ∷ rest))) (behind_list (of (list_text (list ++ 41 ∷ rest)))) rest
+    (of list, rest) close
     (ap (λ (l : List ℕ). Ok (of l, rest)) front)))
 
 -- flags
@@ -178,10 +185,15 @@ flags_spells text read is =
     let w = list_spells test_flags false of_flags text read is in
     (w.0, w.1, record { each = all_flags (flags_of w.0) w.2; set = ap (λ (l : Listed). l.flags) w.3 })
 
-pub flags_reads : (text list rest : List ℕ) (keys : List (List ℕ)) → IsListed text list rest → IsFlags list keys → (found : Listed) × (flags_at whole text ≡ Ok (found, rest)) × (found.flags ≡ keys)
+pub flags_reads : (text list rest : List ℕ) (keys : List (List ℕ)) → IsListed text list rest → IsFlags list keys →
+    (found : Listed) × (flags_at whole text ≡ Ok (found, rest)) × (found.flags ≡ keys)
 unfolding flags_at
-flags_reads text list rest keys is flags =
-    (of_flags list, list_reads test_flags false of_flags text list rest is (list_inside list (flags_in (flags_of list) flags.each)) (flags_all (flags_of list) flags.each), sym flags.set)
+flags_reads text list rest keys is flags = (
+  of_flags list,
+  list_reads test_flags false of_flags text list rest is (list_inside list (flags_in (flags_of list) flags.each))
+      (flags_all (flags_of list) flags.each),
+  sym flags.set,
+)
 
 -- flags and stars
 abbrev pub test_permanent : List ℕ → Bool
@@ -190,7 +202,8 @@ test_permanent list = list_all may_stand (flags_of list)
 abbrev pub of_permanent : List ℕ → Listed
 of_permanent list = listed_permanent whole (flags_of list)
 
-pub permanent_spells : (text : List ℕ) (read : Give) → permanent_at whole text ≡ Ok read → (list : List ℕ) × IsListed text list read.1 × ArePermanent list read.0.flags read.0.any
+pub permanent_spells : (text : List ℕ) (read : Give) → permanent_at whole text ≡ Ok read →
+    (list : List ℕ) × IsListed text list read.1 × ArePermanent list read.0.flags read.0.any
 unfolding permanent_at
 permanent_spells text read is =
     let w = list_spells test_permanent true of_permanent text read is in
@@ -199,5 +212,10 @@ permanent_spells text read is =
 pub permanent_reads : (text list rest : List ℕ) (keys : List (List ℕ)) (any : Bool) → IsListed text list rest → ArePermanent list keys any
     → (found : Listed) × (permanent_at whole text ≡ Ok (found, rest)) × (found.flags ≡ keys) × (found.any ≡ any)
 unfolding permanent_at
-permanent_reads text list rest keys any is flags =
-    (of_permanent list, list_reads test_permanent true of_permanent text list rest is (list_inside list (stand_in (flags_of list) flags.each)) (stand_all (flags_of list) flags.each), sym flags.set, sym flags.starred)
+permanent_reads text list rest keys any is flags = (
+  of_permanent list,
+  list_reads test_permanent true of_permanent text list rest is
+      (list_inside list (stand_in (flags_of list) flags.each)) (stand_all (flags_of list) flags.each),
+  sym flags.set,
+  sym flags.starred,
+)

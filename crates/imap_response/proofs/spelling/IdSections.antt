@@ -1,5 +1,6 @@
 -- The section of identifiers, and where a text began: what is read, and what is spelled.
-use Rattle.std.proofs.Common.{◌≡◌, ℕ, ◌<◌, true, false, List, [], ◌∷◌, ◌++◌, length, take, drop, codes, refl, ap, sym, ◌∙◌, subst, inl, inr, arith, nat_lt, append-nil, Result, Ok}
+use Rattle.std.proofs.Common.{◌≡◌, ℕ, ◌<◌, true, false, List, [], ◌∷◌, ◌++◌, length, take, drop, codes, refl, ap, sym, ◌∙◌, subst, inl}
+use Rattle.std.proofs.Common.{inr, arith, nat_lt, append-nil, Result, Ok}
 use Rattle.std.proofs.lemmas.Bool.{and_parts}
 use Rattle.std.proofs.lemmas.Bool.Decides.{nat_tests}
 use Rattle.std.proofs.lemmas.List.{take-append-drop}
@@ -18,17 +19,19 @@ use Rattle.imap_model.proofs.Cutting.{Stops as Ends}
 use Rattle.imap_response.specs.Leaf.{is_space, gap_at, mark_at, named_at, wide_at}
 use Rattle.imap_response.specs.Reads.{◌>>=◌}
 use Rattle.imap_response.specs.Left.{Left, at_left, mark_in}
-use Rattle.imap_response.specs.Strings.{id_field_at}
+use Rattle.imap_response.specs.ReadStrings.{id_field_at}
 use Rattle.imap_response.specs.Items.{id_section_at, is_origin, origin_at}
 use Rattle.imap_response.proofs.spelling.CodeRows.{space_first}
 use Rattle.imap_response.proofs.spelling.IdFields.{field_spells, field_reads}
 use Rattle.imap_response.proofs.spelling.Names.{IsNamed, named_spells, named_reads, same_wide, bytes_equal}
-use Rattle.imap_response.proofs.spelling.Numbers.{digits_front, digits_pass, digits_wide}
+use Rattle.imap_response.proofs.NumberLemmas.{digits_front}
+use Rattle.imap_response.proofs.spelling.Numbers.{digits_pass, digits_wide}
 use Rattle.imap_response.proofs.spelling.Passing.{Passes, Fits, bytes_pass, pass_bytes, pass_left, split, joined, fits_behind, bytes_joined}
 use Rattle.imap_response.proofs.spelling.Results.{is_byte, ok_is, ok_first, ok_bind, bind_ok}
 use Rattle.imap_response.proofs.spelling.Runs.{AllPass, IsCut, reading_cuts, cut_front, cut_behind, cut_len, all_joined}
 use Rattle.imap_response.proofs.spelling.Steps.{repart, gap_front, gap_there, mark_front, mark_there, mark_in_front, mark_in_there}
-use Rattle.imap_response.proofs.spelling.Values.{singles, singles_parts, singles_lawful, pieces_joined, lawful_pieces, wide_singles, space_single, not_brackets, wide_other, space_other, not_joined}
+use Rattle.imap_response.proofs.spelling.Values.{singles, singles_parts, singles_lawful, pieces_joined, lawful_pieces, wide_singles}
+use Rattle.imap_response.proofs.spelling.Values.{space_single, not_brackets, wide_other, space_other, not_joined}
 
 -- the section and its bracket
 pub record IsIdFront (left behind : Left) : Type 0 where
@@ -79,7 +82,18 @@ id_spells left behind fits is =
     let with_list = joined left (bytes (named.word ++ two.gap ++ 40 ∷ []) ++ four.field) field.0 (bytes (41 ∷ [])) list.0 with_field five in
     record {
       inside = bytes (named.word ++ two.gap ++ 40 ∷ []) ++ four.field ++ bytes (41 ∷ []);
-      section = record { name = named.word; named = named.same; gap = two.gap; spaces = two.spaces; field = four.field; value = four.value; astring = four.astring; is_id = four.same; whole = refl };
+      section = record {
+        name = named.word;
+        named = named.same;
+        gap = two.gap;
+        spaces = two.spaces;
+        field = four.field;
+        value =
+            four.value;
+        astring = four.astring;
+        is_id = four.same;
+        whole = refl;
+      };
       passes = joined left (bytes (named.word ++ two.gap ++ 40 ∷ []) ++ four.field ++ bytes (41 ∷ [])) list.0 (bytes (93 ∷ [])) behind with_list six;
     }
 
@@ -94,17 +108,31 @@ unfolding id_section_at
 id_reads left behind inside section passes =
     let s = section in
     let whole : inside ++ bytes (93 ∷ []) ≡ (((bytes s.name ++ bytes s.gap) ++ bytes (40 ∷ [])) ++ s.field ++ bytes (41 ∷ [])) ++ bytes (93 ∷ []) =
-    ap (λ (p : List Part). p ++ bytes (93 ∷ [])) (s.whole ∙ ap (λ (p : List Part). p ++ s.field ++ bytes (41 ∷ [])) (bytes_joined (s.name ++ s.gap) (40 ∷ []) ∙ ap (λ (p : List Part). p ++ bytes (40 ∷ [])) (bytes_joined s.name s.gap))) in
-    let six = split left (((bytes s.name ++ bytes s.gap) ++ bytes (40 ∷ [])) ++ s.field ++ bytes (41 ∷ [])) (bytes (93 ∷ [])) behind (repart left behind (inside ++ bytes (93 ∷ [])) _ whole passes) in
+    ap (λ (p : List Part). p ++ bytes (93 ∷ [])) (s.whole ∙ ap (λ (p : List Part). p ++ s.field ++ bytes (41 ∷ []))
+    (bytes_joined (s.name ++ s.gap) (40 ∷ []) ∙ ap (λ (p : List Part). p ++ bytes (40 ∷ [])) (bytes_joined s.name s.gap))) in
+    let six = split left (((bytes s.name ++ bytes s.gap) ++ bytes (40 ∷ [])) ++ s.field ++ bytes (41 ∷ [])) (bytes (93 ∷ [])) behind
+    (repart left behind (inside ++ bytes (93 ∷ [])) _ whole passes) in
     let five = split left (((bytes s.name ++ bytes s.gap) ++ bytes (40 ∷ [])) ++ s.field) (bytes (41 ∷ [])) six.0 six.1 in
     let four = split left ((bytes s.name ++ bytes s.gap) ++ bytes (40 ∷ [])) s.field five.0 five.1 in
     let three = split left (bytes s.name ++ bytes s.gap) (bytes (40 ∷ [])) four.0 four.1 in
     let two = split left (bytes s.name) (bytes s.gap) three.0 three.1 in
-    let named : IsNamed (codes "HEADER.FIELDS") left.text two.0.text = record { word = s.name; same = s.named; whole = pass_bytes left s.name two.0 two.1; ends = gap_wide s.gap three.0.text two.0.text s.spaces (pass_bytes two.0 s.gap three.0 two.2) } in
-    let back : at_left left four.0.text ≡ four.0 = pass_left left ((s.name ++ s.gap) ++ 40 ∷ []) four.0 (repart left four.0 ((bytes s.name ++ bytes s.gap) ++ bytes (40 ∷ [])) (bytes ((s.name ++ s.gap) ++ 40 ∷ [])) (ap (λ (p : List Part). p ++ bytes (40 ∷ [])) (sym (bytes_joined s.name s.gap)) ∙ sym (bytes_joined (s.name ++ s.gap) (40 ∷ []))) four.1) in
+    let named : IsNamed (codes "HEADER.FIELDS") left.text two.0.text =
+    record {
+      word = s.name;
+      same = s.named;
+      whole = pass_bytes left s.name two.0 two.1;
+      ends =
+          gap_wide s.gap three.0.text two.0.text s.spaces (pass_bytes two.0 s.gap three.0 two.2);
+    } in
+    let back : at_left left four.0.text ≡ four.0 = pass_left left ((s.name ++ s.gap) ++ 40 ∷ []) four.0
+    (repart left four.0 ((bytes s.name ++ bytes s.gap) ++ bytes (40 ∷ [])) (bytes ((s.name ++ s.gap) ++ 40 ∷ []))
+    (ap (λ (p : List Part). p ++ bytes (40 ∷ [])) (sym (bytes_joined s.name s.gap))
+    ∙ sym (bytes_joined (s.name ++ s.gap) (40 ∷ []))) four.1) in
     let field = field_reads four.0 five.0 s.field s.value s.astring s.is_id four.2 in
-    bind_ok (named_at (codes "HEADER.FIELDS") left.text) (behind_name left) two.0.text behind (named_reads (codes "HEADER.FIELDS") left.text two.0.text refl named)
-    (bind_ok (gap_at two.0.text) (behind_gap left) three.0.text behind (gap_there two.0 three.0 s.gap s.spaces (mark_no_space 40 three.0 four.0 three.2 refl) two.2)
+    bind_ok (named_at (codes "HEADER.FIELDS") left.text) (behind_name left) two.0.text behind
+    (named_reads (codes "HEADER.FIELDS") left.text two.0.text refl named)
+    (bind_ok (gap_at two.0.text) (behind_gap left) three.0.text behind
+    (gap_there two.0 three.0 s.gap s.spaces (mark_no_space 40 three.0 four.0 three.2 refl) two.2)
     (bind_ok (mark_at 40 three.0.text) (behind_open left) four.0.text behind (mark_there 40 three.0 four.0 three.2)
     (bind_ok (id_field_at (at_left left four.0.text)) behind_field five.0 behind (ap (λ (l : Left). id_field_at l) back ∙ field)
     (bind_ok (mark_in 41 five.0) close_list six.0 behind (mark_in_there 41 five.0 six.0 five.2) (mark_in_there 93 six.0 behind six.2)))))
@@ -143,22 +171,34 @@ id_is_section inside s =
     let wide = same_wide s.name (codes "HEADER.FIELDS") s.named refl in
     let field = field_pieces s.field s.value s.astring s.is_id in
     let front : List Piece = singles s.name ++ singles s.gap ++ Open ∷ [] in
-    let lawful_front = lawful_pieces (singles s.name ++ singles s.gap) (Open ∷ []) (lawful_pieces (singles s.name) (singles s.gap) (singles_lawful s.name (wide_singles s.name wide)) (singles_lawful s.gap (space_single s.gap s.spaces.1))) (tt, tt) in
-    let other_front = not_joined (singles s.name ++ singles s.gap) (Open ∷ []) (not_joined (singles s.name) (singles s.gap) (not_brackets s.name (wide_other s.name wide)) (not_brackets s.gap (space_other s.gap s.spaces.1))) (tt, tt) in
+    let lawful_front = lawful_pieces (singles s.name ++ singles s.gap) (Open ∷ [])
+    (lawful_pieces (singles s.name) (singles s.gap) (singles_lawful s.name (wide_singles s.name wide))
+    (singles_lawful s.gap (space_single s.gap s.spaces.1))) (tt, tt) in
+    let other_front = not_joined (singles s.name ++ singles s.gap) (Open ∷ [])
+    (not_joined (singles s.name) (singles s.gap) (not_brackets s.name (wide_other s.name wide))
+    (not_brackets s.gap (space_other s.gap s.spaces.1))) (tt, tt) in
     let front_parts : flat_map piece_parts (singles s.name ++ singles s.gap ++ Open ∷ []) ≡ bytes (s.name ++ s.gap ++ 40 ∷ []) =
-    pieces_joined (singles s.name ++ singles s.gap) (Open ∷ []) ∙ ap (λ (p : List Part). p ++ bytes (40 ∷ [])) (pieces_joined (singles s.name) (singles s.gap) ∙ ap (λ (p : List Part). p ++ flat_map piece_parts (singles s.gap)) (singles_parts s.name) ∙ ap (λ (p : List Part). bytes s.name ++ p) (singles_parts s.gap) ∙ sym (bytes_joined s.name s.gap)) ∙ sym (bytes_joined (s.name ++ s.gap) (40 ∷ [])) in
+    pieces_joined (singles s.name ++ singles s.gap) (Open ∷ []) ∙ ap (λ (p : List Part). p ++ bytes (40 ∷ []))
+    (pieces_joined (singles s.name) (singles s.gap) ∙ ap (λ (p : List Part). p ++ flat_map piece_parts (singles s.gap))
+    (singles_parts s.name) ∙ ap (λ (p : List Part). bytes s.name ++ p) (singles_parts s.gap) ∙ sym (bytes_joined s.name s.gap))
+    ∙ sym (bytes_joined (s.name ++ s.gap) (40 ∷ [])) in
     let whole : flat_map piece_parts ((singles s.name ++ singles s.gap ++ Open ∷ []) ++ field.pieces ++ Close ∷ []) ≡ inside =
     pieces_joined ((singles s.name ++ singles s.gap ++ Open ∷ []) ++ field.pieces) (Close ∷ [])
-    ∙ ap (λ (p : List Part). p ++ bytes (41 ∷ [])) (pieces_joined (singles s.name ++ singles s.gap ++ Open ∷ []) field.pieces ∙ ap (λ (p : List Part). p ++ flat_map piece_parts field.pieces) front_parts ∙ ap (λ (p : List Part). bytes (s.name ++ s.gap ++ 40 ∷ []) ++ p) (sym field.whole))
+    ∙ ap (λ (p : List Part). p ++ bytes (41 ∷ [])) (pieces_joined (singles s.name ++ singles s.gap ++ Open ∷ []) field.pieces
+    ∙ ap (λ (p : List Part). p ++ flat_map piece_parts field.pieces) front_parts
+    ∙ ap (λ (p : List Part). bytes (s.name ++ s.gap ++ 40 ∷ []) ++ p) (sym field.whole))
     ∙ sym s.whole in (
       (singles s.name ++ singles s.gap ++ Open ∷ []) ++ field.pieces ++ Close ∷ [],
-      lawful_pieces ((singles s.name ++ singles s.gap ++ Open ∷ []) ++ field.pieces) (Close ∷ []) (lawful_pieces (singles s.name ++ singles s.gap ++ Open ∷ []) field.pieces lawful_front field.lawful) (tt, tt),
-      not_joined ((singles s.name ++ singles s.gap ++ Open ∷ []) ++ field.pieces) (Close ∷ []) (not_joined (singles s.name ++ singles s.gap ++ Open ∷ []) field.pieces other_front field.other) (tt, tt),
+      lawful_pieces ((singles s.name ++ singles s.gap ++ Open ∷ []) ++ field.pieces) (Close ∷ [])
+          (lawful_pieces (singles s.name ++ singles s.gap ++ Open ∷ []) field.pieces lawful_front field.lawful) (tt, tt),
+      not_joined ((singles s.name ++ singles s.gap ++ Open ∷ []) ++ field.pieces) (Close ∷ [])
+          (not_joined (singles s.name ++ singles s.gap ++ Open ∷ []) field.pieces other_front field.other) (tt, tt),
       sym whole,
     )
 
 -- where a text began
-origin_from : (byte : ℕ) (more : List ℕ) (n : ℕ) → prefix_len is_ascii_digit more ≡ n → (byte == 60 && nat_lt 0 n && bytes_eq (drop n more) (62 ∷ [])) ≡ true → IsOrigin (byte ∷ more)
+origin_from : (byte : ℕ) (more : List ℕ) (n : ℕ) → prefix_len is_ascii_digit more ≡ n →
+    (byte == 60 && nat_lt 0 n && bytes_eq (drop n more) (62 ∷ [])) ≡ true → IsOrigin (byte ∷ more)
 origin_from byte more n is test =
     let outer = and_parts (byte == 60 && nat_lt 0 n) (bytes_eq (drop n more) (62 ∷ [])) test in
     let inner = and_parts (byte == 60) (nat_lt 0 n) outer.0 in
@@ -167,14 +207,16 @@ origin_from byte more n is test =
     let last = bytes_equal (drop n more) (62 ∷ []) outer.1 in
     let len : length (take (prefix_len is_ascii_digit more) more) ≡ n = length-prefix_len is_ascii_digit more ∙ is in
     let front : take n more ≡ take (prefix_len is_ascii_digit more) more = ap (λ (k : ℕ). take k more) (sym is) in
-    let rest : more ≡ take (prefix_len is_ascii_digit more) more ++ 62 ∷ [] = sym (take-append-drop n more) ∙ ap (λ (t : List ℕ). take n more ++ t) last ∙ ap (λ (t : List ℕ). t ++ 62 ∷ []) front in
+    let rest : more ≡ take (prefix_len is_ascii_digit more) more ++ 62 ∷ [] =
+    sym (take-append-drop n more) ∙ ap (λ (t : List ℕ). take n more ++ t) last ∙ ap (λ (t : List ℕ). t ++ 62 ∷ []) front in
     inr (take (prefix_len is_ascii_digit more) more, (omega (arith, len, some), digits_front more), cc)
 
 pub origin_is : (text : List ℕ) → is_origin text ≡ true → IsOrigin text
 origin_is [] test = inl refl
 origin_is (byte ∷ more) test = origin_from byte more (prefix_len is_ascii_digit more) refl test
 
-origin_test : (digits : List ℕ) (n : ℕ) → prefix_len is_ascii_digit (digits ++ 62 ∷ []) ≡ n → nat_lt 0 n ≡ true → drop n (digits ++ 62 ∷ []) ≡ 62 ∷ [] → is_origin (60 ∷ (digits ++ 62 ∷ [])) ≡ true
+origin_test : (digits : List ℕ) (n : ℕ) → prefix_len is_ascii_digit (digits ++ 62 ∷ []) ≡ n → nat_lt 0 n ≡ true →
+    drop n (digits ++ 62 ∷ []) ≡ 62 ∷ [] → is_origin (60 ∷ (digits ++ 62 ∷ [])) ≡ true
 origin_test digits n is some rest = rw is (rw (some, rest) refl)
 
 some_digits : (digits : List ℕ) → 0 < length digits → nat_lt 0 (length digits) ≡ true
@@ -189,7 +231,8 @@ is_origin_of text (inr some) =
 
 origin_wide : (text : List ℕ) → IsOrigin text → AllPass is_wide_byte text
 origin_wide text (inl none) = subst (AllPass is_wide_byte) (sym none) tt
-origin_wide text (inr some) = subst (AllPass is_wide_byte) (sym some.2) (refl, all_joined is_wide_byte some.0 (62 ∷ []) (digits_wide some.0 some.1.1) (refl, tt))
+origin_wide text (inr some) = subst (AllPass is_wide_byte) (sym some.2)
+    (refl, all_joined is_wide_byte some.0 (62 ∷ []) (digits_wide some.0 some.1.1) (refl, tt))
 
 pub record IsOriginFront (text rest : List ℕ) : Type 0 where
   pub origin : List ℕ
@@ -209,7 +252,8 @@ origin_spells text rest is =
       run = refl;
     }
 
-pub origin_reads : (text origin rest : List ℕ) → IsOrigin origin → text ≡ origin ++ rest → Ends is_wide_byte rest → (origin_at text ≡ Ok rest) × ((wide_at text).0 ≡ origin)
+pub origin_reads : (text origin rest : List ℕ) → IsOrigin origin → text ≡ origin ++ rest → Ends is_wide_byte rest →
+    (origin_at text ≡ Ok rest) × ((wide_at text).0 ≡ origin)
 unfolding origin_at
 origin_reads text origin rest is whole ends =
     let cut : IsCut is_wide_byte text origin rest = record { all = origin_wide origin is; ends = ends; whole = whole } in

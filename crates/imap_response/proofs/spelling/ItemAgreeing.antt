@@ -11,14 +11,15 @@ use Rattle.imap_response.specs.Flags.{whole, flags_at}
 use Rattle.imap_response.specs.Items.{is_atom, with_told, id_section_at, origin_at, other_section_at, ids_behind, ids_at, sectioned_at, named_item_at, item_at}
 use Rattle.imap_response.specs.Leaf.{gap_at, mark_at, wide_at, same_word}
 use Rattle.imap_response.specs.Left.{Left, at_left}
-use Rattle.imap_response.specs.Numbers.{nonzero_at, modseq_at}
+use Rattle.imap_response.specs.ReadNumbers.{nonzero_at, modseq_at}
 use Rattle.imap_response.specs.Reads.{◌>>=◌, or_else}
-use Rattle.imap_response.specs.Strings.{nstring_at}
-use Rattle.imap_response.specs.Values.{value_at, section_at}
+use Rattle.imap_response.specs.ReadStrings.{nstring_at}
+use Rattle.imap_response.specs.ReadValues.{value_at, section_at}
 use Rattle.imap_response.specs.Within.{IsToldWithin}
 use Rattle.imap_response.proofs.spelling.Agreeing.{Agrees, no_excess, listed_agrees}
 use Rattle.imap_response.proofs.spelling.Choices.{Chosen, choice}
-use Rattle.imap_response.proofs.spelling.Items.{Read, told_of, told_nothing, value_there, origin_there, section_there, ids_told, ids_there, ids_origin, by_section, by_name, item_is}
+use Rattle.imap_response.proofs.spelling.Items.{Read, told_of, told_nothing, value_there, origin_there, section_there, ids_told}
+use Rattle.imap_response.proofs.spelling.Items.{ids_there, ids_origin, by_section, by_name, item_is}
 use Rattle.imap_response.proofs.spelling.ItemReads.{rows_of, value_of, items_are}
 use Rattle.imap_response.proofs.spelling.Results.{ok_is, ok_first, ok_either, ok_bind, ok_or_else}
 
@@ -64,13 +65,14 @@ ids_agrees left read is =
 
 sectioned_agrees : (name : List ℕ) (left : Left) (read : Read) → sectioned_at name left ≡ Ok read → ReadAgrees read
 unfolding sectioned_at
-sectioned_agrees name left read is = elim (ok_either (same_word name (codes "BODY")) (or_else (id_section_at left) ids_at (other_section_at left)) (other_section_at left) read is) [
-  | inl body ↦ elim (ok_or_else (id_section_at left) ids_at (other_section_at left) read body.1) [
-    | inl ids ↦ ids_agrees ids.0 read ids.2
-    | inr other ↦ other_agrees left read other.2
-  ]
-  | inr other ↦ other_agrees left read other.1
-]
+sectioned_agrees name left read is = elim (ok_either (same_word name (codes "BODY"))
+    (or_else (id_section_at left) ids_at (other_section_at left)) (other_section_at left) read is) [
+      | inl body ↦ elim (ok_or_else (id_section_at left) ids_at (other_section_at left) read body.1) [
+        | inl ids ↦ ids_agrees ids.0 read ids.2
+        | inr other ↦ other_agrees left read other.2
+      ]
+      | inr other ↦ other_agrees left read other.1
+    ]
 
 abbrev put_uid : Left → ℕ × List ℕ → Result Read ℕ
 put_uid left uid = Ok (tellings.Uid uid.0, at_left left uid.1)
@@ -98,7 +100,8 @@ row_agrees name left read (inr (inr (inl row))) =
     let inside = ok_bind (mark_at 40 left.text) (open_modseq left) read row.1 in
     let modseq = ok_bind (modseq_at inside.0) (close_modseq left) read inside.2 in
     let behind = ok_bind (mark_at 41 modseq.0.1) (put_modseq left modseq.0.0) read modseq.2 in
-    subst ReadAgrees (ok_is (tellings.ModSeq modseq.0.0, at_left left behind.0) read behind.2) (no_excess (IsToldWithin (told_of (tellings.ModSeq modseq.0.0))) tt)
+    subst ReadAgrees (ok_is (tellings.ModSeq modseq.0.0, at_left left behind.0) read behind.2)
+    (no_excess (IsToldWithin (told_of (tellings.ModSeq modseq.0.0))) tt)
 row_agrees name left read (inr (inr (inr row))) = absurd row
 
 named_agrees : (name : List ℕ) (left : Left) (read : Read) → named_item_at whole name left ≡ Ok read → ReadAgrees read
@@ -109,7 +112,9 @@ named_agrees name left read is = elim (choice name (rows_of left) (value_of left
 
 pub item_agrees : (left : Left) (read : Read) → item_at whole left ≡ Ok read → ToldAgrees read.0
 item_agrees left read is =
-    let test = ok_first (is_atom (wide_at left.text).0) (length left.text) (or_else (mark_at 91 (wide_at left.text).1) (by_section left) (gap_at (wide_at left.text).1 >>= by_name left)) read (sym (item_is left) ∙ is) in
+    let test = ok_first (is_atom (wide_at left.text).0) (length left.text)
+    (or_else (mark_at 91 (wide_at left.text).1) (by_section left) (gap_at (wide_at left.text).1 >>= by_name left)) read
+    (sym (item_is left) ∙ is) in
     elim (ok_or_else (mark_at 91 (wide_at left.text).1) (by_section left) (gap_at (wide_at left.text).1 >>= by_name left) read test.1) [
       | inl section ↦ sectioned_agrees (wide_at left.text).0 (at_left left section.0) read section.2
       | inr plain ↦
@@ -138,7 +143,8 @@ none_or None p is is' = is'
 none_or (Some fault) p is is' = absurd cc
 
 -- what holds of an item, holds of what was told so far with it
-pub one_agrees : (gathered : Gathered) (told : Told) → ToldAgrees told → Agrees (with_told gathered told).excess ((gathered.excess ≡ None) × IsToldWithin (told_of told))
+pub one_agrees : (gathered : Gathered) (told : Told) → ToldAgrees told →
+    Agrees (with_told gathered told).excess ((gathered.excess ≡ None) × IsToldWithin (told_of told))
 one_agrees gathered told agrees = record {
   to = λ none. (let both = or_none gathered.excess (excess_of told) (sym (excess_more gathered told) ∙ none) in (both.0, agrees.to both.1));
   from = λ both. excess_more gathered told ∙ none_or gathered.excess (excess_of told) both.0 (agrees.from both.1);

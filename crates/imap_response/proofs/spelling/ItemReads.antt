@@ -1,5 +1,6 @@
 -- An item of a message: what is spelled is read so.
-use Rattle.std.proofs.Common.{◌≡◌, ◌≢◌, ℕ, Bool, true, false, not, List, [], ◌∷◌, ◌++◌, length, codes, refl, ap, sym, ◌∙◌, subst, inl, inr, ◌⊎◌, arith, append_assoc, append-nil, Result, Ok, Err}
+use Rattle.std.proofs.Common.{◌≡◌, ◌≢◌, ℕ, Bool, true, false, not, List, [], ◌∷◌, ◌++◌, length, codes, refl, ap, sym, ◌∙◌, subst, inl}
+use Rattle.std.proofs.Common.{inr, ◌⊎◌, arith, append_assoc, append-nil, Result, Ok, Err}
 use Rattle.std.proofs.lemmas.Bool.{cases_Bool}
 use Rattle.std.proofs.lemmas.Bool.Decides.{nat_tests}
 use Rattle.std.specs.Prelude.{◌&&◌, ◌==◌}
@@ -13,23 +14,25 @@ use Rattle.imap_model.specs.Numbers.{IsNonzero, IsModSeq}
 use Rattle.imap_model.specs.Strings.{character_text}
 use Rattle.imap_model.specs.Values.{is_wide_byte, IsWide, IsAtom, IsValue, IsSection}
 use Rattle.imap_model.specs.FetchItems as model
-use Rattle.imap_model.specs.FetchItems.{IsUidItem, IsFlagsItem, IsModSeqItem, IsIdSection, IsNstring, IsIdsItem, known_items, IsOtherName, IsOrigin, IsSectionName, IsOtherItem, IsItem}
+use Rattle.imap_model.specs.FetchItems.{IsUidItem, IsFlagsItem, IsModSeqItem, IsIdSection, IsNstring, IsIdsItem, known_items, IsOtherName}
+use Rattle.imap_model.specs.FetchItems.{IsOrigin, IsSectionName, IsOtherItem, IsItem}
 use Rattle.imap_model.proofs.Cutting.{Stops as Ends}
 use Rattle.imap_response.specs.declared.fetch.Told.{Told}
 use Rattle.imap_response.specs.declared.fetch.Told.TheVariants as tellings
 use Rattle.imap_response.specs.declared.flags.Listed.{Listed}
 use Rattle.imap_response.specs.Leaf.{is_space, gap_at, mark_at, wide_at, same_word, is_digits}
 use Rattle.imap_response.specs.Reads.{◌>>=◌, or_else}
-use Rattle.imap_response.specs.Numbers.{nonzero_at, modseq_at}
+use Rattle.imap_response.specs.ReadNumbers.{nonzero_at, modseq_at}
 use Rattle.imap_response.specs.Flags.{whole, flags_at}
 use Rattle.imap_response.specs.Left.{Left, at_left}
-use Rattle.imap_response.specs.Strings.{nstring_at}
-use Rattle.imap_response.specs.Values.{value_at, section_at}
+use Rattle.imap_response.specs.ReadStrings.{nstring_at}
+use Rattle.imap_response.specs.ReadValues.{value_at, section_at}
 use Rattle.imap_response.specs.Items.{is_atom, id_section_at, origin_at, other_section_at, ids_behind, ids_at, sectioned_at, named_item_at, item_at}
 use Rattle.imap_response.proofs.spelling.Choices.{choose, choose_same, choose_none, same_test, none_of}
 use Rattle.imap_response.proofs.spelling.Flags.{IsListed, flags_reads}
 use Rattle.imap_response.proofs.spelling.IdSections.{id_spells, id_reads, id_is_section, origin_reads, gap_wide}
-use Rattle.imap_response.proofs.spelling.Items.{Read, told_of, told_nothing, value_there, origin_there, section_there, ids_told, ids_there, ids_origin, by_section, by_name, item_is}
+use Rattle.imap_response.proofs.spelling.Items.{Read, told_of, told_nothing, value_there, origin_there, section_there, ids_told}
+use Rattle.imap_response.proofs.spelling.Items.{ids_there, ids_origin, by_section, by_name, item_is}
 use Rattle.imap_response.proofs.spelling.Names.{same_is, is_same, is_other, all_lower, from_all, same_wide}
 use Rattle.imap_response.proofs.spelling.Numbers.{IsFront, nonzero_at_reads, modseq_at_reads, numeral_is, digits_pass}
 use Rattle.imap_response.proofs.spelling.OneSection.{section_same, same_mid}
@@ -54,7 +57,8 @@ no_digits run other = elim (cases_Bool (is_digits run)) [ inl is ↦ absurd (oth
 
 pub is_atom_of : (run : List ℕ) → IsAtom run → is_atom run ≡ true
 is_atom_of run atom =
-    three_true (length run == 0) (same_word run (codes "NIL")) (is_digits run) (some_len run atom.wide.0) (is_other run (codes "NIL") atom.not_nil) (no_digits run atom.not_number)
+    three_true (length run == 0) (same_word run (codes "NIL")) (is_digits run) (some_len run atom.wide.0)
+    (is_other run (codes "NIL") atom.not_nil) (no_digits run atom.not_number)
 
 digit_lower : (b : ℕ) → is_ascii_digit (to_ascii_lowercase b) ≡ is_ascii_digit b
 digit_lower b = grind (arith, nat_tests)
@@ -65,13 +69,15 @@ some_word [] (c ∷ name) same some = absurd cc
 some_word (b ∷ word) name same some = λ is. cc
 
 -- a word that is a name in another case is an atom like it
-pub named_atom : (word name : List ℕ) → SameWord word name → name ≢ [] → list_all is_wide_byte name ≡ true → same_word name (codes "NIL") ≡ false → list_all is_ascii_digit name ≡ false → IsAtom word
+pub named_atom : (word name : List ℕ) → SameWord word name → name ≢ [] → list_all is_wide_byte name ≡ true →
+    same_word name (codes "NIL") ≡ false → list_all is_ascii_digit name ≡ false → IsAtom word
 named_atom word name same some wide not_nil not_digits = record {
   wide = (some_word word name same some, same_wide word name same wide);
   not_nil = λ nil. (let is = is_same word (codes "NIL") nil in let no = same_test word name (codes "NIL") same in cc);
   not_number = λ numeral. (
       let digits : list_all is_ascii_digit word ≡ true = from_all is_ascii_digit word (digits_pass word numeral.1) in
-      let there : list_all is_ascii_digit word ≡ list_all is_ascii_digit name = sym (all_lower is_ascii_digit digit_lower word) ∙ ap (list_all is_ascii_digit) same ∙ all_lower is_ascii_digit digit_lower name in
+      let there : list_all is_ascii_digit word ≡ list_all is_ascii_digit name =
+      sym (all_lower is_ascii_digit digit_lower word) ∙ ap (list_all is_ascii_digit) same ∙ all_lower is_ascii_digit digit_lower name in
       cc);
 }
 
@@ -83,14 +89,16 @@ pub wide_solid : (text more : List ℕ) → IsWide text → Ends is_space (text 
 wide_solid [] more wide = absurd (wide.0 refl)
 wide_solid (b ∷ text) more wide = not_space b wide.1.0
 
-front_solid : (left behind : Left) (text : List ℕ) → Passes left (bytes text) behind → ((more : List ℕ) → Ends is_space (text ++ more)) → Ends is_space left.text
+front_solid : (left behind : Left) (text : List ℕ) → Passes left (bytes text) behind → ((more : List ℕ) → Ends is_space (text ++ more)) →
+    Ends is_space left.text
 front_solid left behind text passes solid = subst (Ends is_space) (sym (pass_bytes left text behind passes)) (solid behind.text)
 
 pub value_solid : (left behind : Left) (parts : List Part) → IsValue parts → Passes left parts behind → Ends is_space left.text
 value_solid left behind parts (inl wide) passes =
     front_solid left behind wide.0 (repart left behind parts (bytes wide.0) wide.2 passes) (λ more. wide_solid wide.0 more wide.1)
 value_solid left behind parts (inr (inl (value, inl quoted))) passes =
-    let passes' = repart left behind parts (bytes (34 ∷ (flat_map character_text quoted.1 ++ 34 ∷ []))) (quoted.3 ∙ ap (λ (t : List ℕ). bytes t) quoted.2.whole) passes in
+    let passes' = repart left behind parts (bytes (34 ∷ (flat_map character_text quoted.1 ++ 34 ∷ [])))
+    (quoted.3 ∙ ap (λ (t : List ℕ). bytes t) quoted.2.whole) passes in
     front_solid left behind (34 ∷ (flat_map character_text quoted.1 ++ 34 ∷ [])) passes' (λ more. refl)
 value_solid left behind parts (inr (inl (value, inr literal))) passes =
     let passes' = repart left behind parts (Literal literal.0 value ∷ []) literal.1 passes in
@@ -107,7 +115,8 @@ nstring_value parts value (inl string) = inr (inl (value, string))
 nstring_value parts value (inr nil) = inl (nil.0, nil_wide nil.0 nil.1, nil.2)
 
 -- an item whose name has no section
-module _ (left one two : Left) (name gap : List ℕ) (named : Passes left (bytes name) one) (spaces : IsGap gap) (spaced : Passes one (bytes gap) two) (solid : Ends is_space two.text) (atom : IsAtom name) where
+module _ (left one two : Left) (name gap : List ℕ) (named : Passes left (bytes name) one) (spaces : IsGap gap)
+    (spaced : Passes one (bytes gap) two) (solid : Ends is_space two.text) (atom : IsAtom name) where
   name_cut : IsCut is_wide_byte left.text name one.text
   name_cut = record { all = atom.wide.1; ends = gap_wide gap two.text one.text spaces (pass_bytes one gap two spaced); whole = pass_bytes left name one named }
 
@@ -118,11 +127,13 @@ module _ (left one two : Left) (name gap : List ℕ) (named : Passes left (bytes
   behind_is = cut_behind is_wide_byte left.text name one.text name_cut
 
   two_is : at_left left two.text ≡ two
-  two_is = pass_left left (name ++ gap) two (repart left two (bytes name ++ bytes gap) (bytes (name ++ gap)) (sym (bytes_joined name gap)) (joined left (bytes name) one (bytes gap) two named spaced))
+  two_is = pass_left left (name ++ gap) two (repart left two (bytes name ++ bytes gap) (bytes (name ++ gap)) (sym (bytes_joined name gap))
+      (joined left (bytes name) one (bytes gap) two named spaced))
 
   no_bracket_from : (gap : List ℕ) → IsGap gap → one.text ≡ gap ++ two.text → (rest : List ℕ) → mark_at 91 one.text ≡ Ok rest → ⊥
   no_bracket_from [] spaces is rest marked = spaces.0 refl
-  no_bracket_from (b ∷ gap) spaces is rest marked = no_mark 91 b one.text (gap ++ two.text) is (λ e. (let space = spaces.1.0 in omega (arith, e, space))) rest marked
+  no_bracket_from (b ∷ gap) spaces is rest marked = no_mark 91 b one.text (gap ++ two.text) is
+      (λ e. (let space = spaces.1.0 in omega (arith, e, space))) rest marked
 
   no_bracket : (rest : List ℕ) → mark_at 91 (wide_at left.text).1 ≡ Ok rest → ⊥
   no_bracket rest marked = no_bracket_from gap spaces (pass_bytes one gap two spaced) rest (ap (mark_at 91) (sym behind_is) ∙ marked)
@@ -131,12 +142,14 @@ module _ (left one two : Left) (name gap : List ℕ) (named : Passes left (bytes
   plain_item read is =
       let test : is_atom (wide_at left.text).0 ≡ true = ap is_atom front_is ∙ is_atom_of name atom in
       let after : gap_at (wide_at left.text).1 ≡ Ok two.text = ap gap_at behind_is ∙ gap_there one two gap spaces solid spaced in
-      let there : by_name left two.text ≡ Ok read = ap (λ (n : List ℕ). named_item_at whole n (at_left left two.text)) front_is ∙ ap (named_item_at whole name) two_is ∙ is in
+      let there : by_name left two.text ≡ Ok read = ap (λ (n : List ℕ). named_item_at whole n (at_left left two.text)) front_is
+      ∙ ap (named_item_at whole name) two_is ∙ is in
       item_is left ∙ rw test (or_else_err (mark_at 91 (wide_at left.text).1) (by_section left) (gap_at (wide_at left.text).1 >>= by_name left) no_bracket
       ∙ bind_ok (gap_at (wide_at left.text).1) (by_name left) two.text read after there)
 
 -- and one whose name has one
-pub section_item : (left two : Left) (name : List ℕ) (read : Read) → IsAtom name → Passes left (bytes (name ++ 91 ∷ [])) two → sectioned_at name two ≡ Ok read → item_at whole left ≡ Ok read
+pub section_item : (left two : Left) (name : List ℕ) (read : Read) → IsAtom name → Passes left (bytes (name ++ 91 ∷ [])) two →
+    sectioned_at name two ≡ Ok read → item_at whole left ≡ Ok read
 section_item left two name read atom named is =
     let text : left.text ≡ name ++ (91 ∷ two.text) = pass_bytes left (name ++ 91 ∷ []) two named ∙ append_assoc name (91 ∷ []) two.text in
     let cut : IsCut is_wide_byte left.text name (91 ∷ two.text) = record { all = atom.wide.1; ends = refl; whole = text } in
@@ -145,7 +158,8 @@ section_item left two name read atom named is =
     let test : is_atom (wide_at left.text).0 ≡ true = ap is_atom front ∙ is_atom_of name atom in
     let back : at_left left two.text ≡ two = pass_left left (name ++ 91 ∷ []) two named in
     let there : by_section left two.text ≡ Ok read = ap (λ (n : List ℕ). sectioned_at n (at_left left two.text)) front ∙ ap (sectioned_at name) back ∙ is in
-    item_is left ∙ rw test (or_else_ok (mark_at 91 (wide_at left.text).1) (by_section left) (gap_at (wide_at left.text).1 >>= by_name left) two.text (mark_reads 91 (wide_at left.text).1 two.text behind) ∙ there)
+    item_is left ∙ rw test (or_else_ok (mark_at 91 (wide_at left.text).1) (by_section left)
+    (gap_at (wide_at left.text).1 >>= by_name left) two.text (mark_reads 91 (wide_at left.text).1 two.text behind) ∙ there)
 
 -- each kind of item
 numeral_solid : (digits more : List ℕ) → IsNumeral 10 digits → Ends is_space (digits ++ more)
@@ -163,7 +177,8 @@ pub record IsThree (left behind : Left) (a b c : List ℕ) : Type 0 where
 
 pub three : (left behind : Left) (a b c : List ℕ) → Passes left (bytes (a ++ b ++ c)) behind → IsThree left behind a b c
 three left behind a b c passes =
-    let all = repart left behind (bytes (a ++ b ++ c)) ((bytes a ++ bytes b) ++ bytes c) (bytes_joined (a ++ b) c ∙ ap (λ (p : List Part). p ++ bytes c) (bytes_joined a b)) passes in
+    let all = repart left behind (bytes (a ++ b ++ c)) ((bytes a ++ bytes b) ++ bytes c)
+    (bytes_joined (a ++ b) c ∙ ap (λ (p : List Part). p ++ bytes c) (bytes_joined a b)) passes in
     let last = split left (bytes a ++ bytes b) (bytes c) behind all in
     let first = split left (bytes a) (bytes b) last.0 last.1 in
     record { one = first.0; two = last.0; first = first.1; second = first.2; third = last.2 }
@@ -172,7 +187,11 @@ three left behind a b c passes =
 abbrev pub rows_of : Left → List (List ℕ × Result Read ℕ)
 rows_of left = (codes "UID", (nonzero_at left.text >>= λ uid. Ok (tellings.Uid uid.0, at_left left uid.1)))
     ∷ (codes "FLAGS", (flags_at whole left.text >>= λ flags. Ok (tellings.Flags flags.0.flags flags.0.excess, at_left left flags.1)))
-    ∷ (codes "MODSEQ", (mark_at 40 left.text >>= λ inside. modseq_at inside >>= λ modseq. mark_at 41 modseq.1 >>= λ behind. Ok (tellings.ModSeq modseq.0, at_left left behind)))
+    ∷ (
+      codes "MODSEQ",
+      (mark_at 40 left.text >>= λ inside. modseq_at inside >>= λ modseq. mark_at 41 modseq.1 >>= λ behind. Ok
+          (tellings.ModSeq modseq.0, at_left left behind)),
+    )
     ∷ []
 
 abbrev pub value_of : Left → Result Read ℕ
@@ -182,10 +201,12 @@ pub items_are : (name : List ℕ) (left : Left) → named_item_at whole name lef
 unfolding named_item_at
 items_are name left = refl
 
-chosen_item : (left : Left) (word name : List ℕ) (read : Read) → SameWord word name → choose name (rows_of left) (value_of left) ≡ Ok read → named_item_at whole word left ≡ Ok read
+chosen_item : (left : Left) (word name : List ℕ) (read : Read) → SameWord word name →
+    choose name (rows_of left) (value_of left) ≡ Ok read → named_item_at whole word left ≡ Ok read
 chosen_item left word name read same row = items_are word left ∙ choose_same word name (rows_of left) (value_of left) same ∙ row
 
-uid_reads : (left behind : Left) (parts : List Part) (uid : ℕ) → IsUidItem parts uid → Passes left parts behind → Ends is_wide_byte behind.text → Gives left (model.UidIs uid) behind
+uid_reads : (left behind : Left) (parts : List Part) (uid : ℕ) → IsUidItem parts uid → Passes left parts behind →
+    Ends is_wide_byte behind.text → Gives left (model.UidIs uid) behind
 uid_reads left behind parts uid item passes ends =
     let w = three left behind item.name item.gap item.digits (repart left behind parts (bytes (item.name ++ item.gap ++ item.digits)) item.whole passes) in
     let text = pass_bytes w.two item.digits behind w.third in
@@ -193,7 +214,8 @@ uid_reads left behind parts uid item passes ends =
     let atom = named_atom item.name (codes "UID") item.named (λ e. cc) refl refl refl in
     let read : Read = (tellings.Uid uid, behind) in
     let row : (nonzero_at w.two.text >>= λ u. Ok (tellings.Uid u.0, at_left w.two u.1)) ≡ Ok (tellings.Uid uid, behind) =
-    bind_ok (nonzero_at w.two.text) (λ (u : ℕ × List ℕ). Ok (tellings.Uid u.0, at_left w.two u.1)) (uid, behind.text) (tellings.Uid uid, behind) (nonzero_at_reads w.two.text uid behind.text front)
+    bind_ok (nonzero_at w.two.text) (λ (u : ℕ × List ℕ). Ok (tellings.Uid u.0, at_left w.two u.1)) (uid, behind.text)
+    (tellings.Uid uid, behind) (nonzero_at_reads w.two.text uid behind.text front)
     (ap (λ (l : Left). Ok (tellings.Uid uid, l)) (pass_left w.two item.digits behind w.third)) in
     let solid = subst (Ends is_space) (sym text) (numeral_solid item.digits behind.text item.number.0.digits) in (
       tellings.Uid uid,
@@ -202,16 +224,20 @@ uid_reads left behind parts uid item passes ends =
       refl,
     )
 
-flags_item_reads : (left behind : Left) (parts : List Part) (flags : List (List ℕ)) → IsFlagsItem parts flags → Passes left parts behind → Gives left (model.FlagsAre flags) behind
+flags_item_reads : (left behind : Left) (parts : List Part) (flags : List (List ℕ)) → IsFlagsItem parts flags → Passes left parts behind →
+    Gives left (model.FlagsAre flags) behind
 flags_item_reads left behind parts flags item passes =
     let list : List ℕ = 40 ∷ (item.text ++ 41 ∷ []) in
-    let w = three left behind item.name item.gap (40 ∷ (item.text ++ 41 ∷ [])) (repart left behind parts (bytes (item.name ++ item.gap ++ 40 ∷ (item.text ++ 41 ∷ []))) item.whole passes) in
+    let w = three left behind item.name item.gap (40 ∷ (item.text ++ 41 ∷ []))
+    (repart left behind parts (bytes (item.name ++ item.gap ++ 40 ∷ (item.text ++ 41 ∷ []))) item.whole passes) in
     let text = pass_bytes w.two (40 ∷ (item.text ++ 41 ∷ [])) behind w.third in
     let listed : IsListed w.two.text item.text behind.text = text ∙ ap (λ (t : List ℕ). 40 ∷ t) (append_assoc item.text (41 ∷ []) behind.text) in
     let found = flags_reads w.two.text item.text behind.text flags listed item.listed in
     let atom = named_atom item.name (codes "FLAGS") item.named (λ e. cc) refl refl refl in
-    let row : (flags_at whole w.two.text >>= λ f. Ok (tellings.Flags f.0.flags f.0.excess, at_left w.two f.1)) ≡ Ok (tellings.Flags found.0.flags found.0.excess, behind) =
-    bind_ok (flags_at whole w.two.text) (λ (f : Listed × List ℕ). Ok (tellings.Flags f.0.flags f.0.excess, at_left w.two f.1)) (found.0, behind.text) (tellings.Flags found.0.flags found.0.excess, behind) found.1
+    let row : (flags_at whole w.two.text >>= λ f. Ok (tellings.Flags f.0.flags f.0.excess, at_left w.two f.1))
+    ≡ Ok (tellings.Flags found.0.flags found.0.excess, behind) =
+    bind_ok (flags_at whole w.two.text) (λ (f : Listed × List ℕ). Ok (tellings.Flags f.0.flags f.0.excess, at_left w.two f.1))
+    (found.0, behind.text) (tellings.Flags found.0.flags found.0.excess, behind) found.1
     (ap (λ (l : Left). Ok (tellings.Flags found.0.flags found.0.excess, l)) (pass_left w.two (40 ∷ (item.text ++ 41 ∷ [])) behind w.third)) in
     let solid = subst (Ends is_space) (sym text) refl in (
       tellings.Flags found.0.flags found.0.excess,
@@ -220,17 +246,26 @@ flags_item_reads left behind parts flags item passes =
       ap (λ (k : List (List ℕ)). model.FlagsAre k) found.2,
     )
 
-modseq_reads : (left behind : Left) (parts : List Part) (modseq : ℕ) → IsModSeqItem parts modseq → Passes left parts behind → Gives left (model.ModSeqIs modseq) behind
+modseq_reads : (left behind : Left) (parts : List Part) (modseq : ℕ) → IsModSeqItem parts modseq → Passes left parts behind →
+    Gives left (model.ModSeqIs modseq) behind
 modseq_reads left behind parts modseq item passes =
-    let w = three left behind item.name item.gap (40 ∷ (item.digits ++ 41 ∷ [])) (repart left behind parts (bytes (item.name ++ item.gap ++ 40 ∷ (item.digits ++ 41 ∷ []))) item.whole passes) in
+    let w = three left behind item.name item.gap (40 ∷ (item.digits ++ 41 ∷ []))
+    (repart left behind parts (bytes (item.name ++ item.gap ++ 40 ∷ (item.digits ++ 41 ∷ []))) item.whole passes) in
     let text = pass_bytes w.two (40 ∷ (item.digits ++ 41 ∷ [])) behind w.third in
     let listed : w.two.text ≡ 40 ∷ (item.digits ++ 41 ∷ behind.text) = text ∙ ap (λ (t : List ℕ). 40 ∷ t) (append_assoc item.digits (41 ∷ []) behind.text) in
-    let front : IsFront IsModSeq (item.digits ++ 41 ∷ behind.text) modseq (41 ∷ behind.text) = record { run = item.digits; spells = item.number; whole = refl; ends = refl } in
+    let front : IsFront IsModSeq (item.digits ++ 41 ∷ behind.text) modseq (41 ∷ behind.text) =
+    record { run = item.digits; spells = item.number; whole = refl; ends = refl } in
     let atom = named_atom item.name (codes "MODSEQ") item.named (λ e. cc) refl refl refl in
-    let row : (mark_at 40 w.two.text >>= λ inside. modseq_at inside >>= λ modseq. mark_at 41 modseq.1 >>= λ behind. Ok (tellings.ModSeq modseq.0, at_left w.two behind)) ≡ Ok (tellings.ModSeq modseq, behind) =
-    bind_ok (mark_at 40 w.two.text) (λ (inside : List ℕ). modseq_at inside >>= λ modseq. mark_at 41 modseq.1 >>= λ behind. Ok (tellings.ModSeq modseq.0, at_left w.two behind)) (item.digits ++ 41 ∷ behind.text) (tellings.ModSeq modseq, behind) (mark_reads 40 w.two.text (item.digits ++ 41 ∷ behind.text) listed)
-    (bind_ok (modseq_at (item.digits ++ 41 ∷ behind.text)) (λ (modseq : ℕ × List ℕ). mark_at 41 modseq.1 >>= λ behind. Ok (tellings.ModSeq modseq.0, at_left w.two behind)) (modseq, 41 ∷ behind.text) (tellings.ModSeq modseq, behind) (modseq_at_reads (item.digits ++ 41 ∷ behind.text) modseq (41 ∷ behind.text) front)
-    (bind_ok (mark_at 41 (41 ∷ behind.text)) (λ (behind : List ℕ). Ok (tellings.ModSeq modseq, at_left w.two behind)) behind.text (tellings.ModSeq modseq, behind) (mark_reads 41 (41 ∷ behind.text) behind.text refl)
+    let row : (mark_at 40 w.two.text >>= λ inside. modseq_at inside >>= λ modseq. mark_at 41 modseq.1 >>= λ behind. Ok
+    (tellings.ModSeq modseq.0, at_left w.two behind)) ≡ Ok (tellings.ModSeq modseq, behind) =
+    bind_ok (mark_at 40 w.two.text) (λ (inside : List ℕ). modseq_at inside >>= λ modseq. mark_at 41 modseq.1 >>= λ behind. Ok
+    (tellings.ModSeq modseq.0, at_left w.two behind)) (item.digits ++ 41 ∷ behind.text) (tellings.ModSeq modseq, behind)
+    (mark_reads 40 w.two.text (item.digits ++ 41 ∷ behind.text) listed)
+    (bind_ok (modseq_at (item.digits ++ 41 ∷ behind.text)) (λ (modseq : ℕ × List ℕ). mark_at 41 modseq.1 >>= λ behind. Ok
+    (tellings.ModSeq modseq.0, at_left w.two behind)) (modseq, 41 ∷ behind.text) (tellings.ModSeq modseq, behind)
+    (modseq_at_reads (item.digits ++ 41 ∷ behind.text) modseq (41 ∷ behind.text) front)
+    (bind_ok (mark_at 41 (41 ∷ behind.text)) (λ (behind : List ℕ). Ok (tellings.ModSeq modseq, at_left w.two behind)) behind.text
+    (tellings.ModSeq modseq, behind) (mark_reads 41 (41 ∷ behind.text) behind.text refl)
     (ap (λ (l : Left). Ok (tellings.ModSeq modseq, l)) (pass_left w.two (40 ∷ (item.digits ++ 41 ∷ [])) behind w.third)))) in
     let solid = subst (Ends is_space) (sym text) refl in (
       tellings.ModSeq modseq,
@@ -249,10 +284,14 @@ record IsSectioned (left behind : Left) (name : List ℕ) (inside : List Part) (
   pub middle : Passes three_ (bytes between) four
   pub last : Passes four value behind
 
-sectioned : (left behind : Left) (name : List ℕ) (inside : List Part) (between : List ℕ) (value : List Part) → Passes left (((bytes (name ++ 91 ∷ []) ++ inside) ++ bytes (93 ∷ between)) ++ value) behind → IsSectioned left behind name inside between value
+sectioned : (left behind : Left) (name : List ℕ) (inside : List Part) (between : List ℕ) (value : List Part) →
+    Passes left (((bytes (name ++ 91 ∷ []) ++ inside) ++ bytes (93 ∷ between)) ++ value) behind →
+    IsSectioned left behind name inside between value
 sectioned left behind name inside between value passes =
-    let form : ((bytes (name ++ 91 ∷ []) ++ inside) ++ bytes (93 ∷ between)) ++ value ≡ ((bytes (name ++ 91 ∷ []) ++ (inside ++ bytes (93 ∷ []))) ++ bytes between) ++ value =
-    ap (λ (p : List Part). p ++ value) (sym (append_assoc (bytes (name ++ 91 ∷ []) ++ inside) (bytes (93 ∷ [])) (bytes between)) ∙ ap (λ (p : List Part). p ++ bytes between) (append_assoc (bytes (name ++ 91 ∷ [])) inside (bytes (93 ∷ [])))) in
+    let form : ((bytes (name ++ 91 ∷ []) ++ inside) ++ bytes (93 ∷ between)) ++ value
+    ≡ ((bytes (name ++ 91 ∷ []) ++ (inside ++ bytes (93 ∷ []))) ++ bytes between) ++ value =
+    ap (λ (p : List Part). p ++ value) (sym (append_assoc (bytes (name ++ 91 ∷ []) ++ inside) (bytes (93 ∷ [])) (bytes between))
+    ∙ ap (λ (p : List Part). p ++ bytes between) (append_assoc (bytes (name ++ 91 ∷ [])) inside (bytes (93 ∷ [])))) in
     let one = split left ((bytes (name ++ 91 ∷ []) ++ (inside ++ bytes (93 ∷ []))) ++ bytes between) value behind (repart left behind _ _ form passes) in
     let two = split left (bytes (name ++ 91 ∷ []) ++ (inside ++ bytes (93 ∷ []))) (bytes between) one.0 one.1 in
     let last = split left (bytes (name ++ 91 ∷ [])) (inside ++ bytes (93 ∷ [])) two.0 two.1 in
@@ -261,8 +300,10 @@ sectioned left behind name inside between value passes =
 body_test : (name : List ℕ) → SameWord name (codes "BODY") → same_word name (codes "BODY") ≡ true
 body_test name same = is_same name (codes "BODY") same
 
-ids_section : (two mid four behind : Left) (name : List ℕ) (inside : List Part) (gap : List ℕ) (value : List Part) (ids : List ℕ) → SameWord name (codes "BODY") → IsIdSection inside → Passes two (inside ++ bytes (93 ∷ [])) mid
-    → IsGap gap → Passes mid (bytes gap) four → IsNstring value ids → Passes four value behind → Ends is_wide_byte behind.text → sectioned_at name two ≡ Ok (tellings.Ids ids, behind)
+ids_section : (two mid four behind : Left) (name : List ℕ) (inside : List Part) (gap : List ℕ) (value : List Part) (ids : List ℕ) →
+    SameWord name (codes "BODY") → IsIdSection inside → Passes two (inside ++ bytes (93 ∷ [])) mid
+    → IsGap gap → Passes mid (bytes gap) four → IsNstring value ids → Passes four value behind → Ends is_wide_byte behind.text →
+    sectioned_at name two ≡ Ok (tellings.Ids ids, behind)
 unfolding sectioned_at ids_at
 ids_section two mid four behind name inside gap value ids same section sectioned spaces middle told last ends =
     let solid = value_solid four behind value (nstring_value value ids told) last in
@@ -276,20 +317,28 @@ ids_section two mid four behind name inside gap value ids same section sectioned
     ∙ bind_ok (origin_at mid.text) (ids_origin mid) mid.text (tellings.Ids ids, behind) origin.0
     (bind_ok (gap_at mid.text) (ids_there mid) four.text (tellings.Ids ids, behind) (gap_there mid four gap spaces solid middle) there))
 
-ids_reads : (left behind : Left) (parts : List Part) (ids : List ℕ) → IsIdsItem parts ids → Passes left parts behind → Ends is_wide_byte behind.text → Gives left (model.IdsAre ids) behind
+ids_reads : (left behind : Left) (parts : List Part) (ids : List ℕ) → IsIdsItem parts ids → Passes left parts behind →
+    Ends is_wide_byte behind.text → Gives left (model.IdsAre ids) behind
 ids_reads left behind parts ids item passes ends =
     let w = sectioned left behind item.name item.inside item.gap item.value (repart left behind parts _ item.whole passes) in
-    let atom = named_atom item.name (codes "BODY") item.named (λ e. cc) refl refl refl in
-    (tellings.Ids ids, section_item left w.two item.name (tellings.Ids ids, behind) atom w.named (ids_section w.two w.three_ w.four behind item.name item.inside item.gap item.value ids item.named item.id_section w.section item.spaces w.middle item.told w.last ends), refl)
+    let atom = named_atom item.name (codes "BODY") item.named (λ e. cc) refl refl refl in (
+      tellings.Ids ids,
+      section_item left w.two item.name (tellings.Ids ids, behind) atom w.named
+          (ids_section w.two w.three_ w.four behind item.name item.inside item.gap item.value ids item.named item.id_section
+          w.section item.spaces w.middle item.told w.last ends),
+      refl,
+    )
 
 -- another item without a section
-other_name : (left behind : Left) (name gap : List ℕ) (value : List Part) → IsAtom name → list_any (λ known. str_eq_ignore_ascii_case known name) known_items ≡ false → IsGap gap → IsValue value
+other_name : (left behind : Left) (name gap : List ℕ) (value : List Part) → IsAtom name →
+    list_any (λ known. str_eq_ignore_ascii_case known name) known_items ≡ false → IsGap gap → IsValue value
     → Passes left ((bytes name ++ bytes gap) ++ value) behind → Ends is_wide_byte behind.text → Gives left model.Nothing behind
 other_name left behind name gap value atom unknown spaces valued passes ends =
     let last = split left (bytes name ++ bytes gap) value behind passes in
     let first = split left (bytes name) (bytes gap) last.0 last.1 in
     let none = none_of known_items name unknown in
-    let row : value_of last.0 ≡ Ok (tellings.Nothing, behind) = bind_ok (value_at last.0) told_nothing behind (tellings.Nothing, behind) (value_reads last.0 behind value valued last.2 ends) refl in (
+    let row : value_of last.0 ≡ Ok (tellings.Nothing, behind) = bind_ok (value_at last.0) told_nothing behind (tellings.Nothing, behind)
+    (value_reads last.0 behind value valued last.2 ends) refl in (
       tellings.Nothing,
       plain_item left first.0 last.0 name gap first.1 spaces first.2 (value_solid last.0 behind value valued last.2) atom (tellings.Nothing, behind)
           (items_are name last.0 ∙ choose_none name (rows_of last.0) (value_of last.0) none ∙ row),
@@ -297,22 +346,28 @@ other_name left behind name gap value atom unknown spaces valued passes ends =
     )
 
 -- and with one
-module _ (two mid four five behind : Left) (name : List ℕ) (inside : List Part) (origin gap : List ℕ) (value : List Part) (section : IsSection inside) (sectioned_ : Passes two (inside ++ bytes (93 ∷ [])) mid)
-    (origins : IsOrigin origin) (middle : Passes mid (bytes origin) four) (spaces : IsGap gap) (spaced : Passes four (bytes gap) five) (valued : IsValue value) (last : Passes five value behind) (ends : Ends is_wide_byte behind.text) where
+module _ (two mid four five behind : Left) (name : List ℕ) (inside : List Part) (origin gap : List ℕ) (value : List Part)
+    (section : IsSection inside) (sectioned_ : Passes two (inside ++ bytes (93 ∷ [])) mid)
+    (origins : IsOrigin origin) (middle : Passes mid (bytes origin) four) (spaces : IsGap gap) (spaced : Passes four (bytes gap) five)
+    (valued : IsValue value) (last : Passes five value behind) (ends : Ends is_wide_byte behind.text) where
   origin_is : (origin_at mid.text ≡ Ok four.text) × ((wide_at mid.text).0 ≡ origin)
-  origin_is = origin_reads mid.text origin four.text origins (pass_bytes mid origin four middle) (gap_wide gap five.text four.text spaces (pass_bytes four gap five spaced))
+  origin_is = origin_reads mid.text origin four.text origins (pass_bytes mid origin four middle)
+      (gap_wide gap five.text four.text spaces (pass_bytes four gap five spaced))
 
   gap_is : gap_at four.text ≡ Ok five.text
   gap_is = gap_there four five gap spaces (value_solid five behind value valued last) spaced
 
   five_is : at_left mid five.text ≡ five
-  five_is = pass_left mid (origin ++ gap) five (repart mid five (bytes origin ++ bytes gap) (bytes (origin ++ gap)) (sym (bytes_joined origin gap)) (joined mid (bytes origin) four (bytes gap) five middle spaced))
+  five_is = pass_left mid (origin ++ gap) five (repart mid five (bytes origin ++ bytes gap) (bytes (origin ++ gap))
+      (sym (bytes_joined origin gap)) (joined mid (bytes origin) four (bytes gap) five middle spaced))
 
   value_is : (value_at (at_left mid five.text) >>= told_nothing) ≡ Ok (tellings.Nothing, behind)
-  value_is = bind_ok (value_at (at_left mid five.text)) told_nothing behind (tellings.Nothing, behind) (ap value_at five_is ∙ value_reads five behind value valued last ends) refl
+  value_is = bind_ok (value_at (at_left mid five.text)) told_nothing behind (tellings.Nothing, behind)
+      (ap value_at five_is ∙ value_reads five behind value valued last ends) refl
 
   section_is : section_at two ≡ Ok mid
-  section_is = section_reads (length two.text) section.0 two mid section.1 section.2 (subst (λ (p : List Part). Passes two (p ++ bytes (93 ∷ [])) mid) section.3 sectioned_) (omega arith)
+  section_is = section_reads (length two.text) section.0 two mid section.1 section.2
+      (subst (λ (p : List Part). Passes two (p ++ bytes (93 ∷ [])) mid) section.3 sectioned_) (omega arith)
 
   other_is : other_section_at two ≡ Ok (tellings.Nothing, behind)
   unfolding other_section_at
@@ -329,12 +384,14 @@ module _ (two mid four five behind : Left) (name : List ℕ) (inside : List Part
       (bind_ok (gap_at four.text) (ids_there mid) five.text (tellings.Nothing, behind) gap_is
       (ap (λ (t : Bool). ids_behind t (at_left mid five.text)) test ∙ value_is))
 
-  ids_or_other : (other : SameWord name (codes "BODY") → IsIdSection inside → origin ≢ []) → SameWord name (codes "BODY") → (r : Result Left ℕ) → id_section_at two ≡ r → or_else r ids_at (other_section_at two) ≡ Ok (tellings.Nothing, behind)
+  ids_or_other : (other : SameWord name (codes "BODY") → IsIdSection inside → origin ≢ []) → SameWord name (codes "BODY") →
+      (r : Result Left ℕ) → id_section_at two ≡ r → or_else r ids_at (other_section_at two) ≡ Ok (tellings.Nothing, behind)
   ids_or_other other same (Err left) is = other_is
   ids_or_other other same (Ok found) is =
       let front = id_spells two found (sectioned_.fits) is in
       let parts = section_same two found mid front.inside inside (id_is_section front.inside front.section) section front.passes sectioned_ in
-      let here : found ≡ mid = same_mid two (inside ++ bytes (93 ∷ [])) found mid (subst (λ (p : List Part). Passes two (p ++ bytes (93 ∷ [])) found) parts front.passes) sectioned_ in
+      let here : found ≡ mid = same_mid two (inside ++ bytes (93 ∷ [])) found mid
+      (subst (λ (p : List Part). Passes two (p ++ bytes (93 ∷ [])) found) parts front.passes) sectioned_ in
       ap ids_at here ∙ ids_is (other same (subst IsIdSection parts front.section))
 
   pub sectioned_reads : (SameWord name (codes "BODY") → IsIdSection inside → origin ≢ []) → sectioned_at name two ≡ Ok (tellings.Nothing, behind)
@@ -344,7 +401,9 @@ module _ (two mid four five behind : Left) (name : List ℕ) (inside : List Part
     | inr none ↦ rw none other_is
   ]
 
-other_section : (left behind : Left) (name_parts : List Part) (gap : List ℕ) (value : List Part) → IsSectionName name_parts → IsGap gap → IsValue value → Passes left ((name_parts ++ bytes gap) ++ value) behind → Ends is_wide_byte behind.text → Gives left model.Nothing behind
+other_section : (left behind : Left) (name_parts : List Part) (gap : List ℕ) (value : List Part) → IsSectionName name_parts → IsGap gap →
+    IsValue value → Passes left ((name_parts ++ bytes gap) ++ value) behind → Ends is_wide_byte behind.text →
+    Gives left model.Nothing behind
 other_section left behind name_parts gap value named spaces valued passes ends =
     let last = split left (name_parts ++ bytes gap) value behind passes in
     let middle = split left name_parts (bytes gap) last.0 last.1 in
@@ -353,20 +412,26 @@ other_section left behind name_parts gap value named spaces valued passes ends =
     let origin = subst (λ (l : Left). Passes w.three_ (bytes named.origin) l) four w.middle in (
       tellings.Nothing,
       section_item left w.two named.name (tellings.Nothing, behind) named.atom w.named
-          (sectioned_reads w.two w.three_ middle.0 last.0 behind named.name named.inside named.origin gap value named.section w.section named.origins origin spaces middle.2 valued last.2 ends named.other),
+          (sectioned_reads w.two w.three_ middle.0 last.0 behind named.name named.inside named.origin gap value named.section
+          w.section named.origins origin spaces middle.2 valued last.2 ends named.other),
       refl,
     )
 
-other_by : (left behind : Left) (name_parts : List Part) (gap : List ℕ) (value : List Part) → IsOtherName name_parts ⊎ IsSectionName name_parts → IsGap gap → IsValue value → Passes left ((name_parts ++ bytes gap) ++ value) behind → Ends is_wide_byte behind.text → Gives left model.Nothing behind
+other_by : (left behind : Left) (name_parts : List Part) (gap : List ℕ) (value : List Part) →
+    IsOtherName name_parts ⊎ IsSectionName name_parts → IsGap gap → IsValue value →
+    Passes left ((name_parts ++ bytes gap) ++ value) behind → Ends is_wide_byte behind.text → Gives left model.Nothing behind
 other_by left behind name_parts gap value (inl named) spaces valued passes ends =
-    other_name left behind named.0 gap value named.1 named.2 spaces valued (subst (λ (p : List Part). Passes left ((p ++ bytes gap) ++ value) behind) named.3 passes) ends
+    other_name left behind named.0 gap value named.1 named.2 spaces valued
+    (subst (λ (p : List Part). Passes left ((p ++ bytes gap) ++ value) behind) named.3 passes) ends
 other_by left behind name_parts gap value (inr named) spaces valued passes ends = other_section left behind name_parts gap value named spaces valued passes ends
 
-other_reads : (left behind : Left) (parts : List Part) → IsOtherItem parts → Passes left parts behind → Ends is_wide_byte behind.text → Gives left model.Nothing behind
+other_reads : (left behind : Left) (parts : List Part) → IsOtherItem parts → Passes left parts behind → Ends is_wide_byte behind.text →
+    Gives left model.Nothing behind
 other_reads left behind parts item passes ends =
     other_by left behind item.name item.gap item.value item.named item.spaces item.valued (repart left behind parts _ item.whole passes) ends
 
-pub item_reads : (left behind : Left) (parts : List Part) (told : model.Told) → IsItem parts told → Passes left parts behind → Ends is_wide_byte behind.text → Gives left told behind
+pub item_reads : (left behind : Left) (parts : List Part) (told : model.Told) → IsItem parts told → Passes left parts behind →
+    Ends is_wide_byte behind.text → Gives left told behind
 item_reads left behind parts (model.UidIs uid) item passes ends = uid_reads left behind parts uid item passes ends
 item_reads left behind parts (model.FlagsAre flags) item passes ends = flags_item_reads left behind parts flags item passes
 item_reads left behind parts (model.ModSeqIs modseq) item passes ends = modseq_reads left behind parts modseq item passes

@@ -1,5 +1,6 @@
 -- An item of a message: what is read is spelled so.
-use Rattle.std.proofs.Common.{◌≡◌, ◌≢◌, ℕ, Bool, true, false, cond, not, List, [], ◌∷◌, ◌++◌, length, codes, refl, ap, sym, ◌∙◌, subst, inl, inr, ◌⊎◌, append_assoc, Result, Ok, Err}
+use Rattle.std.proofs.Common.{◌≡◌, ◌≢◌, ℕ, Bool, true, false, cond, not, List, [], ◌∷◌, ◌++◌, length, codes, refl, ap, sym, ◌∙◌, subst}
+use Rattle.std.proofs.Common.{inl, inr, ◌⊎◌, append_assoc, Result, Ok, Err}
 use Rattle.std.proofs.lemmas.Bool.{and_parts}
 use Rattle.std.specs.Prelude.{◌&&◌, ◌==◌}
 use Rattle.std.specs.Str.Parse.{IsNumeral}
@@ -7,17 +8,18 @@ use Rattle.imap_model.specs.Parts.{Part, bytes}
 use Rattle.imap_model.specs.Words.{SameWord, IsGap}
 use Rattle.imap_model.specs.Values.{is_wide_byte, IsAtom, IsSection}
 use Rattle.imap_model.specs.FetchItems as model
-use Rattle.imap_model.specs.FetchItems.{IsUidItem, IsFlagsItem, IsModSeqItem, IsIdSection, IsNstring, IsIdsItem, known_items, IsOtherName, IsOrigin, IsSectionName, IsOtherItem, IsItem}
+use Rattle.imap_model.specs.FetchItems.{IsUidItem, IsFlagsItem, IsModSeqItem, IsIdSection, IsNstring, IsIdsItem, known_items, IsOtherName}
+use Rattle.imap_model.specs.FetchItems.{IsOrigin, IsSectionName, IsOtherItem, IsItem}
 use Rattle.imap_response.specs.declared.fetch.Told.{Told}
 use Rattle.imap_response.specs.declared.fetch.Told.TheVariants as tellings
 use Rattle.imap_response.specs.declared.flags.Listed.{Listed}
 use Rattle.imap_response.specs.Leaf.{gap_at, mark_at, wide_at, same_word, is_digits}
 use Rattle.imap_response.specs.Reads.{◌>>=◌, or_else}
-use Rattle.imap_response.specs.Numbers.{nonzero_at, modseq_at}
+use Rattle.imap_response.specs.ReadNumbers.{nonzero_at, modseq_at}
 use Rattle.imap_response.specs.Flags.{whole, flags_at}
 use Rattle.imap_response.specs.Left.{Left, at_left}
-use Rattle.imap_response.specs.Strings.{nstring_at}
-use Rattle.imap_response.specs.Values.{value_at, section_at}
+use Rattle.imap_response.specs.ReadStrings.{nstring_at}
+use Rattle.imap_response.specs.ReadValues.{value_at, section_at}
 use Rattle.imap_response.specs.Items.{is_atom, id_section_at, origin_at, other_section_at, ids_behind, ids_at, sectioned_at, named_item_at, item_at}
 use Rattle.imap_response.proofs.spelling.Choices.{choose, Chosen, choice, of_none}
 use Rattle.imap_response.proofs.spelling.Flags.{IsListed, flags_spells}
@@ -70,7 +72,8 @@ atom_front text test =
     record { wide = (atom.0, cut.all); not_nil = atom.1; not_number = atom.2 }
 
 -- bytes in three runs
-pub three_runs : (left one two behind : Left) (a b c : List ℕ) → Passes left (bytes a) one → Passes one (bytes b) two → Passes two (bytes c) behind → Passes left (bytes (a ++ b ++ c)) behind
+pub three_runs : (left one two behind : Left) (a b c : List ℕ) → Passes left (bytes a) one → Passes one (bytes b) two →
+    Passes two (bytes c) behind → Passes left (bytes (a ++ b ++ c)) behind
 three_runs left one two behind a b c first second third =
     repart left behind ((bytes a ++ bytes b) ++ bytes c) (bytes (a ++ b ++ c))
     (ap (λ (p : List Part). p ++ bytes c) (sym (bytes_joined a b)) ∙ sym (bytes_joined (a ++ b) c))
@@ -81,7 +84,8 @@ listed_whole text list rest is = is ∙ ap (λ (t : List ℕ). 40 ∷ t) (sym (a
 
 -- items without a section, behind their name and the spaces
 module _ (start one left : Left) (name gap : List ℕ) (named : Passes start (bytes name) one) (spaces : IsGap gap) (spaced : Passes one (bytes gap) left) where
-  uid_item : (read : Read) → SameWord name (codes "UID") → (nonzero_at left.text >>= λ uid. Ok (tellings.Uid uid.0, at_left left uid.1)) ≡ Ok read → IsItemFront start read
+  uid_item : (read : Read) → SameWord name (codes "UID") → (nonzero_at left.text >>= λ uid. Ok (tellings.Uid uid.0, at_left left uid.1))
+      ≡ Ok read → IsItemFront start read
   uid_item read same is =
       let uid = ok_bind (nonzero_at left.text) (λ (uid : ℕ × List ℕ). Ok (tellings.Uid uid.0, at_left left uid.1)) read is in
       let front = nonzero_at_spells left.text uid.0.0 uid.0.1 uid.1 in
@@ -92,9 +96,12 @@ module _ (start one left : Left) (name gap : List ℕ) (named : Passes start (by
         passes = three_runs start one left (at_left left uid.0.1) name gap front.run named spaced digits;
       })
 
-  flags_item : (read : Read) → SameWord name (codes "FLAGS") → (flags_at whole left.text >>= λ flags. Ok (tellings.Flags flags.0.flags flags.0.excess, at_left left flags.1)) ≡ Ok read → IsItemFront start read
+  flags_item : (read : Read) → SameWord name (codes "FLAGS") →
+      (flags_at whole left.text >>= λ flags. Ok (tellings.Flags flags.0.flags flags.0.excess, at_left left flags.1)) ≡ Ok read →
+      IsItemFront start read
   flags_item read same is =
-      let flags = ok_bind (flags_at whole left.text) (λ (flags : Listed × List ℕ). Ok (tellings.Flags flags.0.flags flags.0.excess, at_left left flags.1)) read is in
+      let flags = ok_bind (flags_at whole left.text) (λ (flags : Listed × List ℕ). Ok
+      (tellings.Flags flags.0.flags flags.0.excess, at_left left flags.1)) read is in
       let w = flags_spells left.text flags.0 flags.1 in
       let list = bytes_pass left (40 ∷ (w.0 ++ 41 ∷ [])) flags.0.1 (fits_behind one (bytes gap) left spaced) (listed_whole left.text w.0 flags.0.1 w.1) in
       subst (IsItemFront start) (ok_is (tellings.Flags flags.0.0.flags flags.0.0.excess, at_left left flags.0.1) read flags.2) (record {
@@ -103,23 +110,29 @@ module _ (start one left : Left) (name gap : List ℕ) (named : Passes start (by
         passes = three_runs start one left (at_left left flags.0.1) name gap (40 ∷ (w.0 ++ 41 ∷ [])) named spaced list;
       })
 
-  modseq_item : (read : Read) → SameWord name (codes "MODSEQ") → (mark_at 40 left.text >>= λ inside. modseq_at inside >>= λ modseq. mark_at 41 modseq.1 >>= λ behind. Ok (tellings.ModSeq modseq.0, at_left left behind)) ≡ Ok read → IsItemFront start read
+  modseq_item : (read : Read) → SameWord name (codes "MODSEQ") →
+      (mark_at 40 left.text >>= λ inside. modseq_at inside >>= λ modseq. mark_at 41 modseq.1 >>= λ behind. Ok
+      (tellings.ModSeq modseq.0, at_left left behind)) ≡ Ok read → IsItemFront start read
   modseq_item read same is =
-      let inside = ok_bind (mark_at 40 left.text) (λ (inside : List ℕ). modseq_at inside >>= λ modseq. mark_at 41 modseq.1 >>= λ behind. Ok (tellings.ModSeq modseq.0, at_left left behind)) read is in
-      let modseq = ok_bind (modseq_at inside.0) (λ (modseq : ℕ × List ℕ). mark_at 41 modseq.1 >>= λ behind. Ok (tellings.ModSeq modseq.0, at_left left behind)) read inside.2 in
+      let inside = ok_bind (mark_at 40 left.text) (λ (inside : List ℕ). modseq_at inside >>= λ modseq. mark_at 41 modseq.1 >>= λ behind. Ok
+      (tellings.ModSeq modseq.0, at_left left behind)) read is in
+      let modseq = ok_bind (modseq_at inside.0) (λ (modseq : ℕ × List ℕ). mark_at 41 modseq.1 >>= λ behind. Ok
+      (tellings.ModSeq modseq.0, at_left left behind)) read inside.2 in
       let behind = ok_bind (mark_at 41 modseq.0.1) (λ (behind : List ℕ). Ok (tellings.ModSeq modseq.0.0, at_left left behind)) read modseq.2 in
       let begins = mark_spells 40 left.text inside.0 inside.1 in
       let front = modseq_at_spells inside.0 modseq.0.0 modseq.0.1 modseq.1 in
       let ends = mark_spells 41 modseq.0.1 behind.0 behind.1 in
       let listed : IsListed left.text front.run behind.0 = begins ∙ ap (λ (t : List ℕ). 40 ∷ t) (front.whole ∙ ap (λ (t : List ℕ). front.run ++ t) ends) in
-      let list = bytes_pass left (40 ∷ (front.run ++ 41 ∷ [])) behind.0 (fits_behind one (bytes gap) left spaced) (listed_whole left.text front.run behind.0 listed) in
+      let list = bytes_pass left (40 ∷ (front.run ++ 41 ∷ [])) behind.0 (fits_behind one (bytes gap) left spaced)
+      (listed_whole left.text front.run behind.0 listed) in
       subst (IsItemFront start) (ok_is (tellings.ModSeq modseq.0.0, at_left left behind.0) read behind.2) (record {
         parts = bytes (name ++ gap ++ 40 ∷ (front.run ++ 41 ∷ []));
         item = record { name = name; named = same; gap = gap; spaces = spaces; digits = front.run; number = front.spells; whole = refl };
         passes = three_runs start one left (at_left left behind.0) name gap (40 ∷ (front.run ++ 41 ∷ [])) named spaced list;
       })
 
-  value_item : (read : Read) → IsOtherName (bytes name) ⊎ IsSectionName (bytes name) → (value_at left >>= λ value. Ok (tellings.Nothing, value)) ≡ Ok read → IsItemFront start read
+  value_item : (read : Read) → IsOtherName (bytes name) ⊎ IsSectionName (bytes name) →
+      (value_at left >>= λ value. Ok (tellings.Nothing, value)) ≡ Ok read → IsItemFront start read
   value_item read other is =
       let value = ok_bind (value_at left) (λ (value : Left). Ok (tellings.Nothing, value)) read is in
       let front = value_spells left value.0 (fits_behind one (bytes gap) left spaced) value.1 in
@@ -132,7 +145,11 @@ module _ (start one left : Left) (name gap : List ℕ) (named : Passes start (by
   abbrev rows : List (List ℕ × Result Read ℕ)
   rows = (codes "UID", (nonzero_at left.text >>= λ uid. Ok (tellings.Uid uid.0, at_left left uid.1)))
       ∷ (codes "FLAGS", (flags_at whole left.text >>= λ flags. Ok (tellings.Flags flags.0.flags flags.0.excess, at_left left flags.1)))
-      ∷ (codes "MODSEQ", (mark_at 40 left.text >>= λ inside. modseq_at inside >>= λ modseq. mark_at 41 modseq.1 >>= λ behind. Ok (tellings.ModSeq modseq.0, at_left left behind)))
+      ∷ (
+        codes "MODSEQ",
+        (mark_at 40 left.text >>= λ inside. modseq_at inside >>= λ modseq. mark_at 41 modseq.1 >>= λ behind. Ok
+            (tellings.ModSeq modseq.0, at_left left behind)),
+      )
       ∷ []
 
   abbrev other_value : Result Read ℕ
@@ -181,8 +198,10 @@ ids_origin behind after = gap_at after >>= ids_there behind
 
 module _ (start left : Left) (name : List ℕ) (atom : IsAtom name) (named : Passes start (bytes (name ++ 91 ∷ [])) left) where
   -- a section that isn't that of the identifiers, or one with an origin, and then a value
-  passed_item : (behind : Left) (inside : List Part) (origin rest text : List ℕ) (read : Read) → IsSection inside → IsOrigin origin → (SameWord name (codes "BODY") → IsIdSection inside → origin ≢ [])
-      → Passes left (inside ++ bytes (93 ∷ [])) behind → behind.text ≡ origin ++ rest → gap_at rest ≡ Ok text → value_there behind text ≡ Ok read → IsItemFront start read
+  passed_item : (behind : Left) (inside : List Part) (origin rest text : List ℕ) (read : Read) → IsSection inside → IsOrigin origin →
+      (SameWord name (codes "BODY") → IsIdSection inside → origin ≢ [])
+      → Passes left (inside ++ bytes (93 ∷ [])) behind → behind.text ≡ origin ++ rest → gap_at rest ≡ Ok text →
+      value_there behind text ≡ Ok read → IsItemFront start read
   passed_item behind inside origin rest text read section origins other passes whole gapped is =
       let fits = fits_behind left (inside ++ bytes (93 ∷ [])) behind passes in
       let one = bytes_pass behind origin rest fits whole in
@@ -191,31 +210,47 @@ module _ (start left : Left) (name : List ℕ) (atom : IsAtom name) (named : Pas
       let fits2 = fits_behind (at_left behind rest) (bytes two.gap) (at_left behind text) two.passes in
       let value = ok_bind (value_at (at_left behind text)) told_nothing read is in
       let front = value_spells (at_left behind text) value.0 fits2 value.1 in
-      let with_section : Passes start (bytes (name ++ 91 ∷ []) ++ (inside ++ bytes (93 ∷ []))) behind = joined start (bytes (name ++ 91 ∷ [])) left (inside ++ bytes (93 ∷ [])) behind named passes in
+      let with_section : Passes start (bytes (name ++ 91 ∷ []) ++ (inside ++ bytes (93 ∷ []))) behind =
+      joined start (bytes (name ++ 91 ∷ [])) left (inside ++ bytes (93 ∷ [])) behind named passes in
       let name_parts : List Part = bytes (name ++ 91 ∷ []) ++ inside ++ bytes (93 ∷ origin) in
       let with_name : Passes start (bytes (name ++ 91 ∷ []) ++ inside ++ bytes (93 ∷ origin)) (at_left behind rest) =
-      repart start (at_left behind rest) ((bytes (name ++ 91 ∷ []) ++ (inside ++ bytes (93 ∷ []))) ++ bytes origin) (bytes (name ++ 91 ∷ []) ++ inside ++ bytes (93 ∷ origin))
-      (ap (λ (p : List Part). p ++ bytes origin) (sym (append_assoc (bytes (name ++ 91 ∷ [])) inside (bytes (93 ∷ [])))) ∙ append_assoc (bytes (name ++ 91 ∷ []) ++ inside) (bytes (93 ∷ [])) (bytes origin))
+      repart start (at_left behind rest) ((bytes (name ++ 91 ∷ []) ++ (inside ++ bytes (93 ∷ []))) ++ bytes origin)
+      (bytes (name ++ 91 ∷ []) ++ inside ++ bytes (93 ∷ origin))
+      (ap (λ (p : List Part). p ++ bytes origin) (sym (append_assoc (bytes (name ++ 91 ∷ [])) inside (bytes (93 ∷ []))))
+      ∙ append_assoc (bytes (name ++ 91 ∷ []) ++ inside) (bytes (93 ∷ [])) (bytes origin))
       (joined start (bytes (name ++ 91 ∷ []) ++ (inside ++ bytes (93 ∷ []))) behind (bytes origin) (at_left behind rest) with_section one) in
-      let with_gap = joined start (bytes (name ++ 91 ∷ []) ++ inside ++ bytes (93 ∷ origin)) (at_left behind rest) (bytes two.gap) (at_left behind text) with_name two.passes in
+      let with_gap = joined start (bytes (name ++ 91 ∷ []) ++ inside ++ bytes (93 ∷ origin)) (at_left behind rest) (bytes two.gap)
+      (at_left behind text) with_name two.passes in
       subst (IsItemFront start) (ok_is (tellings.Nothing, value.0) read value.2) (record {
         parts = (bytes (name ++ 91 ∷ []) ++ inside ++ bytes (93 ∷ origin)) ++ bytes two.gap ++ front.parts;
         item = record {
           name = bytes (name ++ 91 ∷ []) ++ inside ++ bytes (93 ∷ origin);
-          named = inr (record { name = name; atom = atom; inside = inside; section = section; origin = origin; origins = origins; other = other; whole = refl });
+          named = inr (record {
+            name = name;
+            atom = atom;
+            inside = inside;
+            section = section;
+            origin = origin;
+            origins = origins;
+            other =
+                other;
+            whole = refl;
+          });
           gap = two.gap;
           spaces = two.spaces;
           value = front.parts;
           valued = front.valued;
           whole = refl;
         };
-        passes = joined start ((bytes (name ++ 91 ∷ []) ++ inside ++ bytes (93 ∷ origin)) ++ bytes two.gap) (at_left behind text) front.parts value.0 with_gap front.passes;
+        passes = joined start ((bytes (name ++ 91 ∷ []) ++ inside ++ bytes (93 ∷ origin)) ++ bytes two.gap)
+            (at_left behind text) front.parts value.0 with_gap front.passes;
       })
 
   fits_here : Fits left
   fits_here = fits_behind start (bytes (name ++ 91 ∷ [])) left named
 
-  other_item : (read : Read) → ((behind : Left) (inside : List Part) → SameWord name (codes "BODY") → IsIdSection inside → Passes left (inside ++ bytes (93 ∷ [])) behind → ⊥) → other_section_at left ≡ Ok read → IsItemFront start read
+  other_item : (read : Read) → ((behind : Left) (inside : List Part) → SameWord name (codes "BODY") → IsIdSection inside →
+      Passes left (inside ++ bytes (93 ∷ [])) behind → ⊥) → other_section_at left ≡ Ok read → IsItemFront start read
   unfolding other_section_at
   other_item read no_ids is =
       let behind = ok_bind (section_at left) section_there read is in
@@ -226,7 +261,8 @@ module _ (start left : Left) (name : List ℕ) (atom : IsAtom name) (named : Pas
       passed_item behind.0 section.inside origin.origin after.0 text.0 read section.section origin.origins
       (λ same ids none. no_ids behind.0 section.inside same ids section.passes) section.passes origin.whole text.1 text.2
 
-  told_item : (behind : Left) (inside : List Part) (rest text : List ℕ) (read : Read) → SameWord name (codes "BODY") → IsIdSection inside → Passes left (inside ++ bytes (93 ∷ [])) behind → behind.text ≡ rest → gap_at rest ≡ Ok text
+  told_item : (behind : Left) (inside : List Part) (rest text : List ℕ) (read : Read) → SameWord name (codes "BODY") → IsIdSection inside →
+      Passes left (inside ++ bytes (93 ∷ [])) behind → behind.text ≡ rest → gap_at rest ≡ Ok text
       → (nstring_at (at_left behind text) >>= ids_told) ≡ Ok read → IsItemFront start read
   told_item behind inside rest text read same section passes whole gapped is =
       let fits = fits_behind left (inside ++ bytes (93 ∷ [])) behind passes in
@@ -234,43 +270,62 @@ module _ (start left : Left) (name : List ℕ) (atom : IsAtom name) (named : Pas
       let fits2 = fits_behind behind (bytes two.gap) (at_left behind text) two.passes in
       let ids = ok_bind (nstring_at (at_left behind text)) ids_told read is in
       let front = nstring_spells (at_left behind text) ids.0 fits2 ids.1 in
-      let with_section : Passes start (bytes (name ++ 91 ∷ []) ++ (inside ++ bytes (93 ∷ []))) behind = joined start (bytes (name ++ 91 ∷ [])) left (inside ++ bytes (93 ∷ [])) behind named passes in
+      let with_section : Passes start (bytes (name ++ 91 ∷ []) ++ (inside ++ bytes (93 ∷ []))) behind =
+      joined start (bytes (name ++ 91 ∷ [])) left (inside ++ bytes (93 ∷ [])) behind named passes in
       let with_gap : Passes start (bytes (name ++ 91 ∷ []) ++ inside ++ bytes (93 ∷ two.gap)) (at_left behind text) =
-      repart start (at_left behind text) ((bytes (name ++ 91 ∷ []) ++ (inside ++ bytes (93 ∷ []))) ++ bytes two.gap) (bytes (name ++ 91 ∷ []) ++ inside ++ bytes (93 ∷ two.gap))
-      (ap (λ (p : List Part). p ++ bytes two.gap) (sym (append_assoc (bytes (name ++ 91 ∷ [])) inside (bytes (93 ∷ [])))) ∙ append_assoc (bytes (name ++ 91 ∷ []) ++ inside) (bytes (93 ∷ [])) (bytes two.gap))
+      repart start (at_left behind text) ((bytes (name ++ 91 ∷ []) ++ (inside ++ bytes (93 ∷ []))) ++ bytes two.gap)
+      (bytes (name ++ 91 ∷ []) ++ inside ++ bytes (93 ∷ two.gap))
+      (ap (λ (p : List Part). p ++ bytes two.gap) (sym (append_assoc (bytes (name ++ 91 ∷ [])) inside (bytes (93 ∷ []))))
+      ∙ append_assoc (bytes (name ++ 91 ∷ []) ++ inside) (bytes (93 ∷ [])) (bytes two.gap))
       (joined start (bytes (name ++ 91 ∷ []) ++ (inside ++ bytes (93 ∷ []))) behind (bytes two.gap) (at_left behind text) with_section two.passes) in
       subst (IsItemFront start) (ok_is (tellings.Ids ids.0.0, ids.0.1) read ids.2) (record {
         parts = bytes (name ++ 91 ∷ []) ++ inside ++ bytes (93 ∷ two.gap) ++ front.0;
-        item = record { name = name; named = same; inside = inside; id_section = section; gap = two.gap; spaces = two.spaces; value = front.0; told = front.1; whole = refl };
+        item = record {
+          name = name;
+          named = same;
+          inside = inside;
+          id_section = section;
+          gap = two.gap;
+          spaces = two.spaces;
+          value =
+              front.0;
+          told = front.1;
+          whole = refl;
+        };
         passes = joined start (bytes (name ++ 91 ∷ []) ++ inside ++ bytes (93 ∷ two.gap)) (at_left behind text) front.0 ids.0.1 with_gap front.2;
       })
 
-  ids_from : (behind : Left) (inside : List Part) (origin rest text : List ℕ) (read : Read) (t : Bool) → (length origin == 0) ≡ t → SameWord name (codes "BODY") → IsIdSection inside → Passes left (inside ++ bytes (93 ∷ [])) behind
+  ids_from : (behind : Left) (inside : List Part) (origin rest text : List ℕ) (read : Read) (t : Bool) → (length origin == 0) ≡ t →
+      SameWord name (codes "BODY") → IsIdSection inside → Passes left (inside ++ bytes (93 ∷ [])) behind
       → IsOrigin origin → behind.text ≡ origin ++ rest → gap_at rest ≡ Ok text → ids_behind t (at_left behind text) ≡ Ok read → IsItemFront start read
   ids_from behind inside origin rest text read true none same section passes origins whole gapped is =
       told_item behind inside rest text read same section passes (whole ∙ ap (λ (o : List ℕ). o ++ rest) (len_none origin none)) gapped is
   ids_from behind inside origin rest text read false some same section passes origins whole gapped is =
       passed_item behind inside origin rest text read (id_is_section inside section) origins (λ s i. len_some origin some) passes whole gapped is
 
-  ids_item : (behind : Left) (inside : List Part) (read : Read) → SameWord name (codes "BODY") → IsIdSection inside → Passes left (inside ++ bytes (93 ∷ [])) behind → ids_at behind ≡ Ok read → IsItemFront start read
+  ids_item : (behind : Left) (inside : List Part) (read : Read) → SameWord name (codes "BODY") → IsIdSection inside →
+      Passes left (inside ++ bytes (93 ∷ [])) behind → ids_at behind ≡ Ok read → IsItemFront start read
   unfolding ids_at
   ids_item behind inside read same section passes is =
       let after = ok_bind (origin_at behind.text) (ids_origin behind) read is in
       let text = ok_bind (gap_at after.0) (ids_there behind) read after.2 in
       let origin = origin_spells behind.text after.0 after.1 in
-      ids_from behind inside origin.origin after.0 text.0 read (length (wide_at behind.text).0 == 0) (ap (λ (o : List ℕ). length o == 0) (sym origin.run)) same section passes origin.origins origin.whole text.1 text.2
+      ids_from behind inside origin.origin after.0 text.0 read (length (wide_at behind.text).0 == 0)
+      (ap (λ (o : List ℕ). length o == 0) (sym origin.run)) same section passes origin.origins origin.whole text.1 text.2
 
   pub sectioned_item : (read : Read) → sectioned_at name left ≡ Ok read → IsItemFront start read
   unfolding sectioned_at
-  sectioned_item read is = elim (ok_either (same_word name (codes "BODY")) (or_else (id_section_at left) ids_at (other_section_at left)) (other_section_at left) read is) [
-    | inl body ↦ elim (ok_or_else (id_section_at left) ids_at (other_section_at left) read body.1) [
-      | inl ids ↦
-          let front = id_spells left ids.0 fits_here ids.1 in
-          ids_item ids.0 front.inside read (same_is name (codes "BODY") body.0) front.section front.passes ids.2
-      | inr other ↦ other_item read (λ behind inside same section passes. no_err (id_section_at left) other.0 behind other.1 (id_reads left behind inside section passes)) other.2
-    ]
-    | inr other ↦ other_item read (λ behind inside same section passes. other_is name (codes "BODY") other.0 same) other.1
-  ]
+  sectioned_item read is = elim (ok_either (same_word name (codes "BODY")) (or_else (id_section_at left) ids_at (other_section_at left))
+      (other_section_at left) read is) [
+        | inl body ↦ elim (ok_or_else (id_section_at left) ids_at (other_section_at left) read body.1) [
+          | inl ids ↦
+              let front = id_spells left ids.0 fits_here ids.1 in
+              ids_item ids.0 front.inside read (same_is name (codes "BODY") body.0) front.section front.passes ids.2
+          | inr other ↦ other_item read (λ behind inside same section passes. no_err (id_section_at left) other.0 behind other.1
+              (id_reads left behind inside section passes)) other.2
+        ]
+        | inr other ↦ other_item read (λ behind inside same section passes. other_is name (codes "BODY") other.0 same) other.1
+      ]
 
 -- an item
 abbrev pub by_section : Left → List ℕ → Result Read ℕ
@@ -279,23 +334,30 @@ by_section left inside = sectioned_at (wide_at left.text).0 (at_left left inside
 abbrev pub by_name : Left → List ℕ → Result Read ℕ
 by_name left after = named_item_at whole (wide_at left.text).0 (at_left left after)
 
-pub item_is : (left : Left) → item_at whole left ≡ cond (is_atom (wide_at left.text).0) (or_else (mark_at 91 (wide_at left.text).1) (by_section left) (gap_at (wide_at left.text).1 >>= by_name left)) (Err (length left.text))
+pub item_is : (left : Left) → item_at whole left ≡ cond (is_atom (wide_at left.text).0)
+    (or_else (mark_at 91 (wide_at left.text).1) (by_section left) (gap_at (wide_at left.text).1 >>= by_name left)) (Err (length left.text))
 unfolding item_at
 item_is left = refl
 
 pub item_spells : (left : Left) (read : Read) → Fits left → item_at whole left ≡ Ok read → IsItemFront left read
 item_spells left read fits is =
-    let test = ok_first (is_atom (wide_at left.text).0) (length left.text) (or_else (mark_at 91 (wide_at left.text).1) (by_section left) (gap_at (wide_at left.text).1 >>= by_name left)) read (sym (item_is left) ∙ is) in
+    let test = ok_first (is_atom (wide_at left.text).0) (length left.text)
+    (or_else (mark_at 91 (wide_at left.text).1) (by_section left) (gap_at (wide_at left.text).1 >>= by_name left)) read
+    (sym (item_is left) ∙ is) in
     let atom = atom_front left.text test.0 in
     let cut = reading_cuts is_wide_byte left.text in
     elim (ok_or_else (mark_at 91 (wide_at left.text).1) (by_section left) (gap_at (wide_at left.text).1 >>= by_name left) read test.1) [
       | inl section ↦
           let mark = mark_spells 91 (wide_at left.text).1 section.0 section.1 in
-          let whole : left.text ≡ ((wide_at left.text).0 ++ 91 ∷ []) ++ section.0 = cut.whole ∙ ap (λ (t : List ℕ). (wide_at left.text).0 ++ t) mark ∙ sym (append_assoc (wide_at left.text).0 (91 ∷ []) section.0) in
-          sectioned_item left (at_left left section.0) (wide_at left.text).0 atom (bytes_pass left ((wide_at left.text).0 ++ 91 ∷ []) section.0 fits whole) read section.2
+          let whole : left.text ≡ ((wide_at left.text).0 ++ 91 ∷ []) ++ section.0 =
+          cut.whole ∙ ap (λ (t : List ℕ). (wide_at left.text).0 ++ t) mark
+          ∙ sym (append_assoc (wide_at left.text).0 (91 ∷ []) section.0) in
+          sectioned_item left (at_left left section.0) (wide_at left.text).0 atom
+          (bytes_pass left ((wide_at left.text).0 ++ 91 ∷ []) section.0 fits whole) read section.2
       | inr plain ↦
           let after = ok_bind (gap_at (wide_at left.text).1) (by_name left) read plain.2 in
           let one = bytes_pass left (wide_at left.text).0 (wide_at left.text).1 fits cut.whole in
-          let two = gap_front (at_left left (wide_at left.text).1) after.0 (fits_behind left (bytes (wide_at left.text).0) (at_left left (wide_at left.text).1) one) after.1 in
+          let two = gap_front (at_left left (wide_at left.text).1) after.0
+          (fits_behind left (bytes (wide_at left.text).0) (at_left left (wide_at left.text).1) one) after.1 in
           named_item left (at_left left (wide_at left.text).1) (at_left left after.0) (wide_at left.text).0 two.gap one two.spaces two.passes read atom after.2
     ]

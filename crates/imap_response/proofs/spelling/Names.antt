@@ -61,7 +61,8 @@ from_all p [] all = refl
 from_all p (b ∷ text) all = both_true (p b) (list_all p text) all.0 (from_all p text all.1)
 
 -- what holds of the bytes of a name, holds of those of the same word
-pub same_passes : (p : ℕ → Bool) → ((b : ℕ) → p (to_ascii_lowercase b) ≡ p b) → (word name : List ℕ) → SameWord word name → list_all p name ≡ true → AllPass p word
+pub same_passes : (p : ℕ → Bool) → ((b : ℕ) → p (to_ascii_lowercase b) ≡ p b) → (word name : List ℕ) → SameWord word name →
+    list_all p name ≡ true → AllPass p word
 same_passes p lower word name same all =
     all_from p word (sym (all_lower p lower word) ∙ ap (list_all p) same ∙ all_lower p lower name ∙ all)
 

@@ -1,12 +1,12 @@
 -- What a SEARCH found: what is read, and what is spelled.
-use Rattle.std.proofs.Common.{◌≡◌, ◌≢◌, ◌↔◌, ℕ, zero, suc, ◌<◌, ◌≤◌, ◌^◌, Bool, true, false, cond, List, [], ◌∷◌, ◌++◌, length, get_or, codes, refl, ap, sym, ◌∙◌, subst, inl, inr, ◌⊎◌, arith, append_assoc, length-append, Contains, Result, Ok}
+use Rattle.std.proofs.Common.{◌≡◌, ◌≢◌, ◌↔◌, ℕ, zero, suc, ◌≤◌, Bool, true, false, cond, List, [], ◌∷◌, ◌++◌, length, codes, refl, ap}
+use Rattle.std.proofs.Common.{sym, ◌∙◌, subst, inl, inr, arith, append_assoc, length-append, Contains, Result, Ok}
 use Rattle.std.proofs.lemmas.Bool.Decides.{nat_tests}
 use Rattle.std.specs.Prelude.{◌==◌}
 use Rattle.std.specs.List.{AllByRecursion}
 use Rattle.std.specs.Str.Parse.{IsNumeral}
 use Rattle.std.specs.Char.{is_ascii_digit}
-use Rattle.uid_sets.specs.Uid.{IsWithin}
-use Rattle.uid_sets.specs.UidSet.{Member, IsCanonical, IsRange}
+use Rattle.uid_sets.specs.UidSet.{Member}
 use Rattle.uid_sets.specs.declared.uid.UidRange.{UidRange}
 use Rattle.uid_sets.proofs.Ranges.{one_form}
 use Rattle.imap_model.specs.Numbers.{IsNonzero, IsModSeq}
@@ -15,14 +15,14 @@ use Rattle.imap_model.specs.Words.{AreSpaces, Spaced, Stops, is_word_byte}
 use Rattle.imap_model.specs.Values.{is_wide_byte}
 use Rattle.imap_model.proofs.Cutting.{Stops as Ends}
 use Rattle.imap_response.specs.Leaf.{is_space, gap_at, blank_at, end_at, mark_at, named_at}
-use Rattle.imap_response.specs.Numbers.{nonzero_at, modseq_at}
+use Rattle.imap_response.specs.ReadNumbers.{nonzero_at, modseq_at}
 use Rattle.imap_response.specs.Reads.{◌>>=◌}
-use Rattle.imap_response.specs.Searches.{begins_with, search_end_at, numbers_from, found_at}
-use Rattle.imap_response.specs.Sets.{set_of_numbers}
+use Rattle.imap_response.specs.ReadSearches.{begins_with, search_end_at, numbers_from, found_at}
+use Rattle.imap_response.specs.Sets.{IsUidNumber, IsIn, set_of_numbers}
 use Rattle.imap_response.proofs.spelling.CodeRows.{spaced_ends}
 use Rattle.imap_response.proofs.spelling.Names.{IsNamed, named_spells, named_reads}
 use Rattle.imap_response.proofs.spelling.Numbers.{IsFront, nonzero_at_spells, nonzero_at_reads, modseq_at_spells, modseq_at_reads, digits_pass}
-use Rattle.imap_response.proofs.spelling.Ranges.{put_rises, put_members}
+use Rattle.imap_response.proofs.NumberSets.{place_of, at_place, numbers_canonical, numbers_members}
 use Rattle.imap_response.proofs.spelling.Results.{byte_not, len_none, ok_is, ok_either, ok_bind, bind_ok}
 use Rattle.imap_response.proofs.spelling.WordLists.{blank_some}
 use Rattle.imap_response.proofs.spelling.Words.{gap_spells, gap_reads, mark_spells, mark_reads, end_spells, end_reads, all_spaces, spaces_end, no_space}
@@ -52,7 +52,8 @@ at_open inside = named_at (codes "MODSEQ") inside >>= at_name
 
 end_parts : (name gap digits blank : List ℕ) → 40 ∷ (name ++ (gap ++ (digits ++ (41 ∷ blank)))) ≡ (40 ∷ (name ++ gap ++ digits ++ 41 ∷ [])) ++ blank
 end_parts name gap digits blank =
-    ap (λ (t : List ℕ). 40 ∷ t) (sym (append_assoc name gap (digits ++ 41 ∷ blank)) ∙ sym (append_assoc (name ++ gap) digits (41 ∷ blank)) ∙ sym (append_assoc ((name ++ gap) ++ digits) (41 ∷ []) blank))
+    ap (λ (t : List ℕ). 40 ∷ t) (sym (append_assoc name gap (digits ++ 41 ∷ blank)) ∙ sym (append_assoc (name ++ gap) digits (41 ∷ blank))
+    ∙ sym (append_assoc ((name ++ gap) ++ digits) (41 ∷ []) blank))
 
 end_spelled : (text : List ℕ) → search_end_at text ≡ Ok tt → IsEnd text
 unfolding search_end_at
@@ -69,9 +70,21 @@ end_spelled text is =
       modseq = 40 ∷ (named.word ++ gap.gap ++ front.run ++ 41 ∷ []);
       blank = end.0;
       whole = mark_spells 40 text inside.0 inside.1
-          ∙ ap (λ (t : List ℕ). 40 ∷ t) (named.whole ∙ ap (λ (t : List ℕ). named.word ++ t) (gap.whole ∙ ap (λ (t : List ℕ). gap.gap ++ t) (front.whole ∙ ap (λ (t : List ℕ). front.run ++ t) (mark_spells 41 modseq.0.1 end.0 end.1))))
+          ∙ ap (λ (t : List ℕ). 40 ∷ t) (named.whole ∙ ap (λ (t : List ℕ). named.word ++ t)
+          (gap.whole ∙ ap (λ (t : List ℕ). gap.gap ++ t) (front.whole ∙ ap (λ (t : List ℕ). front.run ++ t)
+          (mark_spells 41 modseq.0.1 end.0 end.1))))
           ∙ end_parts named.word gap.gap front.run end.0;
-      is_modseq = record { name = named.word; named = named.same; gap = gap.gap; spaces = gap.spaces; digits = front.run; modseq = modseq.0.0; number = front.spells; whole = refl };
+      is_modseq = record {
+        name = named.word;
+        named = named.same;
+        gap = gap.gap;
+        spaces = gap.spaces;
+        digits = front.run;
+        modseq =
+            modseq.0.0;
+        number = front.spells;
+        whole = refl;
+      };
       spaces = end_spells end.0 end.2;
     }
 
@@ -86,14 +99,33 @@ unfolding search_end_at
 end_read text w =
     let m = w.is_modseq in
     let rest : List ℕ = m.digits ++ 41 ∷ w.blank in
-    let whole : text ≡ 40 ∷ (m.name ++ (m.gap ++ (m.digits ++ (41 ∷ w.blank)))) = w.whole ∙ ap (λ (t : List ℕ). t ++ w.blank) m.whole ∙ sym (end_parts m.name m.gap m.digits w.blank) in
-    let spaced : Spaced (m.gap ++ (m.digits ++ 41 ∷ w.blank)) (m.digits ++ 41 ∷ w.blank) = record { gap = m.gap; spaces = m.spaces; whole = refl; no_more = no_space (m.digits ++ 41 ∷ w.blank) (numeral_solid m.digits (41 ∷ w.blank) m.number.0.digits) } in
-    let named : IsNamed (codes "MODSEQ") (m.name ++ (m.gap ++ (m.digits ++ 41 ∷ w.blank))) (m.gap ++ (m.digits ++ 41 ∷ w.blank)) = record { word = m.name; same = m.named; whole = refl; ends = spaced_ends (m.gap ++ (m.digits ++ 41 ∷ w.blank)) (m.digits ++ 41 ∷ w.blank) spaced } in
+    let whole : text ≡ 40 ∷ (m.name ++ (m.gap ++ (m.digits ++ (41 ∷ w.blank)))) =
+    w.whole ∙ ap (λ (t : List ℕ). t ++ w.blank) m.whole ∙ sym (end_parts m.name m.gap m.digits w.blank) in
+    let spaced : Spaced (m.gap ++ (m.digits ++ 41 ∷ w.blank)) (m.digits ++ 41 ∷ w.blank) =
+    record {
+      gap = m.gap;
+      spaces = m.spaces;
+      whole = refl;
+      no_more =
+          no_space (m.digits ++ 41 ∷ w.blank) (numeral_solid m.digits (41 ∷ w.blank) m.number.0.digits);
+    } in
+    let named : IsNamed (codes "MODSEQ") (m.name ++ (m.gap ++ (m.digits ++ 41 ∷ w.blank))) (m.gap ++ (m.digits ++ 41 ∷ w.blank)) =
+    record {
+      word = m.name;
+      same = m.named;
+      whole = refl;
+      ends =
+          spaced_ends (m.gap ++ (m.digits ++ 41 ∷ w.blank)) (m.digits ++ 41 ∷ w.blank) spaced;
+    } in
     let front : IsFront IsModSeq (m.digits ++ 41 ∷ w.blank) m.modseq (41 ∷ w.blank) = record { run = m.digits; spells = m.number; whole = refl; ends = refl } in
-    bind_ok (mark_at 40 text) at_open (m.name ++ (m.gap ++ (m.digits ++ 41 ∷ w.blank))) tt (mark_reads 40 text (m.name ++ (m.gap ++ (m.digits ++ 41 ∷ w.blank))) whole)
-    (bind_ok (named_at (codes "MODSEQ") (m.name ++ (m.gap ++ (m.digits ++ 41 ∷ w.blank)))) at_name (m.gap ++ (m.digits ++ 41 ∷ w.blank)) tt (named_reads (codes "MODSEQ") (m.name ++ (m.gap ++ (m.digits ++ 41 ∷ w.blank))) (m.gap ++ (m.digits ++ 41 ∷ w.blank)) refl named)
-    (bind_ok (gap_at (m.gap ++ (m.digits ++ 41 ∷ w.blank))) at_after (m.digits ++ 41 ∷ w.blank) tt (gap_reads (m.gap ++ (m.digits ++ 41 ∷ w.blank)) (m.digits ++ 41 ∷ w.blank) spaced)
-    (bind_ok (modseq_at (m.digits ++ 41 ∷ w.blank)) at_number (m.modseq, 41 ∷ w.blank) tt (modseq_at_reads (m.digits ++ 41 ∷ w.blank) m.modseq (41 ∷ w.blank) front)
+    bind_ok (mark_at 40 text) at_open (m.name ++ (m.gap ++ (m.digits ++ 41 ∷ w.blank))) tt
+    (mark_reads 40 text (m.name ++ (m.gap ++ (m.digits ++ 41 ∷ w.blank))) whole)
+    (bind_ok (named_at (codes "MODSEQ") (m.name ++ (m.gap ++ (m.digits ++ 41 ∷ w.blank)))) at_name (m.gap ++ (m.digits ++ 41 ∷ w.blank)) tt
+    (named_reads (codes "MODSEQ") (m.name ++ (m.gap ++ (m.digits ++ 41 ∷ w.blank))) (m.gap ++ (m.digits ++ 41 ∷ w.blank)) refl named)
+    (bind_ok (gap_at (m.gap ++ (m.digits ++ 41 ∷ w.blank))) at_after (m.digits ++ 41 ∷ w.blank) tt
+    (gap_reads (m.gap ++ (m.digits ++ 41 ∷ w.blank)) (m.digits ++ 41 ∷ w.blank) spaced)
+    (bind_ok (modseq_at (m.digits ++ 41 ∷ w.blank)) at_number (m.modseq, 41 ∷ w.blank) tt
+    (modseq_at_reads (m.digits ++ 41 ∷ w.blank) m.modseq (41 ∷ w.blank) front)
     (bind_ok (mark_at 41 (41 ∷ w.blank)) at_close w.blank tt (mark_reads 41 (41 ∷ w.blank) w.blank refl) (end_reads w.blank w.spaces)))))
 
 -- numbers
@@ -157,33 +189,36 @@ none_left (b ∷ text) fits = absurd (omega arith)
 
 shorter : (text gap after run rest : List ℕ) (n : ℕ) → gap ≢ [] → text ≡ gap ++ after → after ≡ run ++ rest → length text ≤ suc n → length rest ≤ n
 shorter text [] after run rest n some whole whole' fits = absurd (some refl)
-shorter text (g ∷ gap) after run rest n some whole whole' fits = omega (arith, ap length whole, ap length whole', length-append (g ∷ gap) after, length-append run rest)
+shorter text (g ∷ gap) after run rest n some whole whole' fits =
+    omega (arith, ap length whole, ap length whole', length-append (g ∷ gap) after, length-append run rest)
 
 numbers_spell : (n : ℕ) (text numbers : List ℕ) → length text ≤ n → numbers_from n text ≡ Ok numbers → AreTold text numbers
 numbers_spell zero text numbers fits is =
     none_told text numbers (subst AreSpaces (sym (none_left text fits)) tt) (sym (numbers_none text) ∙ is)
-numbers_spell (suc more) text numbers fits is = elim (ok_either (length (blank_at text) == 0) (Ok []) (gap_at text >>= behind_gap more) numbers (sym (numbers_is more text) ∙ is)) [
-  | inl blank ↦ none_told text numbers (all_spaces text (len_none (blank_at text) blank.0)) blank.1
-  | inr later ↦
-      let after = ok_bind (gap_at text) (behind_gap more) numbers later.1 in
-      let spaced = gap_spells text after.0 after.1 in
-      elim (ok_either (begins_with 40 after.0) (search_end_at after.0 >>= done) (nonzero_at after.0 >>= behind_number more) numbers after.2) [
-        | inl modseq ↦
-            let end = ok_bind (search_end_at after.0) done numbers modseq.1 in
-            modseq_told text after.0 numbers spaced (end_spelled after.0 end.1) end.2
-        | inr number ↦
-            let first = ok_bind (nonzero_at after.0) (behind_number more) numbers number.1 in
-            let rest = ok_bind (numbers_from more first.0.1) (onto first.0.0) numbers first.2 in
-            let front = nonzero_at_spells after.0 first.0.0 first.0.1 first.1 in
-            let told = numbers_spell more first.0.1 rest.0 (shorter text spaced.gap after.0 front.run first.0.1 more spaced.spaces.0 spaced.whole front.whole fits) rest.1 in
-            subst (AreTold text) (ok_is (first.0.0 ∷ rest.0) numbers rest.2) (record {
-              later = told.later;
-              are = (front.run, first.0.1, subst (Spaced text) front.whole spaced, front.spells, told.stops, told.are);
-              end = told.end;
-              stops = spaced_stops text after.0 spaced;
-            })
-      ]
-]
+numbers_spell (suc more) text numbers fits is = elim (ok_either (length (blank_at text) == 0) (Ok [])
+    (gap_at text >>= behind_gap more) numbers (sym (numbers_is more text) ∙ is)) [
+      | inl blank ↦ none_told text numbers (all_spaces text (len_none (blank_at text) blank.0)) blank.1
+      | inr later ↦
+          let after = ok_bind (gap_at text) (behind_gap more) numbers later.1 in
+          let spaced = gap_spells text after.0 after.1 in
+          elim (ok_either (begins_with 40 after.0) (search_end_at after.0 >>= done) (nonzero_at after.0 >>= behind_number more) numbers after.2) [
+            | inl modseq ↦
+                let end = ok_bind (search_end_at after.0) done numbers modseq.1 in
+                modseq_told text after.0 numbers spaced (end_spelled after.0 end.1) end.2
+            | inr number ↦
+                let first = ok_bind (nonzero_at after.0) (behind_number more) numbers number.1 in
+                let rest = ok_bind (numbers_from more first.0.1) (onto first.0.0) numbers first.2 in
+                let front = nonzero_at_spells after.0 first.0.0 first.0.1 first.1 in
+                let told = numbers_spell more first.0.1 rest.0
+                (shorter text spaced.gap after.0 front.run first.0.1 more spaced.spaces.0 spaced.whole front.whole fits) rest.1 in
+                subst (AreTold text) (ok_is (first.0.0 ∷ rest.0) numbers rest.2) (record {
+                  later = told.later;
+                  are = (front.run, first.0.1, subst (Spaced text) front.whole spaced, front.spells, told.stops, told.are);
+                  end = told.end;
+                  stops = spaced_stops text after.0 spaced;
+                })
+          ]
+    ]
 
 -- what is spelled is read
 narrow : (b : ℕ) → is_word_byte b ≡ false → is_wide_byte b ≡ false
@@ -221,9 +256,11 @@ end_reads_by (suc more) text fits (inr told) =
     let some = blank_some text (told.0 ++ told.1) told.2 first.0 in
     let test = first.1 in
     numbers_is more text ∙ rw some (bind_ok (gap_at text) (behind_gap more) (told.0 ++ told.1) [] (gap_reads text (told.0 ++ told.1) told.2)
-    (ap (λ (t : Bool). cond t (search_end_at (told.0 ++ told.1) >>= done) (nonzero_at (told.0 ++ told.1) >>= behind_number more)) test ∙ bind_ok (search_end_at (told.0 ++ told.1)) done tt [] end refl))
+    (ap (λ (t : Bool). cond t (search_end_at (told.0 ++ told.1) >>= done) (nonzero_at (told.0 ++ told.1) >>= behind_number more)) test
+    ∙ bind_ok (search_end_at (told.0 ++ told.1)) done tt [] end refl))
 
-numbers_read : (numbers : List ℕ) (n : ℕ) (text later : List ℕ) → length text ≤ n → AreNumbers text numbers later → IsSearchEnd later → numbers_from n text ≡ Ok numbers
+numbers_read : (numbers : List ℕ) (n : ℕ) (text later : List ℕ) → length text ≤ n → AreNumbers text numbers later → IsSearchEnd later →
+    numbers_from n text ≡ Ok numbers
 numbers_read [] n text later fits are end = end_reads_by n text fits (subst IsSearchEnd (sym are) end)
 numbers_read (number ∷ numbers) zero text later fits are end = absurd (are.2.spaces.0 (gap_none text are.2.gap (are.0 ++ are.1) are.2.whole fits))
 numbers_read (number ∷ numbers) (suc more) text later fits are end =
@@ -231,54 +268,33 @@ numbers_read (number ∷ numbers) (suc more) text later fits are end =
     let front : IsFront IsNonzero (are.0 ++ are.1) number are.1 = record { run = are.0; spells = are.3; whole = refl; ends = stops_narrow are.1 are.4 } in
     let some = blank_some text (are.0 ++ are.1) spaced (some_append are.0 are.1 are.3.0.digits) in
     let test = digits_first are.0 are.1 are.3.0.digits in
-    let rest = numbers_read numbers more are.1 later (shorter text spaced.gap (are.0 ++ are.1) are.0 are.1 more spaced.spaces.0 spaced.whole refl fits) are.5 end in
+    let rest = numbers_read numbers more are.1 later (shorter text spaced.gap
+    (are.0 ++ are.1) are.0 are.1 more spaced.spaces.0 spaced.whole refl fits) are.5 end in
     numbers_is more text ∙ rw some (bind_ok (gap_at text) (behind_gap more) (are.0 ++ are.1) (number ∷ numbers) (gap_reads text (are.0 ++ are.1) spaced)
     (ap (λ (t : Bool). cond t (search_end_at (are.0 ++ are.1) >>= done) (nonzero_at (are.0 ++ are.1) >>= behind_number more)) test
     ∙ bind_ok (nonzero_at (are.0 ++ are.1)) (behind_number more) (number, are.1) (number ∷ numbers) (nonzero_at_reads (are.0 ++ are.1) number are.1 front)
     (bind_ok (numbers_from more are.1) (onto number) numbers (number ∷ numbers) rest refl)))
 
 -- the set of the numbers
-abbrev IsUid : ℕ → Type 0
-IsUid n = (0 < n) × (n < 2 ^ 32)
-
-are_uids : (numbers text later : List ℕ) → AreNumbers text numbers later → AllByRecursion IsUid numbers
+are_uids : (numbers text later : List ℕ) → AreNumbers text numbers later → AllByRecursion IsUidNumber numbers
 are_uids [] text later are = tt
 are_uids (number ∷ numbers) text later are = ((are.3.1, omega (arith, are.3.0.fits)), are_uids numbers are.1 later are.5)
 
-one_range : (n : ℕ) → IsUid n → IsRange 0 (record { low = n; high = n })
-one_range n is = record { above = is.0; ordered = omega arith; fits = is.1 }
+contains_is : (numbers : List ℕ) (uid : ℕ) → Contains numbers uid ↔ IsIn numbers uid
+contains_is numbers uid = (λ c. at_place numbers c.0 uid c.1 c.2, place_of numbers uid)
 
-numbers_canonical : (numbers : List ℕ) → AllByRecursion IsUid numbers → IsCanonical (set_of_numbers numbers)
-numbers_canonical [] all = tt
-numbers_canonical (n ∷ numbers) all = put_rises (set_of_numbers numbers) 0 (record { low = n; high = n }) (numbers_canonical numbers all.1) (one_range n all.0)
-
-forward_at : (n : ℕ) (numbers : List ℕ) (uid k : ℕ) → k < length (n ∷ numbers) → get_or (n ∷ numbers) k uid ≡ uid → (n ≡ uid) ⊎ Contains numbers uid
-forward_at n numbers uid zero below at = inl at
-forward_at n numbers uid (suc k) below at = inr (k, omega arith, at)
-
-backward : (n : ℕ) (numbers : List ℕ) (uid : ℕ) → (n ≡ uid) ⊎ Contains numbers uid → Contains (n ∷ numbers) uid
-backward n numbers uid (inl same) = (0, omega arith, same)
-backward n numbers uid (inr more) = (suc more.0, (let below = more.1 in omega arith), more.2)
-
-within_one : (n uid : ℕ) → IsWithin n n uid ↔ (n ≡ uid)
-within_one n uid = (λ w. omega (arith, w.above, w.below), λ e. record { above = omega (arith, e); below = omega (arith, e) })
-
-numbers_members : (numbers : List ℕ) (uid : ℕ) → AllByRecursion IsUid numbers → Member (set_of_numbers numbers) uid ↔ Contains numbers uid
-numbers_members [] uid all = (λ m. absurd m, λ m. absurd (let below = m.1 in omega arith))
-numbers_members (n ∷ numbers) uid all =
-    let rest = numbers_members numbers uid all.1 in
-    let put = put_members (set_of_numbers numbers) 0 (record { low = n; high = n }) uid (numbers_canonical numbers all.1) (one_range n all.0) in
-    let at = within_one n uid in (
-      λ m. backward n numbers uid (elim (put.0 m) as (λ _. (n ≡ uid) ⊎ Contains numbers uid) [ inl here ↦ inl (at.0 here) | inr later ↦ inr (rest.0 later) ]),
-      λ c. put.1 (elim (forward_at n numbers uid c.0 c.1 c.2) as (λ _. IsWithin n n uid ⊎ Member (set_of_numbers numbers) uid) [ inl here ↦ inl (at.1 here) | inr later ↦ inr (rest.1 later) ]),
-    )
-
-set_is : (numbers : List ℕ) → AllByRecursion IsUid numbers → IsSetOf (set_of_numbers numbers) numbers
-set_is numbers all = record { canonical = numbers_canonical numbers all; members = λ uid. numbers_members numbers uid all }
-
-is_set : (numbers : List ℕ) (uids : List UidRange) → AllByRecursion IsUid numbers → IsSetOf uids numbers → set_of_numbers numbers ≡ uids
-is_set numbers uids all set = one_form 0 (set_of_numbers numbers) uids (numbers_canonical numbers all) set.canonical (λ uid.
+members_are : (numbers : List ℕ) (uid : ℕ) → AllByRecursion IsUidNumber numbers → Member (set_of_numbers numbers) uid ↔ Contains numbers uid
+members_are numbers uid all =
     let mine = numbers_members numbers uid all in
+    let listed = contains_is numbers uid in
+    (λ m. listed.1 (mine.0 m), λ c. mine.1 (listed.0 c))
+
+set_is : (numbers : List ℕ) → AllByRecursion IsUidNumber numbers → IsSetOf (set_of_numbers numbers) numbers
+set_is numbers all = record { canonical = numbers_canonical numbers all; members = λ uid. members_are numbers uid all }
+
+is_set : (numbers : List ℕ) (uids : List UidRange) → AllByRecursion IsUidNumber numbers → IsSetOf uids numbers → set_of_numbers numbers ≡ uids
+is_set numbers uids all set = one_form 0 (set_of_numbers numbers) uids (numbers_canonical numbers all) set.canonical (λ uid.
+    let mine = members_are numbers uid all in
     let told = set.members uid in
     (λ m. told.1 (mine.0 m), λ m. mine.1 (told.0 m)))
 
@@ -290,7 +306,8 @@ unfolding found_at
 found_spells text uids is =
     let numbers = ok_bind (numbers_from (length text) text) put_set uids is in
     let told = numbers_spell (length text) text numbers.0 (omega arith) numbers.1 in
-    subst (TellsSearch text) (ok_is (set_of_numbers numbers.0) uids numbers.2) (numbers.0, told.later, told.are, told.end, set_is numbers.0 (are_uids numbers.0 text told.later told.are))
+    subst (TellsSearch text) (ok_is (set_of_numbers numbers.0) uids numbers.2)
+    (numbers.0, told.later, told.are, told.end, set_is numbers.0 (are_uids numbers.0 text told.later told.are))
 
 pub found_reads : (text : List ℕ) (uids : List UidRange) → TellsSearch text uids → found_at text ≡ Ok uids
 unfolding found_at

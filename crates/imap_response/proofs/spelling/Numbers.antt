@@ -1,16 +1,12 @@
 -- Numbers and sets in front of a text: what is read, and what is spelled.
-use Rattle.std.proofs.Common.{◌≡◌, ℕ, ◌<◌, ◌≤◌, Bool, true, false, cond, List, [], ◌∷◌, ◌++◌, length, take, Option, Some, None, refl, ap, sym, ◌∙◌, subst, inl, inr, arith, Ok}
-use Rattle.std.proofs.Math.Seq.{take-length}
+use Rattle.std.proofs.Common.{◌≡◌, ℕ, ◌<◌, Bool, true, false, cond, List, [], ◌∷◌, ◌++◌, length, Option, Some, None, refl, ap, sym, ◌∙◌}
+use Rattle.std.proofs.Common.{subst, inl, inr, arith, Ok}
 use Rattle.std.proofs.lemmas.Bool.{cases_Bool}
 use Rattle.std.proofs.lemmas.Bool.Decides.{nat_tests}
-use Rattle.std.proofs.lemmas.List.{get_or-take}
-use Rattle.std.proofs.lemmas.List.Sums.{prefix_len_passes}
-use Rattle.std.proofs.lemmas.List.Folds.{length-prefix_len}
-use Rattle.std.proofs.lemmas.Str.Parse.{digit_from_value, tells_by_index, numerals_by_value}
-use Rattle.std.specs.Prelude.{◌&&◌, ◌==◌, nat_le}
+use Rattle.std.proofs.lemmas.Str.Parse.{digit_from_value}
+use Rattle.std.specs.Prelude.{◌==◌}
 use Rattle.std.specs.List.{prefix_len}
 use Rattle.std.specs.Char.{is_ascii_digit}
-use Rattle.std.specs.Int.{IsInRange}
 use Rattle.std.specs.Str.Parse.{IsNumeral, AllDigits, digits_value}
 use Rattle.mail_base.specs.Number.{IsNumberUpTo}
 use Rattle.imap_model.specs.Values.{is_wide_byte}
@@ -18,34 +14,15 @@ use Rattle.imap_model.specs.Numbers.{IsNumber, IsNonzero, IsModSeq}
 use Rattle.imap_model.proofs.Cutting.{Stops as Ends}
 use Rattle.imap_response.specs.Leaf.{is_digits, wide_at}
 use Rattle.imap_response.specs.Reads.{with_rest}
-use Rattle.imap_response.specs.Numbers.{number_of, nonzero, number_at, nonzero_at, modseq_at}
-use Rattle.imap_response.proofs.spelling.Results.{ok_is, not_byte, byte_not}
+use Rattle.imap_response.specs.ReadNumbers.{number_of, nonzero, number_at, nonzero_at, modseq_at}
+use Rattle.imap_response.proofs.NumberLemmas.{range_is_digit, all_run, run_all, test_of, true_is, number_some, nonzero_reads}
+use Rattle.imap_response.proofs.spelling.Results.{ok_is, not_byte}
 use Rattle.imap_response.proofs.spelling.Runs.{AllPass, IsCut, cut_front, cut_behind, reading_cuts, all_weaker}
 
 -- digits
-pub digit_in_range : (c : ℕ) → is_ascii_digit c ≡ true → IsInRange 48 57 c
-digit_in_range c is = grind (arith, nat_tests)
-
-pub range_is_digit : (c : ℕ) → IsInRange 48 57 c → is_ascii_digit c ≡ true
-range_is_digit c within = grind (arith, nat_tests)
-
-pub digits_front : (text : List ℕ) → AllDigits 10 (take (prefix_len is_ascii_digit text) text)
-digits_front text =
-    let digits = take (prefix_len is_ascii_digit text) text in
-    (numerals_by_value _ tells_by_index).to digits (λ i within.
-    let below : i < prefix_len is_ascii_digit text = rw length-prefix_len at within in
-    rw (get_or-take _ text i 0 below) (digit_in_range _ (prefix_len_passes is_ascii_digit text i 0 below)))
-
 pub digits_pass : (text : List ℕ) → AllDigits 10 text → AllPass is_ascii_digit text
 digits_pass [] all = tt
 digits_pass (c ∷ cs) all = (range_is_digit c (digit_from_value c all.0), digits_pass cs all.1)
-
-all_run : (text : List ℕ) → AllDigits 10 text → prefix_len is_ascii_digit text ≡ length text
-all_run [] all = refl
-all_run (c ∷ cs) all = rw (range_is_digit c (digit_from_value c all.0)) (omega (arith, all_run cs all.1))
-
-run_all : (text : List ℕ) → prefix_len is_ascii_digit text ≡ length text → AllDigits 10 text
-run_all text whole = subst (AllDigits 10) (ap (λ n. take n text) whole ∙ take-length text) (digits_front text)
 
 pub numeral_is : (text : List ℕ) → is_digits text ≡ true → IsNumeral 10 text
 numeral_is text test =
@@ -59,42 +36,15 @@ is_numeral text numeral =
     let whole : prefix_len is_ascii_digit text ≡ length text = all_run text numeral.1 in
     grind (arith, nat_tests)
 
-abbrev test_of : ℕ → List ℕ → Bool
-test_of largest text = is_digits text && nat_le (digits_value 10 text) largest
-
-is_true : (largest n : ℕ) (text : List ℕ) → IsNumberUpTo largest text n → test_of largest text ≡ true
-is_true largest n text is =
-    let whole : prefix_len is_ascii_digit text ≡ length text = all_run text is.digits.1 in
-    let some : 0 < length text = is.digits.0 in
-    let fits : digits_value 10 text ≤ largest = omega (arith, is.value, is.fits) in
-    grind (arith, nat_tests)
-
-true_is : (largest : ℕ) (text : List ℕ) → test_of largest text ≡ true → IsNumberUpTo largest text (digits_value 10 text)
-true_is largest text test =
-    let some : 0 < length text = grind (arith, nat_tests) in
-    let whole : prefix_len is_ascii_digit text ≡ length text = grind (arith, nat_tests) in
-    let fits : digits_value 10 text ≤ largest = grind (arith, nat_tests) in
-    record { digits = (some, run_all text whole); value = refl; fits = fits }
-
 some_cond : {A : Type 0} (t : Bool) (x y : A) → cond t (Some x) None ≡ Some y → (t ≡ true) × (x ≡ y)
 some_cond true x y is = (refl, cc)
 some_cond false x y is = absurd cc
-
-pub number_reads : (largest n : ℕ) (text : List ℕ) → IsNumberUpTo largest text n → number_of largest text ≡ Some n
-unfolding number_of
-number_reads largest n text is = rw (is_true largest n text is) (ap Some is.value)
 
 pub number_spells : (largest n : ℕ) (text : List ℕ) → number_of largest text ≡ Some n → IsNumberUpTo largest text n
 unfolding number_of
 number_spells largest n text is =
     let both = some_cond (test_of largest text) (digits_value 10 text) n is in
     subst (IsNumberUpTo largest text) both.1 (true_is largest text both.0)
-
-nonzero_reads : (o : Option ℕ) (n : ℕ) → o ≡ Some n → 0 < n → nonzero o ≡ Some n
-nonzero_reads None n is some = absurd cc
-nonzero_reads (Some m) n is some =
-    let same : m ≡ n = cc in
-    rw (byte_not m 0 (λ zero. omega arith)) is
 
 nonzero_spells : (o : Option ℕ) (n : ℕ) → nonzero o ≡ Some n → (o ≡ Some n) × (0 < n)
 nonzero_spells None n is = absurd cc
@@ -135,7 +85,8 @@ front_spells N o each text x rest is =
       ends = subst (Ends is_wide_byte) both.1 cut.ends;
     }
 
-pub front_reads : {A : Type 0} (N : List ℕ → A → Type 0) (o : List ℕ → Option A) → ((run : List ℕ) (x : A) → N run x → (o run ≡ Some x) × AllPass is_wide_byte run)
+pub front_reads : {A : Type 0} (N : List ℕ → A → Type 0) (o : List ℕ → Option A) →
+    ((run : List ℕ) (x : A) → N run x → (o run ≡ Some x) × AllPass is_wide_byte run)
     → (text : List ℕ) (x : A) (rest : List ℕ) → IsFront N text x rest → with_rest text (wide_at text).1 (o (wide_at text).0) ≡ Ok (x, rest)
 front_reads {A = A} N o each text x rest is =
     let read = each is.run x is.spells in
@@ -151,7 +102,8 @@ number_at_spells text n rest is = front_spells IsNumber (number_of 4294967295) (
 
 pub number_at_reads : (text : List ℕ) (n : ℕ) (rest : List ℕ) → IsFront IsNumber text n rest → number_at text ≡ Ok (n, rest)
 unfolding number_at
-number_at_reads text n rest is = front_reads IsNumber (number_of 4294967295) (λ run x is. (number_reads 4294967295 x run is, digits_wide run is.digits.1)) text n rest is
+number_at_reads text n rest is = front_reads IsNumber (number_of 4294967295)
+    (λ run x is. (number_some 4294967295 x run is, digits_wide run is.digits.1)) text n rest is
 
 pub nonzero_at_spells : (text : List ℕ) (n : ℕ) (rest : List ℕ) → nonzero_at text ≡ Ok (n, rest) → IsFront IsNonzero text n rest
 unfolding nonzero_at
@@ -161,7 +113,7 @@ nonzero_at_spells text n rest is = front_spells IsNonzero (λ run. nonzero (numb
 pub nonzero_at_reads : (text : List ℕ) (n : ℕ) (rest : List ℕ) → IsFront IsNonzero text n rest → nonzero_at text ≡ Ok (n, rest)
 unfolding nonzero_at
 nonzero_at_reads text n rest is = front_reads IsNonzero (λ run. nonzero (number_of 4294967295 run)) (λ run x is.
-    (nonzero_reads (number_of 4294967295 run) x (number_reads 4294967295 x run is.0) is.1, digits_wide run is.0.digits.1)) text n rest is
+    (nonzero_reads (number_of 4294967295 run) x (number_some 4294967295 x run is.0) is.1, digits_wide run is.0.digits.1)) text n rest is
 
 pub modseq_at_spells : (text : List ℕ) (n : ℕ) (rest : List ℕ) → modseq_at text ≡ Ok (n, rest) → IsFront IsModSeq text n rest
 unfolding modseq_at
@@ -171,4 +123,4 @@ modseq_at_spells text n rest is = front_spells IsModSeq (λ run. nonzero (number
 pub modseq_at_reads : (text : List ℕ) (n : ℕ) (rest : List ℕ) → IsFront IsModSeq text n rest → modseq_at text ≡ Ok (n, rest)
 unfolding modseq_at
 modseq_at_reads text n rest is = front_reads IsModSeq (λ run. nonzero (number_of 9223372036854775807 run)) (λ run x is.
-    (nonzero_reads (number_of 9223372036854775807 run) x (number_reads 9223372036854775807 x run is.0) is.1, digits_wide run is.0.digits.1)) text n rest is
+    (nonzero_reads (number_of 9223372036854775807 run) x (number_some 9223372036854775807 x run is.0) is.1, digits_wide run is.0.digits.1)) text n rest is

@@ -1,5 +1,6 @@
 -- A line that is passed over: what is read, and what is spelled.
-use Rattle.std.proofs.Common.{◌≡◌, ◌≢◌, ℕ, zero, suc, ◌<◌, ◌≤◌, Bool, true, false, cond, List, [], ◌∷◌, ◌++◌, length, drop, Option, Some, None, refl, ap, sym, ◌∙◌, subst, inl, inr, arith, append_assoc, append-nil, Result, Ok, Err}
+use Rattle.std.proofs.Common.{◌≡◌, ◌≢◌, ℕ, zero, suc, ◌<◌, ◌≤◌, Bool, true, false, cond, List, [], ◌∷◌, ◌++◌, length, drop, Option, Some}
+use Rattle.std.proofs.Common.{None, refl, ap, sym, ◌∙◌, subst, inl, inr, arith, append_assoc, append-nil, Result, Ok, Err}
 use Rattle.std.proofs.lemmas.Bool.Decides.{nat_tests}
 use Rattle.std.proofs.lemmas.List.{length-drop}
 use Rattle.std.specs.Prelude.{◌==◌, nat_lt}
@@ -14,8 +15,8 @@ use Rattle.imap_model.specs.Others.{IsQuiet, EndInHeader}
 use Rattle.imap_response.specs.Leaf.{is_forbidden}
 use Rattle.imap_response.specs.WordLists.{header_start, no_header}
 use Rattle.imap_response.specs.Left.{Left, at_left, behind_token}
-use Rattle.imap_response.specs.Searches.{begins_with}
-use Rattle.imap_response.specs.Lines.{literal_size, literal_by, literal_len, begins_forbidden, other_from, other_at}
+use Rattle.imap_response.specs.ReadSearches.{begins_with}
+use Rattle.imap_response.specs.ReadLines.{literal_size, literal_by, literal_len, begins_forbidden, other_from, other_at}
 use Rattle.imap_response.proofs.spelling.Headers.{closed_spells}
 use Rattle.imap_response.proofs.spelling.Passing.{Passes, Fits, place, bytes_pass, pass_none, joined, fits_behind, bytes_joined}
 use Rattle.imap_response.proofs.spelling.Results.{len_none, ok_either, err_not}
@@ -43,17 +44,31 @@ tail_cut (Byte byte ∷ parts) acc =
     let more = tail_cut parts (acc ++ byte ∷ []) in
     (more.0, sym (append_assoc (bytes acc) (bytes (byte ∷ [])) parts) ∙ ap (λ (p : List Part). p ++ parts) (sym (bytes_joined acc (byte ∷ []))) ∙ more.1)
 tail_cut (Literal digits octets ∷ parts) acc =
-    let more = tail_cut parts [] in
-    (bytes acc ++ Literal digits octets ∷ more.0, ap (λ (p : List Part). bytes acc ++ Literal digits octets ∷ p) more.1 ∙ sym (append_assoc (bytes acc) (Literal digits octets ∷ more.0) (bytes (tail_from [] parts))))
+    let more = tail_cut parts [] in (
+      bytes acc ++ Literal digits octets ∷ more.0,
+      ap (λ (p : List Part). bytes acc ++ Literal digits octets ∷ p) more.1
+          ∙ sym (append_assoc (bytes acc) (Literal digits octets ∷ more.0) (bytes (tail_from [] parts))),
+    )
 
 tail_header : (parts : List Part) → EndInHeader parts → EndsInHeader (tail_from [] parts)
-tail_header parts ends =
-    (tail_from [] ends.0, ends.1, ends.2, ap (tail_from []) ends.3 ∙ tail_joined ends.0 (bytes (header ends.1)) [] ∙ tail_bytes (header ends.1) (tail_from [] ends.0))
+tail_header parts ends = (
+  tail_from [] ends.0,
+  ends.1,
+  ends.2,
+  ap (tail_from []) ends.3 ∙ tail_joined ends.0 (bytes (header ends.1)) []
+      ∙ tail_bytes (header ends.1) (tail_from [] ends.0),
+)
 
 header_tail : (parts : List Part) → EndsInHeader (tail_from [] parts) → EndInHeader parts
 header_tail parts ends =
-    let cut = tail_cut parts [] in
-    (cut.0 ++ bytes ends.0, ends.1, ends.2, cut.1 ∙ ap (λ (t : List ℕ). cut.0 ++ bytes t) ends.3 ∙ ap (λ (p : List Part). cut.0 ++ p) (bytes_joined ends.0 (header ends.1)) ∙ sym (append_assoc cut.0 (bytes ends.0) (bytes (header ends.1))))
+    let cut = tail_cut parts [] in (
+      cut.0 ++ bytes ends.0,
+      ends.1,
+      ends.2,
+      cut.1 ∙ ap (λ (t : List ℕ). cut.0 ++ bytes t) ends.3
+          ∙ ap (λ (p : List Part). cut.0 ++ p) (bytes_joined ends.0 (header ends.1))
+          ∙ sym (append_assoc cut.0 (bytes ends.0) (bytes (header ends.1))),
+    )
 
 -- no brace stands among the bytes
 abbrev pub NoBrace : List ℕ → Type 0
@@ -69,12 +84,14 @@ put_front front text ends = (front ++ ends.0, ends.1, ends.2, ap (λ (t : List �
 
 without_front : (parts : List Part) (front acc : List ℕ) → NoBrace front → EndsInHeader (tail_from (front ++ acc) parts) → EndsInHeader (tail_from acc parts)
 without_front [] front acc all ends = strip front acc ends.0 ends.1 all ends.2 ends.3
-without_front (Byte byte ∷ parts) front acc all ends = without_front parts front (acc ++ byte ∷ []) all (subst (λ (t : List ℕ). EndsInHeader (tail_from t parts)) (append_assoc front acc (byte ∷ [])) ends)
+without_front (Byte byte ∷ parts) front acc all ends = without_front parts front (acc ++ byte ∷ []) all
+    (subst (λ (t : List ℕ). EndsInHeader (tail_from t parts)) (append_assoc front acc (byte ∷ [])) ends)
 without_front (Literal digits octets ∷ parts) front acc all ends = ends
 
 with_front : (parts : List Part) (front acc : List ℕ) → EndsInHeader (tail_from acc parts) → EndsInHeader (tail_from (front ++ acc) parts)
 with_front [] front acc ends = put_front front acc ends
-with_front (Byte byte ∷ parts) front acc ends = subst (λ (t : List ℕ). EndsInHeader (tail_from t parts)) (sym (append_assoc front acc (byte ∷ []))) (with_front parts front (acc ++ byte ∷ []) ends)
+with_front (Byte byte ∷ parts) front acc ends = subst (λ (t : List ℕ). EndsInHeader (tail_from t parts))
+    (sym (append_assoc front acc (byte ∷ []))) (with_front parts front (acc ++ byte ∷ []) ends)
 with_front (Literal digits octets ∷ parts) front acc ends = ends
 
 front_tail : (front : List ℕ) (parts : List Part) → tail_from [] (bytes front ++ parts) ≡ tail_from (front ++ []) parts
@@ -82,10 +99,12 @@ front_tail front parts = tail_joined (bytes front) parts [] ∙ ap (λ (t : List
 
 -- a header ends the parts where it ends them with bytes in front
 line_header : (front : List ℕ) (parts : List Part) → NoBrace front → EndInHeader (bytes front ++ parts) → EndsInHeader (tail_from [] parts)
-line_header front parts all ends = without_front parts front [] all (subst (λ (t : List ℕ). EndsInHeader t) (front_tail front parts) (tail_header (bytes front ++ parts) ends))
+line_header front parts all ends = without_front parts front [] all
+    (subst (λ (t : List ℕ). EndsInHeader t) (front_tail front parts) (tail_header (bytes front ++ parts) ends))
 
 pub header_line : (front : List ℕ) (parts : List Part) → EndsInHeader (tail_from [] parts) → EndInHeader (bytes front ++ parts)
-header_line front parts ends = header_tail (bytes front ++ parts) (subst (λ (t : List ℕ). EndsInHeader t) (sym (front_tail front parts)) (with_front parts front [] ends))
+header_line front parts ends = header_tail (bytes front ++ parts)
+    (subst (λ (t : List ℕ). EndsInHeader t) (sym (front_tail front parts)) (with_front parts front [] ends))
 
 -- the literal in front
 size_kind : (kind : TokenKind) (size : ℕ) → nat_lt 0 (literal_size kind size) ≡ true → (kind ≡ kinds.Literal) × (literal_size kind size ≡ size)
@@ -103,14 +122,16 @@ size_kind kinds.Space size some = absurd cc
 abbrev Kinded : Type 0
 Kinded = TokenKind × ℕ
 
-by_token : (left : Left) (o : Option Kinded) → Fits left → token_of left.literals (place left) left.text ≡ o → nat_lt 0 (literal_by o) ≡ true → IsNext left kinds.Literal (literal_by o)
+by_token : (left : Left) (o : Option Kinded) → Fits left → token_of left.literals (place left) left.text ≡ o →
+    nat_lt 0 (literal_by o) ≡ true → IsNext left kinds.Literal (literal_by o)
 by_token left None fits is some = absurd cc
 by_token left (Some token) fits is some =
     let kind = size_kind token.0 token.1 some in
     let next = next_from left left.text token fits refl is in
     subst (λ (n : ℕ). IsNext left kinds.Literal n) (sym kind.1) (subst (λ (k : TokenKind). IsNext left k token.1) kind.0 next)
 
-by_brace : (left : Left) (t : Bool) → Fits left → nat_lt 0 (cond t (literal_by (token_of left.literals (place left) left.text)) 0) ≡ true → IsNext left kinds.Literal (cond t (literal_by (token_of left.literals (place left) left.text)) 0)
+by_brace : (left : Left) (t : Bool) → Fits left → nat_lt 0 (cond t (literal_by (token_of left.literals (place left) left.text)) 0) ≡ true →
+    IsNext left kinds.Literal (cond t (literal_by (token_of left.literals (place left) left.text)) 0)
 by_brace left true fits some = by_token left (token_of left.literals (place left) left.text) fits refl some
 by_brace left false fits some = absurd cc
 
@@ -131,7 +152,8 @@ other_none last left = refl
 
 pub other_is : (more : ℕ) (last : List ℕ) (left : Left) → other_from (suc more) last left
     ≡ cond (nat_lt 0 (literal_len left)) (other_from more (drop (literal_len left) left.text) (behind_token left kinds.Literal (literal_len left)))
-    (cond (length left.text == 0) (no_header last (header_start 0 last)) (cond (begins_forbidden left.text) (Err (length left.text)) (other_from more last (at_left left (drop 1 left.text)))))
+    (cond (length left.text == 0) (no_header last (header_start 0 last))
+    (cond (begins_forbidden left.text) (Err (length left.text)) (other_from more last (at_left left (drop 1 left.text)))))
 unfolding other_from
 other_is more last left = refl
 
@@ -143,7 +165,8 @@ pub record IsPassed (acc : List ℕ) (left : Left) : Type 0 where
   pub none : end.text ≡ []
   pub closed : EndsInHeader (tail_from acc parts) → ⊥
 
-end_passed : (acc last : List ℕ) (left : Left) → Fits left → last ≡ acc ++ left.text → left.text ≡ [] → no_header last (header_start 0 last) ≡ Ok tt → IsPassed acc left
+end_passed : (acc last : List ℕ) (left : Left) → Fits left → last ≡ acc ++ left.text → left.text ≡ [] →
+    no_header last (header_start 0 last) ≡ Ok tt → IsPassed acc left
 end_passed acc last left fits is none closed = record {
   parts = [];
   end = left;
@@ -153,7 +176,8 @@ end_passed acc last left fits is none closed = record {
   closed = λ ends. closed_spells last last closed (subst EndsInHeader (sym (is ∙ ap (λ (t : List ℕ). acc ++ t) none ∙ append-nil acc)) ends);
 }
 
-literal_passed : (acc : List ℕ) (left : Left) (size : ℕ) → IsNext left kinds.Literal size → IsPassed [] (behind_token left kinds.Literal size) → IsPassed acc left
+literal_passed : (acc : List ℕ) (left : Left) (size : ℕ) → IsNext left kinds.Literal size →
+    IsPassed [] (behind_token left kinds.Literal size) → IsPassed acc left
 literal_passed acc left size next rest =
     let passes = subst (λ (p : List Part). Passes left p (behind_token left kinds.Literal size)) next.token.3 next.passes in
     record {
@@ -168,7 +192,8 @@ literal_passed acc left size next rest =
 not_forbidden : (b : ℕ) → is_forbidden b ≡ false → (b ≢ 0) × (b ≢ 10) × (b ≢ 13)
 not_forbidden b test = ((λ e. grind (arith, nat_tests)), (λ e. grind (arith, nat_tests)), (λ e. grind (arith, nat_tests)))
 
-byte_passed : (acc : List ℕ) (left : Left) (b : ℕ) (more : List ℕ) → Fits left → left.text ≡ b ∷ more → is_forbidden b ≡ false → IsPassed (acc ++ b ∷ []) (at_left left more) → IsPassed acc left
+byte_passed : (acc : List ℕ) (left : Left) (b : ℕ) (more : List ℕ) → Fits left → left.text ≡ b ∷ more → is_forbidden b ≡ false →
+    IsPassed (acc ++ b ∷ []) (at_left left more) → IsPassed acc left
 byte_passed acc left b more fits is quiet rest = record {
   parts = Byte b ∷ rest.parts;
   end = rest.end;
@@ -182,31 +207,40 @@ literal_shorter : (left : Left) (size more : ℕ) → nat_lt 0 size ≡ true →
 literal_shorter left size more some fits = let above : 0 < size = grind (arith, nat_tests) in simp length-drop (omega arith)
 
 abbrev PassedAt : ℕ → Type 0
-PassedAt more = (acc last : List ℕ) (left : Left) → Fits left → last ≡ acc ++ left.text → length left.text ≤ more → other_from more last left ≡ Ok tt → IsPassed acc left
+PassedAt more = (acc last : List ℕ) (left : Left) → Fits left → last ≡ acc ++ left.text → length left.text ≤ more →
+    other_from more last left ≡ Ok tt → IsPassed acc left
 
 -- no literal in front
-byte_from : (more : ℕ) → PassedAt more → (acc last : List ℕ) (left : Left) (text : List ℕ) → left.text ≡ text → Fits left → last ≡ acc ++ left.text → length left.text ≤ suc more
-    → cond (length text == 0) (no_header last (header_start 0 last)) (cond (begins_forbidden text) (Err (length text)) (other_from more last (at_left left (drop 1 text)))) ≡ Ok tt → IsPassed acc left
+byte_from : (more : ℕ) → PassedAt more → (acc last : List ℕ) (left : Left) (text : List ℕ) → left.text ≡ text → Fits left →
+    last ≡ acc ++ left.text → length left.text ≤ suc more
+    → cond (length text == 0) (no_header last (header_start 0 last))
+    (cond (begins_forbidden text) (Err (length text)) (other_from more last (at_left left (drop 1 text)))) ≡ Ok tt → IsPassed acc left
 byte_from more rec acc last left [] is fits whole short read = end_passed acc last left fits whole is read
-byte_from more rec acc last left (b ∷ text) is fits whole short read = elim (ok_either (length (b ∷ text) == 0) (no_header last (header_start 0 last)) (cond (is_forbidden b) (Err (length (b ∷ text))) (other_from more last (at_left left text))) tt read) [
-  | inl none ↦ absurd (let e : b ∷ text ≡ [] = len_none (b ∷ text) none.0 in cc)
-  | inr some ↦ elim (ok_either (is_forbidden b) (Err (length (b ∷ text))) (other_from more last (at_left left text)) tt some.1) [
-    | inl bad ↦ absurd (err_not (length (b ∷ text)) tt bad.1)
-    | inr quiet ↦ byte_passed acc left b text fits is quiet.0
-        (rec (acc ++ b ∷ []) last (at_left left text) (fits_behind left (bytes (b ∷ [])) (at_left left text) (bytes_pass left (b ∷ []) text fits is))
-        (whole ∙ ap (λ (t : List ℕ). acc ++ t) is ∙ sym (append_assoc acc (b ∷ []) text)) (omega (arith, ap length is, short)) quiet.1)
-  ]
-]
+byte_from more rec acc last left (b ∷ text) is fits whole short read =
+    elim (ok_either (length (b ∷ text) == 0) (no_header last (header_start 0 last))
+    (cond (is_forbidden b) (Err (length (b ∷ text))) (other_from more last (at_left left text))) tt read) [
+      | inl none ↦ absurd (let e : b ∷ text ≡ [] = len_none (b ∷ text) none.0 in cc)
+      | inr some ↦ elim (ok_either (is_forbidden b) (Err (length (b ∷ text))) (other_from more last (at_left left text)) tt some.1) [
+        | inl bad ↦ absurd (err_not (length (b ∷ text)) tt bad.1)
+        | inr quiet ↦ byte_passed acc left b text fits is quiet.0
+            (rec (acc ++ b ∷ []) last (at_left left text) (fits_behind left (bytes (b ∷ [])) (at_left left text) (bytes_pass left (b ∷ []) text fits is))
+            (whole ∙ ap (λ (t : List ℕ). acc ++ t) is ∙ sym (append_assoc acc (b ∷ []) text)) (omega (arith, ap length is, short)) quiet.1)
+      ]
+    ]
 
 passed : (n : ℕ) → PassedAt n
 passed zero acc last left fits whole short read = end_passed acc last left fits whole (none_left left.text short) (sym (other_none last left) ∙ read)
 passed (suc more) acc last left fits whole short read =
     elim (ok_either (nat_lt 0 (literal_len left)) (other_from more (drop (literal_len left) left.text) (behind_token left kinds.Literal (literal_len left)))
-    (cond (length left.text == 0) (no_header last (header_start 0 last)) (cond (begins_forbidden left.text) (Err (length left.text)) (other_from more last (at_left left (drop 1 left.text))))) tt (sym (other_is more last left) ∙ read)) [
+    (cond (length left.text == 0) (no_header last (header_start 0 last))
+    (cond (begins_forbidden left.text) (Err (length left.text)) (other_from more last (at_left left (drop 1 left.text))))) tt
+    (sym (other_is more last left) ∙ read)) [
       | inl literal ↦
           let next = literal_there left fits literal.0 in
-          literal_passed acc left (literal_len left) next (passed more [] (drop (literal_len left) left.text) (behind_token left kinds.Literal (literal_len left))
-          (fits_behind left next.parts (behind_token left kinds.Literal (literal_len left)) next.passes) refl (literal_shorter left (literal_len left) more literal.0 short) literal.1)
+          literal_passed acc left (literal_len left) next (passed more [] (drop (literal_len left) left.text)
+          (behind_token left kinds.Literal (literal_len left))
+          (fits_behind left next.parts (behind_token left kinds.Literal (literal_len left)) next.passes) refl
+          (literal_shorter left (literal_len left) more literal.0 short) literal.1)
       | inr plain ↦ byte_from more (passed more) acc last left left.text refl fits whole short plain.1
     ]
 
@@ -221,4 +255,12 @@ pub record IsOtherFront (left : Left) : Type 0 where
 pub other_spells : (left : Left) → Fits left → other_at left ≡ Ok tt → IsOtherFront left
 other_spells left fits is =
     let w = passed (length left.text) [] left.text left fits refl (omega arith) is in
-    record { parts = w.parts; end = w.end; quiet = w.quiet; passes = w.passes; none = w.none; closed = λ front all ends. w.closed (line_header front w.parts all ends) }
+    record {
+      parts = w.parts;
+      end = w.end;
+      quiet = w.quiet;
+      passes = w.passes;
+      none = w.none;
+      closed =
+          λ front all ends. w.closed (line_header front w.parts all ends);
+    }

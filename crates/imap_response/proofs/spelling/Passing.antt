@@ -52,10 +52,12 @@ literals_joined (Byte byte ∷ a) b at =
 literals_joined (Literal digits octets ∷ a) b at =
     let high : ℕ = at + length (header digits) + 2 + length octets in
     let len : length (text_of (Literal digits octets ∷ a)) ≡ length (header digits) + 2 + length octets + length (text_of a) =
-    length-append (header digits ++ 13 ∷ 10 ∷ octets) (text_of a) ∙ ap (λ (n : ℕ). n + length (text_of a)) (omega (arith, length-append (header digits) (13 ∷ 10 ∷ octets))) in
+    length-append (header digits ++ 13 ∷ 10 ∷ octets) (text_of a)
+    ∙ ap (λ (n : ℕ). n + length (text_of a)) (omega (arith, length-append (header digits) (13 ∷ 10 ∷ octets))) in
     let e : at + length (header digits) + 2 + length octets + length (text_of a) ≡ at + length (text_of (Literal digits octets ∷ a)) = omega (arith, len) in
     ap (λ (later : List Span). record { low = at + length (header digits) + 2; high = at + length (header digits) + 2 + length octets } ∷ later)
-    (literals_joined a b (at + length (header digits) + 2 + length octets) ∙ ap (λ (k : ℕ). literals_from (at + length (header digits) + 2 + length octets) a ++ literals_from k b) e)
+    (literals_joined a b (at + length (header digits) + 2 + length octets)
+    ∙ ap (λ (k : ℕ). literals_from (at + length (header digits) + 2 + length octets) a ++ literals_from k b) e)
 
 -- the place behind parts
 place_behind : (total n m k : ℕ) → n ≡ m + k → n ≤ total → total - k ≡ (total - n) + m
@@ -64,7 +66,8 @@ place_behind total n m k is fits = omega arith
 pub place_passed : (left : Left) (parts : List Part) (behind : Left) → Passes left parts behind → place behind ≡ place left + length (text_of parts)
 place_passed left parts behind passes =
     let len : length left.text ≡ length (text_of parts) + length behind.text = ap length passes.text ∙ length-append (text_of parts) behind.text in
-    ap (λ (t : ℕ). t - length behind.text) passes.total ∙ place_behind left.total (length left.text) (length (text_of parts)) (length behind.text) len passes.fits
+    ap (λ (t : ℕ). t - length behind.text) passes.total ∙ place_behind left.total (length left.text) (length (text_of parts))
+    (length behind.text) len passes.fits
 
 pub fits_behind : (left : Left) (parts : List Part) (behind : Left) → Passes left parts behind → Fits behind
 fits_behind left parts behind passes =
@@ -74,10 +77,12 @@ fits_behind left parts behind passes =
 pub joined : (left : Left) (a : List Part) (mid : Left) (b : List Part) (behind : Left) → Passes left a mid → Passes mid b behind → Passes left (a ++ b) behind
 joined left a mid b behind first second = record {
   lawful = lawful_joined a b first.lawful second.lawful;
-  text = first.text ∙ ap (λ (t : List ℕ). text_of a ++ t) second.text ∙ sym (append_assoc (text_of a) (text_of b) behind.text) ∙ ap (λ (t : List ℕ). t ++ behind.text) (sym (text_joined a b));
+  text = first.text ∙ ap (λ (t : List ℕ). text_of a ++ t) second.text ∙ sym (append_assoc (text_of a) (text_of b) behind.text)
+      ∙ ap (λ (t : List ℕ). t ++ behind.text) (sym (text_joined a b));
   total = second.total ∙ first.total;
   literals = first.literals
-      ∙ ap (λ (s : List Span). literals_from (place left) a ++ s) (second.literals ∙ ap (λ (k : ℕ). literals_from k b ++ behind.literals) (place_passed left a mid first))
+      ∙ ap (λ (s : List Span). literals_from (place left) a ++ s) (second.literals
+      ∙ ap (λ (k : ℕ). literals_from k b ++ behind.literals) (place_passed left a mid first))
       ∙ sym (append_assoc (literals_from (place left) a) (literals_from (place left + length (text_of a)) b) behind.literals)
       ∙ ap (λ (s : List Span). s ++ behind.literals) (sym (literals_joined a b (place left)));
   fits = first.fits;
@@ -85,19 +90,27 @@ joined left a mid b behind first second = record {
 
 -- what is left between them
 abbrev pub between : Left → List Part → Left → Left
-between left b behind = record { total = left.total; text = text_of b ++ behind.text; literals = literals_from (left.total - length (text_of b ++ behind.text)) b ++ behind.literals }
+between left b behind = record {
+  total = left.total;
+  text = text_of b ++ behind.text;
+  literals =
+      literals_from (left.total - length (text_of b ++ behind.text)) b ++ behind.literals;
+}
 
 front_of : (left : Left) (a b : List Part) (behind : Left) → Passes left (a ++ b) behind → Passes left a (between left b behind)
 front_of left a b behind passes =
-    let text : left.text ≡ text_of a ++ (text_of b ++ behind.text) = passes.text ∙ ap (λ (t : List ℕ). t ++ behind.text) (text_joined a b) ∙ append_assoc (text_of a) (text_of b) behind.text in
-    let len : length left.text ≡ length (text_of a) + length (text_of b ++ behind.text) = ap length text ∙ length-append (text_of a) (text_of b ++ behind.text) in
+    let text : left.text ≡ text_of a ++ (text_of b ++ behind.text) =
+    passes.text ∙ ap (λ (t : List ℕ). t ++ behind.text) (text_joined a b) ∙ append_assoc (text_of a) (text_of b) behind.text in
+    let len : length left.text ≡ length (text_of a) + length (text_of b ++ behind.text) =
+    ap length text ∙ length-append (text_of a) (text_of b ++ behind.text) in
     let at = place_behind left.total (length left.text) (length (text_of a)) (length (text_of b ++ behind.text)) len passes.fits in
     record {
       lawful = lawful_left a b passes.lawful;
       text = text;
       total = refl;
       literals = passes.literals
-          ∙ ap (λ (s : List Span). s ++ behind.literals) (literals_joined a b (place left) ∙ ap (λ (k : ℕ). literals_from (place left) a ++ literals_from k b) (sym at))
+          ∙ ap (λ (s : List Span). s ++ behind.literals) (literals_joined a b (place left)
+          ∙ ap (λ (k : ℕ). literals_from (place left) a ++ literals_from k b) (sym at))
           ∙ append_assoc (literals_from (place left) a) (literals_from (left.total - length (text_of b ++ behind.text)) b) behind.literals;
       fits = passes.fits;
     }
@@ -152,7 +165,8 @@ pass_bytes left front behind passes = passes.text ∙ ap (λ (t : List ℕ). t +
 
 pub pass_left : (left : Left) (front : List ℕ) (behind : Left) → Passes left (bytes front) behind → at_left left behind.text ≡ behind
 pass_left left front behind passes =
-    same_left (at_left left behind.text) behind (sym passes.total) refl (passes.literals ∙ ap (λ (s : List Span). s ++ behind.literals) (bytes_literals front (place left)))
+    same_left (at_left left behind.text) behind (sym passes.total) refl
+    (passes.literals ∙ ap (λ (s : List Span). s ++ behind.literals) (bytes_literals front (place left)))
 
 -- nothing
 pub pass_none : (left : Left) → Fits left → Passes left [] left

@@ -1,5 +1,6 @@
 -- Runs of bytes among the pieces of a list or of a section.
-use Rattle.std.proofs.Common.{◌≡◌, ◌≢◌, ℕ, suc, ◌<◌, ◌≤◌, Bool, true, false, List, [], ◌∷◌, ◌++◌, length, refl, ap, sym, ◌∙◌, subst, inl, inr, arith, append_assoc, length-append}
+use Rattle.std.proofs.Common.{◌≡◌, ◌≢◌, ℕ, suc, ◌<◌, ◌≤◌, Bool, true, false, List, [], ◌∷◌, ◌++◌, length, refl, ap, sym, ◌∙◌, subst, inl}
+use Rattle.std.proofs.Common.{inr, arith, append_assoc, length-append}
 use Rattle.std.proofs.lemmas.Bool.{cases_Bool}
 use Rattle.std.specs.List.{AllByRecursion, flat_map}
 use Rattle.imap_model.specs.Parts.{Part, bytes}
@@ -30,7 +31,14 @@ no_run : (p : ℕ → Bool) (pieces : List Piece) → PiecesStop p pieces → Is
 no_run p pieces stops = record { text = []; rest = pieces; whole = refl; all = tt; stops = stops }
 
 more_run : (p : ℕ → Bool) (b : ℕ) (pieces : List Piece) → p b ≡ true → IsRun p pieces → IsRun p (Single b ∷ pieces)
-more_run p b pieces passes run = record { text = b ∷ run.text; rest = run.rest; whole = ap (λ (q : List Piece). Single b ∷ q) run.whole; all = (passes, run.all); stops = run.stops }
+more_run p b pieces passes run = record {
+  text = b ∷ run.text;
+  rest = run.rest;
+  whole =
+      ap (λ (q : List Piece). Single b ∷ q) run.whole;
+  all = (passes, run.all);
+  stops = run.stops;
+}
 
 pub run_of : (p : ℕ → Bool) (pieces : List Piece) → IsRun p pieces
 run_of p [] = no_run p [] tt
@@ -43,7 +51,8 @@ run_of p (Single byte ∷ pieces) = elim (cases_Bool (p byte)) [
 run_of p (Quoted cs ∷ pieces) = no_run p (Quoted cs ∷ pieces) tt
 run_of p (Octets digits octets ∷ pieces) = no_run p (Octets digits octets ∷ pieces) tt
 
-some_from : (p : ℕ → Bool) (b : ℕ) (pieces rest : List Piece) (text : List ℕ) → p b ≡ true → Single b ∷ pieces ≡ singles text ++ rest → PiecesStop p rest → text ≢ []
+some_from : (p : ℕ → Bool) (b : ℕ) (pieces rest : List Piece) (text : List ℕ) → p b ≡ true → Single b ∷ pieces ≡ singles text ++ rest →
+    PiecesStop p rest → text ≢ []
 some_from p b pieces rest [] passes whole stops none =
     let fails : p b ≡ false = subst (PiecesStop p) (sym whole) stops in cc
 some_from p b pieces rest (x ∷ text) passes whole stops none = cc
@@ -58,7 +67,8 @@ pub record IsClear (p : ℕ → Bool) : Type 0 where
   pub quote : p 34 ≡ false
   pub brace : p 123 ≡ false
 
-rest_ends : (p : ℕ → Bool) (rest : List Piece) (more : List ℕ) → IsClear p → PiecesStop p rest → (rest ≡ [] → Ends p more) → Ends p (text_of (flat_map piece_parts rest) ++ more)
+rest_ends : (p : ℕ → Bool) (rest : List Piece) (more : List ℕ) → IsClear p → PiecesStop p rest → (rest ≡ [] → Ends p more) →
+    Ends p (text_of (flat_map piece_parts rest) ++ more)
 rest_ends p [] more clear stops last = last refl
 rest_ends p (Open ∷ rest) more clear stops last = clear.open_
 rest_ends p (Close ∷ rest) more clear stops last = clear.close
@@ -73,17 +83,26 @@ pub record IsRunFront (p : ℕ → Bool) (text : List ℕ) (rest : List Piece) (
   pub back : Passes mid (flat_map piece_parts rest ++ tail) behind
   pub ends : Ends p mid.text
 
-pub run_front : (p : ℕ → Bool) (pieces : List Piece) (run : IsRun p pieces) (tail : List Part) (left behind : Left) → IsClear p → (run.rest ≡ [] → Ends p (text_of tail ++ behind.text))
+pub run_front : (p : ℕ → Bool) (pieces : List Piece) (run : IsRun p pieces) (tail : List Part) (left behind : Left) → IsClear p →
+    (run.rest ≡ [] → Ends p (text_of tail ++ behind.text))
     → Passes left (flat_map piece_parts pieces ++ tail) behind → IsRunFront p run.text run.rest tail left behind
 run_front p pieces run tail left behind clear last passes =
     let whole : flat_map piece_parts pieces ++ tail ≡ bytes run.text ++ (flat_map piece_parts run.rest ++ tail) =
     ap (λ (q : List Piece). flat_map piece_parts q ++ tail) run.whole
-    ∙ ap (λ (q : List Part). q ++ tail) (pieces_joined (singles run.text) run.rest ∙ ap (λ (q : List Part). q ++ flat_map piece_parts run.rest) (singles_parts run.text))
+    ∙ ap (λ (q : List Part). q ++ tail) (pieces_joined (singles run.text) run.rest
+    ∙ ap (λ (q : List Part). q ++ flat_map piece_parts run.rest) (singles_parts run.text))
     ∙ append_assoc (bytes run.text) (flat_map piece_parts run.rest) tail in
     let cut = split left (bytes run.text) (flat_map piece_parts run.rest ++ tail) behind (subst (λ (q : List Part). Passes left q behind) whole passes) in
     let text : cut.0.text ≡ text_of (flat_map piece_parts run.rest) ++ (text_of tail ++ behind.text) =
-    cut.2.text ∙ ap (λ (t : List ℕ). t ++ behind.text) (text_joined (flat_map piece_parts run.rest) tail) ∙ append_assoc (text_of (flat_map piece_parts run.rest)) (text_of tail) behind.text in
-    record { mid = cut.0; front = cut.1; back = cut.2; ends = subst (Ends p) (sym text) (rest_ends p run.rest (text_of tail ++ behind.text) clear run.stops last) }
+    cut.2.text ∙ ap (λ (t : List ℕ). t ++ behind.text) (text_joined (flat_map piece_parts run.rest) tail)
+    ∙ append_assoc (text_of (flat_map piece_parts run.rest)) (text_of tail) behind.text in
+    record {
+      mid = cut.0;
+      front = cut.1;
+      back = cut.2;
+      ends = subst (Ends p) (sym text)
+          (rest_ends p run.rest (text_of tail ++ behind.text) clear run.stops last);
+    }
 
 -- what holds of the pieces behind a run
 pub lawful_behind : (a b : List Piece) → AllByRecursion IsPiece (a ++ b) → AllByRecursion IsPiece b
@@ -98,5 +117,6 @@ pub closes_behind : (text : List ℕ) (rest : List Piece) (depth : ℕ) → Clos
 closes_behind [] rest depth closes = closes
 closes_behind (b ∷ text) rest depth closes = closes_behind text rest depth closes
 
-pub shorter : (left mid : Left) (parts : List Part) (more : ℕ) → Passes left parts mid → 0 < length (text_of parts) → length left.text ≤ suc more → length mid.text ≤ more
+pub shorter : (left mid : Left) (parts : List Part) (more : ℕ) → Passes left parts mid → 0 < length (text_of parts) →
+    length left.text ≤ suc more → length mid.text ≤ more
 shorter left mid parts more passes some fits = omega (arith, ap length passes.text, length-append (text_of parts) mid.text, some, fits)

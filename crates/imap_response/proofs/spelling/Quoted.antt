@@ -68,11 +68,13 @@ quoted_whole cs rest = ap (λ (t : List ℕ). 34 ∷ t) (append_assoc (flat_map 
 quoted_len : (cs : List Character) → length (quoted_text cs) ≡ length (flat_map character_text cs) + 2
 quoted_len cs = omega (arith, length-append (flat_map character_text cs) (34 ∷ []))
 
-pub quoted_spells : (more : List ℕ) (m : ℕ) → quoted_size more ≡ Some m → (cs : List Character) × (rest : List ℕ) × IsQuotedFront (34 ∷ more) cs rest × (m ≡ length (quoted_text cs))
+pub quoted_spells : (more : List ℕ) (m : ℕ) → quoted_size more ≡ Some m →
+    (cs : List Character) × (rest : List ℕ) × IsQuotedFront (34 ∷ more) cs rest × (m ≡ length (quoted_text cs))
 quoted_spells more m is =
     let w = quoted_found more m is in
     let cs : List Character = of_chars w.0 in
-    let whole : 34 ∷ more ≡ quoted_text (of_chars w.0) ++ w.1 = w.2.whole ∙ ap (λ (t : List ℕ). 34 ∷ (t ++ 34 ∷ w.1)) (sym (of_text_chars w.0)) ∙ sym (quoted_whole (of_chars w.0) w.1) in (
+    let whole : 34 ∷ more ≡ quoted_text (of_chars w.0) ++ w.1 = w.2.whole
+    ∙ ap (λ (t : List ℕ). 34 ∷ (t ++ 34 ∷ w.1)) (sym (of_text_chars w.0)) ∙ sym (quoted_whole (of_chars w.0) w.1) in (
       of_chars w.0,
       w.1,
       record { lawful = chars_lawful w.0 w.2.lawful; whole = whole },
@@ -81,7 +83,8 @@ quoted_spells more m is =
 
 begins : (more : List ℕ) (cs : List Character) (rest : List ℕ) → IsQuotedFront (34 ∷ more) cs rest → Begins (34 ∷ more) (length (quoted_text cs))
 begins more cs rest is =
-    let whole : 34 ∷ more ≡ 34 ∷ (inner_text (chars_of cs) ++ 34 ∷ rest) = is.whole ∙ quoted_whole cs rest ∙ ap (λ (t : List ℕ). 34 ∷ (t ++ 34 ∷ rest)) (sym (text_of_chars cs)) in
+    let whole : 34 ∷ more ≡ 34 ∷ (inner_text (chars_of cs) ++ 34 ∷ rest) =
+    is.whole ∙ quoted_whole cs rest ∙ ap (λ (t : List ℕ). 34 ∷ (t ++ 34 ∷ rest)) (sym (text_of_chars cs)) in
     (chars_of cs, rest, record { lawful = lawful_chars cs is.lawful; whole = whole }, omega (arith, quoted_len cs, ap length (text_of_chars cs)))
 
 size_from : (more : List ℕ) (m : ℕ) (o : Option ℕ) → quoted_size more ≡ o → Begins (34 ∷ more) m → o ≡ Some m
@@ -93,7 +96,11 @@ quoted_reads more cs rest is = size_from more (length (quoted_text cs)) (quoted_
 
 pub no_quoted : (more : List ℕ) → quoted_size more ≡ None → BeginsQuoted (34 ∷ more) → ⊥
 no_quoted more is there =
-    let front : IsQuotedFront (34 ∷ more) there.1 there.2 = record { lawful = there.3.lawful; whole = there.4 ∙ ap (λ (t : List ℕ). t ++ there.2) there.3.whole } in
+    let front : IsQuotedFront (34 ∷ more) there.1 there.2 = record {
+      lawful = there.3.lawful;
+      whole =
+          there.4 ∙ ap (λ (t : List ℕ). t ++ there.2) there.3.whole;
+    } in
     let some = quoted_reads more there.1 there.2 front in
     cc
 

@@ -65,7 +65,8 @@ pub items_some : {A : Type 0} (items : List A) → (length items == 0) ≡ false
 items_some items test is = not_byte (length items) 0 test (ap length is)
 
 -- the first reading fits, or the second is taken
-pub ok_or_else : {A B : Type 0} (r : Result A ℕ) (f : A → Result B ℕ) (other : Result B ℕ) (y : B) → or_else r f other ≡ Ok y → ((x : A) × (r ≡ Ok x) × (f x ≡ Ok y)) ⊎ ((left : ℕ) × (r ≡ Err left) × (other ≡ Ok y))
+pub ok_or_else : {A B : Type 0} (r : Result A ℕ) (f : A → Result B ℕ) (other : Result B ℕ) (y : B) → or_else r f other ≡ Ok y →
+    ((x : A) × (r ≡ Ok x) × (f x ≡ Ok y)) ⊎ ((left : ℕ) × (r ≡ Err left) × (other ≡ Ok y))
 ok_or_else (Ok x) f other y is = inl (x, refl, is)
 ok_or_else (Err left) f other y is = inr (left, refl, is)
 

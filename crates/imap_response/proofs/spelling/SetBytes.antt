@@ -1,5 +1,6 @@
 -- The bytes of a set are ones of an atom.
-use Rattle.std.proofs.Common.{◌≡◌, ℕ, suc, ◌+◌, ◌<◌, ◌≤◌, Bool, true, false, cond, List, [], ◌∷◌, length, take, drop, refl, ap, sym, ◌∙◌, subst, inl, inr, arith, nat_lt, add-one, Result, Ok, min, max}
+use Rattle.std.proofs.Common.{◌≡◌, ℕ, suc, ◌+◌, ◌<◌, ◌≤◌, Bool, true, false, cond, List, [], ◌∷◌, length, take, drop, refl, ap, sym, ◌∙◌}
+use Rattle.std.proofs.Common.{subst, inl, inr, arith, nat_lt, add-one, Result, Ok, min, max}
 use Rattle.std.proofs.Math.Seq.{take-length}
 use Rattle.std.proofs.Math.Numerals.{one-add}
 use Rattle.std.proofs.lemmas.Bool.{cases_Bool}
@@ -35,7 +36,8 @@ number_wide at text n is =
     let least = number_whole at text n is in
     let most = prefix_len-le-length is_ascii_digit text in
     let len : prefix_len is_ascii_digit text ≡ length text = omega (arith, least, most) in
-    let all : AllPass is_ascii_digit text = subst (AllPass is_ascii_digit) (ap (λ (n : ℕ). take n text) len ∙ take-length text) (front_all is_ascii_digit text) in
+    let all : AllPass is_ascii_digit text = subst (AllPass is_ascii_digit) (ap (λ (n : ℕ). take n text) len ∙ take-length text)
+    (front_all is_ascii_digit text) in
     all_weaker is_ascii_digit is_wide_byte digit_wide text all
 
 -- a mark and what stands before it and behind it
@@ -59,20 +61,27 @@ cut_wide p mark (b ∷ text) n is within front behind = elim (cases_Bool (p b)) 
       (front'.0, cut_wide p mark text (position_or_len p text) refl (omega arith) front'.1 behind')
 ]
 
-two_wide : (at : ℕ) (text : List ℕ) (range : UidRange) → position_or_len is_colon text < length text → (number at (before_first is_colon text) >>= λ first. number (at + position_or_len is_colon text + 1) (after_first is_colon text) >>= λ second. Ok (record { low = min first second; high = max first second })) ≡ Ok range → AllWide text
+two_wide : (at : ℕ) (text : List ℕ) (range : UidRange) → position_or_len is_colon text < length text →
+    (number at (before_first is_colon text) >>= λ first. number (at + position_or_len is_colon text + 1)
+    (after_first is_colon text) >>= λ second. Ok (record { low = min first second; high = max first second })) ≡ Ok range → AllWide text
 two_wide at text range within is =
-    let first = bind_ok (number at (before_first is_colon text)) (λ first. number (at + position_or_len is_colon text + 1) (after_first is_colon text) >>= λ second. Ok (record { low = min first second; high = max first second })) range is in
-    let second = bind_ok (number (at + position_or_len is_colon text + 1) (after_first is_colon text)) (λ second. Ok (record { low = min first.0 second; high = max first.0 second })) range first.2 in
+    let first = bind_ok (number at (before_first is_colon text))
+    (λ first. number (at + position_or_len is_colon text + 1) (after_first is_colon text) >>= λ second. Ok
+    (record { low = min first second; high = max first second })) range is in
+    let second = bind_ok (number (at + position_or_len is_colon text + 1) (after_first is_colon text))
+    (λ second. Ok (record { low = min first.0 second; high = max first.0 second })) range first.2 in
     let front = number_wide at (before_first is_colon text) first.0 first.1 in
     let behind = number_wide (at + position_or_len is_colon text + 1) (after_first is_colon text) second.0 second.1 in
-    cut_wide is_colon colon_wide text (position_or_len is_colon text) refl within front (subst (λ (k : ℕ). AllWide (drop k text)) (add-one (position_or_len is_colon text)) behind)
+    cut_wide is_colon colon_wide text (position_or_len is_colon text) refl within front
+    (subst (λ (k : ℕ). AllWide (drop k text)) (add-one (position_or_len is_colon text)) behind)
 
 one_wide : (at : ℕ) (text : List ℕ) (range : UidRange) → (number at text >>= λ only. Ok (record { low = only; high = only })) ≡ Ok range → AllWide text
 one_wide at text range is =
     let only = bind_ok (number at text) (λ only. Ok (record { low = only; high = only })) range is in
     number_wide at text only.0 only.1
 
-either_wide : (b : Bool) (x y : Result UidRange SetFault) (range : UidRange) (text : List ℕ) → cond b x y ≡ Ok range → (b ≡ true → x ≡ Ok range → AllWide text) → (y ≡ Ok range → AllWide text) → AllWide text
+either_wide : (b : Bool) (x y : Result UidRange SetFault) (range : UidRange) (text : List ℕ) → cond b x y ≡ Ok range →
+    (b ≡ true → x ≡ Ok range → AllWide text) → (y ≡ Ok range → AllWide text) → AllWide text
 either_wide true x y range text is two one = two refl is
 either_wide false x y range text is two one = one is
 
@@ -82,7 +91,8 @@ below m n test = grind (arith, nat_tests)
 item_wide : (at : ℕ) (text : List ℕ) (range : UidRange) → item at text ≡ Ok range → AllWide text
 unfolding item
 item_wide at text range is =
-    either_wide (nat_lt (position_or_len is_colon text) (length text)) _ _ range text is (λ test two. two_wide at text range (below _ _ test) two) (one_wide at text range)
+    either_wide (nat_lt (position_or_len is_colon text) (length text)) _ _ range text is
+    (λ test two. two_wide at text range (below _ _ test) two) (one_wide at text range)
 
 items_wide : (texts : List (List ℕ)) (at : ℕ) (ranges : List UidRange) → items at texts ≡ Ok ranges → AllByRecursion AllWide texts
 unfolding items
@@ -97,7 +107,9 @@ onto_wide : (b : ℕ) (pieces : List (List ℕ)) → AllByRecursion AllWide (ont
 onto_wide b [] all = (all.0.0, tt)
 onto_wide b (piece ∷ pieces) all = (all.0.0, (all.0.1, all.1))
 
-either_piece : (b : ℕ) (text : List ℕ) (t : Bool) → is_comma b ≡ t → AllByRecursion AllWide (cond t ([] ∷ slice_split is_comma text) (onto_first b (slice_split is_comma text))) → (is_wide_byte b ≡ true) × AllByRecursion AllWide (slice_split is_comma text)
+either_piece : (b : ℕ) (text : List ℕ) (t : Bool) → is_comma b ≡ t →
+    AllByRecursion AllWide (cond t ([] ∷ slice_split is_comma text) (onto_first b (slice_split is_comma text))) →
+    (is_wide_byte b ≡ true) × AllByRecursion AllWide (slice_split is_comma text)
 either_piece b text true is all = (comma_wide b is, all.1)
 either_piece b text false is all = onto_wide b (slice_split is_comma text) all
 

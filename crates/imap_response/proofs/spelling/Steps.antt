@@ -25,7 +25,13 @@ gap_front left rest fits is =
     record { gap = spaced.gap; spaces = spaced.spaces; passes = bytes_pass left spaced.gap rest fits spaced.whole }
 
 pub gap_spaced : (left behind : Left) (gap : List ℕ) → IsGap gap → Ends is_space behind.text → Passes left (bytes gap) behind → Spaced left.text behind.text
-gap_spaced left behind gap spaces ends passes = record { gap = gap; spaces = spaces; whole = pass_bytes left gap behind passes; no_more = no_space behind.text ends }
+gap_spaced left behind gap spaces ends passes = record {
+  gap = gap;
+  spaces = spaces;
+  whole = pass_bytes left gap behind passes;
+  no_more =
+      no_space behind.text ends;
+}
 
 pub gap_there : (left behind : Left) (gap : List ℕ) → IsGap gap → Ends is_space behind.text → Passes left (bytes gap) behind → gap_at left.text ≡ Ok behind.text
 gap_there left behind gap spaces ends passes = gap_reads left.text behind.text (gap_spaced left behind gap spaces ends passes)
@@ -49,7 +55,8 @@ mark_in_front byte left behind fits is =
 pub mark_in_there : (byte : ℕ) (left behind : Left) → Passes left (bytes (byte ∷ [])) behind → mark_in byte left ≡ Ok behind
 unfolding mark_in
 mark_in_there byte left behind passes =
-    bind_ok (mark_at byte left.text) (put_left left) behind.text behind (mark_there byte left behind passes) (ap (λ (l : Left). Ok l) (pass_left left (byte ∷ []) behind passes))
+    bind_ok (mark_at byte left.text) (put_left left) behind.text behind (mark_there byte left behind passes)
+    (ap (λ (l : Left). Ok l) (pass_left left (byte ∷ []) behind passes))
 
 pub no_mark : (byte b : ℕ) (text more : List ℕ) → text ≡ b ∷ more → b ≢ byte → (rest : List ℕ) → mark_at byte text ≡ Ok rest → ⊥
 no_mark byte b text more is other rest marked =

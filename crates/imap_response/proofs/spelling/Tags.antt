@@ -1,5 +1,6 @@
 -- The tag of a completion: what is read, and what is spelled.
-use Rattle.std.proofs.Common.{◌≡◌, ◌≢◌, ℕ, ◌+◌, ◌<◌, ◌≤◌, ◌^◌, Bool, true, false, cond, List, [], ◌∷◌, get_or, decimal, Option, Some, None, refl, ap, sym, ◌∙◌, subst, inl, inr, arith}
+use Rattle.std.proofs.Common.{◌≡◌, ◌≢◌, ℕ, ◌+◌, ◌<◌, ◌≤◌, ◌^◌, Bool, true, false, cond, List, [], ◌∷◌, get_or, decimal, Option, Some}
+use Rattle.std.proofs.Common.{None, refl, ap, sym, ◌∙◌, subst, inl, inr, arith}
 use Rattle.std.proofs.lemmas.Bool.{cases_Bool}
 use Rattle.std.proofs.lemmas.Bool.Decides.{nat_tests}
 use Rattle.std.proofs.lemmas.Fmt.{decimal-digits_value, decimal_is_IsNumeral, first_decimal, decimal_digit}
@@ -12,9 +13,10 @@ use Rattle.mail_base.specs.declared.tag.Tag.TheVariants.{Play, Count, Strange}
 use Rattle.imap_model.specs.Tagged.{is_tag_byte, IsLettered, NamesTag}
 use Rattle.imap_model.specs.Values.{is_wide_byte}
 use Rattle.imap_model.specs.Words.{is_word_byte}
-use Rattle.imap_response.specs.Numbers.{number_of}
+use Rattle.imap_response.specs.ReadNumbers.{number_of}
 use Rattle.imap_response.specs.Tags.{tag_misfit, lettered, play_of, count_of, tag_of}
-use Rattle.imap_response.proofs.spelling.Numbers.{number_reads, number_spells}
+use Rattle.imap_response.proofs.NumberLemmas.{number_some}
+use Rattle.imap_response.proofs.spelling.Numbers.{number_spells}
 use Rattle.imap_response.proofs.spelling.Results.{is_byte, not_byte, byte_not}
 use Rattle.imap_response.proofs.spelling.Runs.{AllPass, all_weaker}
 
@@ -23,7 +25,8 @@ misfit_none : (start at : ℕ) → tag_misfit start at [] ≡ None
 unfolding tag_misfit
 misfit_none start at = refl
 
-misfit_on : (start at b : ℕ) (more : List ℕ) → is_tag_byte b ≡ true → tag_misfit start at (b ∷ more) ≡ tag_misfit (cond (is_wide_byte b) start (at + 1)) (at + 1) more
+misfit_on : (start at b : ℕ) (more : List ℕ) → is_tag_byte b ≡ true →
+    tag_misfit start at (b ∷ more) ≡ tag_misfit (cond (is_wide_byte b) start (at + 1)) (at + 1) more
 unfolding tag_misfit
 misfit_on start at b more test = rw test refl
 
@@ -52,10 +55,12 @@ tag_word text all = all_weaker is_tag_byte is_word_byte tag_word_byte text all
 abbrev IsCounted : ℕ → List ℕ → Type 0
 IsCounted n digits = (0 < n) × (n ≤ 4294967295) × (digits ≡ decimal n)
 
-value_some : (first : ℕ) (digits : List ℕ) (n : ℕ) → AllDigits 10 (first ∷ digits) → digits_value 10 (first ∷ digits) ≡ n → n ≤ 4294967295 → first ≢ 48 → first ∷ digits ≡ decimal n
+value_some : (first : ℕ) (digits : List ℕ) (n : ℕ) → AllDigits 10 (first ∷ digits) → digits_value 10 (first ∷ digits) ≡ n →
+    n ≤ 4294967295 → first ≢ 48 → first ∷ digits ≡ decimal n
 value_some first digits n all value fits other =
     let small : digits_value 10 (first ∷ digits) < 2 ^ 64 = omega (arith, value) in
-    let written : decimal (digits_value 10 (first ∷ digits)) ≡ first ∷ digits = decimal-digits_value (numerals_by_value _ tells_digits) (first ∷ digits) all (omega arith) (λ e. absurd (other e)) small in
+    let written : decimal (digits_value 10 (first ∷ digits)) ≡ first ∷ digits =
+    decimal-digits_value (numerals_by_value _ tells_digits) (first ∷ digits) all (omega arith) (λ e. absurd (other e)) small in
     sym written ∙ ap decimal value
 
 not_zero : (first : ℕ) (digits : List ℕ) (n : ℕ) → first ∷ digits ≡ decimal n → first ≢ 48 → n ≢ 0
@@ -70,7 +75,8 @@ lettered_from first digits n is other =
     let some = not_zero first digits n written other in
     (omega (arith, some), number.fits, written)
 
-lettered_test : (first : ℕ) (digits : List ℕ) (n : ℕ) (t : Bool) → (first == 48) ≡ t → cond t None (number_of 4294967295 (first ∷ digits)) ≡ Some n → IsCounted n (first ∷ digits)
+lettered_test : (first : ℕ) (digits : List ℕ) (n : ℕ) (t : Bool) → (first == 48) ≡ t →
+    cond t None (number_of 4294967295 (first ∷ digits)) ≡ Some n → IsCounted n (first ∷ digits)
 lettered_test first digits n true test is = absurd cc
 lettered_test first digits n false test is = lettered_from first digits n is (not_byte first 48 test)
 
@@ -90,7 +96,7 @@ lettered_reads (first ∷ digits) n is =
     let other : (first == 48) ≡ false = byte_not first 48 (λ e. omega (arith, e, here, above)) in
     let numeral = decimal_is_IsNumeral n fits in
     let number : IsNumberUpTo 4294967295 (decimal n) n = record { digits = numeral.0; value = numeral.1; fits = is.1 } in
-    rw other (ap (number_of 4294967295) is.2 ∙ number_reads 4294967295 n (decimal n) number)
+    rw other (ap (number_of 4294967295) is.2 ∙ number_some 4294967295 n (decimal n) number)
 
 -- what a tag stands for
 lettered_as : (letter n : ℕ) (digits : List ℕ) → lettered digits ≡ Some n → IsLettered letter n (letter ∷ digits)
@@ -130,7 +136,8 @@ count_from : (first : ℕ) (digits : List ℕ) (u : Bool) → (first == 67) ≡ 
 count_from first digits true is other = count_named first digits (lettered digits) (is_byte first 67 is) refl
 count_from first digits false is other = other_named first digits other (not_byte first 67 is)
 
-tag_from : (first : ℕ) (digits : List ℕ) (t : Bool) → (first == 80) ≡ t → NamesTag (first ∷ digits) (cond t (play_of (lettered digits)) (cond (first == 67) (count_of (lettered digits)) Strange))
+tag_from : (first : ℕ) (digits : List ℕ) (t : Bool) → (first == 80) ≡ t →
+    NamesTag (first ∷ digits) (cond t (play_of (lettered digits)) (cond (first == 67) (count_of (lettered digits)) Strange))
 tag_from first digits true is = play_named first digits (lettered digits) (is_byte first 80 is) refl
 tag_from first digits false is = count_from first digits (first == 67) refl (not_byte first 80 is)
 

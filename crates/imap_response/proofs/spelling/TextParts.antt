@@ -1,6 +1,7 @@
 -- The text of a status response: what is read, and what is spelled.
-use Rattle.std.proofs.Common.{◌≡◌, ◌≢◌, ℕ, ◌+◌, ◌-◌, ◌≤◌, Bool, true, false, cond, not, List, [], ◌∷◌, ◌++◌, length, take, drop, Option, Some, None, refl, ap, sym, ◌∙◌, subst, inl, inr, arith, nat_lt, append-nil, Result, Ok, Err}
-use Rattle.std.proofs.Math.Seq.{take-append_seam, take-length}
+use Rattle.std.proofs.Common.{◌≡◌, ◌≢◌, ℕ, ◌+◌, ◌-◌, ◌≤◌, Bool, true, false, cond, not, List, [], ◌∷◌, ◌++◌, length, take, drop, Option}
+use Rattle.std.proofs.Common.{Some, None, refl, ap, sym, ◌∙◌, subst, inl, inr, arith, nat_lt, append-nil, Result, Ok, Err}
+use Rattle.std.proofs.Math.Seq.{take-append_seam, take-length, drop-length}
 use Rattle.std.proofs.lemmas.Bool.{cases_Bool}
 use Rattle.std.proofs.lemmas.Bool.Decides.{nat_tests}
 use Rattle.std.proofs.lemmas.List.Sums.{prefix_len-le-length}
@@ -16,8 +17,8 @@ use Rattle.imap_response.specs.Leaf.{is_forbidden, gap_at}
 use Rattle.imap_response.specs.Reads.{◌>>=◌}
 use Rattle.imap_response.specs.WordLists.{header_start}
 use Rattle.imap_response.specs.Flags.{whole}
-use Rattle.imap_response.specs.Codes.{code_at, plainly}
-use Rattle.imap_response.specs.TextParts.{plain_len, misfit_by, text_misfit, closing_from, within, code_up_to, code_in, with_misfit, text_at}
+use Rattle.imap_response.specs.ReadCodes.{code_at, plainly}
+use Rattle.imap_response.specs.ReadTextParts.{plain_len, misfit_by, opened_at, text_misfit, closing_from, within, code_up_to, code_in, with_misfit, text_at}
 use Rattle.imap_response.proofs.spelling.Results.{is_byte, not_byte, ok_is, ok_bind, bind_ok, err_not}
 use Rattle.imap_response.proofs.spelling.Runs.{AllPass, front_all, cut_len}
 use Rattle.imap_response.proofs.spelling.Headers.{header_none, none_header}
@@ -62,23 +63,30 @@ not_less m n test = grind (arith, nat_tests)
 less_not : (n : ℕ) → nat_lt n n ≡ false
 less_not n = grind (arith, nat_tests)
 
+-- where all of the text is plain, nothing stands behind it, and a header at its end counts
+opened_whole : (text : List ℕ) (n : ℕ) → n ≡ length text → opened_at (take n text) (drop n text) ≡ header_start 0 text
+opened_whole text n len =
+    let front : take n text ≡ text = ap (λ (k : ℕ). take k text) len ∙ take-length text in
+    let rest : drop n text ≡ [] = ap (λ (k : ℕ). drop k text) len ∙ drop-length text in
+    ap (λ (f : List ℕ). opened_at f (drop n text)) front ∙ ap (opened_at text) rest
+
 pub text_spells : (text : List ℕ) → text_misfit text ≡ None → IsText text
 text_spells text is =
-    let both = misfit_none (length text) (plain_len text) (header_start 0 (take (plain_len text) text)) is in
+    let both = misfit_none (length text) (plain_len text) (opened_at (take (plain_len text) text) (drop (plain_len text) text)) is in
     let least = not_less (plain_len text) (length text) both.1 in
     let most = prefix_len-le-length is_plain text in
     let len : plain_len text ≡ length text = omega (arith, least, most) in
     let front : take (plain_len text) text ≡ text = ap (λ (n : ℕ). take n text) len ∙ take-length text in
     record {
       plain = all_plain text (subst (AllPass is_plain) front (front_all is_plain text));
-      closed = header_none text 0 (sym (ap (header_start 0) front) ∙ both.0);
+      closed = header_none text 0 (sym (opened_whole text (plain_len text) len) ∙ both.0);
     }
 
 pub text_reads : (text : List ℕ) → IsText text → text_misfit text ≡ None
 text_reads text is =
     let len : plain_len text ≡ length text = ap (λ (t : List ℕ). plain_len t) (sym (append-nil text)) ∙ cut_len is_plain text [] (plain_all text is.plain) tt in
-    let front : take (plain_len text) text ≡ text = ap (λ (n : ℕ). take n text) len ∙ take-length text in
-    let start : header_start 0 (take (plain_len text) text) ≡ None = ap (header_start 0) front ∙ none_header text 0 is.closed in
+    let start : opened_at (take (plain_len text) text) (drop (plain_len text) text) ≡ None =
+    opened_whole text (plain_len text) len ∙ none_header text 0 is.closed in
     ap (misfit_by (length text) (plain_len text)) start ∙ ap (λ (n : ℕ). misfit_by (length text) n None) len ∙ rw less_not refl
 
 -- the code
@@ -125,8 +133,10 @@ pub code_in_none : code_in whole [] ≡ Ok (plainly codings.None)
 unfolding code_in
 code_in_none = refl
 
-in_from : (b : ℕ) (more : List ℕ) (coded : Coded) (t : Bool) → (b == 91) ≡ t → cond t (code_up_to whole more (closing_from 0 0 more)) (Ok (plainly codings.None)) ≡ Ok coded → HasCode (b ∷ more) coded.code
-in_from b more coded true test is = subst (λ (x : ℕ). HasCode (x ∷ more) coded.code) (sym (is_byte b 91 test)) (up_to_spells more (closing_from 0 0 more) coded refl is)
+in_from : (b : ℕ) (more : List ℕ) (coded : Coded) (t : Bool) → (b == 91) ≡ t →
+    cond t (code_up_to whole more (closing_from 0 0 more)) (Ok (plainly codings.None)) ≡ Ok coded → HasCode (b ∷ more) coded.code
+in_from b more coded true test is = subst (λ (x : ℕ). HasCode (x ∷ more) coded.code) (sym (is_byte b 91 test))
+    (up_to_spells more (closing_from 0 0 more) coded refl is)
 in_from b more coded false test is = inl (none_is coded is, no_inner_first b more (not_byte b 91 test))
 
 pub code_in_spells : (text : List ℕ) (coded : Coded) → code_in whole text ≡ Ok coded → HasCode text coded.code
@@ -140,14 +150,17 @@ Gives r code = (coded : Coded) × (r ≡ Ok coded) × (coded.code ≡ code)
 gives_none : (r : Result Coded ℕ) (code : Code) → r ≡ Ok (plainly codings.None) → code ≡ codings.None → Gives r code
 gives_none r code is none = (plainly codings.None, is, sym none)
 
-none_up_to : (more : List ℕ) (o : Option ℕ) → closing_from 0 0 more ≡ o → ((inner : List ℕ) → HasInner (91 ∷ more) inner → ⊥) → code_up_to whole more o ≡ Ok (plainly codings.None)
+none_up_to : (more : List ℕ) (o : Option ℕ) → closing_from 0 0 more ≡ o → ((inner : List ℕ) → HasInner (91 ∷ more) inner → ⊥) →
+    code_up_to whole more o ≡ Ok (plainly codings.None)
 none_up_to more None found other = refl
 none_up_to more (Some k) found other =
     let w = closing_spells (length more) more 0 k (omega arith) found in
     absurd (other w.inner (more, w.stretches, w.rest, refl, w.encloses))
 
-none_from : (b : ℕ) (more : List ℕ) (t : Bool) → (b == 91) ≡ t → ((inner : List ℕ) → HasInner (b ∷ more) inner → ⊥) → cond t (code_up_to whole more (closing_from 0 0 more)) (Ok (plainly codings.None)) ≡ Ok (plainly codings.None)
-none_from b more true test other = none_up_to more (closing_from 0 0 more) refl (subst (λ (x : ℕ). (inner : List ℕ) → HasInner (x ∷ more) inner → ⊥) (is_byte b 91 test) other)
+none_from : (b : ℕ) (more : List ℕ) (t : Bool) → (b == 91) ≡ t → ((inner : List ℕ) → HasInner (b ∷ more) inner → ⊥) →
+    cond t (code_up_to whole more (closing_from 0 0 more)) (Ok (plainly codings.None)) ≡ Ok (plainly codings.None)
+none_from b more true test other = none_up_to more (closing_from 0 0 more) refl
+    (subst (λ (x : ℕ). (inner : List ℕ) → HasInner (x ∷ more) inner → ⊥) (is_byte b 91 test) other)
 none_from b more false test other = refl
 
 none_reads : (text : List ℕ) → ((inner : List ℕ) → HasInner text inner → ⊥) → code_in whole text ≡ Ok (plainly codings.None)
@@ -162,8 +175,13 @@ inner_reads text inner code has is =
     let found' : closing_from 0 0 has.0 ≡ Some (length inner) = found ∙ ap (λ (n : ℕ). Some n) size in
     let front : take (length inner) has.0 ≡ inner = inner_is inner has.2 has.0 (enclosed has.1 has.0 inner has.2 has.4) in
     let w = code_reads inner code is in
-    let read : code_at whole (take (length inner) has.0) ≡ Ok w.0 = ap (code_at whole) front ∙ w.1 in
-    (w.0, ap (code_in whole) has.3 ∙ code_in_is 91 has.0 ∙ ap (code_up_to whole has.0) found' ∙ ok_within (length (take (length inner) has.0)) (length (drop (length inner) has.0)) (code_at whole (take (length inner) has.0)) w.0 read, w.2)
+    let read : code_at whole (take (length inner) has.0) ≡ Ok w.0 = ap (code_at whole) front ∙ w.1 in (
+      w.0,
+      ap (code_in whole) has.3 ∙ code_in_is 91 has.0 ∙ ap (code_up_to whole has.0) found'
+          ∙ ok_within (length (take (length inner) has.0)) (length (drop (length inner) has.0))
+          (code_at whole (take (length inner) has.0)) w.0 read,
+      w.2,
+    )
 
 pub code_in_reads : (text : List ℕ) (code : Code) → HasCode text code → Gives (code_in whole text) code
 code_in_reads text code (inl none) = gives_none (code_in whole text) code (none_reads text none.1) none.0

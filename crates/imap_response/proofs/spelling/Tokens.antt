@@ -1,5 +1,6 @@
 -- The next token of a line: what is read, and what is spelled.
-use Rattle.std.proofs.Common.{◌≡◌, ◌≢◌, ℕ, ◌<◌, Bool, true, false, cond, List, [], ◌∷◌, ◌++◌, length, take, drop, map, codes, Option, Some, None, refl, ap, sym, ◌∙◌, subst, inl, inr, ◌⊎◌, arith, nat_lt, append-nil, Ok}
+use Rattle.std.proofs.Common.{◌≡◌, ◌≢◌, ℕ, ◌<◌, Bool, true, false, cond, List, [], ◌∷◌, ◌++◌, length, take, drop, map, codes, Option}
+use Rattle.std.proofs.Common.{Some, None, refl, ap, sym, ◌∙◌, subst, inl, inr, ◌⊎◌, arith, nat_lt, append-nil, Ok}
 use Rattle.std.proofs.Math.Seq.{drop-append_seam, take-append_seam}
 use Rattle.std.proofs.lemmas.Bool.{and_parts}
 use Rattle.std.proofs.lemmas.Bool.Decides.{nat_tests}
@@ -91,11 +92,18 @@ no_digits word test numeral =
     cc
 
 -- a word by its kind
-word_from : (left : Left) (word : List ℕ) (size : ℕ) (s t : Bool) → take size left.text ≡ word → bytes_eq (map to_ascii_lowercase word) (codes "nil") ≡ s → (prefix_len is_ascii_digit word == length word) ≡ t
-    → IsWide word → Passes left (bytes (take size left.text)) (at_left left (drop size left.text)) → IsNext left (cond s kinds.Nil (cond t kinds.Number kinds.Atom)) size
+word_from : (left : Left) (word : List ℕ) (size : ℕ) (s t : Bool) → take size left.text ≡ word →
+    bytes_eq (map to_ascii_lowercase word) (codes "nil") ≡ s → (prefix_len is_ascii_digit word == length word) ≡ t
+    → IsWide word → Passes left (bytes (take size left.text)) (at_left left (drop size left.text)) →
+    IsNext left (cond s kinds.Nil (cond t kinds.Number kinds.Atom)) size
 word_from left word size true t is nil digits wide passes = record {
   parts = bytes (take size left.text);
-  token = (refl, subst IsWide (sym is) wide, subst (λ (w : List ℕ). SameWord w (codes "NIL")) (sym is) (bytes_equal (map to_ascii_lowercase word) (codes "nil") nil));
+  token = (
+    refl,
+    subst IsWide (sym is) wide,
+    subst (λ (w : List ℕ). SameWord w (codes "NIL")) (sym is)
+        (bytes_equal (map to_ascii_lowercase word) (codes "nil") nil),
+  );
   passes = passes;
 }
 word_from left word size false true is nil digits wide passes =
@@ -107,11 +115,17 @@ word_from left word size false true is nil digits wide passes =
       passes = passes;
     }
 word_from left word size false false is nil digits wide passes =
-    let atom : IsAtom word = record { wide = wide; not_nil = other_bytes (map to_ascii_lowercase word) (codes "nil") nil; not_number = no_digits word digits } in
+    let atom : IsAtom word = record {
+      wide = wide;
+      not_nil = other_bytes (map to_ascii_lowercase word) (codes "nil") nil;
+      not_number =
+          no_digits word digits;
+    } in
     record { parts = bytes (take size left.text); token = (refl, subst IsAtom (sym is) atom); passes = passes }
 
 module _ (left : Left) (b : ℕ) (more : List ℕ) (fits : Fits left) (is : left.text ≡ b ∷ more) where
-  one_next : (kind : TokenKind) (c : ℕ) → b ≡ c → TokenIs kind (c ∷ []) (bytes (c ∷ [])) → Passes left (bytes (take 1 left.text)) (behind_token left kind 1) → IsNext left kind 1
+  one_next : (kind : TokenKind) (c : ℕ) → b ≡ c → TokenIs kind (c ∷ []) (bytes (c ∷ [])) →
+      Passes left (bytes (take 1 left.text)) (behind_token left kind 1) → IsNext left kind 1
   one_next kind c here token passes =
       let front : take 1 left.text ≡ c ∷ [] = ap (take 1) is ∙ ap (λ (x : ℕ). x ∷ []) here in
       record {
@@ -123,8 +137,10 @@ module _ (left : Left) (b : ℕ) (more : List ℕ) (fits : Fits left) (is : left
   space_next : b ≡ 32 → IsNext left kinds.Space (prefix_len is_space (b ∷ more))
   space_next here =
       let n : ℕ = prefix_len is_space (b ∷ more) in
-      let front : take (prefix_len is_space (b ∷ more)) left.text ≡ take (prefix_len is_space (b ∷ more)) (b ∷ more) = ap (take (prefix_len is_space (b ∷ more))) is in
-      let gap : IsGap (take (prefix_len is_space (b ∷ more)) (b ∷ more)) = (run_some is_space b more (byte_is b 32 here), pass_spaces _ (front_all is_space (b ∷ more))) in
+      let front : take (prefix_len is_space (b ∷ more)) left.text ≡ take (prefix_len is_space (b ∷ more)) (b ∷ more) =
+      ap (take (prefix_len is_space (b ∷ more))) is in
+      let gap : IsGap (take (prefix_len is_space (b ∷ more)) (b ∷ more)) =
+      (run_some is_space b more (byte_is b 32 here), pass_spaces _ (front_all is_space (b ∷ more))) in
       record {
         parts = bytes (take (prefix_len is_space (b ∷ more)) left.text);
         token = (refl, subst IsGap (sym front) gap);
@@ -134,14 +150,16 @@ module _ (left : Left) (b : ℕ) (more : List ℕ) (fits : Fits left) (is : left
   word_next : is_word_byte b ≡ true → IsNext left (word_kind (take (prefix_len is_word_byte (b ∷ more)) (b ∷ more))) (prefix_len is_word_byte (b ∷ more))
   word_next wide =
       let word : List ℕ = take (prefix_len is_word_byte (b ∷ more)) (b ∷ more) in
-      word_from left (take (prefix_len is_word_byte (b ∷ more)) (b ∷ more)) (prefix_len is_word_byte (b ∷ more)) _ _ (ap (take (prefix_len is_word_byte (b ∷ more))) is) refl refl
+      word_from left (take (prefix_len is_word_byte (b ∷ more)) (b ∷ more)) (prefix_len is_word_byte (b ∷ more)) _ _
+      (ap (take (prefix_len is_word_byte (b ∷ more))) is) refl refl
       (run_some is_word_byte b more wide, front_all is_word_byte (b ∷ more)) (front_passes left (prefix_len is_word_byte (b ∷ more)) fits)
 
   quoted_next : (size : ℕ) → b ≡ 34 → quoted_size more ≡ Some size → IsNext left kinds.Quoted size
   quoted_next size here found =
       let w = quoted_spells more size found in
       let whole : left.text ≡ quoted_text w.0 ++ w.1 = is ∙ ap (λ (x : ℕ). x ∷ more) here ∙ w.2.whole in
-      let front : take size left.text ≡ quoted_text w.0 = ap (λ (k : ℕ). take k left.text) w.3 ∙ ap (take (length (quoted_text w.0))) whole ∙ take-append_seam (quoted_text w.0) w.1 in
+      let front : take size left.text ≡ quoted_text w.0 = ap (λ (k : ℕ). take k left.text) w.3 ∙ ap (take (length (quoted_text w.0))) whole
+      ∙ take-append_seam (quoted_text w.0) w.1 in
       record {
         parts = bytes (take size left.text);
         token = (w.0, w.2.lawful, front, refl);
@@ -153,14 +171,19 @@ module _ (left : Left) (b : ℕ) (more : List ℕ) (fits : Fits left) (is : left
       let w = literal_spells left.literals (place left) more size found in
       let text : left.text ≡ 123 ∷ more = is ∙ ap (λ (x : ℕ). x ∷ more) here in
       let whole : left.text ≡ part_text (Literal w.digits w.octets) ++ w.rest = text ∙ w.front.whole in
-      let front : take size left.text ≡ part_text (Literal w.digits w.octets) = ap (λ (k : ℕ). take k left.text) w.len ∙ ap (take (length (part_text (Literal w.digits w.octets)))) whole ∙ take-append_seam (part_text (Literal w.digits w.octets)) w.rest in
-      let behind : drop size left.text ≡ w.rest = ap (λ (k : ℕ). drop k left.text) w.len ∙ ap (drop (length (part_text (Literal w.digits w.octets)))) whole ∙ drop-append_seam (part_text (Literal w.digits w.octets)) w.rest in
+      let front : take size left.text ≡ part_text (Literal w.digits w.octets) =
+      ap (λ (k : ℕ). take k left.text) w.len ∙ ap (take (length (part_text (Literal w.digits w.octets)))) whole
+      ∙ take-append_seam (part_text (Literal w.digits w.octets)) w.rest in
+      let behind : drop size left.text ≡ w.rest = ap (λ (k : ℕ). drop k left.text) w.len
+      ∙ ap (drop (length (part_text (Literal w.digits w.octets)))) whole
+      ∙ drop-append_seam (part_text (Literal w.digits w.octets)) w.rest in
       record {
         parts = Literal w.digits w.octets ∷ [];
         token = (w.digits, w.octets, front, refl);
         passes = record {
           lawful = (w.front.numeral, tt);
-          text = whole ∙ ap (λ (t : List ℕ). t ++ w.rest) (sym (append-nil (part_text (Literal w.digits w.octets)))) ∙ ap (λ (t : List ℕ). text_of (Literal w.digits w.octets ∷ []) ++ t) (sym behind);
+          text = whole ∙ ap (λ (t : List ℕ). t ++ w.rest) (sym (append-nil (part_text (Literal w.digits w.octets))))
+              ∙ ap (λ (t : List ℕ). text_of (Literal w.digits w.octets ∷ []) ++ t) (sym behind);
           total = refl;
           literals = w.front.spans ∙ ap (λ (s : List Span). literals_from (place left) (Literal w.digits w.octets ∷ []) ++ s) (sym (ap (drop 1) w.front.spans));
           fits = fits;
@@ -177,14 +200,19 @@ module _ (left : Left) (b : ℕ) (more : List ℕ) (fits : Fits left) (is : left
         | inr found4 ↦ elim (some_either (b == 91) _ _ q found4.1) [
           | inl one ↦ next_by left (kinds.LeftBracket, 1) q one.1 (one_next kinds.LeftBracket 91 (is_byte b 91 one.0) (refl, refl) (front_passes left 1 fits))
           | inr found5 ↦ elim (some_either (b == 93) _ _ q found5.1) [
-            | inl one ↦ next_by left (kinds.RightBracket, 1) q one.1 (one_next kinds.RightBracket 93 (is_byte b 93 one.0) (refl, refl) (front_passes left 1 fits))
+            | inl one ↦ next_by left (kinds.RightBracket, 1) q one.1 (one_next kinds.RightBracket 93 (is_byte b 93 one.0) (refl, refl)
+                (front_passes left 1 fits))
             | inr found6 ↦ elim (some_either (b == 123) _ _ q found6.1) [
               | inl literal ↦
                   let here : b ≡ 123 = is_byte b 123 literal.0 in
                   let w = mapped_some kinds.Literal (literal_size left.literals (place left) (b ∷ more)) q literal.1 in
-                  subst (λ (t : Kinded). IsNext left t.0 t.1) w.2 (literal_next w.0 here (ap (λ (x : ℕ). literal_size left.literals (place left) (x ∷ more)) (sym here) ∙ w.1))
+                  subst (λ (t : Kinded). IsNext left t.0 t.1) w.2 (literal_next w.0 here
+                  (ap (λ (x : ℕ). literal_size left.literals (place left) (x ∷ more)) (sym here) ∙ w.1))
               | inr found7 ↦ elim (some_either (is_word_byte b) _ _ q found7.1) [
-                | inl word ↦ next_by left (word_kind (take (prefix_len is_word_byte (b ∷ more)) (b ∷ more)), prefix_len is_word_byte (b ∷ more)) q word.1 (word_next word.0)
+                | inl word ↦ next_by left (
+                  word_kind (take (prefix_len is_word_byte (b ∷ more)) (b ∷ more)),
+                  prefix_len is_word_byte (b ∷ more),
+                ) q word.1 (word_next word.0)
                 | inr none ↦ absurd (let no : ◌≡◌ {A = Option Kinded} None (Some q) = none.1 in cc)
               ]
             ]
@@ -206,7 +234,8 @@ module _ (left : Left) (b : ℕ) (more : List ℕ) (fits : Fits left) (is : left
 abbrev Next : Type 0
 Next = TokenKind × List ℕ × Left
 
-taken_ok : (left : Left) (o : Option Kinded) (t : Next) → taken left o ≡ Ok t → (q : Kinded) × (o ≡ Some q) × ((q.0, take q.1 left.text, behind_token left q.0 q.1) ≡ t)
+taken_ok : (left : Left) (o : Option Kinded) (t : Next) → taken left o ≡ Ok t →
+    (q : Kinded) × (o ≡ Some q) × ((q.0, take q.1 left.text, behind_token left q.0 q.1) ≡ t)
 taken_ok left None t is = absurd cc
 taken_ok left (Some q) t is = (q, refl, ok_is (q.0, take q.1 left.text, behind_token left q.0 q.1) t is)
 
@@ -220,7 +249,8 @@ token_none : (literals : List Span) (at : ℕ) → token_of literals at [] ≡ N
 unfolding token_of
 token_none literals at = refl
 
-pub next_from : (left : Left) (text : List ℕ) (q : Kinded) → Fits left → left.text ≡ text → token_of left.literals (place left) text ≡ Some q → IsNext left q.0 q.1
+pub next_from : (left : Left) (text : List ℕ) (q : Kinded) → Fits left → left.text ≡ text →
+    token_of left.literals (place left) text ≡ Some q → IsNext left q.0 q.1
 next_from left [] q fits is found = absurd (let no : ◌≡◌ {A = Option Kinded} None (Some q) = sym (token_none left.literals (place left)) ∙ found in cc)
 next_from left (b ∷ more) q fits is found = token_next left b more fits is q found
 

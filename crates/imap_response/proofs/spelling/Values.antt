@@ -1,15 +1,17 @@
 -- Values that are passed over: what is read, and what is spelled.
-use Rattle.std.proofs.Common.{◌≡◌, ◌≢◌, ℕ, zero, suc, Bool, true, false, cond, List, [], ◌∷◌, ◌++◌, length, refl, ap, sym, ◌∙◌, subst, inl, inr, arith, append-nil, append_assoc, Result, Ok, Err}
+use Rattle.std.proofs.Common.{◌≡◌, ◌≢◌, ℕ, zero, suc, Bool, true, false, cond, List, [], ◌∷◌, ◌++◌, length, refl, ap, sym, ◌∙◌, subst}
+use Rattle.std.proofs.Common.{inl, inr, arith, append-nil, append_assoc, Result, Ok, Err}
 use Rattle.std.specs.Prelude.{◌==◌, ◌||◌}
 use Rattle.std.specs.List.{AllByRecursion, flat_map}
 use Rattle.imap_tokens.specs.declared.token.TokenKind.{TokenKind}
 use Rattle.imap_tokens.specs.declared.token.TokenKind.TheVariants as kinds
 use Rattle.imap_model.specs.Parts.{Part, bytes}
-use Rattle.imap_model.specs.Values.{is_wide_byte, IsWide, Piece, Open, Close, Single, Quoted, Octets, IsPiece, piece_parts, Closes, IsValue, NotBracket, IsSection}
+use Rattle.imap_model.specs.Values.{is_wide_byte, IsWide, Piece, Open, Close, Single, Quoted, Octets, IsPiece, piece_parts, Closes}
+use Rattle.imap_model.specs.Values.{IsValue, NotBracket, IsSection}
 use Rattle.imap_model.specs.Words.{AreSpaces}
 use Rattle.imap_response.specs.Reads.{◌>>=◌}
 use Rattle.imap_response.specs.Left.{Left, next_at}
-use Rattle.imap_response.specs.Values.{closes, deeper_by, list_from, value_of, value_at, is_bracket, section_from}
+use Rattle.imap_response.specs.ReadValues.{closes, deeper_by, list_from, value_of, value_at, is_bracket, section_from}
 use Rattle.imap_response.proofs.spelling.Passing.{Passes, Fits, joined, fits_behind}
 use Rattle.imap_response.proofs.spelling.Results.{ok_is, ok_either, ok_bind, err_not}
 use Rattle.imap_response.proofs.spelling.Runs.{AllPass, all_weaker}
@@ -44,7 +46,8 @@ wide_singles text all = all_weaker is_wide_byte is_single wide_single text all
 
 pub pieces_joined : (a b : List Piece) → flat_map piece_parts (a ++ b) ≡ flat_map piece_parts a ++ flat_map piece_parts b
 pieces_joined [] b = refl
-pieces_joined (p ∷ a) b = ap (λ (q : List Part). piece_parts p ++ q) (pieces_joined a b) ∙ sym (append_assoc (piece_parts p) (flat_map piece_parts a) (flat_map piece_parts b))
+pieces_joined (p ∷ a) b = ap (λ (q : List Part). piece_parts p ++ q) (pieces_joined a b)
+    ∙ sym (append_assoc (piece_parts p) (flat_map piece_parts a) (flat_map piece_parts b))
 
 pub lawful_pieces : (a b : List Piece) → AllByRecursion IsPiece a → AllByRecursion IsPiece b → AllByRecursion IsPiece (a ++ b)
 lawful_pieces [] b all all' = all'
@@ -74,14 +77,16 @@ record IsStep (kind : TokenKind) (deeper : ℕ) (parts : List Part) : Type 0 whe
   pub are : ArePieces kind parts pieces
   pub on : GoesOn deeper (deeper_by kind deeper) pieces
 
-singles_step : (kind : TokenKind) (deeper : ℕ) (text : List ℕ) (parts : List Part) → parts ≡ bytes text → AllPass is_single text → deeper_by kind deeper ≡ deeper → IsStep kind deeper parts
+singles_step : (kind : TokenKind) (deeper : ℕ) (text : List ℕ) (parts : List Part) → parts ≡ bytes text → AllPass is_single text →
+    deeper_by kind deeper ≡ deeper → IsStep kind deeper parts
 singles_step kind deeper text parts is all same = record {
   pieces = singles text;
   are = pieces_of text parts kind is all;
   on = subst (λ (d : ℕ). GoesOn deeper d (singles text)) (sym same) (singles_on text deeper);
 }
 
-step_of : (kind : TokenKind) (deeper : ℕ) (token : List ℕ) (parts : List Part) → TokenIs kind token parts → closes kind deeper ≡ false → IsStep kind deeper parts
+step_of : (kind : TokenKind) (deeper : ℕ) (token : List ℕ) (parts : List Part) → TokenIs kind token parts → closes kind deeper ≡ false →
+    IsStep kind deeper parts
 step_of kinds.Atom deeper token parts is open_ = singles_step kinds.Atom deeper token parts is.0 (wide_singles token is.1.wide.1) refl
 step_of kinds.Number deeper token parts is open_ = singles_step kinds.Number deeper token parts is.0 (wide_singles token is.1.1) refl
 step_of kinds.Nil deeper token parts is open_ = singles_step kinds.Nil deeper token parts is.0 (wide_singles token is.1.1) refl
@@ -106,12 +111,15 @@ step_of kinds.RightParen (suc deeper) token parts is open_ = record {
   are = one_piece Close parts kinds.RightParen (is.1 ∙ ap (λ (t : List ℕ). bytes t) is.0) tt;
   on = λ more closes. closes;
 }
-step_of kinds.LeftBracket deeper token parts is open_ = singles_step kinds.LeftBracket deeper token parts is.1 (subst (AllPass is_single) (sym is.0) (refl, tt)) refl
-step_of kinds.RightBracket deeper token parts is open_ = singles_step kinds.RightBracket deeper token parts is.1 (subst (AllPass is_single) (sym is.0) (refl, tt)) refl
+step_of kinds.LeftBracket deeper token parts is open_ = singles_step kinds.LeftBracket deeper token parts is.1
+    (subst (AllPass is_single) (sym is.0) (refl, tt)) refl
+step_of kinds.RightBracket deeper token parts is open_ = singles_step kinds.RightBracket deeper token parts is.1
+    (subst (AllPass is_single) (sym is.0) (refl, tt)) refl
 step_of kinds.Space deeper token parts is open_ = singles_step kinds.Space deeper token parts is.0 (space_single token is.1.1) refl
 
 -- the token that closes the list
-closing_token : (kind : TokenKind) (deeper : ℕ) (token : List ℕ) (parts : List Part) → TokenIs kind token parts → closes kind deeper ≡ true → (deeper ≡ 0) × (parts ≡ bytes (41 ∷ []))
+closing_token : (kind : TokenKind) (deeper : ℕ) (token : List ℕ) (parts : List Part) → TokenIs kind token parts →
+    closes kind deeper ≡ true → (deeper ≡ 0) × (parts ≡ bytes (41 ∷ []))
 closing_token kinds.Atom deeper token parts is close = absurd cc
 closing_token kinds.Number deeper token parts is close = absurd cc
 closing_token kinds.Nil deeper token parts is close = absurd cc
@@ -145,7 +153,8 @@ pub record IsListRest (deeper : ℕ) (left behind : Left) : Type 0 where
   pub closing : Closes (suc deeper) pieces
   pub passes : Passes left (flat_map piece_parts pieces) behind
 
-closed_rest : (deeper : ℕ) (left behind : Left) (parts : List Part) → deeper ≡ 0 → parts ≡ bytes (41 ∷ []) → Passes left parts behind → IsListRest deeper left behind
+closed_rest : (deeper : ℕ) (left behind : Left) (parts : List Part) → deeper ≡ 0 → parts ≡ bytes (41 ∷ []) → Passes left parts behind →
+    IsListRest deeper left behind
 closed_rest deeper left behind parts none is passes = record {
   pieces = Close ∷ [];
   lawful = (tt, tt);
@@ -153,14 +162,16 @@ closed_rest deeper left behind parts none is passes = record {
   passes = subst (λ (p : List Part). Passes left p behind) is passes;
 }
 
-more_rest : (kind : TokenKind) (deeper : ℕ) (left mid behind : Left) (parts : List Part) → IsStep kind deeper parts → Passes left parts mid → IsListRest (deeper_by kind deeper) mid behind → IsListRest deeper left behind
+more_rest : (kind : TokenKind) (deeper : ℕ) (left mid behind : Left) (parts : List Part) → IsStep kind deeper parts →
+    Passes left parts mid → IsListRest (deeper_by kind deeper) mid behind → IsListRest deeper left behind
 more_rest kind deeper left mid behind parts step passes rest =
     let all = joined left parts mid (flat_map piece_parts rest.pieces) behind passes rest.passes in
     record {
       pieces = step.pieces ++ rest.pieces;
       lawful = lawful_pieces step.pieces rest.pieces step.are.lawful rest.lawful;
       closing = step.on rest.pieces rest.closing;
-      passes = subst (λ (p : List Part). Passes left p behind) (ap (λ (p : List Part). p ++ flat_map piece_parts rest.pieces) step.are.whole ∙ sym (pieces_joined step.pieces rest.pieces)) all;
+      passes = subst (λ (p : List Part). Passes left p behind) (ap
+          (λ (p : List Part). p ++ flat_map piece_parts rest.pieces) step.are.whole ∙ sym (pieces_joined step.pieces rest.pieces)) all;
     }
 
 pub list_spells : (n deeper : ℕ) (left behind : Left) → Fits left → list_from n deeper left ≡ Ok behind → IsListRest deeper left behind
@@ -184,10 +195,12 @@ pub record IsValueFront (left behind : Left) : Type 0 where
   pub valued : IsValue parts
   pub passes : Passes left parts behind
 
-wide_value : (left behind : Left) (token : List ℕ) (parts : List Part) → parts ≡ bytes token → IsWide token → Passes left parts behind → IsValueFront left behind
+wide_value : (left behind : Left) (token : List ℕ) (parts : List Part) → parts ≡ bytes token → IsWide token → Passes left parts behind →
+    IsValueFront left behind
 wide_value left behind token parts is wide passes = record { parts = parts; valued = inl (token, wide, is); passes = passes }
 
-list_value : (left next behind : Left) (parts : List Part) → parts ≡ bytes (40 ∷ []) → Passes left parts next → IsListRest 0 next behind → IsValueFront left behind
+list_value : (left next behind : Left) (parts : List Part) → parts ≡ bytes (40 ∷ []) → Passes left parts next → IsListRest 0 next behind →
+    IsValueFront left behind
 list_value left next behind parts is passes rest =
     let all = joined left parts next (flat_map piece_parts rest.pieces) behind passes rest.passes in
     record {
@@ -196,7 +209,8 @@ list_value left next behind parts is passes rest =
       passes = all;
     }
 
-value_kind : (kind : TokenKind) (left : Left) (token : List ℕ) (next behind : Left) → value_of left kind next ≡ Ok behind → IsTaken left (kind, token, next) → IsValueFront left behind
+value_kind : (kind : TokenKind) (left : Left) (token : List ℕ) (next behind : Left) → value_of left kind next ≡ Ok behind →
+    IsTaken left (kind, token, next) → IsValueFront left behind
 value_kind kinds.Atom left token next behind is taken =
     subst (IsValueFront left) (ok_is next behind is) (wide_value left next token taken.parts taken.token.0 taken.token.1.wide taken.passes)
 value_kind kinds.Number left token next behind is taken =
@@ -205,7 +219,20 @@ value_kind kinds.Nil left token next behind is taken =
     subst (IsValueFront left) (ok_is next behind is) (wide_value left next token taken.parts taken.token.0 taken.token.1 taken.passes)
 value_kind kinds.Quoted left token next behind is taken =
     subst (IsValueFront left) (ok_is next behind is)
-    (record { parts = taken.parts; valued = inr (inl (_, inl (token, taken.token.0, record { lawful = taken.token.1; whole = taken.token.2 }, taken.token.3, refl))); passes = taken.passes })
+    (record {
+      parts = taken.parts;
+      valued = inr (inl (
+        _,
+        inl (
+          token,
+          taken.token.0,
+          record { lawful = taken.token.1; whole = taken.token.2 },
+          taken.token.3,
+          refl,
+        ),
+      ));
+      passes = taken.passes;
+    })
 value_kind kinds.Literal left token next behind is taken =
     subst (IsValueFront left) (ok_is next behind is)
     (record { parts = taken.parts; valued = inr (inl (taken.token.1, inr (taken.token.0, taken.token.3))); passes = taken.passes })
@@ -261,7 +288,8 @@ record IsInside (kind : TokenKind) (parts : List Part) : Type 0 where
   pub are : ArePieces kind parts pieces
   pub other : AllByRecursion NotBracket pieces
 
-singles_inside : (kind : TokenKind) (text : List ℕ) (parts : List Part) → parts ≡ bytes text → AllPass is_single text → AllByRecursion (λ byte. byte ≢ 93) text → IsInside kind parts
+singles_inside : (kind : TokenKind) (text : List ℕ) (parts : List Part) → parts ≡ bytes text → AllPass is_single text →
+    AllByRecursion (λ byte. byte ≢ 93) text → IsInside kind parts
 singles_inside kind text parts is all other = record { pieces = singles text; are = pieces_of text parts kind is all; other = not_brackets text other }
 
 piece_inside : (piece : Piece) (parts : List Part) (kind : TokenKind) → parts ≡ piece_parts piece → IsPiece piece → NotBracket piece → IsInside kind parts
@@ -278,7 +306,9 @@ inside_of kinds.Quoted token parts is open_ = piece_inside (Quoted is.0) parts k
 inside_of kinds.Literal token parts is open_ = piece_inside (Octets is.0 is.1) parts kinds.Literal is.3 tt tt
 inside_of kinds.LeftParen token parts is open_ = piece_inside Open parts kinds.LeftParen (is.1 ∙ ap (λ (t : List ℕ). bytes t) is.0) tt tt
 inside_of kinds.RightParen token parts is open_ = piece_inside Close parts kinds.RightParen (is.1 ∙ ap (λ (t : List ℕ). bytes t) is.0) tt tt
-inside_of kinds.LeftBracket token parts is open_ = singles_inside kinds.LeftBracket token parts is.1 (subst (AllPass is_single) (sym is.0) (refl, tt)) (subst (λ (t : List ℕ). AllByRecursion (λ byte. byte ≢ 93) t) (sym is.0) (bracket_other, tt))
+inside_of kinds.LeftBracket token parts is open_ = singles_inside kinds.LeftBracket token parts is.1
+    (subst (AllPass is_single) (sym is.0) (refl, tt)) (subst (λ (t : List ℕ). AllByRecursion (λ byte. byte ≢ 93) t) (sym is.0)
+    (bracket_other, tt))
 inside_of kinds.RightBracket token parts is open_ = absurd cc
 inside_of kinds.Space token parts is open_ = singles_inside kinds.Space token parts is.0 (space_single token is.1.1) (space_other token is.1.1)
 
@@ -299,9 +329,15 @@ not_joined [] b all all' = all'
 not_joined (p ∷ a) b all all' = (all.0, not_joined a b all.1 all')
 
 section_end : (left behind : Left) (parts : List Part) → parts ≡ bytes (93 ∷ []) → Passes left parts behind → IsSectionFront left behind
-section_end left behind parts is passes = record { inside = []; section = ([], tt, tt, refl); passes = subst (λ (p : List Part). Passes left p behind) is passes }
+section_end left behind parts is passes = record {
+  inside = [];
+  section = ([], tt, tt, refl);
+  passes =
+      subst (λ (p : List Part). Passes left p behind) is passes;
+}
 
-section_more : (kind : TokenKind) (left mid behind : Left) (parts : List Part) → IsInside kind parts → Passes left parts mid → IsSectionFront mid behind → IsSectionFront left behind
+section_more : (kind : TokenKind) (left mid behind : Left) (parts : List Part) → IsInside kind parts → Passes left parts mid →
+    IsSectionFront mid behind → IsSectionFront left behind
 section_more kind left mid behind parts step passes rest =
     let all = joined left parts mid (rest.inside ++ bytes (93 ∷ [])) behind passes rest.passes in
     record {
@@ -310,7 +346,8 @@ section_more kind left mid behind parts step passes rest =
         step.pieces ++ rest.section.0,
         lawful_pieces step.pieces rest.section.0 step.are.lawful rest.section.1,
         not_joined step.pieces rest.section.0 step.other rest.section.2,
-        ap (λ (p : List Part). p ++ rest.inside) step.are.whole ∙ ap (λ (p : List Part). flat_map piece_parts step.pieces ++ p) rest.section.3 ∙ sym (pieces_joined step.pieces rest.section.0),
+        ap (λ (p : List Part). p ++ rest.inside) step.are.whole ∙ ap
+            (λ (p : List Part). flat_map piece_parts step.pieces ++ p) rest.section.3 ∙ sym (pieces_joined step.pieces rest.section.0),
       );
       passes = subst (λ (p : List Part). Passes left p behind) (sym (append_assoc parts rest.inside (bytes (93 ∷ [])))) all;
     }
@@ -321,7 +358,8 @@ section_spells (suc more) left behind fits is =
     let t = ok_bind (next_at left) (section_on more) behind (sym (section_is more left) ∙ is) in
     let taken = next_spells left t.0 fits t.1 in
     elim (ok_either (is_bracket t.0.0) (Ok t.0.2) (section_from more t.0.2) behind t.2) [
-      | inl close ↦ section_end left behind taken.parts (bracket_token t.0.0 t.0.1 taken.parts taken.token close.0) (subst (Passes left taken.parts) (ok_is t.0.2 behind close.1) taken.passes)
+      | inl close ↦ section_end left behind taken.parts (bracket_token t.0.0 t.0.1 taken.parts taken.token close.0)
+          (subst (Passes left taken.parts) (ok_is t.0.2 behind close.1) taken.passes)
       | inr on ↦ section_more t.0.0 left t.0.2 behind taken.parts (inside_of t.0.0 t.0.1 taken.parts taken.token on.0) taken.passes
           (section_spells more t.0.2 behind (fits_behind left taken.parts t.0.2 taken.passes) on.1)
     ]

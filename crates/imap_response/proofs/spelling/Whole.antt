@@ -55,7 +55,8 @@ one_response frame one other first second =
     sym a.2 ∙ ap (λ (s : Said). s.response) (same_said (reading whole frame) a.0 b.0 a.1 b.1) ∙ b.2
 
 -- of a frame only its bytes and its literals matter
-pub same_frame : (one other : Frame) (response : Response) → one.bytes ≡ other.bytes → one.literals ≡ other.literals → Spells one response → Spells other response
+pub same_frame : (one other : Frame) (response : Response) → one.bytes ≡ other.bytes → one.literals ≡ other.literals →
+    Spells one response → Spells other response
 same_frame one other response text literals spells =
     let made = spells.1 in (
       spells.0,
@@ -64,7 +65,8 @@ same_frame one other response text literals spells =
     )
 
 -- a fed line in front of whatever
-begins : (frame : Frame) (openings : List Opening) (last more : List ℕ) → IsLine openings last → frame.bytes ≡ line_text openings last → BeginsWith (whole_line frame ++ more) openings last more
+begins : (frame : Frame) (openings : List Opening) (last more : List ℕ) → IsLine openings last → frame.bytes ≡ line_text openings last →
+    BeginsWith (whole_line frame ++ more) openings last more
 begins frame openings last more line text = record {
   line = line;
   whole = append_assoc frame.bytes (13 ∷ 10 ∷ []) more ∙ ap (λ (t : List ℕ). t ++ 13 ∷ 10 ∷ more) text;
@@ -75,7 +77,8 @@ no_front short long one other rest fed fed' spells spells' is =
     let s = fed.3 in
     let l = fed'.3 in
     let a = begins short s.0 s.1 rest s.2.line s.3 in
-    let b : BeginsWith (whole_line long) l.0 l.1 [] = subst (λ (t : List ℕ). BeginsWith t l.0 l.1 []) (append-nil (whole_line long)) (begins long l.0 l.1 [] l.2.line l.3) in
+    let b : BeginsWith (whole_line long) l.0 l.1 [] = subst (λ (t : List ℕ). BeginsWith t l.0 l.1 []) (append-nil (whole_line long))
+    (begins long l.0 l.1 [] l.2.line l.3) in
     let same = one_whole (whole_line long) l.0 s.0 l.1 [] s.1 rest b (subst (λ (t : List ℕ). BeginsWith t s.0 s.1 rest) (sym is) a) in
     let text : short.bytes ≡ long.bytes = s.3 ∙ ap (λ (o : List Opening). line_text o s.1) (sym same.0) ∙ ap (line_text l.0) (sym same.1) ∙ sym l.3 in
     let literals : short.literals ≡ long.literals = s.4 ∙ ap (literals_from 0) (sym same.0) ∙ sym l.4 in

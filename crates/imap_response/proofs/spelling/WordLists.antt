@@ -1,5 +1,6 @@
 -- Words with spaces before each: what is read, and what is spelled.
-use Rattle.std.proofs.Common.{◌≡◌, ◌≢◌, ℕ, zero, suc, ◌≤◌, false, cond, List, [], ◌∷◌, ◌++◌, length, refl, ap, sym, ◌∙◌, subst, inl, inr, arith, Result, Ok, length-append}
+use Rattle.std.proofs.Common.{◌≡◌, ◌≢◌, ℕ, zero, suc, ◌≤◌, false, cond, List, [], ◌∷◌, ◌++◌, length, refl, ap, sym, ◌∙◌, subst, inl, inr}
+use Rattle.std.proofs.Common.{arith, Result, Ok, length-append}
 use Rattle.std.specs.Prelude.{◌==◌}
 use Rattle.imap_model.specs.Parts.{EndsInHeader}
 use Rattle.imap_model.specs.Words.{AreSpaces, Spaced, IsWord, Stops, AreWords, is_word_byte}
@@ -59,7 +60,8 @@ plain_reads text word later is closed =
     let front = word_front text word later is in
     let behind = word_behind text word later is in
     let some : (length (word_at text).0 == 0) ≡ false = ap (λ (w : List ℕ). length w == 0) front ∙ some_len word is.is_word.0 in
-    let none : no_header text (header_start 0 (word_at text).0) ≡ Ok tt = ap (λ (w : List ℕ). no_header text (header_start 0 w)) front ∙ closed_reads text word closed in
+    let none : no_header text (header_start 0 (word_at text).0) ≡ Ok tt =
+    ap (λ (w : List ℕ). no_header text (header_start 0 w)) front ∙ closed_reads text word closed in
     rw some (bind_ok (no_header text (header_start 0 (word_at text).0)) (plainly text) tt (word, later) none
     (ap (λ (w : List ℕ). Ok (w, (word_at text).1)) front ∙ ap (λ (l : List ℕ). Ok (word, l)) behind))
 
@@ -73,7 +75,8 @@ onto word words = Ok (word ∷ words.0, words.1)
 abbrev behind_word : ℕ → List ℕ × List ℕ → Result Words ℕ
 behind_word more word = words_from more word.1 >>= onto word.0
 
-next_spells : (text : List ℕ) (word : List ℕ × List ℕ) → next_word_at text ≡ Ok word → (after : List ℕ) × (gap_at text ≡ Ok after) × (plain_word_at after ≡ Ok word)
+next_spells : (text : List ℕ) (word : List ℕ × List ℕ) → next_word_at text ≡ Ok word →
+    (after : List ℕ) × (gap_at text ≡ Ok after) × (plain_word_at after ≡ Ok word)
 unfolding next_word_at
 next_spells text word is = ok_bind (gap_at text) plain_word_at word is
 
@@ -85,7 +88,8 @@ words_none : (text : List ℕ) → words_from zero text ≡ Ok ([], text)
 unfolding words_from
 words_none text = refl
 
-words_step : (more : ℕ) (text : List ℕ) → words_from (suc more) text ≡ cond (length (blank_at text) == 0) (Ok ([], text)) (next_word_at text >>= behind_word more)
+words_step : (more : ℕ) (text : List ℕ) → words_from (suc more) text
+    ≡ cond (length (blank_at text) == 0) (Ok ([], text)) (next_word_at text >>= behind_word more)
 unfolding words_from
 words_step more text = refl
 
@@ -138,7 +142,8 @@ gap_none : (text gap after : List ℕ) → text ≡ gap ++ after → length text
 gap_none text [] after whole fits = refl
 gap_none text (g ∷ gap) after whole fits = absurd (omega (arith, ap length whole, length-append (g ∷ gap) after))
 
-pub words_reads : (words : List (List ℕ)) (n : ℕ) (text rest : List ℕ) → length text ≤ n → AreWords text words rest → AreSpaces rest → words_from n text ≡ Ok (words, rest)
+pub words_reads : (words : List (List ℕ)) (n : ℕ) (text rest : List ℕ) → length text ≤ n → AreWords text words rest → AreSpaces rest →
+    words_from n text ≡ Ok (words, rest)
 words_reads [] zero text rest fits are spaces = words_none text ∙ ap (λ (t : List ℕ). Ok ([], t)) are
 words_reads [] (suc more) text rest fits are spaces =
     let none = spaces_end text (subst AreSpaces (sym are) spaces) in

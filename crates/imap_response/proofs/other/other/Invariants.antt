@@ -1,6 +1,6 @@
 use Rattle.std.proofs.Common.{◌≡◌, ◌-◌}
 use Rattle.imap_response.specs.Left.{left_of}
-use Rattle.imap_response.specs.Lines.{other_from, other_at}
+use Rattle.imap_response.specs.ReadLines.{other_from, other_at}
 use Rattle.imap_response.proofs.other.other.Given as goal
 
 abbrev pub invariant-loop : goal.invariant-loop

@@ -11,8 +11,13 @@ uid_of-requires c = uid_at _ _ c.requires c.loop-number-test.true
 pub loop-number-preserved : goal.loop-number-preserved
 loop-number-preserved c = record {
   canonical = c.in_ok-add.ensures.canonical;
-  members = λ uid. one_added _ _ uid _ _ c.loop-number-test.true (rw c.uid_of.ensures at (c.in_ok-add.ensures.members uid)) (c.loop-number.invariant.members uid);
+  members = λ uid. one_added _ _ uid _ _ c.loop-number-test.true (rw c.uid_of.ensures at (c.in_ok-add.ensures.members uid))
+      (c.loop-number.invariant.members uid);
 }
 
 pub returns : goal.returns
-returns c = (c.loop-number.invariant.canonical, λ uid. all_added c.args.numbers.now c.loop-number.number-index uid c.loop-number.set (omega (arith, c.loop-number-test.false, c.loop-number.auto.number-index-end)) (c.loop-number.invariant.members uid))
+returns c = (
+  c.loop-number.invariant.canonical,
+  λ uid. all_added c.args.numbers.now c.loop-number.number-index uid c.loop-number.set
+      (omega (arith, c.loop-number-test.false, c.loop-number.auto.number-index-end)) (c.loop-number.invariant.members uid),
+)

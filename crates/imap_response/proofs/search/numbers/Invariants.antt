@@ -1,6 +1,6 @@
 use Rattle.std.proofs.Common.{◌≡◌, ◌-◌, length}
 use Rattle.std.specs.List.{AllByRecursion}
-use Rattle.imap_response.specs.Searches.{numbers_from}
+use Rattle.imap_response.specs.ReadSearches.{numbers_from}
 use Rattle.imap_response.specs.Sets.{IsUidNumber}
 use Rattle.imap_response.proofs.TurnLemmas.{with_numbers}
 use Rattle.imap_response.proofs.search.numbers.Given as goal

@@ -1,6 +1,6 @@
 use Rattle.std.proofs.Common.{◌≡◌, ◌-◌, [], length}
 use Rattle.imap_response.specs.Left.{left_of}
-use Rattle.imap_response.specs.Searches.{pairs_from}
+use Rattle.imap_response.specs.ReadSearches.{pairs_from}
 use Rattle.imap_response.proofs.search.pairs.Given as goal
 
 abbrev pub invariant-loop : goal.invariant-loop

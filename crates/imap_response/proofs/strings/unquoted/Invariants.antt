@@ -1,5 +1,5 @@
 use Rattle.std.proofs.Common.{◌≡◌, ◌++◌, drop}
-use Rattle.imap_response.specs.Strings.{unquoted_from, unquoted}
+use Rattle.imap_response.specs.ReadStrings.{unquoted_from, unquoted}
 use Rattle.imap_response.proofs.strings.unquoted.Given as goal
 
 abbrev pub invariant-loop-byte : goal.invariant-loop-byte

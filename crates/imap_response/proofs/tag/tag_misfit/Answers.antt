@@ -4,7 +4,8 @@ use Rattle.imap_response.proofs.Steps.{tag_on, tag_stops, tag_end}
 use Rattle.imap_response.proofs.tag.tag_misfit.Goals as goal
 
 pub returns-then-not-is_tag_byte : goal.returns-then-not-is_tag_byte
-returns-then-not-is_tag_byte c = ap Some c.token_place.ensures ∙ sym (tag_stops _ _ _ c.loop-at-test.true (sym c.is_tag_byte.ensures ∙ c.if-not-is_tag_byte.true)) ∙ c.loop-at.invariant
+returns-then-not-is_tag_byte c = ap Some c.token_place.ensures
+    ∙ sym (tag_stops _ _ _ c.loop-at-test.true (sym c.is_tag_byte.ensures ∙ c.if-not-is_tag_byte.true)) ∙ c.loop-at.invariant
 
 pub loop-at-preserved : goal.loop-at-preserved
 loop-at-preserved c =

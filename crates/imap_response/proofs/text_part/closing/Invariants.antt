@@ -1,6 +1,6 @@
 use Rattle.std.proofs.Common.{◌≡◌, ◌≤◌, drop, length}
 use Rattle.std.specs.Option.{IfSome}
-use Rattle.imap_response.specs.TextParts.{closing_from}
+use Rattle.imap_response.specs.ReadTextParts.{closing_from}
 use Rattle.imap_response.specs.Closing.{scanned}
 use Rattle.imap_response.proofs.text_part.closing.Given as goal
 

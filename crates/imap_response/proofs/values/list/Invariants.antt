@@ -1,6 +1,6 @@
 use Rattle.std.proofs.Common.{◌≡◌, ◌-◌, ◌≤◌}
 use Rattle.imap_response.specs.Left.{left_of}
-use Rattle.imap_response.specs.Values.{list_from, list_at}
+use Rattle.imap_response.specs.ReadValues.{list_from, list_at}
 use Rattle.imap_response.proofs.values.list.Given as goal
 
 abbrev pub invariant-loop : goal.invariant-loop

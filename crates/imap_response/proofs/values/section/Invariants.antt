@@ -1,6 +1,6 @@
 use Rattle.std.proofs.Common.{◌≡◌, ◌-◌}
 use Rattle.imap_response.specs.Left.{left_of}
-use Rattle.imap_response.specs.Values.{section_from, section_at}
+use Rattle.imap_response.specs.ReadValues.{section_from, section_at}
 use Rattle.imap_response.proofs.values.section.Given as goal
 
 abbrev pub invariant-loop : goal.invariant-loop

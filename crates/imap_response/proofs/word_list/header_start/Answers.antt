@@ -1,12 +1,9 @@
-use Rattle.std.proofs.Common.{sym, ◌∙◌, arith}
-use Rattle.imap_response.proofs.Steps.{header_on, header_found, header_end}
+use Rattle.std.proofs.Common.{Some, ap, sym, ◌∙◌}
+use Rattle.imap_response.proofs.spelling.Headers.{start_is, none_header}
 use Rattle.imap_response.proofs.word_list.header_start.Goals as goal
 
-pub returns-then-is_header : goal.returns-then-is_header
-returns-then-is_header c = sym (header_found _ _ _ _ c.loop-at-test.true c.split_at.ensures.back c.is_header.ensures c.if-is_header.true) ∙ c.loop-at.invariant
+pub returns-in-Some : goal.returns-in-Some
+returns-in-Some c = let found = c.in-Some.ensures.found in ap Some found.2.at ∙ start_is c.args.text.now found.0 found.1 found.2.number found.2.text
 
-pub loop-at-preserved : goal.loop-at-preserved
-loop-at-preserved c = sym (header_on _ _ _ _ c.loop-at-test.true c.split_at.ensures.back c.is_header.ensures c.if-is_header.false) ∙ c.loop-at.invariant
-
-pub returns : goal.returns
-returns c = sym (header_end c.args.text.now c.loop-at.at (omega (arith, c.loop-at-test.false, c.loop-at.auto.at-end))) ∙ c.loop-at.invariant
+pub returns-in-None : goal.returns-in-None
+returns-in-None c = sym (none_header c.args.text.now 0 (λ ends. c.in-None.ensures.none ends.0 ends.1 ends.2 ends.3))

@@ -22,12 +22,20 @@ returns-in-Bad-clause-none c =
 pub loop-cursor-preserved : goal.loop-cursor-preserved
 loop-cursor-preserved c =
     let next = c.behind-cursor in
-    goes_so c.args.bytes.now c.loop-cursor.cursor next.result c.loop-cursor.literals c.push.new.self c.loop-cursor.invariant c.loop-cursor-test.true c.in-Opens.low c.in-Opens.octets c.in-Opens.ensures next.ensures.part next.ensures.searched next.ensures.counted c.in_ok-push-in-Opens.ensures.done
+    goes_so c.args.bytes.now c.loop-cursor.cursor next.result c.loop-cursor.literals c.push.new.self c.loop-cursor.invariant
+    c.loop-cursor-test.true c.in-Opens.low c.in-Opens.octets
+    c.in-Opens.ensures next.ensures.part next.ensures.searched next.ensures.counted c.in_ok-push-in-Opens.ensures.done
 
 pub returns-in-Last-clause-frame : goal.returns-in-Last-clause-frame
 returns-in-Last-clause-frame c =
     let bytes : c.of-bytes.result ≡ take c.in-Last.end c.args.bytes.now = search rules in
-    (whole_so c.args.bytes.now c.loop-cursor.cursor c.loop-cursor.literals c.args.at c.in-Last.end c.ranges.at.fits c.loop-cursor.invariant c.loop-cursor-test.true c.in-Last.ensures (record { bytes = c.of-bytes.result; literals = c.loop-cursor.literals; at = c.args.at }) bytes refl refl).1
+    (whole_so c.args.bytes.now c.loop-cursor.cursor c.loop-cursor.literals c.args.at c.in-Last.end c.ranges.at.fits c.loop-cursor.invariant
+    c.loop-cursor-test.true c.in-Last.ensures (record {
+      bytes = c.of-bytes.result;
+      literals = c.loop-cursor.literals;
+      at =
+          c.args.at;
+    }) bytes refl refl).1
 
 pub returns-clause-none : goal.returns-clause-none
 returns-clause-none c = past_so c.args.bytes.now c.loop-cursor.cursor c.loop-cursor.literals c.loop-cursor.invariant c.loop-cursor-test.false

@@ -45,7 +45,9 @@ returns-in-Bad c =
 pub loop-cursor-preserved : goal.loop-cursor-preserved
 loop-cursor-preserved c =
     let next = c.behind-cursor in
-    known c.loop-cursor.invariant (λ s. goes_on c.args.line.now c.loop-cursor.cursor next.result s c.loop-cursor-test.true c.in-Opens.low c.in-Opens.octets c.in-Opens.ensures next.ensures.part next.ensures.searched next.ensures.counted)
+    known c.loop-cursor.invariant
+    (λ s. goes_on c.args.line.now c.loop-cursor.cursor next.result s c.loop-cursor-test.true c.in-Opens.low c.in-Opens.octets
+    c.in-Opens.ensures next.ensures.part next.ensures.searched next.ensures.counted)
 
 pub returns : goal.returns
 returns c =

@@ -8,7 +8,9 @@ pub open-requires-clause-plain : goal.open-requires-clause-plain
 open-requires-clause-plain c =
     let line = c.args.line.now in
     let s = c.args.cursor.searched in
-    subst NoLf (sym (all_behind line c.args.cursor.part)) (plain_all line c.args.cursor.part s c.args.cursor.ordered c.requires.within c.requires.plain (subst NoLf (all_behind line s) c.in_default.ensures.none))
+    subst NoLf (sym (all_behind line c.args.cursor.part))
+    (plain_all line c.args.cursor.part s c.args.cursor.ordered c.requires.within c.requires.plain
+    (subst NoLf (all_behind line s) c.in_default.ensures.none))
 
 pub ended-requires-clause-plain : goal.ended-requires-clause-plain
 ended-requires-clause-plain c =

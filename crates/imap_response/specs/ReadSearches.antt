@@ -1,13 +1,13 @@
--- What a search found (RFC 9051, section 9, esearch-response; RFC 3501, section 7.2.5; RFC 7162, section 3.1.5), as it is read.
+-- The reading of what a search found (RFC 9051, section 9, esearch-response; RFC 3501, section 7.2.5; RFC 7162, section 3.1.5).
 use Rattle.std.specs.Prelude.{ℕ, zero, suc, Bool, false, ◌==◌, List, [], ◌∷◌, length, codes, Result, Ok, Err, if◌then◌else◌}
 use Rattle.uid_sets.specs.declared.uid.UidRange.{UidRange}
 use Rattle.imap_response.specs.Reads.{◌>>=◌, or_else}
 use Rattle.imap_response.specs.Leaf.{gap_at, blank_at, end_at, mark_at, named_at, wide_at, same_word}
-use Rattle.imap_response.specs.Numbers.{nonzero_at, modseq_at}
+use Rattle.imap_response.specs.ReadNumbers.{nonzero_at, modseq_at}
 use Rattle.imap_response.specs.Sets.{set_at, set_of_numbers}
 use Rattle.imap_response.specs.Left.{Left, at_left, mark_in}
-use Rattle.imap_response.specs.Strings.{astring_at}
-use Rattle.imap_response.specs.Values.{value_at}
+use Rattle.imap_response.specs.ReadStrings.{astring_at}
+use Rattle.imap_response.specs.ReadValues.{value_at}
 use Rattle.imap_response.specs.Items.{is_atom}
 
 abbrev pub begins_with : ℕ → List ℕ → Bool

@@ -1,4 +1,4 @@
--- Numbers at the front of a text (RFC 9051, section 9, number and nz-number; RFC 7162, section 7, mod-sequence-value), as they are read.
+-- The reading of numbers at the front of a text (RFC 9051, section 9, number and nz-number; RFC 7162, section 7, mod-sequence-value).
 use Rattle.std.specs.Prelude.{ℕ, ◌&&◌, ◌==◌, nat_le, List, Option, Some, None, Result, if◌then◌else◌}
 use Rattle.std.specs.Str.Parse.{digits_value}
 use Rattle.imap_response.specs.Reads.{with_rest}

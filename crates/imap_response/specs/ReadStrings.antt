@@ -1,4 +1,4 @@
--- Strings (RFC 9051, section 9, string, astring and nstring), as they are read.
+-- The reading of strings (RFC 9051, section 9, string, astring and nstring).
 use Rattle.std.specs.Prelude.{ℕ, ◌-◌, Bool, true, false, ◌==◌, List, [], ◌∷◌, length, take, drop, codes, Result, Ok, Err, if◌then◌else◌}
 use Rattle.std.specs.List.{prefix_len}
 use Rattle.mail_base.specs.declared.span.Span.{Span}

@@ -1,4 +1,4 @@
--- Response codes (RFC 9051, section 7.1; RFC 4315, section 3; RFC 7162, section 3), as they are read: the text is what stands
+-- The reading of response codes (RFC 9051, section 7.1; RFC 4315, section 3; RFC 7162, section 3): the text is what stands
 -- between the brackets.
 use Rattle.std.specs.Prelude.{ℕ, ◌==◌, List, length, codes, None, Result, Ok, Err, if◌then◌else◌}
 use Rattle.imap_model.specs.declared.code.Code.{Code}
@@ -6,7 +6,7 @@ use Rattle.imap_model.specs.declared.code.Code.TheVariants as codings
 use Rattle.imap_response.specs.declared.text_part.Coded.{Coded}
 use Rattle.imap_response.specs.Reads.{◌>>=◌}
 use Rattle.imap_response.specs.Leaf.{gap_at, wide_at, same_word}
-use Rattle.imap_response.specs.Numbers.{nonzero_at, modseq_at}
+use Rattle.imap_response.specs.ReadNumbers.{nonzero_at, modseq_at}
 use Rattle.imap_response.specs.Sets.{set_at}
 use Rattle.imap_response.specs.Flags.{Keep, permanent_at}
 use Rattle.imap_response.specs.WordLists.{words_at}

@@ -1,6 +1,7 @@
--- The text of a status response, and where its code stands (RFC 9051, section 9, resp-text), as they are read.
-use Rattle.std.specs.Prelude.{ℕ, zero, suc, pred, ◌+◌, ◌-◌, ◌==◌, not, nat_lt, min, List, [], ◌∷◌, length, take, drop, Option, Some, None, Result, Ok, Err, if◌then◌else◌}
-use Rattle.std.specs.List.{prefix_len}
+-- The reading of the text of a status response, and of where its code stands (RFC 9051, section 9, resp-text).
+use Rattle.std.specs.Prelude.{ℕ, zero, suc, pred, ◌+◌, ◌-◌, Bool, true, ◌==◌, nat_eq, not, nat_lt, min, List, [], ◌∷◌, length, take, drop}
+use Rattle.std.specs.Prelude.{Option, Some, None, Result, Ok, Err, if◌then◌else◌}
+use Rattle.std.specs.List.{prefix_len, starts_with}
 use Rattle.imap_tokens.specs.Scan.{quoted_size}
 use Rattle.imap_model.specs.declared.code.Code.TheVariants as codings
 use Rattle.imap_response.specs.declared.text_part.Coded.{Coded}
@@ -8,7 +9,7 @@ use Rattle.imap_response.specs.Reads.{◌>>=◌}
 use Rattle.imap_response.specs.Leaf.{is_forbidden, gap_at}
 use Rattle.imap_response.specs.WordLists.{header_start}
 use Rattle.imap_response.specs.Flags.{Keep}
-use Rattle.imap_response.specs.Codes.{code_at, plainly}
+use Rattle.imap_response.specs.ReadCodes.{code_at, plainly}
 
 abbrev pub plain_len : List ℕ → ℕ
 plain_len text = prefix_len (λ byte. not (is_forbidden byte)) text
@@ -17,9 +18,18 @@ abbrev pub misfit_by : ℕ → ℕ → Option ℕ → Option ℕ
 misfit_by size plain (Some at) = Some (size - at)
 misfit_by size plain None = if nat_lt plain size then Some (size - plain) else None
 
--- How many bytes of the text are left at its first CR, LF or NUL, or at the literal's header in front of that or at the text's end.
+-- the text ends here, or CRLF stands here
+abbrev pub is_cut : List ℕ → Bool
+is_cut [] = true
+is_cut (byte ∷ more) = starts_with nat_eq (byte ∷ more) (13 ∷ 10 ∷ [])
+
+-- Where a literal is opened: the header begins with which the front ends, if the text ends behind it or CRLF follows.
+abbrev pub opened_at : List ℕ → List ℕ → Option ℕ
+opened_at front rest = if is_cut rest then header_start 0 front else None
+
+-- How many bytes of the text are left at its first CR, LF or NUL, or at the header of a literal that is opened in front of that.
 abbrev pub text_misfit : List ℕ → Option ℕ
-text_misfit text = misfit_by (length text) (plain_len text) (header_start 0 (take (plain_len text) text))
+text_misfit text = misfit_by (length text) (plain_len text) (opened_at (take (plain_len text) text) (drop (plain_len text) text))
 
 -- how many bytes of a quoted string stand behind its first `"`, if it is one
 abbrev pub to_skip : Option ℕ → ℕ

@@ -1,4 +1,4 @@
--- The values that are passed over (RFC 9051, section 9, the values of msg-att-static and of esearch-response), as they are read.
+-- The reading of the values that are passed over (RFC 9051, section 9, the values of msg-att-static and of esearch-response).
 use Rattle.std.specs.Prelude.{ℕ, zero, suc, pred, Bool, true, false, length, Result, Ok, Err, if◌then◌else◌}
 use Rattle.imap_tokens.specs.declared.token.TokenKind.{TokenKind}
 use Rattle.imap_tokens.specs.declared.token.TokenKind.TheVariants as kinds

@@ -1,5 +1,6 @@
--- The lines of a server (RFC 9051, section 9, response), as they are read.
-use Rattle.std.specs.Prelude.{ℕ, zero, suc, ◌-◌, Bool, true, false, ◌==◌, nat_lt, List, [], ◌∷◌, length, drop, codes, Option, Some, None, Result, Ok, Err, if◌then◌else◌}
+-- The reading of the lines of a server (RFC 9051, section 9, response): what the reader answers, in its order.
+use Rattle.std.specs.Prelude.{ℕ, zero, suc, ◌-◌, Bool, true, false, ◌==◌, nat_lt, List, [], ◌∷◌, length, drop, codes, Option, Some, None}
+use Rattle.std.specs.Prelude.{Result, Ok, Err, if◌then◌else◌}
 use Rattle.std.specs.Str.{bytes_eq}
 use Rattle.imap_tokens.specs.declared.token.TokenKind.{TokenKind}
 use Rattle.imap_tokens.specs.declared.token.TokenKind.TheVariants as kinds
@@ -11,15 +12,15 @@ use Rattle.imap_model.specs.declared.response.Response.TheVariants as responses
 use Rattle.imap_response.specs.declared.line.Said.{Said}
 use Rattle.imap_response.specs.Reads.{◌>>=◌, or_else}
 use Rattle.imap_response.specs.Leaf.{is_forbidden, gap_at, end_at, mark_at, named_at, word_at, same_word, is_digits}
-use Rattle.imap_response.specs.Numbers.{number_at, nonzero_at}
+use Rattle.imap_response.specs.ReadNumbers.{number_at, nonzero_at}
 use Rattle.imap_response.specs.Sets.{set_at}
 use Rattle.imap_response.specs.Tags.{tag_misfit, tag_of}
 use Rattle.imap_response.specs.Flags.{Keep}
 use Rattle.imap_response.specs.WordLists.{words_at, header_start, no_header}
-use Rattle.imap_response.specs.TextParts.{text_at}
+use Rattle.imap_response.specs.ReadTextParts.{text_at}
 use Rattle.imap_response.specs.Left.{Left, at_left, behind_token}
 use Rattle.imap_response.specs.Items.{items_at}
-use Rattle.imap_response.specs.Searches.{begins_with, found_at, extended_at}
+use Rattle.imap_response.specs.ReadSearches.{begins_with, found_at, extended_at}
 
 -- a response with nothing too large in it
 abbrev pub simply : Response → Said
@@ -122,7 +123,8 @@ named_line_at name left behind =
 unfoldable pub status_at : Keep → List ℕ → Left → List ℕ → Result Said ℕ
 status_at keep name left behind =
     if same_word name (codes "BYE") then (text_at keep behind >>= λ coded. Ok (record { response = responses.Bye; excess = coded.excess }))
-    else (if same_word name (codes "PREAUTH") then (text_at keep behind >>= λ coded. Ok (record { response = responses.Preauth coded.code; excess = coded.excess }))
+    else (if same_word name (codes "PREAUTH") then (text_at keep behind >>= λ coded. Ok
+    (record { response = responses.Preauth coded.code; excess = coded.excess }))
     else (named_line_at name left behind >>= λ response. Ok (simply response)))
 
 -- a message's items, behind the word FETCH
@@ -169,5 +171,6 @@ untagged_at keep left =
 unfoldable pub line_at : Keep → Left → Result Said ℕ
 line_at keep left =
     if bytes_eq (word_at left.text).0 (42 ∷ []) then (gap_at (word_at left.text).1 >>= λ after. untagged_at keep (at_left left after))
-    else (if bytes_eq (word_at left.text).0 (43 ∷ []) then (text_at keep (word_at left.text).1 >>= λ coded. Ok (record { response = responses.Go; excess = coded.excess }))
+    else (if bytes_eq (word_at left.text).0 (43 ∷ []) then (text_at keep (word_at left.text).1 >>= λ coded. Ok
+    (record { response = responses.Go; excess = coded.excess }))
     else tagged_at keep left.text)

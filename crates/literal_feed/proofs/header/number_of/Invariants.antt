@@ -1,7 +1,0 @@
-use Rattle.std.proofs.Common.{◌≡◌, take}
-use Rattle.std.specs.Prelude.{min}
-use Rattle.std.specs.Str.Parse.{digits_value}
-use Rattle.literal_feed.proofs.header.number_of.Given as goal
-
-abbrev pub invariant-loop-at : goal.invariant-loop-at
-invariant-loop-at l = l.number ≡ min (digits_value 10 (take l.at l.digits)) 9223372036854775807
