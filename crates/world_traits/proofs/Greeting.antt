@@ -18,5 +18,9 @@ pub greeting_due : (p : Peer) (c : Option Connection) → IsGreeted p → c ≡ 
 greeting_due p c g begins = subst (IsReplyDue p) (sym begins) (unread p g)
 
 -- and after a piece of it was received the connection is there
-pub still_there : (piece : List ℕ) (c d : Option Connection) → c ≡ Some fresh → IfSome c (λ k. d ≡ Some (record k { received = k.received ++ piece })) → (k : Connection) × (d ≡ Some k)
-still_there piece c d begins received = (record fresh { received = [] ++ piece }, subst (λ (o : Option Connection). IfSome o (λ k. d ≡ Some (record k { received = k.received ++ piece }))) begins received)
+pub still_there : (piece : List ℕ) (c d : Option Connection) → c ≡ Some fresh →
+    IfSome c (λ k. d ≡ Some (record k { received = k.received ++ piece })) → (k : Connection) × (d ≡ Some k)
+still_there piece c d begins received = (
+  record fresh { received = [] ++ piece },
+  subst (λ (o : Option Connection). IfSome o (λ k. d ≡ Some (record k { received = k.received ++ piece }))) begins received,
+)

@@ -2,7 +2,7 @@
 use Rattle.std.proofs.Common.{◌≡◌, ◌⊎◌, inl, inr, List, [], ◌∷◌, refl, sym, ◌∙◌, subst}
 use Rattle.imap_model.specs.Talking.{Peer}
 use Rattle.world_traits.specs.Files.{Files}
-use Rattle.world_traits.specs.Moments.{Moment, Clock, grow, Chain, Since, Images, GoesOn, Keeps}
+use Rattle.world_traits.specs.Moments.{Moment, Clock, tick, grow, Chain, Since, Images, GoesOn, Keeps}
 use Rattle.world_traits.proofs.Passing.{since_weaker}
 
 -- what holds at the start and is handed on by each step holds of each added moment and now
@@ -21,8 +21,19 @@ module _ (P Q : Moment → Type 0) (S : Moment → Moment → Type 0) (hand_on :
   pub since_now : (new : Clock) → Since P S c new → Q new.now
   since_now new s = subst (λ (k : Clock). Q k.now) (sym s.grown) (chain_now s.added s.each)
 
+-- what holds of a clock and is handed on by each step holds of the clock now
+module _ (P : Moment → Type 0) (S : Moment → Moment → Type 0) (Q : Clock → Type 0)
+    (hand_on : (k : Clock) (n : Moment) → P n → S k.now n → Q k → Q (tick k n)) (c : Clock) (at_first : Q c) where
+  chain_clock : (ms : List Moment) → Chain P S c ms → Q (grow c ms)
+  chain_clock [] each = at_first
+  chain_clock (m ∷ ms) each = hand_on (grow c ms) m each.0 each.1 (chain_clock ms each.2)
+
+  pub since_clock : (new : Clock) → Since P S c new → Q new
+  since_clock new s = subst Q (sym s.grown) (chain_clock s.added s.each)
+
 -- Disk calls that take the files from B to A keep what holds of both with the outside of entry.
-module _ (B A : Files → Type 0) (Good : Files → Peer → Type 0) (old : Clock) (before : (files : Files) → B files → Good files old.now.outside) (after : (files : Files) → A files → Good files old.now.outside) where
+module _ (B A : Files → Type 0) (Good : Files → Peer → Type 0) (old : Clock)
+    (before : (files : Files) → B files → Good files old.now.outside) (after : (files : Files) → A files → Good files old.now.outside) where
   abbrev Passes : Moment → Type 0
   Passes = Images (λ (files : Files). B files ⊎ A files)
 
@@ -40,7 +51,8 @@ module _ (B A : Files → Type 0) (Good : Files → Peer → Type 0) (old : Cloc
   kept m both = record { each = λ files h. good m.outside both.1 files (both.0.each files h) }
 
   pub disk_keeps : (new : Clock) → Since Passes (GoesOn B A) old new → Since (Keeps Good) (GoesOn B A) old new
-  disk_keeps new s = since_weaker (λ m. Passes m × Outer m) (Keeps Good) (GoesOn B A) (GoesOn B A) kept (λ m n step. step) old new (since_all Passes Outer (GoesOn B A) hand old refl new s)
+  disk_keeps new s = since_weaker (λ m. Passes m × Outer m) (Keeps Good) (GoesOn B A) (GoesOn B A) kept (λ m n step. step) old new
+      (since_all Passes Outer (GoesOn B A) hand old refl new s)
 
   pub disk_outside : (new : Clock) → Since Passes (GoesOn B A) old new → new.now.outside ≡ old.now.outside
   disk_outside new s = since_now Passes Outer (GoesOn B A) hand old refl new s

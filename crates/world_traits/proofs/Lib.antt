@@ -8,5 +8,8 @@ pub mod Narrowing
 pub mod Choosing
 pub mod OneSide
 pub mod Greeting
-mod Putting
+pub mod Due
+mod OneLine
+mod PuttingIn
 mod Remembered
+pub mod Traces

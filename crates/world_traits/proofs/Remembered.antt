@@ -24,7 +24,9 @@ HoldsAfter calls files = files.now ≡ (replay calls (start_of files)).files
 pub sync_holds : (calls later : List Did) (side : Side) (files : Contents) → HoldsAfter calls files → later ≡ calls ++ Synced side ∷ [] → HoldsAfter later files
 sync_holds calls later side files held is = held ∙ sym (ap (λ (t : State). t.files) (one_more calls later (start_of files) (Synced side) is))
 
-module _ (calls later : List Did) (side : Side) (at : ℕ) (own : Vec ℕ Global) (bytes : List ℕ) (files after : Contents) (same : own.items ≡ bytes) (is : later ≡ calls ++ Wrote side at own ∷ []) (becomes : after ≡ record files { now = with_file side (put at bytes (file_of side files.now)) files.now }) where
+module _ (calls later : List Did) (side : Side) (at : ℕ) (own : Vec ℕ Global) (bytes : List ℕ) (files after : Contents)
+    (same : own.items ≡ bytes) (is : later ≡ calls ++ Wrote side at own ∷ [])
+    (becomes : after ≡ record files { now = with_file side (put at bytes (file_of side files.now)) files.now }) where
   -- a write takes the disk one call on
   pub write_steps : replay later (start_of after) ≡ step (Wrote side at own) (replay calls (start_of files))
   write_steps = ap (λ (k : Contents). replay later (start_of k)) becomes ∙ one_more calls later (start_of files) (Wrote side at own) is

@@ -12,4 +12,5 @@ same_files f g l r = ap (λ (x : List ℕ). record f { left = x }) l ∙ ap (λ 
 
 -- the one image
 pub resting : (m : Moment) (seen files : Files) → Rests m seen → MayLeave m files → files ≡ seen
-resting m seen files rests h = same_files files seen (holds_clean_only m.left seen.left files.left rests.left h.left) (holds_clean_only m.right seen.right files.right rests.right h.right)
+resting m seen files rests h = same_files files seen (holds_clean_only m.left seen.left files.left rests.left h.left)
+    (holds_clean_only m.right seen.right files.right rests.right h.right)

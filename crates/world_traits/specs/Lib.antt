@@ -1,6 +1,7 @@
 pub mod Files
 pub mod Moments
 pub mod Nobody
+pub mod Asking
 pub mod Calls
 pub mod LinkState
 pub mod Links

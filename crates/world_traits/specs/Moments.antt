@@ -118,6 +118,16 @@ pub record Saw (P : Moment → Type 0) (S : Moment → Moment → Type 0) (Q : M
   pub after : Since P S at new
   pub is : Q at.now
 
+-- At some time between the two a moment became the next one by a step with R.
+pub record Became (P : Moment → Type 0) (S R : Moment → Moment → Type 0) (old new : Clock) : Type 0 where
+  pub at : Clock
+  pub to : Moment
+  pub before : Since P S old at
+  pub has : P to
+  pub step : S at.now to
+  pub after : Since P S (tick at to) new
+  pub is : R at.now to
+
 -- the moment after a stop that left these files
 abbrev pub restarted : Files → Moment → Moment
 restarted files m = record m { left = clean files.left; right = clean files.right }

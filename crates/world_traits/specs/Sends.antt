@@ -13,6 +13,7 @@ pub record Arrives (tag : Tag) (command : Command) (before : List (List ℕ)) (p
   pub later : Linked Answering (becomes (arrived tag command before part behind) at) new
 
 -- the part was sent: it arrived, and where the link failed it arrived whole or not
-pub record Sent {T E : Type 0} (tag : Tag) (command : Command) (before : List (List ℕ)) (part : List ℕ) (behind : List (List ℕ)) (old new : Clock) (result : Result T E) : Type 0 where
+pub record Sent {T E : Type 0} (tag : Tag) (command : Command) (before : List (List ℕ)) (part : List ℕ) (behind : List (List ℕ))
+    (old new : Clock) (result : Result T E) : Type 0 where
   pub done : OnOk result (Arrives tag command before part behind old new)
   pub failed : OnErr result (Arrives tag command before part behind old new ⊎ Linked Answering old new)

@@ -14,6 +14,7 @@ mod mem_files;
 mod mem_streams;
 mod memory;
 mod no_link;
+mod putting;
 mod streams;
 #[cfg(test)]
 mod tests;
@@ -27,5 +28,6 @@ pub use link::{Link, LinkFailed};
 pub use mem_streams::{MemSink, MemSource};
 pub use memory::MemDisk;
 pub use no_link::NoLink;
+pub use putting::put_in;
 pub use streams::{ReadFailed, Sink, Source, WriteFailed};
 pub use world::World;

@@ -16,7 +16,7 @@ pub struct LinkFailed;
 /// call answers `LinkFailed` only where the count of faults rose in that call, and leaves the disk
 /// as it was.
 pub trait Link: Clocked {
-    ghost use Rattle.std.specs.Prelude.{◌≡◌, ◌≤◌, ◌<◌, ◌++◌, ℕ, List, Option, Some, None};
+    ghost use Rattle.std.specs.Prelude.{◌≡◌, ◌⊎◌, ◌≤◌, ◌<◌, ◌++◌, ℕ, List, [], Option, Some, None};
     ghost use Rattle.std.specs.Prelude.{take, length, OnOk, OnErr, IfOk, IfSome};
     ghost use Rattle.mail_base.specs.declared.tag.Tag.{Tag};
     ghost use Rattle.imap_model.specs.Lines.{Received};
@@ -36,11 +36,14 @@ pub trait Link: Clocked {
             Linked AnyStep (Self.clock self.old) (Self.clock self.new) }
         ensures told { Self.tells_server →
             Linked Connecting (Self.clock self.old) (Self.clock self.new) }
-        ensures begins { Self.tells_server →
+        ensures begins { Self.tells_files →
             OnOk result ((Self.link self.new).connection ≡ Some fresh) }
         ensures greets { Self.tells_server →
             OnOk result (IsGreeted (Self.clock self.new).now.outside) }
-        ensures lost { Self.tells_server →
+        ensures sent { Self.tells_files → OnOk result ((Self.link self.new).sent ≡ []) }
+        ensures unsent { Self.tells_files → OnErr result (((Self.link self.new).sent ≡ [])
+            ⊎ ((Self.link self.new).sent ≡ (Self.link self.old).sent)) }
+        ensures lost { Self.tells_files →
             OnErr result ((Self.link self.new).connection ≡ None) }
         ensures count { (Self.link self.old).faults ≤ (Self.link self.new).faults }
         ensures cause { OnErr result
@@ -61,9 +64,13 @@ pub trait Link: Clocked {
             Awaits tag before (Self.clock self.old).now.outside →
             Sent tag command before bytes.now behind
             (Self.clock self.old) (Self.clock self.new) result }
-        ensures sent { Self.tells_server → OnOk result (IfSome (Self.link self.old).connection (λ c.
-            (Self.link self.new).connection ≡ Some (record c { sent = c.sent ++ bytes.now }))) }
-        ensures lost { Self.tells_server →
+        ensures sent { Self.tells_files → OnOk result
+            ((Self.link self.new).sent ≡ (Self.link self.old).sent ++ bytes.now) }
+        ensures front { Self.tells_files → OnErr result ((n : ℕ)
+            × ((Self.link self.new).sent ≡ (Self.link self.old).sent ++ take n bytes.now)) }
+        ensures received { Self.tells_files → OnOk result
+            ((Self.link self.new).connection ≡ (Self.link self.old).connection) }
+        ensures lost { Self.tells_files →
             OnErr result ((Self.link self.new).connection ≡ None) }
         ensures count { (Self.link self.old).faults ≤ (Self.link self.new).faults }
         ensures cause { OnErr result
@@ -83,11 +90,12 @@ pub trait Link: Clocked {
             Linked AnyStep (Self.clock self.old) (Self.clock self.new) }
         ensures told { Self.tells_server →
             Linked Answering (Self.clock self.old) (Self.clock self.new) }
-        ensures received { Self.tells_server →
+        ensures received { Self.tells_files →
             IfOk result (λ n. IfSome (Self.link self.old).connection (λ c.
             (Self.link self.new).connection
             ≡ Some (record c { received = c.received ++ take n into.new }))) }
-        ensures lost { Self.tells_server →
+        ensures sent { Self.tells_files → (Self.link self.new).sent ≡ (Self.link self.old).sent }
+        ensures lost { Self.tells_files →
             OnErr result ((Self.link self.new).connection ≡ None) }
         ensures count { (Self.link self.old).faults ≤ (Self.link self.new).faults }
         ensures cause { OnErr result
@@ -100,7 +108,8 @@ pub trait Link: Clocked {
             Linked AnyStep (Self.clock self.old) (Self.clock self.new) }
         ensures told { Self.tells_server →
             Linked Answering (Self.clock self.old) (Self.clock self.new) }
-        ensures ended { Self.tells_server → (Self.link self.new).connection ≡ None }
+        ensures ended { Self.tells_files → (Self.link self.new).connection ≡ None }
+        ensures sent { Self.tells_files → (Self.link self.new).sent ≡ (Self.link self.old).sent }
         ensures count { (Self.link self.new).faults ≡ (Self.link self.old).faults };
 
     /// The bytes received are a front of the lines of what the server has told in this connection:

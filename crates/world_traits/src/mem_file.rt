@@ -1,9 +1,9 @@
 //! The bytes of a file in memory: what it was given and what it holds now.
 
-ghost use Rattle.std.specs.Prelude.{◌≡◌, ◌≤◌, ◌+◌, ◌-◌, ◌^◌, ◌++◌};
-ghost use Rattle.std.specs.Prelude.{length, take, drop, replicate, OnOk, OnErr};
+ghost use Rattle.std.specs.Prelude.{◌≡◌, ◌≤◌, ◌+◌, ◌^◌, length, OnOk, OnErr};
 ghost use Rattle.world_traits.specs.Files.{put};
 
+use crate::putting::put_in;
 use std::alloc::AllocError;
 use std::marker::Model;
 
@@ -60,36 +60,4 @@ impl MemFile {
         self.later = Some(next);
         done
     }
-}
-
-// Puts bytes at a place of a vector, in place.
-fn put_in(content: &mut Vec<u8>, at: usize, bytes: &[u8]) -> Result<(), AllocError>
-    requires { at + length bytes.now ≤ 2 ^ 32 }
-    ensures done { OnOk result (content.new.items ≡ put at bytes.now content.old.items) }
-    ensures failed { OnErr result (content.new.items ≡ content.old.items) }
-{
-    reach(content, at + bytes.len())?;
-    write_over(content, at, bytes);
-    Ok(())
-}
-
-// Makes a vector at least so long, with zeros behind what it held.
-fn reach(content: &mut Vec<u8>, end: usize) -> Result<(), AllocError>
-    ensures done { OnOk result (content.new.items
-        ≡ content.old.items ++ replicate (end - length content.old.items) 0) }
-    ensures failed { OnErr result (content.new.items ≡ content.old.items) }
-{
-    if content.len() < end {
-        content.resize(end, 0)?;
-    }
-    Ok(())
-}
-
-// Writes bytes over those from a place on.
-fn write_over(content: &mut [u8], at: usize, bytes: &[u8])
-    requires { at + length bytes.now ≤ length content.old }
-    ensures { content.new
-        ≡ take at content.old ++ bytes.now ++ drop (at + length bytes.now) content.old }
-{
-    content[at..at + bytes.len()].copy_from_slice(bytes);
 }

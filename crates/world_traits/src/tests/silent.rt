@@ -99,6 +99,13 @@ fn talk_once<L: Link>(link: &mut L) -> Result<usize, LinkFailed> {
     Ok(count)
 }
 
+// Connects, sends a whole command, and receives a piece of what is due behind it.
+fn ask_once<L: Link>(link: &mut L) -> Result<usize, LinkFailed> {
+    link.connect()?;
+    link.send(b"C1 CAPABILITY\r\n")?;
+    link.recv(&mut [0, 0])
+}
+
 // Asks for everything once.
 fn ask_all<W: World>(world: &mut W) -> (bool, bool, bool, bool) {
     let length = world.length(Side::Left).is_ok();
@@ -115,6 +122,7 @@ fn the_traits_can_be_met_at_the_edge(rt: HostRuntime) -> Result<(), Fail> {
     };
     assert_eq!(rt; ask_all(&mut disk), (false, true, false, true));
     assert_eq!(rt; talk_once(&mut disk), Err(LinkFailed));
-    assert_eq!(rt; (disk.faults, disk.link.faults()), (2, 1));
+    assert_eq!(rt; ask_once(&mut disk), Err(LinkFailed));
+    assert_eq!(rt; (disk.faults, disk.link.faults()), (2, 2));
     Ok(())
 }

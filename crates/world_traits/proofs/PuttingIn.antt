@@ -30,11 +30,16 @@ module _ (at : ℕ) (bytes old : List ℕ) where
   pub drop_long : drop (at + length bytes) long ≡ drop (at + length bytes) old
   drop_long =
       ⊎_elim (λ lt. ap (drop (at + length bytes)) (nothing _ (omega (arith, lt)) old))
-      (λ ge. drop_all _ long (omega (arith, length-append old (replicate (at + length bytes - length old) 0), length-replicate {A = ℕ} (at + length bytes - length old) 0)) ∙ sym (drop_all _ old ge))
+      (λ ge. drop_all _ long (omega (
+        arith,
+        length-append old (replicate (at + length bytes - length old) 0),
+        length-replicate {A = ℕ} (at + length bytes - length old) 0,
+      )) ∙ sym (drop_all _ old ge))
       (cases_lt (at + length bytes) (length old))
 
   pub put_long : take at long ++ bytes ++ drop (at + length bytes) long ≡ put at bytes old
-  put_long = ap (λ (front : List ℕ). front ++ bytes ++ drop (at + length bytes) long) take_long ∙ ap (λ (back : List ℕ). take at old ++ replicate (at - length old) 0 ++ bytes ++ back) drop_long
+  put_long = ap (λ (front : List ℕ). front ++ bytes ++ drop (at + length bytes) long) take_long
+      ∙ ap (λ (back : List ℕ). take at old ++ replicate (at - length old) 0 ++ bytes ++ back) drop_long
 
 -- a slice of a vector that was changed in place is all of the vector
 pub all_back : (n : ℕ) (now before : List ℕ) → length now ≡ length before → n ≡ length before → take n (now ++ drop (length now) before) ≡ now
@@ -44,5 +49,6 @@ all_back n now before same is =
     ∙ take_all n now (omega arith)
 
 -- the same, where the slice became what putting makes
-pub put_back : (at : ℕ) (bytes old before now : List ℕ) → before ≡ long at bytes old → now ≡ take at before ++ bytes ++ drop (at + length bytes) before → now ≡ put at bytes old
+pub put_back : (at : ℕ) (bytes old before now : List ℕ) → before ≡ long at bytes old →
+    now ≡ take at before ++ bytes ++ drop (at + length bytes) before → now ≡ put at bytes old
 put_back at bytes old before now reached is = is ∙ ap (λ (l : List ℕ). take at l ++ bytes ++ drop (at + length bytes) l) reached ∙ put_long at bytes old
