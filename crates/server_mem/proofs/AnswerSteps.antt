@@ -26,9 +26,11 @@ use Rattle.response_lines.proofs.TurnTells.{told_tellable}
 pub lines_alone : (told : List Response) (front bytes : List ℕ) → front ≡ [] → WritesLines told front bytes → AreLines told bytes
 lines_alone told front bytes none w = subst (AreLines told) (sym (w.grown ∙ ap (λ (l : List ℕ). l ++ w.added) none)) w.lines
 
-pub command_tellable : (s : State) (tag : Tag) (command : Command) (parts : List (List ℕ)) (told : List Response) → AllByRecursion IsAtomic s.choices.offers → IsWhole tag command parts
+pub command_tellable : (s : State) (tag : Tag) (command : Command) (parts : List (List ℕ)) (told : List Response) →
+    AllByRecursion IsAtomic s.choices.offers → IsWhole tag command parts
     → told ≡ told_in tag (turn_at s tag command).replies → AreTellable told
-command_tellable s tag command parts told offers whole is = subst AreTellable (sym is) (told_tellable s.choices s.selected tag command s.server offers whole.sent.writable.tagged)
+command_tellable s tag command parts told offers whole is = subst AreTellable (sym is)
+    (told_tellable s.choices s.selected tag command s.server offers whole.sent.writable.tagged)
 
 -- the state when a part is cut off
 abbrev pub cut_at : ℕ → State → State
@@ -47,7 +49,8 @@ told_from end s (answers.Asked tag) = refl
 told_from end s (answers.Refused tag) = refl
 told_from end s (answers.Bad tag) = refl
 
-after_from : (end : ℕ) (s : State) (parts : List (List ℕ)) (a : Answered) → after_as (cut_at end s) parts a ≡ after_as (record s { begun = drop end s.begun }) parts a
+after_from : (end : ℕ) (s : State) (parts : List (List ℕ)) (a : Answered) →
+    after_as (cut_at end s) parts a ≡ after_as (record s { begun = drop end s.begun }) parts a
 after_from end s parts (answers.Carried tag command) = refl
 after_from end s parts (answers.Asked tag) = refl
 after_from end s parts (answers.Refused tag) = refl
@@ -69,7 +72,8 @@ answer_cut end s u part a lines is cuts may after told =
       subst (λ (l : List Response). AreLines l lines) (told_from end s a) told,
     )
 
-pub is_answer : (end : ℕ) (s u : State) (answer : Answer) → answer.part ≡ take end s.begun → IsPart s.parts (take end s.begun) → AnswersParts (cut_at end s) answer u → IsAnswer s answer u
+pub is_answer : (end : ℕ) (s u : State) (answer : Answer) → answer.part ≡ take end s.begun → IsPart s.parts (take end s.begun) →
+    AnswersParts (cut_at end s) answer u → IsAnswer s answer u
 is_answer end s u answer is cuts of =
     let all = answer_cut end s u answer.part answer.answered answer.lines.items is cuts of.may of.after of.lines in
     record { rest = drop end s.begun; cut = all.0; part = all.1; may = all.2; after = all.3; lines = all.4 }
@@ -103,7 +107,12 @@ answer_told s u answer is =
     subst (λ (t : State). Answers held parts told t) (sym is.after)
     (subst (λ (l : List Response). Answers held parts l (after_as held parts answer.answered)) (told_at is.rest s answer.answered)
     (answers_so held parts answer.answered (may_at is.rest s parts answer.answered is.may))) in
-    record { told = told; steps = subst (λ (l : List Response). Steps s l u) (append-nil told) (hears answer.part is.rest is.cut is.part answered stops); lines = is.lines }
+    record {
+      told = told;
+      steps = subst (λ (l : List Response). Steps s l u) (append-nil told)
+          (hears answer.part is.rest is.cut is.part answered stops);
+      lines = is.lines;
+    }
 
 -- what is left behind it
 begun_as : (s : State) (parts : List (List ℕ)) (a : Answered) → (after_as s parts a).begun ≡ s.begun
@@ -114,7 +123,8 @@ begun_as s parts (answers.Bad tag) = refl
 
 pub less_behind : (s u : State) (answer : Answer) → IsAnswer s answer u → length u.begun < length s.begun
 less_behind s u answer is =
-    let left : u.begun ≡ is.rest = ap (λ (t : State). t.begun) is.after ∙ begun_as (record s { begun = is.rest }) (s.parts ++ answer.part ∷ []) answer.answered in
+    let left : u.begun ≡ is.rest = ap (λ (t : State). t.begun) is.after
+    ∙ begun_as (record s { begun = is.rest }) (s.parts ++ answer.part ∷ []) answer.answered in
     let part : IsPart s.parts answer.part = is.part in
     omega (
       arith,
@@ -130,7 +140,8 @@ less_behind s u answer is =
 pub entered : (s u : State) (server : Server) (selected : Option (List ℕ)) (turn : Turn) → server ≡ turn.server → selected ≡ turn.selected
     → u ≡ record s { server = server; selected = selected } → u ≡ after_turn s turn
 entered s u server selected turn one two is =
-    is ∙ ap (λ (t : Server). record s { server = t; selected = selected }) one ∙ ap (λ (o : Option (List ℕ)). record s { server = turn.server; selected = o }) two
+    is ∙ ap (λ (t : Server). record s { server = t; selected = selected }) one
+    ∙ ap (λ (o : Option (List ℕ)). record s { server = turn.server; selected = o }) two
 
 -- what has come of a text is dropped
 abbrev pub dropped : State → State

@@ -25,7 +25,8 @@ tag_quiet [] all = refl
 tag_quiet (b ∷ word) all = both_true (is_quiet_byte b) (list_all is_quiet_byte word) (tag_is_quiet b all.0) (tag_quiet word all.1)
 
 -- the line of a BAD under a tag
-pub bad_spelled : (word : List ℕ) (tag : Tag) → IsTag word → NamesTag word tag → IsSpelled (responses.Done tag endings.Bad codings.None) (word ++ codes " BAD done")
+pub bad_spelled : (word : List ℕ) (tag : Tag) → IsTag word → NamesTag word tag →
+    IsSpelled (responses.Done tag endings.Bad codings.None) (word ++ codes " BAD done")
 unfolding ◌⌢◌
 bad_spelled word tag is names =
     let rest : List ℕ = codes " done" in
@@ -45,15 +46,23 @@ bad_spelled word tag is names =
     )
 
 -- as it is written
-pub bad_line : (word line : List ℕ) (tag : Tag) → IsTag word → NamesTag word tag → line ≡ word ⌢ codes " BAD done\r\n" → AreLines (responses.Done tag endings.Bad codings.None ∷ []) line
+pub bad_line : (word line : List ℕ) (tag : Tag) → IsTag word → NamesTag word tag → line ≡ word ⌢ codes " BAD done\r\n" →
+    AreLines (responses.Done tag endings.Bad codings.None ∷ []) line
 unfolding ◌⌢◌
-bad_line word line tag is names text = (word ++ codes " BAD done", [], bad_spelled word tag is names, text ∙ sym (append_assoc word (codes " BAD done") (13 ∷ 10 ∷ [])), refl)
+bad_line word line tag is names text = (
+  word ++ codes " BAD done",
+  [],
+  bad_spelled word tag is names,
+  text ∙ sym (append_assoc word (codes " BAD done") (13 ∷ 10 ∷ [])),
+  refl,
+)
 
 -- with the tag of a text, and with none
 pub says_tagged : (parts : List (List ℕ)) (word : List ℕ) (tag : Tag) → IsTagged parts word → NamesTag word tag → IsBad parts (bad_of (Some tag))
 says_tagged parts word tag is names = (word, is, names, refl, refl)
 
-pub tells_tagged : (parts : List (List ℕ)) (word line : List ℕ) (tag : Tag) → IsTagged parts word → NamesTag word tag → line ≡ word ⌢ codes " BAD done\r\n" → AreLines (bad_of (Some tag) ∷ []) line
+pub tells_tagged : (parts : List (List ℕ)) (word line : List ℕ) (tag : Tag) → IsTagged parts word → NamesTag word tag →
+    line ≡ word ⌢ codes " BAD done\r\n" → AreLines (bad_of (Some tag) ∷ []) line
 tells_tagged parts word line tag is names text = bad_line word line tag is.tag names text
 
 bare_spelled : IsSpelled (responses.Untagged endings.Bad codings.None) (codes "* BAD done")

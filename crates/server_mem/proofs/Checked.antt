@@ -26,7 +26,13 @@ fits low next highest m t =
     let a = and_parts (nat_le low m.uid) (nat_lt m.uid next && (nat_le m.modseq highest && not (holds_nul m.text))) t in
     let b = and_parts (nat_lt m.uid next) (nat_le m.modseq highest && not (holds_nul m.text)) a.1 in
     let d = and_parts (nat_le m.modseq highest) (not (holds_nul m.text)) b.1 in
-    record { above = leb-true low m.uid a.0; below = ltb-true m.uid next b.0; numbered = leb-true m.modseq highest d.0; plain = plain_fact m.text (not-true (holds_nul m.text) d.1) }
+    record {
+      above = leb-true low m.uid a.0;
+      below = ltb-true m.uid next b.0;
+      numbered = leb-true m.modseq highest d.0;
+      plain =
+          plain_fact m.text (not-true (holds_nul m.text) d.1);
+    }
 
 rises : (low next highest : ℕ) (ms : List Message) → messages_fit low next highest ms ≡ true → Rises low ms
 rises low next highest [] t = tt
@@ -34,12 +40,14 @@ rises low next highest (m ∷ ms) t =
     let both = and_parts (message_fits low next highest m) (messages_fit (m.uid + 1) next highest ms) t in
     ((fits low next highest m both.0).above, rises (m.uid + 1) next highest ms both.1)
 
-one_fits : (low next highest : ℕ) (ms : List Message) → messages_fit low next highest ms ≡ true → (u : ℕ) (m : Message) → message_at u ms ≡ Some m → (m.uid ≡ u) × ((l : ℕ) × Fits l next highest m)
+one_fits : (low next highest : ℕ) (ms : List Message) → messages_fit low next highest ms ≡ true → (u : ℕ) (m : Message) →
+    message_at u ms ≡ Some m → (m.uid ≡ u) × ((l : ℕ) × Fits l next highest m)
 one_fits low next highest [] t u m = λ e. absurd (cc)
 one_fits low next highest (x ∷ ms) t u m =
     let both = and_parts (message_fits low next highest x) (messages_fit (x.uid + 1) next highest ms) t in
     cond_both (eqb x.uid u) (Some x) (message_at u ms) (λ (o : Option Message). o ≡ Some m → (m.uid ≡ u) × ((l : ℕ) × Fits l next highest m))
-    (λ s e. subst (λ (y : Message). (y.uid ≡ u) × ((l : ℕ) × Fits l next highest y)) (same_Some x m e) (eqb-true x.uid u s, (low, fits low next highest x both.0)))
+    (λ s e. subst (λ (y : Message). (y.uid ≡ u) × ((l : ℕ) × Fits l next highest y)) (same_Some x m e)
+    (eqb-true x.uid u s, (low, fits low next highest x both.0)))
     (λ _ e. one_fits (x.uid + 1) next highest ms both.1 u m e)
 
 pub record GoneFits (ms : List Message) (next highest u k : ℕ) : Type 0 where
@@ -47,24 +55,30 @@ pub record GoneFits (ms : List Message) (next highest u k : ℕ) : Type 0 where
   pub numbered : k ≤ highest
   pub apart : message_at u ms ≡ None
 
-gone_fit : (ms : List Message) (next highest : ℕ) (g : Gone) (gs : List Gone) → gone_fits ms next highest g gs ≡ true → GoneFits ms next highest g.uid g.modseq × (gone_at g.uid gs ≡ None)
+gone_fit : (ms : List Message) (next highest : ℕ) (g : Gone) (gs : List Gone) → gone_fits ms next highest g gs ≡ true →
+    GoneFits ms next highest g.uid g.modseq × (gone_at g.uid gs ≡ None)
 gone_fit ms next highest g gs t =
     let a = and_parts (nat_lt g.uid next) (nat_le g.modseq highest && (not (is_some (message_at g.uid ms)) && not (is_some (gone_at g.uid gs)))) t in
     let b = and_parts (nat_le g.modseq highest) (not (is_some (message_at g.uid ms)) && not (is_some (gone_at g.uid gs))) a.1 in
-    let d = and_parts (not (is_some (message_at g.uid ms))) (not (is_some (gone_at g.uid gs))) b.1 in
-    (record { below = ltb-true g.uid next a.0; numbered = leb-true g.modseq highest b.0; apart = none_of (message_at g.uid ms) d.0 }, none_of (gone_at g.uid gs) d.1)
+    let d = and_parts (not (is_some (message_at g.uid ms))) (not (is_some (gone_at g.uid gs))) b.1 in (
+      record { below = ltb-true g.uid next a.0; numbered = leb-true g.modseq highest b.0; apart = none_of (message_at g.uid ms) d.0 },
+      none_of (gone_at g.uid gs) d.1,
+    )
 
 go_once : (ms : List Message) (next highest : ℕ) (gs : List Gone) → all_gone_fit ms next highest gs ≡ true → GoOnce gs
 go_once ms next highest [] t = tt
 go_once ms next highest (g ∷ gs) t =
-    let both = and_parts (gone_fits ms next highest g gs) (all_gone_fit ms next highest gs) t in ((gone_fit ms next highest g gs both.0).1, go_once ms next highest gs both.1)
+    let both = and_parts (gone_fits ms next highest g gs) (all_gone_fit ms next highest gs) t in
+    ((gone_fit ms next highest g gs both.0).1, go_once ms next highest gs both.1)
 
-one_gone : (ms : List Message) (next highest : ℕ) (gs : List Gone) → all_gone_fit ms next highest gs ≡ true → (u k : ℕ) → gone_at u gs ≡ Some k → GoneFits ms next highest u k
+one_gone : (ms : List Message) (next highest : ℕ) (gs : List Gone) → all_gone_fit ms next highest gs ≡ true → (u k : ℕ) →
+    gone_at u gs ≡ Some k → GoneFits ms next highest u k
 one_gone ms next highest [] t u k = λ e. absurd (cc)
 one_gone ms next highest (g ∷ gs) t u k =
     let both = and_parts (gone_fits ms next highest g gs) (all_gone_fit ms next highest gs) t in
     cond_both (eqb g.uid u) (Some g.modseq) (gone_at u gs) (λ (o : Option ℕ). o ≡ Some k → GoneFits ms next highest u k)
-    (λ s e. subst (λ (v : ℕ). GoneFits ms next highest v k) (eqb-true g.uid u s) (subst (λ (j : ℕ). GoneFits ms next highest g.uid j) (same_Some g.modseq k e) (gone_fit ms next highest g gs both.0).0))
+    (λ s e. subst (λ (v : ℕ). GoneFits ms next highest v k) (eqb-true g.uid u s)
+    (subst (λ (j : ℕ). GoneFits ms next highest g.uid j) (same_Some g.modseq k e) (gone_fit ms next highest g gs both.0).0))
     (λ _ e. one_gone ms next highest gs both.1 u k e)
 
 box_well : (b : Mailbox) → box_fits b ≡ true → IsWellFormedBox b

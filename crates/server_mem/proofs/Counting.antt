@@ -17,4 +17,5 @@ bound low next (m ∷ ms) l r below =
     omega arith
 
 pub few_messages : (boxes : List Mailbox) (name : List ℕ) (b : Mailbox) → Well boxes → box_at name boxes ≡ Some b → length b.messages ≤ b.uidnext
-few_messages boxes name b w e = let box = w.1 name b e in let all : 0 + length b.messages ≤ b.uidnext = bound 0 b.uidnext b.messages (omega arith) box.0 box.1.0 in omega arith
+few_messages boxes name b w e = let box = w.1 name b e in let all : 0 + length b.messages ≤ b.uidnext =
+    bound 0 b.uidnext b.messages (omega arith) box.0 box.1.0 in omega arith

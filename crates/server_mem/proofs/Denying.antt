@@ -10,7 +10,9 @@ use Rattle.imap_model.specs.Lawful.{broken_rule}
 use Rattle.imap_model.specs.Lookups.{box_at, message_at, validity_of}
 use Rattle.imap_model.specs.Mutating.{is_mutating}
 use Rattle.imap_model.specs.PlainChanges.{with_change}
-use Rattle.imap_model.specs.PlainServer.{Choices, Turn, answered, accepted, coded, copied_code, denied, row_in, stored_flags, turn_of, is_closed, append_turn, change_turn, select_turn, question_turn, store_in, store_message, store_turn, move_in, move_message, move_turn}
+use Rattle.imap_model.specs.PlainServer.{Choices, Turn, answered, accepted, coded, copied_code, denied, row_in, stored_flags, turn_of}
+use Rattle.imap_model.specs.PlainServer.{is_closed, append_turn, change_turn, select_turn, question_turn, store_in, store_message}
+use Rattle.imap_model.specs.PlainServer.{store_turn, move_in, move_message, move_turn}
 use Rattle.imap_model.specs.Remarks.{selected_box}
 use Rattle.imap_model.specs.declared.code.Code.TheVariants as codings
 use Rattle.imap_model.specs.declared.command.Command.{Command}
@@ -26,18 +28,21 @@ use Rattle.imap_model.specs.declared.server.Mailbox.{Mailbox}
 use Rattle.imap_model.specs.declared.server.Message.{Message}
 use Rattle.imap_model.specs.declared.server.Server.{Server}
 use Rattle.mail_base.specs.declared.tag.Tag.{Tag}
-use Rattle.server_mem.specs.Denied.{named, wants_selected, IsHere, Makes, sets, shifts, adds, IsDenied, missing, unselected, forbidden, modified, closed, Says, DeniesExactly}
+use Rattle.server_mem.specs.Denied.{named, wants_selected, IsHere, Makes, sets, shifts, adds, IsDenied, missing, unselected, forbidden}
+use Rattle.server_mem.specs.Denied.{modified, closed, Says, DeniesExactly}
 
 some_none : {A : Type 0} (x : A) → ◌≡◌ {A = Option A} (Some x) None → ⊥
 some_none x same = cc
 
 -- only commands that change a mailbox make a change
-makes_changes : (selected : Option (List ℕ)) (s : Server) (command : Command) (name : List ℕ) (change : Change) → Makes selected s command name change → is_mutating command ≡ true
+makes_changes : (selected : Option (List ℕ)) (s : Server) (command : Command) (name : List ℕ) (change : Change) →
+    Makes selected s command name change → is_mutating command ≡ true
 makes_changes selected s _ _ _ (sets name uid since add flags m here old) = refl
 makes_changes selected s _ _ _ (shifts name uid to m target here there) = refl
 makes_changes selected s _ _ _ (adds to flags text target there) = refl
 
-no_change : (selected : Option (List ℕ)) (s : Server) (command : Command) → is_mutating command ≡ false → (name : List ℕ) (change : Change) → Makes selected s command name change → ⊥
+no_change : (selected : Option (List ℕ)) (s : Server) (command : Command) → is_mutating command ≡ false →
+    (name : List ℕ) (change : Change) → Makes selected s command name change → ⊥
 no_change selected s command asks name change made = cc (makes_changes selected s command name change made, asks)
 
 -- commands that nothing denies
@@ -62,9 +67,11 @@ select_says c selected name since s (Some b) is = inr (refl, never) where
   never (closed to flags text same shut) = cc same
 
 -- a question
-question_says : (c : Choices) (selected : Option (List ℕ)) (command : Command) (s : Server) (reply : Mailbox → Replies) (o : Option Mailbox) → selected_box selected s.boxes ≡ o
+question_says : (c : Choices) (selected : Option (List ℕ)) (command : Command) (s : Server) (reply : Mailbox → Replies)
+    (o : Option Mailbox) → selected_box selected s.boxes ≡ o
     → named command ≡ None → wants_selected command ≡ true → ((name : List ℕ) (change : Change) → Makes selected s command name change → ⊥)
-    → ((uid since : ℕ) (add : Bool) (flags : List (List ℕ)) → command ≡ commands.Store uid since add flags → ⊥) → ((b : Mailbox) → (reply b).ending ≡ endings.Ok)
+    → ((uid since : ℕ) (add : Bool) (flags : List (List ℕ)) → command ≡ commands.Store uid since add flags → ⊥) →
+    ((b : Mailbox) → (reply b).ending ≡ endings.Ok)
     → Says c selected s command (question_turn selected s reply o).replies.ending
 question_says c selected command s reply None is none wants makes store good = inl (refl, unselected wants is)
 question_says c selected command s reply (Some b) is none wants makes store good = inr (good b, never) where
@@ -76,21 +83,25 @@ question_says c selected command s reply (Some b) is none wants makes store good
   never (closed to flags text same shut) = some_none to (sym (ap named same) ∙ none)
 
 -- a change: NO where a rule forbids it
-change_says : (c : Choices) (selected kept : Option (List ℕ)) (tag : Tag) (command : Command) (name : List ℕ) (change : Change) (s : Server) (reply : Server → Replies) (o : Option ℕ)
+change_says : (c : Choices) (selected kept : Option (List ℕ)) (tag : Tag) (command : Command) (name : List ℕ) (change : Change)
+    (s : Server) (reply : Server → Replies) (o : Option ℕ)
     → broken_rule s.boxes name change ≡ o → Makes selected s command name change → ((t : Server) → (reply t).ending ≡ endings.Ok)
     → (broken_rule s.boxes name change ≡ None → IsDenied c selected s command → ⊥)
     → Says c selected s command (change_turn kept tag name change s reply).replies.ending
 change_says c selected kept tag command name change s reply None is made good never =
     inr (ap (λ o. (change_of o).replies.ending) is ∙ good _, never is) where
       change_of : Option ℕ → Turn
-      change_of o = if is_some o then answered kept s (denied codings.Other) else answered kept (with_change (Ours tag) name change s) (reply (with_change (Ours tag) name change s))
+      change_of o = if is_some o then answered kept s (denied codings.Other) else answered kept (with_change (Ours tag) name change s)
+          (reply (with_change (Ours tag) name change s))
 change_says c selected kept tag command name change s reply (Some rule) is made good never =
     inl (ap (λ o. (change_of o).replies.ending) is, forbidden name change rule made is) where
       change_of : Option ℕ → Turn
-      change_of o = if is_some o then answered kept s (denied codings.Other) else answered kept (with_change (Ours tag) name change s) (reply (with_change (Ours tag) name change s))
+      change_of o = if is_some o then answered kept s (denied codings.Other) else answered kept (with_change (Ours tag) name change s)
+          (reply (with_change (Ours tag) name change s))
 
 -- two ways to say where a message is
-same_here : (selected : Option (List ℕ)) (s : Server) (name other : List ℕ) (b : Mailbox) (uid : ℕ) (m : Message) → selected ≡ Some name → box_at name s.boxes ≡ Some b
+same_here : (selected : Option (List ℕ)) (s : Server) (name other : List ℕ) (b : Mailbox) (uid : ℕ) (m : Message) → selected ≡ Some name →
+    box_at name s.boxes ≡ Some b
     → IsHere selected s other uid m → message_at uid b.messages ≡ Some m
 same_here selected s name other b uid m is there here =
     let names : name ≡ other = same_Some name other (sym is ∙ here.selection) in
@@ -103,7 +114,8 @@ gone_here selected s name other uid m is gone here =
     some_none here.box (sym here.there ∙ ap (λ x. box_at x s.boxes) (sym (same_Some name other (sym is ∙ here.selection))) ∙ gone)
 
 -- STORE
-store_never : (c : Choices) (selected : Option (List ℕ)) (name : List ℕ) (uid since : ℕ) (add : Bool) (flags : List (List ℕ)) (s : Server) (b : Mailbox) (o : Option Message)
+store_never : (c : Choices) (selected : Option (List ℕ)) (name : List ℕ) (uid since : ℕ) (add : Bool) (flags : List (List ℕ)) (s : Server)
+    (b : Mailbox) (o : Option Message)
     → selected ≡ Some name → box_at name s.boxes ≡ Some b → message_at uid b.messages ≡ o → ((m : Message) → o ≡ Some m → since < m.modseq → ⊥)
     → ((m : Message) (rule : ℕ) → o ≡ Some m → broken_rule s.boxes name (changes.SetFlags uid (stored_flags add flags m.flags)) ≡ Some rule → ⊥)
     → IsDenied c selected s (commands.Store uid since add flags) → ⊥
@@ -111,7 +123,8 @@ store_never c selected name uid since add flags s b o is there found old free (m
 store_never c selected name uid since add flags s b o is there found old free (unselected wants gone) =
     some_none b (sym there ∙ ap (λ x. selected_box x s.boxes) (sym is) ∙ gone)
 store_never c selected name uid since add flags s b o is there found old free (forbidden other change rule made broken) = breaks other change made broken where
-  breaks : (other : List ℕ) (change : Change) → Makes selected s (commands.Store uid since add flags) other change → broken_rule s.boxes other change ≡ Some rule → ⊥
+  breaks : (other : List ℕ) (change : Change) → Makes selected s (commands.Store uid since add flags) other change →
+      broken_rule s.boxes other change ≡ Some rule → ⊥
   breaks _ _ (sets other uid since add flags m here low) broken =
       free m rule (sym found ∙ same_here selected s name other b uid m is there here)
       (ap (λ x. broken_rule s.boxes x (changes.SetFlags uid (stored_flags add flags m.flags))) (same_Some name other (sym is ∙ here.selection)) ∙ broken)
@@ -125,16 +138,22 @@ message_says : (c : Choices) (name : List ℕ) (tag : Tag) (uid since : ℕ) (ad
     → box_at name s.boxes ≡ Some b → message_at uid b.messages ≡ o
     → Says c (Some name) s (commands.Store uid since add flags) (store_message name tag uid since add flags s o).replies.ending
 message_says c name tag uid since add flags s b None there found =
-    inr (refl, store_never c (Some name) name uid since add flags s b None refl there found (λ m e. absurd (some_none m (sym e))) (λ m rule e. absurd (some_none m (sym e))))
+    inr (
+      refl,
+      store_never c (Some name) name uid since add flags s b None refl there found (λ m e. absurd (some_none m (sym e)))
+          (λ m rule e. absurd (some_none m (sym e))),
+    )
 message_says c name tag uid since add flags s b (Some m) there found = by (nat_lt since m.modseq) refl where
   here : IsHere (Some name) s name uid m
   here = record { selection = refl; box = b; there = there; found = found }
 
-  by : (t : Bool) → nat_lt since m.modseq ≡ t → Says c (Some name) s (commands.Store uid since add flags) (store_message name tag uid since add flags s (Some m)).replies.ending
+  by : (t : Bool) → nat_lt since m.modseq ≡ t → Says c (Some name) s (commands.Store uid since add flags)
+      (store_message name tag uid since add flags s (Some m)).replies.ending
   by true new = inl (ap (λ t. (turn_if t).replies.ending) new, modified name uid since add flags m refl here (ltb-true since m.modseq new)) where
     turn_if : Bool → Turn
     turn_if t = if t then answered (Some name) s (denied (codings.Modified (only uid))) else
-        change_turn (Some name) tag name (changes.SetFlags uid (stored_flags add flags m.flags)) s (λ t. accepted (row_in uid (box_at name t.boxes)) codings.None)
+        change_turn (Some name) tag name (changes.SetFlags uid (stored_flags add flags m.flags)) s
+        (λ t. accepted (row_in uid (box_at name t.boxes)) codings.None)
   by false old =
       subst (λ t. Says c (Some name) s (commands.Store uid since add flags) (turn_if t).replies.ending) (sym old)
       (change_says c (Some name) (Some name) tag (commands.Store uid since add flags) name (changes.SetFlags uid (stored_flags add flags m.flags)) s
@@ -142,12 +161,15 @@ message_says c name tag uid since add flags s b (Some m) there found = by (nat_l
       (sets name uid since add flags m here (omega (arith, ltb-false since m.modseq old))) (λ t. refl)
       (λ free. store_never c (Some name) name uid since add flags s b (Some m) refl there found
       (λ other e new. omega (arith, new, ltb-false since m.modseq old, ap (λ x. x.modseq) (same_Some m other e)))
-      (λ other rule e broken. some_none rule (sym broken ∙ ap (λ x. broken_rule s.boxes name (changes.SetFlags uid (stored_flags add flags x.flags))) (sym (same_Some m other e)) ∙ free)))) where
+      (λ other rule e broken. some_none rule (sym broken ∙ ap (λ x. broken_rule s.boxes name
+      (changes.SetFlags uid (stored_flags add flags x.flags))) (sym (same_Some m other e)) ∙ free)))) where
         turn_if : Bool → Turn
         turn_if t = if t then answered (Some name) s (denied (codings.Modified (only uid))) else
-            change_turn (Some name) tag name (changes.SetFlags uid (stored_flags add flags m.flags)) s (λ t. accepted (row_in uid (box_at name t.boxes)) codings.None)
+            change_turn (Some name) tag name (changes.SetFlags uid (stored_flags add flags m.flags)) s
+            (λ t. accepted (row_in uid (box_at name t.boxes)) codings.None)
 
-store_in_says : (c : Choices) (name : List ℕ) (tag : Tag) (uid since : ℕ) (add : Bool) (flags : List (List ℕ)) (s : Server) (o : Option Mailbox) → box_at name s.boxes ≡ o
+store_in_says : (c : Choices) (name : List ℕ) (tag : Tag) (uid since : ℕ) (add : Bool) (flags : List (List ℕ)) (s : Server)
+    (o : Option Mailbox) → box_at name s.boxes ≡ o
     → Says c (Some name) s (commands.Store uid since add flags) (store_in name tag uid since add flags s o).replies.ending
 store_in_says c name tag uid since add flags s None is = inl (refl, unselected refl is)
 store_in_says c name tag uid since add flags s (Some b) is = message_says c name tag uid since add flags s b (message_at uid b.messages) is refl
@@ -187,13 +209,15 @@ moved_says c name tag uid to s b target (Some m) there comes found =
     (shifts name uid to m target (record { selection = refl; box = b; there = there; found = found }) comes) (λ t. refl)
     (λ free. move_never c (Some name) name uid to s b target (Some m) refl there comes found (λ other rule e broken. some_none rule (sym broken ∙ free)))
 
-move_in_says : (c : Choices) (name : List ℕ) (tag : Tag) (uid : ℕ) (to : List ℕ) (s : Server) (o p : Option Mailbox) → box_at name s.boxes ≡ o → box_at to s.boxes ≡ p
+move_in_says : (c : Choices) (name : List ℕ) (tag : Tag) (uid : ℕ) (to : List ℕ) (s : Server) (o p : Option Mailbox) →
+    box_at name s.boxes ≡ o → box_at to s.boxes ≡ p
     → Says c (Some name) s (commands.Shift uid to) (move_in name tag uid to s o p).replies.ending
 move_in_says c name tag uid to s None p is comes = inl (refl, unselected refl is)
 move_in_says c name tag uid to s (Some b) None is comes = inl (refl, missing to refl comes)
 move_in_says c name tag uid to s (Some b) (Some target) is comes = moved_says c name tag uid to s b target (message_at uid b.messages) is comes refl
 
-move_says : (c : Choices) (selected : Option (List ℕ)) (tag : Tag) (uid : ℕ) (to : List ℕ) (s : Server) → Says c selected s (commands.Shift uid to) (move_turn selected tag uid to s).replies.ending
+move_says : (c : Choices) (selected : Option (List ℕ)) (tag : Tag) (uid : ℕ) (to : List ℕ) (s : Server) →
+    Says c selected s (commands.Shift uid to) (move_turn selected tag uid to s).replies.ending
 move_says c None tag uid to s = inl (refl, unselected refl refl)
 move_says c (Some name) tag uid to s = move_in_says c name tag uid to s (box_at name s.boxes) (box_at to s.boxes) refl refl
 
@@ -214,7 +238,8 @@ append_never c selected to flags text s target comes ready free (closed other fl
     ready (shut ∙ ap (λ x. Some x) (sym names))
 
 appended_says : (c : Choices) (selected : Option (List ℕ)) (tag : Tag) (to : List ℕ) (flags : List (List ℕ)) (text : List ℕ) (s : Server) (o : Option Mailbox)
-    → box_at to s.boxes ≡ o → (c.closed ≡ Some to → ⊥) → Says c selected s (commands.Append to flags text) (append_turn selected tag to flags text s o).replies.ending
+    → box_at to s.boxes ≡ o → (c.closed ≡ Some to → ⊥) → Says c selected s (commands.Append to flags text)
+    (append_turn selected tag to flags text s o).replies.ending
 appended_says c selected tag to flags text s None is ready = inl (refl, missing to refl is)
 appended_says c selected tag to flags text s (Some target) is ready =
     change_says c selected selected tag (commands.Append to flags text) to (changes.Add flags text target.uidnext) s
@@ -245,17 +270,20 @@ append_says c selected tag to flags text s = by (is_closed c.closed to) refl whe
   turn_if : Bool → Turn
   turn_if t = if t then answered selected s (denied codings.Other) else append_turn selected tag to flags text s (box_at to s.boxes)
 
-  by : (t : Bool) → is_closed c.closed to ≡ t → Says c selected s (commands.Append to flags text) (turn_of c selected tag (commands.Append to flags text) s).replies.ending
+  by : (t : Bool) → is_closed c.closed to ≡ t → Says c selected s (commands.Append to flags text)
+      (turn_of c selected tag (commands.Append to flags text) s).replies.ending
   by true is = inl (ap (λ t. (turn_if t).replies.ending) is, closed to flags text refl (closed_is c.closed to true is))
   by false is =
       subst (λ t. Says c selected s (commands.Append to flags text) (turn_if t).replies.ending) (sym is)
       (appended_says c selected tag to flags text s (box_at to s.boxes) refl (closed_is c.closed to false is))
 
 -- no STORE
-no_store : (command : Command) → is_mutating command ≡ false → (uid since : ℕ) (add : Bool) (flags : List (List ℕ)) → command ≡ commands.Store uid since add flags → ⊥
+no_store : (command : Command) → is_mutating command ≡ false → (uid since : ℕ) (add : Bool) (flags : List (List ℕ)) →
+    command ≡ commands.Store uid since add flags → ⊥
 no_store command asks uid since add flags same = cc (ap is_mutating same, asks)
 
-open_says : (c : Choices) (selected : Option (List ℕ)) (s : Server) (command : Command) → named command ≡ None → wants_selected command ≡ false → is_mutating command ≡ false
+open_says : (c : Choices) (selected : Option (List ℕ)) (s : Server) (command : Command) → named command ≡ None →
+    wants_selected command ≡ false → is_mutating command ≡ false
     → Says c selected s command endings.Ok
 open_says c selected s command none no_box asks = inr (refl, open_command c selected s command none no_box (no_change selected s command asks))
 
@@ -266,13 +294,17 @@ denies_exactly c selected tag (commands.Plain account) s = open_says c selected 
 denies_exactly c selected tag (commands.Enable rev2) s = open_says c selected s (commands.Enable rev2) refl refl refl
 denies_exactly c selected tag (commands.Select name since) s = select_says c selected name since s (box_at name s.boxes) refl
 denies_exactly c selected tag commands.FetchAll s =
-    question_says c selected commands.FetchAll s _ (selected_box selected s.boxes) refl refl refl (no_change selected s commands.FetchAll refl) (no_store commands.FetchAll refl) (λ b. refl)
+    question_says c selected commands.FetchAll s _ (selected_box selected s.boxes) refl refl refl
+    (no_change selected s commands.FetchAll refl) (no_store commands.FetchAll refl) (λ b. refl)
 denies_exactly c selected tag (commands.FetchRow uid) s =
-    question_says c selected (commands.FetchRow uid) s _ (selected_box selected s.boxes) refl refl refl (no_change selected s (commands.FetchRow uid) refl) (no_store (commands.FetchRow uid) refl) (λ b. refl)
+    question_says c selected (commands.FetchRow uid) s _ (selected_box selected s.boxes) refl refl refl
+    (no_change selected s (commands.FetchRow uid) refl) (no_store (commands.FetchRow uid) refl) (λ b. refl)
 denies_exactly c selected tag (commands.Search from id) s =
-    question_says c selected (commands.Search from id) s _ (selected_box selected s.boxes) refl refl refl (no_change selected s (commands.Search from id) refl) (no_store (commands.Search from id) refl) (λ b. refl)
+    question_says c selected (commands.Search from id) s _ (selected_box selected s.boxes) refl refl refl
+    (no_change selected s (commands.Search from id) refl) (no_store (commands.Search from id) refl) (λ b. refl)
 denies_exactly c selected tag (commands.FetchIds uids) s =
-    question_says c selected (commands.FetchIds uids) s _ (selected_box selected s.boxes) refl refl refl (no_change selected s (commands.FetchIds uids) refl) (no_store (commands.FetchIds uids) refl) (λ b. refl)
+    question_says c selected (commands.FetchIds uids) s _ (selected_box selected s.boxes) refl refl refl
+    (no_change selected s (commands.FetchIds uids) refl) (no_store (commands.FetchIds uids) refl) (λ b. refl)
 denies_exactly c selected tag (commands.Store uid since add flags) s = store_says c selected tag uid since add flags s
 denies_exactly c selected tag (commands.Shift uid to) s = move_says c selected tag uid to s
 denies_exactly c selected tag (commands.Append to flags text) s = append_says c selected tag to flags text s

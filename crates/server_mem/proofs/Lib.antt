@@ -17,4 +17,5 @@ pub mod Ruling
 pub mod Setting
 pub mod TurnWell
 pub mod Vanishing
+pub mod WellChecked
 pub mod Welling

@@ -42,11 +42,13 @@ named_there boxes name (changes.SetFlags uid flags) lawful = (rules_hold boxes n
 named_there boxes name (changes.Drop uid) lawful = (rules_hold boxes name (changes.Drop uid) lawful).first
 named_there boxes name (changes.Shift uid to new) lawful = (both_there boxes name uid to new lawful).0
 
-pub receiver_there : (boxes : List Mailbox) (name : List ℕ) (change : Change) → broken_rule boxes name change ≡ None → is_some (box_at (receiver name change) boxes) ≡ true
+pub receiver_there : (boxes : List Mailbox) (name : List ℕ) (change : Change) → broken_rule boxes name change ≡ None →
+    is_some (box_at (receiver name change) boxes) ≡ true
 receiver_there boxes name (changes.Add flags text uid) lawful = (rules_hold boxes name (changes.Add flags text uid) lawful).first
 receiver_there boxes name (changes.SetFlags uid flags) lawful = (rules_hold boxes name (changes.SetFlags uid flags) lawful).first
 receiver_there boxes name (changes.Drop uid) lawful = (rules_hold boxes name (changes.Drop uid) lawful).first
 receiver_there boxes name (changes.Shift uid to new) lawful = (both_there boxes name uid to new lawful).1
 
-pub is_a_change : (author : Author) (name : List ℕ) (change : Change) (s : Server) → Well s.boxes → broken_rule s.boxes name change ≡ None → Changes s.boxes author name change s (with_change author name change s)
+pub is_a_change : (author : Author) (name : List ℕ) (change : Change) (s : Server) → Well s.boxes →
+    broken_rule s.boxes name change ≡ None → Changes s.boxes author name change s (with_change author name change s)
 is_a_change author name change s w lawful = plain_changes author name change s (from_well s.boxes w) lawful

@@ -14,7 +14,8 @@ abbrev message_named : ℕ → Message → Bool
 message_named uid mailbox = eqb mailbox.uid uid
 
 -- a place behind a first one
-message_later : (uid : ℕ) (b : Message) (bs : List Message) (at : ℕ) → eqb b.uid uid ≡ false → IsPlaceOfMessage uid bs at → IsPlaceOfMessage uid (b ∷ bs) (suc at)
+message_later : (uid : ℕ) (b : Message) (bs : List Message) (at : ℕ) → eqb b.uid uid ≡ false → IsPlaceOfMessage uid bs at →
+    IsPlaceOfMessage uid (b ∷ bs) (suc at)
 message_later uid b bs at f p =
     let within : at < length bs = p.within in
     record {
@@ -22,13 +23,15 @@ message_later uid b bs at f p =
       message = p.message;
       there = p.there;
       found = cond-false (eqb b.uid uid) (Some b) (message_at uid bs) f ∙ p.found;
-      put = λ new is. cond-false (eqb b.uid new.uid) (new ∷ bs) (b ∷ put_message new bs) (ap (eqb b.uid) is ∙ f) ∙ ap (λ (l : List Message). b ∷ l) (p.put new is);
+      put = λ new is. cond-false (eqb b.uid new.uid) (new ∷ bs) (b ∷ put_message new bs) (ap (eqb b.uid) is ∙ f)
+          ∙ ap (λ (l : List Message). b ∷ l) (p.put new is);
     }
 
 pub message_absent : (uid : ℕ) (k : ℕ) (bs : List Message) → position_from (message_named uid) k bs ≡ None → message_at uid bs ≡ None
 message_absent uid k [] = λ e. refl
 message_absent uid k (b ∷ bs) =
-    cond_two (eqb b.uid uid) (Some k) (position_from (message_named uid) (k + 1) bs) (Some b) (message_at uid bs) (λ (o : Option ℕ) (p : Option Message). o ≡ None → p ≡ None)
+    cond_two (eqb b.uid uid) (Some k) (position_from (message_named uid) (k + 1) bs) (Some b) (message_at uid bs)
+    (λ (o : Option ℕ) (p : Option Message). o ≡ None → p ≡ None)
     (λ t e. absurd (cc)) (λ f e. message_absent uid (k + 1) bs e)
 
 -- what is found from a number on
@@ -50,8 +53,10 @@ message_first uid k b bs t = record {
   };
 }
 
-message_further : (uid : ℕ) (k : ℕ) (b : Message) (bs : List Message) (at : ℕ) → eqb b.uid uid ≡ false → FoundMessage uid (k + 1) bs at → FoundMessage uid k (b ∷ bs) at
-message_further uid k b bs at f r = let is : at ≡ k + 1 + r.behind = r.is in record { behind = suc r.behind; is = omega arith; place = message_later uid b bs r.behind f r.place }
+message_further : (uid : ℕ) (k : ℕ) (b : Message) (bs : List Message) (at : ℕ) → eqb b.uid uid ≡ false → FoundMessage uid (k + 1) bs at →
+    FoundMessage uid k (b ∷ bs) at
+message_further uid k b bs at f r = let is : at ≡ k + 1 + r.behind = r.is in
+    record { behind = suc r.behind; is = omega arith; place = message_later uid b bs r.behind f r.place }
 
 pub message_present : (uid : ℕ) (k : ℕ) (bs : List Message) (at : ℕ) → position_from (message_named uid) k bs ≡ Some at → FoundMessage uid k bs at
 message_present uid k [] at = λ e. absurd (cc)

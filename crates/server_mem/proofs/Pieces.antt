@@ -21,7 +21,8 @@ steps_before more s _ u (hears {t = t} {told = told} {later = later} part rest c
     (answers_before more (record s { begun = rest }) (s.parts ++ part ∷ []) told t answer) (steps_before more t later u after)
 
 -- steps go on
-pub steps_then : (s : State) (told : List Response) (t : State) (later : List Response) (u : State) → Steps s told t → Steps t later u → Steps s (told ++ later) u
+pub steps_then : (s : State) (told : List Response) (t : State) (later : List Response) (u : State) → Steps s told t → Steps t later u →
+    Steps s (told ++ later) u
 steps_then s _ _ later u stops after = after
 steps_then s _ t later u (hears {t = m} {told = first} {later = second} part rest cut is answer between) after =
     subst (λ all. Steps s all u) (sym (append_assoc first second later)) (hears part rest cut is answer (steps_then m second t later u between after))
@@ -30,7 +31,8 @@ pub two_pieces : (s : State) (one two : List ℕ) (told : List Response) (t : St
     → Hears s one told t → Hears t two later u → Hears s (one ++ two) (told ++ later) u
 two_pieces s one two told t later u first second = record {
   steps = steps_then (with_bytes (one ++ two) s) told (with_bytes two t) later u
-      (subst (λ bytes. Steps (record s { begun = bytes }) told (with_bytes two t)) (append_assoc s.begun one two) (steps_before two (with_bytes one s) told t first.steps))
+      (subst (λ bytes. Steps (record s { begun = bytes }) told (with_bytes two t)) (append_assoc s.begun one two)
+      (steps_before two (with_bytes one s) told t first.steps))
       second.steps;
   rest = second.rest;
 }

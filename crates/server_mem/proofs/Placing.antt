@@ -22,13 +22,15 @@ later name b bs at f p =
       box = p.box;
       there = p.there;
       found = cond-false (bytes_eq b.name name) (Some b) (box_at name bs) f ∙ p.found;
-      put = λ new is. cond-false (bytes_eq b.name new.name) (new ∷ bs) (b ∷ put_box new bs) (ap (bytes_eq b.name) is ∙ f) ∙ ap (λ (l : List Mailbox). b ∷ l) (p.put new is);
+      put = λ new is. cond-false (bytes_eq b.name new.name) (new ∷ bs) (b ∷ put_box new bs) (ap (bytes_eq b.name) is ∙ f)
+          ∙ ap (λ (l : List Mailbox). b ∷ l) (p.put new is);
     }
 
 pub absent : (name : List ℕ) (k : ℕ) (bs : List Mailbox) → position_from (named name) k bs ≡ None → box_at name bs ≡ None
 absent name k [] = λ e. refl
 absent name k (b ∷ bs) =
-    cond_two (bytes_eq b.name name) (Some k) (position_from (named name) (k + 1) bs) (Some b) (box_at name bs) (λ (o : Option ℕ) (p : Option Mailbox). o ≡ None → p ≡ None)
+    cond_two (bytes_eq b.name name) (Some k) (position_from (named name) (k + 1) bs) (Some b) (box_at name bs)
+    (λ (o : Option ℕ) (p : Option Mailbox). o ≡ None → p ≡ None)
     (λ t e. absurd (cc)) (λ f e. absent name (k + 1) bs e)
 
 -- what is found from a number on
@@ -50,8 +52,10 @@ first name k b bs t = record {
   };
 }
 
-further : (name : List ℕ) (k : ℕ) (b : Mailbox) (bs : List Mailbox) (at : ℕ) → bytes_eq b.name name ≡ false → Found name (k + 1) bs at → Found name k (b ∷ bs) at
-further name k b bs at f r = let is : at ≡ k + 1 + r.behind = r.is in record { behind = suc r.behind; is = omega arith; place = later name b bs r.behind f r.place }
+further : (name : List ℕ) (k : ℕ) (b : Mailbox) (bs : List Mailbox) (at : ℕ) → bytes_eq b.name name ≡ false → Found name (k + 1) bs at →
+    Found name k (b ∷ bs) at
+further name k b bs at f r = let is : at ≡ k + 1 + r.behind = r.is in
+    record { behind = suc r.behind; is = omega arith; place = later name b bs r.behind f r.place }
 
 pub present : (name : List ℕ) (k : ℕ) (bs : List Mailbox) (at : ℕ) → position_from (named name) k bs ≡ Some at → Found name k bs at
 present name k [] at = λ e. absurd (cc)

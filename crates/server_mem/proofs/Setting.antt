@@ -1,5 +1,6 @@
 -- The set of UIDs of 32 bits is the one list of its ranges.
-use Rattle.std.proofs.Common.{◌≡◌, ◌⊎◌, inl, inr, ℕ, ◌+◌, ◌<◌, ◌≤◌, ◌^◌, ◌↔◌, cond, eqb, List, [], ◌∷◌, ◌++◌, take, length, get_or, sym, ◌∙◌, ap, subst, arith, add-one}
+use Rattle.std.proofs.Common.{◌≡◌, ◌⊎◌, inl, inr, ℕ, ◌+◌, ◌<◌, ◌≤◌, ◌^◌, ◌↔◌, cond, eqb, List, [], ◌∷◌, ◌++◌, take, length, get_or, sym}
+use Rattle.std.proofs.Common.{◌∙◌, ap, subst, arith, add-one}
 use Rattle.std.specs.Prelude.{nat_lt}
 use Rattle.std.proofs.lemmas.Bool.{cond_both, eqb-false, ltb-true, ltb-false}
 use Rattle.std.proofs.Math.Seq.{take-suc}
@@ -84,14 +85,16 @@ right_of : (v x : ℕ) (us : List ℕ) (old : List UidRange) → (Among v us →
 right_of v x us old f (inl m) = inl (f m)
 right_of v x us old f (inr e) = inr e
 
-pub more_members : (i : ℕ) (us : List ℕ) (x : ℕ) (old new : List UidRange) → i < length us → x ≡ get_or us i x → ((v : ℕ) → Member new v ↔ (Member old v ⊎ (v ≡ x))) →
+pub more_members : (i : ℕ) (us : List ℕ) (x : ℕ) (old new : List UidRange) → i < length us → x ≡ get_or us i x →
+    ((v : ℕ) → Member new v ↔ (Member old v ⊎ (v ≡ x))) →
     ((v : ℕ) → Member old v ↔ Among v (take i us)) → (v : ℕ) → Member new v ↔ Among v (take (i + 1) us)
 more_members i us x old new l is added same v = (
   λ m. subst (Among v) (sym (one_more i us x l is)) (into_snoc v x (take i us) (left_of v x (take i us) old (same v).0 ((added v).0 m))),
   λ a. (added v).1 (right_of v x (take i us) old (same v).1 (from_snoc v x (take i us) (subst (Among v) (one_more i us x l is) a))),
 )
 
-pub is_set_of : (us : List ℕ) (set : List UidRange) → ((left right : List UidRange) → IsCanonical left → IsCanonical right → ((uid : ℕ) → Member left uid ↔ Member right uid) → left ≡ right) →
+pub is_set_of : (us : List ℕ) (set : List UidRange) → ((left right : List UidRange) → IsCanonical left → IsCanonical right →
+    ((uid : ℕ) → Member left uid ↔ Member right uid) → left ≡ right) →
     IsCanonical set → AreUids us → ((v : ℕ) → Member set v ↔ Among v us) → set ≡ set_of us
 is_set_of us set one canonical uids members =
     one set (set_of us) canonical (set_canonical us uids) (λ v. (λ m. into_set v us ((members v).0 m), λ m. (members v).1 (from_set v us m)))

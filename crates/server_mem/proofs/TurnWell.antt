@@ -24,11 +24,13 @@ stored_well : (tag : Tag) (selected : Option (List ℕ)) (uid since : ℕ) (add 
 stored_well tag selected uid since add flags s t w (inl e) = (changes_stay s.boxes (Ours tag) e.found.name (changes.SetFlags uid e.flags) s t w e.becomes).0
 stored_well tag selected uid since add flags s t w (inr e) = same_well s t e.stays w
 
-moved_well : (tag : Tag) (selected : Option (List ℕ)) (uid : ℕ) (to : List ℕ) (s t : Server) → IsWellFormed s.boxes → Moves tag selected uid to s t ⊎ MovesNothing selected uid s t → IsWellFormed t.boxes
+moved_well : (tag : Tag) (selected : Option (List ℕ)) (uid : ℕ) (to : List ℕ) (s t : Server) → IsWellFormed s.boxes →
+    Moves tag selected uid to s t ⊎ MovesNothing selected uid s t → IsWellFormed t.boxes
 moved_well tag selected uid to s t w (inl e) = (changes_stay s.boxes (Ours tag) e.found.name (changes.Shift uid to e.received) s t w e.becomes).0
 moved_well tag selected uid to s t w (inr e) = same_well s t e.stays w
 
-accepted_well : (selected : Option (List ℕ)) (tag : Tag) (command : Command) (s t : Server) → IsWellFormed s.boxes → Accepted selected tag command s t → IsWellFormed t.boxes
+accepted_well : (selected : Option (List ℕ)) (tag : Tag) (command : Command) (s t : Server) → IsWellFormed s.boxes →
+    Accepted selected tag command s t → IsWellFormed t.boxes
 accepted_well selected tag commands.Capability s t w e = same_well s t e w
 accepted_well selected tag (commands.Login account) s t w e = same_well s t e w
 accepted_well selected tag (commands.Plain account) s t w e = same_well s t e w
@@ -48,7 +50,8 @@ carries_well w s t f (inl e) = same_well s t e f
 carries_well w s t f (inr e) = accepted_well w.selected w.tag w.command s t f e
 
 pub turn_lawful : (x : State) (tag : Tag) (command : Command) → Well x.server.boxes →
-    CarriesOut (record { selected = x.selected; tag = tag; command = command }) x.server (turn_at x tag command).replies (turn_at x tag command).server (turn_at x tag command).selected
+    CarriesOut (record { selected = x.selected; tag = tag; command = command }) x.server (turn_at x tag command).replies
+    (turn_at x tag command).server (turn_at x tag command).selected
 turn_lawful x tag command w = plain_case tag x.server (from_well x.server.boxes w) x.choices x.selected command
 
 pub turn_well : (x : State) (tag : Tag) (command : Command) → Well x.server.boxes → Well (turn_at x tag command).server.boxes

@@ -31,7 +31,22 @@ from_names [] d = tt
 from_names (b ∷ bs) d = (none_there (box_at b.name bs) d.0, from_names bs d.1)
 
 into_box : (b : Mailbox) → IsWellFormedBox b → WellBox b
-into_box b w = (w.rise, (w.below, (w.numbered, (w.plain, (w.gone_below, (w.gone_numbered, ((λ u k e. lacks (message_at u b.messages) (w.apart u k e)), into_gone b.gone w.once)))))))
+into_box b w = (
+  w.rise,
+  (
+    w.below,
+    (
+      w.numbered,
+      (
+        w.plain,
+        (
+          w.gone_below,
+          (w.gone_numbered, ((λ u k e. lacks (message_at u b.messages) (w.apart u k e)), into_gone b.gone w.once)),
+        ),
+      ),
+    ),
+  ),
+)
 
 from_box : (b : Mailbox) → WellBox b → IsWellFormedBox b
 from_box b w = record {

@@ -25,8 +25,10 @@ bad_of (Some tag) = responses.Done tag endings.Bad codings.None
 -- the parts of a text are these, as far as they have come: they may be answered so
 abbrev pub IsAnswered : State → List (List ℕ) → Answered → Type 0
 IsAnswered s parts (answers.Carried tag command) = IsWhole tag command parts
-IsAnswered s parts (answers.Asked tag) = (command : Command) × IsFront tag command parts × ((name : List ℕ) → append_of command ≡ Some name → s.choices.closed ≢ Some name)
-IsAnswered s parts (answers.Refused tag) = (command : Command) × (name : List ℕ) × IsFront tag command parts × (append_of command ≡ Some name) × (s.choices.closed ≡ Some name)
+IsAnswered s parts (answers.Asked tag) = (command : Command) × IsFront tag command parts
+    × ((name : List ℕ) → append_of command ≡ Some name → s.choices.closed ≢ Some name)
+IsAnswered s parts (answers.Refused tag) = (command : Command) × (name : List ℕ) × IsFront tag command parts
+    × (append_of command ≡ Some name) × (s.choices.closed ≡ Some name)
 IsAnswered s parts (answers.Bad tag) = IsNoText parts × IsBad parts (bad_of tag)
 
 -- what is told

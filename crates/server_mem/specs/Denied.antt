@@ -17,20 +17,35 @@ use Rattle.mail_base.specs.declared.tag.Tag.{Tag}
 
 -- the mailbox that a command names
 abbrev pub named : Command → Option (List ℕ)
+named commands.Capability = None
+named (commands.Login account) = None
+named (commands.Plain account) = None
+named (commands.Enable rev2) = None
 named (commands.Select name since) = Some name
+named commands.FetchAll = None
+named (commands.FetchRow uid) = None
+named (commands.Search from id) = None
+named (commands.FetchIds uids) = None
+named (commands.Store uid since add flags) = None
 named (commands.Shift uid to) = Some to
-named (commands.Append to flags text) = Some to
-named _ = None
+named (commands.Append to flags octets) = Some to
+named commands.Logout = None
 
 -- the command is about the selected mailbox
 abbrev pub wants_selected : Command → Bool
+wants_selected commands.Capability = false
+wants_selected (commands.Login account) = false
+wants_selected (commands.Plain account) = false
+wants_selected (commands.Enable rev2) = false
+wants_selected (commands.Select name since) = false
 wants_selected commands.FetchAll = true
 wants_selected (commands.FetchRow uid) = true
 wants_selected (commands.Search from id) = true
 wants_selected (commands.FetchIds uids) = true
 wants_selected (commands.Store uid since add flags) = true
 wants_selected (commands.Shift uid to) = true
-wants_selected _ = false
+wants_selected (commands.Append to flags octets) = false
+wants_selected commands.Logout = false
 
 -- the message of the UID is there, in the selected mailbox of this name
 pub record IsHere (selected : Option (List ℕ)) (s : Server) (name : List ℕ) (uid : ℕ) (message : Message) : Type 0 where
@@ -53,7 +68,8 @@ pub data Makes (selected : Option (List ℕ)) (s : Server) : Command → List �
 pub data IsDenied (c : Choices) (selected : Option (List ℕ)) (s : Server) (command : Command) : Type 0 where
   missing : (name : List ℕ) → named command ≡ Some name → box_at name s.boxes ≡ None → IsDenied c selected s command
   unselected : wants_selected command ≡ true → selected_box selected s.boxes ≡ None → IsDenied c selected s command
-  forbidden : (name : List ℕ) (change : Change) (rule : ℕ) → Makes selected s command name change → broken_rule s.boxes name change ≡ Some rule → IsDenied c selected s command
+  forbidden : (name : List ℕ) (change : Change) (rule : ℕ) → Makes selected s command name change →
+      broken_rule s.boxes name change ≡ Some rule → IsDenied c selected s command
   modified : (name : List ℕ) (uid since : ℕ) (add : Bool) (flags : List (List ℕ)) (m : Message) → command ≡ commands.Store uid since add flags
       → IsHere selected s name uid m → since < m.modseq → IsDenied c selected s command
   closed : (to : List ℕ) (flags : List (List ℕ)) (text : List ℕ) → command ≡ commands.Append to flags text → c.closed ≡ Some to → IsDenied c selected s command
@@ -63,4 +79,5 @@ abbrev pub Says : Choices → Option (List ℕ) → Server → Command → Endin
 Says c selected s command ending = ((ending ≡ endings.No) × IsDenied c selected s command) ⊎ ((ending ≡ endings.Ok) × (IsDenied c selected s command → ⊥))
 
 abbrev pub DeniesExactly : Type 0
-DeniesExactly = (c : Choices) (selected : Option (List ℕ)) (tag : Tag) (command : Command) (s : Server) → Says c selected s command (turn_of c selected tag command s).replies.ending
+DeniesExactly = (c : Choices) (selected : Option (List ℕ)) (tag : Tag) (command : Command) (s : Server) →
+    Says c selected s command (turn_of c selected tag command s).replies.ending

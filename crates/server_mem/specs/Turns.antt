@@ -26,19 +26,35 @@ comes_to t s = record { replies = t.replies; server = after t.made s; selected =
 
 -- what a question about a mailbox is answered
 abbrev pub reply_of : plain.Choices → Mailbox → Command → Replies
+reply_of c b commands.Capability = plain.denied codings.Other
+reply_of c b (commands.Login account) = plain.denied codings.Other
+reply_of c b (commands.Plain account) = plain.denied codings.Other
+reply_of c b (commands.Enable rev2) = plain.denied codings.Other
+reply_of c b (commands.Select name since) = plain.denied codings.Other
 reply_of c b commands.FetchAll = plain.accepted (plain.rows_where plain.any_message b.messages) (plain.fetch_code c b)
 reply_of c b (commands.FetchRow uid) = plain.accepted (plain.row_if (message_at uid b.messages)) (plain.fetch_code c b)
 reply_of c b (commands.Search from id) = plain.accepted (responses.Found (set_of (plain.found_in from id b.messages)) ∷ []) codings.None
 reply_of c b (commands.FetchIds uids) = plain.accepted (plain.ids_in uids b.messages) (plain.fetch_code c b)
-reply_of c b _ = plain.denied codings.Other
+reply_of c b (commands.Store uid since add flags) = plain.denied codings.Other
+reply_of c b (commands.Shift uid to) = plain.denied codings.Other
+reply_of c b (commands.Append to flags octets) = plain.denied codings.Other
+reply_of c b commands.Logout = plain.denied codings.Other
 
 -- the command asks about the selected mailbox
 abbrev pub is_question : Command → Bool
+is_question commands.Capability = false
+is_question (commands.Login account) = false
+is_question (commands.Plain account) = false
+is_question (commands.Enable rev2) = false
+is_question (commands.Select name since) = false
 is_question commands.FetchAll = true
 is_question (commands.FetchRow uid) = true
 is_question (commands.Search from id) = true
 is_question (commands.FetchIds uids) = true
-is_question _ = false
+is_question (commands.Store uid since add flags) = false
+is_question (commands.Shift uid to) = false
+is_question (commands.Append to flags octets) = false
+is_question commands.Logout = false
 
 -- the state of a mailbox, as it is told at a SELECT
 abbrev pub state_of : plain.Choices → Mailbox → List Response
@@ -52,5 +68,12 @@ is_general commands.Capability = true
 is_general (commands.Login account) = true
 is_general (commands.Plain account) = true
 is_general (commands.Enable rev2) = true
+is_general (commands.Select name since) = false
+is_general commands.FetchAll = false
+is_general (commands.FetchRow uid) = false
+is_general (commands.Search from id) = false
+is_general (commands.FetchIds uids) = false
+is_general (commands.Store uid since add flags) = false
+is_general (commands.Shift uid to) = false
+is_general (commands.Append to flags octets) = false
 is_general commands.Logout = true
-is_general _ = false

@@ -1,6 +1,6 @@
 //! Whether mailboxes are those of a well-formed server (RFC 9051, section 2.3.1.1; RFC 7162, section 3.1).
 
-ghost use Rattle.std.specs.Prelude.{◌≡◌, IsTrue, is_some};
+ghost use Rattle.std.specs.Prelude.{◌≡◌, ◌↔◌, IsTrue, is_some};
 ghost use Rattle.imap_model.specs.Lookups.{gone_at, message_at};
 ghost use Rattle.imap_model.specs.WellFormed.{IsWellFormed};
 ghost use Rattle.server_mem.specs.Checks as checks;
@@ -120,7 +120,7 @@ fn boxes_fit(boxes: &[Mailbox]) -> bool
 /// UID, there or gone, is below UIDNEXT, each mod-sequence at most the highest, no UID is both there and gone or gone twice,
 /// and no text holds a NUL.
 pub fn is_well_formed(boxes: &[Mailbox]) -> bool
-    ensures { IsTrue result → IsWellFormed boxes.now }
+    ensures { IsTrue result ↔ IsWellFormed boxes.now }
 {
     boxes_fit(boxes)
 }

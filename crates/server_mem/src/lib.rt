@@ -5,11 +5,7 @@ mod answering;
 mod carrying;
 mod changing;
 mod checking;
-#[cfg(test)]
-mod exchange_tests;
 mod headers;
-#[cfg(test)]
-mod hear_tests;
 mod laws;
 mod lookups;
 mod mem_server;
@@ -22,8 +18,6 @@ mod rows;
 mod rules;
 mod selecting;
 mod sets;
-#[cfg(test)]
-mod tests;
 mod told_lines;
 mod turn;
 mod turning;

@@ -16,7 +16,8 @@ use Rattle.world_mem.specs.declared.did.Did.TheVariants as did
 
 -- one step
 pub one_step : (S : Peer → Peer → Type 0) (f : Peer → Peer) (c : Clock) → S c.now.outside (f c.now.outside) → Linked S c (becomes f c)
-one_step S f c is = since_tick Any (LinkStep S) c c (becomes f c) (becomes f c).now (since_start Any (LinkStep S) c) refl tt (record { left = refl; right = refl; outside = is })
+one_step S f c is = since_tick Any (LinkStep S) c c (becomes f c) (becomes f c).now (since_start Any (LinkStep S) c) refl tt
+    (record { left = refl; right = refl; outside = is })
 
 -- a change by another client
 pub one_change : (name : List _) (change : Change) (s t : Server) (c : Clock) → c.now.outside.server ≡ s → Changes s.boxes Other name change s t
@@ -32,7 +33,13 @@ pub no_change_as : (old new : Run) → new ≡ old → OthersChange old new
 no_change_as old new is = subst (OthersChange old) (sym is) (no_change old)
 
 pub more_changes : (old mid new : Run) → OthersChange old mid → OthersChange mid new → OthersChange old new
-more_changes old mid new a b = record { told = since_then Any (LinkStep Answering) old.clock mid.clock new.clock a.told b.told; waiting = b.waiting ∙ a.waiting; talk = b.talk ∙ a.talk; held = b.held ∙ a.held }
+more_changes old mid new a b = record {
+  told = since_then Any (LinkStep Answering) old.clock mid.clock new.clock a.told b.told;
+  waiting =
+      b.waiting ∙ a.waiting;
+  talk = b.talk ∙ a.talk;
+  held = b.held ∙ a.held;
+}
 
 -- the server's greeting is one
 greets : (offers : List (List ℕ)) → IsGreeting (greeting offers)
@@ -40,14 +47,16 @@ greets [] = tt
 greets (word ∷ words) = tt
 
 pub one_greeting : (r : Run) → Linked Connecting r.clock (step did.Greeted r).clock
-one_greeting r = one_step Connecting (begins_with (greeting r.state.choices.offers)) r.clock (begins (greeting r.state.choices.offers) (greets r.state.choices.offers))
+one_greeting r = one_step Connecting (begins_with (greeting r.state.choices.offers)) r.clock
+    (begins (greeting r.state.choices.offers) (greets r.state.choices.offers))
 
 pub greeted_now : (r : Run) → IsGreeted (step did.Greeted r).clock.now.outside
 greeted_now r = record { greeting = greeting r.state.choices.offers; greets = greets r.state.choices.offers; quiet = refl; talk = refl }
 
 -- answering is a case of connecting
 pub connecting : (old new : Clock) → Linked Answering old new → Linked Connecting old new
-connecting old new is = since_weaker Any Any (LinkStep Answering) (LinkStep Connecting) (λ m any. any) (λ m n step. record { left = step.left; right = step.right; outside = as_before step.outside }) old new is
+connecting old new is = since_weaker Any Any (LinkStep Answering) (LinkStep Connecting) (λ m any. any)
+    (λ m n step. record { left = step.left; right = step.right; outside = as_before step.outside }) old new is
 
 pub linked_then : (S : Peer → Peer → Type 0) (old mid new : Clock) → Linked S old mid → Linked S mid new → Linked S old new
 linked_then S old mid new a b = since_then Any (LinkStep S) old mid new a b
@@ -57,4 +66,5 @@ linked_start S c = since_start Any (LinkStep S) c
 
 -- of a server that isn't told nothing is known
 pub any_linked : (S : Peer → Peer → Type 0) (old new : Clock) → Linked S old new → Linked AnyStep old new
-any_linked S old new is = since_weaker Any Any (LinkStep S) (LinkStep AnyStep) (λ m any. any) (λ m n step. record { left = step.left; right = step.right; outside = tt }) old new is
+any_linked S old new is = since_weaker Any Any (LinkStep S) (LinkStep AnyStep) (λ m any. any)
+    (λ m n step. record { left = step.left; right = step.right; outside = tt }) old new is

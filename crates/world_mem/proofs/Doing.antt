@@ -50,7 +50,8 @@ cut_same phases.On s t is = ap disconnected is
 cut_same phases.Hearing s t is = ap disconnected is
 cut_same phases.Waiting s t is = ap disconnected is
 
-seen_change : (phase : Phase) (x : Server) (s t : State) → seen_in phase s ≡ seen_in phase t → seen_in phase (record s { server = x }) ≡ seen_in phase (record t { server = x })
+seen_change : (phase : Phase) (x : Server) (s t : State) → seen_in phase s ≡ seen_in phase t →
+    seen_in phase (record s { server = x }) ≡ seen_in phase (record t { server = x })
 seen_change phases.Off x s t is = ap (λ (u : State). record u { server = x }) is
 seen_change phases.On x s t is = ap (λ (u : State). record u { server = x }) is
 seen_change phases.Hearing x s t is = ap (λ (u : State). record u { server = x }) is
@@ -66,7 +67,8 @@ waiting_same : (held : Option Held) (s t : State) → s.selected ≡ t.selected 
 waiting_same None s t is = refl
 waiting_same (Some held) s t is = ap (λ (selected : Option (List ℕ)). Some (record { selected = selected; tag = held.tag; command = held.command })) is
 
-module _ (files : Both) (server : State) (phase : Phase) (held : Option Held) (parts : List (List ℕ)) (unfinished : ℕ) (lines : List ℕ) (received : ℕ) (r : Run) (h : Stands files server phase held parts unfinished lines received r) where
+module _ (files : Both) (server : State) (phase : Phase) (held : Option Held) (parts : List (List ℕ)) (unfinished : ℕ) (lines : List ℕ)
+    (received : ℕ) (r : Run) (h : Stands files server phase held parts unfinished lines received r) where
   -- a write and a sync
   pub wrote_stands : (side : Side) (at : ℕ) (own : Vec ℕ Global) (files' : Both)
       → files' ≡ torn_at (written side at own.items r.clock.now) (with_file side (put at own.items (file_of side r.seen)) r.seen)
@@ -130,7 +132,8 @@ module _ (files : Both) (server : State) (phase : Phase) (held : Option Held) (p
   }
 
   -- a connection
-  pub greeted_stands : (server' : State) (parts' : List (List ℕ)) (lines' : List ℕ) → server' ≡ disconnected server → parts' ≡ [] → AreLines (greeting server.choices.offers ∷ []) lines'
+  pub greeted_stands : (server' : State) (parts' : List (List ℕ)) (lines' : List ℕ) → server' ≡ disconnected server → parts' ≡ [] →
+      AreLines (greeting server.choices.offers ∷ []) lines'
       → Stands files server' phases.On held parts' 0 lines' 0 (step did.Greeted r)
   greeted_stands server' parts' lines' is none tells = record {
     files_are = h.files_are;
@@ -195,14 +198,17 @@ sound_server phases.Hearing s t on is sound = absurd (cc on)
 sound_server phases.Waiting s t on is sound = absurd (cc on)
 
 -- a world in which nothing has happened
-pub begun_stands : (files : Both) (given : Files) (server : State) (phase : Phase) (held : Option Held) (parts : List (List ℕ)) (lines : List ℕ) (log : List Did)
-    → files ≡ torn_at (start given server held).clock.now given → phase ≡ phase_of held → server.begun ≡ [] → server.failed ≡ false → ∥ WholeIn (phase_of held) held server.parts ∥₁ → log ≡ []
+pub begun_stands : (files : Both) (given : Files) (server : State) (phase : Phase) (held : Option Held) (parts : List (List ℕ))
+    (lines : List ℕ) (log : List Did)
+    → files ≡ torn_at (start given server held).clock.now given → phase ≡ phase_of held → server.begun ≡ [] → server.failed ≡ false →
+    ∥ WholeIn (phase_of held) held server.parts ∥₁ → log ≡ []
     → Stands files server phase held parts 0 lines 0 (run log (start given server held))
 begun_stands files given server phase held parts lines log is by whole sound ends none =
     subst (λ (l : List Did). Stands files server phase held parts 0 lines 0 (run l (start given server held))) (sym none)
     (subst (λ (p : Phase). Stands files server p held parts 0 lines 0 (start given server held)) (sym by) (at_first held is ends))
   where
-    at_first : (h : Option Held) → files ≡ torn_at (start given server h).clock.now given → ∥ WholeIn (phase_of h) h server.parts ∥₁ → Stands files server (phase_of h) h parts 0 lines 0 (start given server h)
+    at_first : (h : Option Held) → files ≡ torn_at (start given server h).clock.now given → ∥ WholeIn (phase_of h) h server.parts ∥₁ →
+        Stands files server (phase_of h) h parts 0 lines 0 (start given server h)
     at_first None is complete = record {
       files_are = is;
       server_is = refl;
@@ -244,19 +250,22 @@ pub zero_is : (n : ℕ) → (n == 0) ≡ true → n ≡ 0
 zero_is n is = eqb-true n 0 is
 
 -- a server for which a command waits
-pub waiting_whole : (files : Both) (server : State) (phase : Phase) (held : Option Held) (parts : List (List ℕ)) (unfinished : ℕ) (lines : List ℕ) (received : ℕ) (r : Run)
+pub waiting_whole : (files : Both) (server : State) (phase : Phase) (held : Option Held) (parts : List (List ℕ)) (unfinished : ℕ)
+    (lines : List ℕ) (received : ℕ) (r : Run)
     → Stands files server phase held parts unfinished lines received r → phase ≡ phases.Waiting → server.begun ≡ []
 waiting_whole files server phase held parts unfinished lines received r h is =
     let now = subst (λ (x : Phase). Stands files server x held parts unfinished lines received r) is h in
     none_long server.begun (now.counted ∙ zero_is unfinished now.rested)
 
-pub waiting_sound : (files : Both) (server : State) (phase : Phase) (held : Option Held) (parts : List (List ℕ)) (unfinished : ℕ) (lines : List ℕ) (received : ℕ) (r : Run)
+pub waiting_sound : (files : Both) (server : State) (phase : Phase) (held : Option Held) (parts : List (List ℕ)) (unfinished : ℕ)
+    (lines : List ℕ) (received : ℕ) (r : Run)
     → Stands files server phase held parts unfinished lines received r → phase ≡ phases.Waiting → server.failed ≡ false
 waiting_sound files server phase held parts unfinished lines received r h is =
     let now = subst (λ (x : Phase). Stands files server x held parts unfinished lines received r) is h in
     ap (λ (u : State). u.failed) now.server_is ∙ now.sound
 
-pub waiting_ends : (files : Both) (server : State) (phase : Phase) (held : Option Held) (parts : List (List ℕ)) (unfinished : ℕ) (lines : List ℕ) (received : ℕ) (r : Run)
+pub waiting_ends : (files : Both) (server : State) (phase : Phase) (held : Option Held) (parts : List (List ℕ)) (unfinished : ℕ)
+    (lines : List ℕ) (received : ℕ) (r : Run)
     → Stands files server phase held parts unfinished lines received r → phase ≡ phases.Waiting → ∥ WholeIn (phase_of held) held server.parts ∥₁
 waiting_ends files server phase held parts unfinished lines received r h is =
     let now = subst (λ (x : Phase). Stands files server x held parts unfinished lines received r) is h in

@@ -1,5 +1,6 @@
 -- An image by draws, byte by byte, and that it is one that a stop may leave.
-use Rattle.std.proofs.Common.{◌≡◌, inl, inr, ⊎_elim, ℕ, suc, zero, ◌+◌, ◌≤◌, ◌<◌, Bool, true, false, cond, leb, ltb, List, [], ◌∷◌, ◌++◌, length, get_or, refl, ◌∙◌, ap, arith, add-one, length-append}
+use Rattle.std.proofs.Common.{◌≡◌, inl, inr, ⊎_elim, ℕ, suc, zero, ◌+◌, ◌≤◌, ◌<◌, Bool, true, false, cond, leb, ltb, List, [], ◌∷◌, ◌++◌}
+use Rattle.std.proofs.Common.{length, get_or, refl, ◌∙◌, ap, arith, add-one, length-append}
 use Rattle.std.proofs.lemmas.List.{get_or_append_left, get_or_at}
 use Rattle.std.proofs.lemmas.Bool.{cases_lt, and_parts, or_cases, leb-true, ltb-true, false_from_ne_true, cond-false}
 use Rattle.std.specs.List.{list_any}
@@ -64,5 +65,7 @@ after_cond true u x = refl
 after_cond false u x = refl
 
 -- and the draw for it, if it took one
-pub drawn_more : (file : Stored) (at x y z : ℕ) → y ≡ after (unsynced_before file at) x → z ≡ cond (is_unsynced file at) (next y) y → z ≡ after (unsynced_before file (at + 1)) x
-drawn_more file at x y z is here = rw (add-one) (here ∙ ap (λ (n : ℕ). cond (is_unsynced file at) (next n) n) is ∙ after_cond (is_unsynced file at) (unsynced_before file at) x)
+pub drawn_more : (file : Stored) (at x y z : ℕ) → y ≡ after (unsynced_before file at) x → z ≡ cond (is_unsynced file at) (next y) y →
+    z ≡ after (unsynced_before file (at + 1)) x
+drawn_more file at x y z is here = rw (add-one) (here ∙ ap (λ (n : ℕ). cond (is_unsynced file at) (next n) n) is
+    ∙ after_cond (is_unsynced file at) (unsynced_before file at) x)

@@ -1,5 +1,6 @@
 -- A part that was answered.
-use Rattle.std.proofs.Common.{◌≡◌, ◌+◌, ◌-◌, ◌==◌, ◌||◌, ℕ, Bool, true, false, List, [], ◌∷◌, ◌++◌, length, Option, Some, None, refl, sym, ◌∙◌, ap, subst, arith, length-append}
+use Rattle.std.proofs.Common.{◌≡◌, ◌+◌, ◌-◌, ◌==◌, ◌||◌, ℕ, Bool, true, false, List, [], ◌∷◌, ◌++◌, length, Option, Some, None, refl, sym}
+use Rattle.std.proofs.Common.{◌∙◌, ap, subst, arith, length-append}
 use Rattle.std.proofs.Math.Logic.{∥∥₁_elim}
 use Rattle.std.proofs.lemmas.List.{append_assoc}
 use Rattle.imap_model.specs.Lines.{AreLines}
@@ -31,7 +32,8 @@ known h f = ∥∥₁_elim h (hlevel) (λ a. ∣ f a ∣₁)
 abbrev pub quiet : State → State
 quiet s = record s { begun = [] }
 
-after_seen : (a : Answered) (s t : State) (rest : List ℕ) (parts : List (List ℕ)) → quiet s ≡ quiet t → quiet (after_as (record s { begun = rest }) parts a) ≡ quiet (after_as t parts a)
+after_seen : (a : Answered) (s t : State) (rest : List ℕ) (parts : List (List ℕ)) → quiet s ≡ quiet t →
+    quiet (after_as (record s { begun = rest }) parts a) ≡ quiet (after_as t parts a)
 after_seen (answers.Carried tag command) s t rest parts is = ap (λ (x : State). record (after_turn x (turn_at x tag command)) { parts = []; begun = [] }) is
 after_seen (answers.Asked tag) s t rest parts is = ap (λ (x : State). record x { parts = parts }) is
 after_seen (answers.Refused tag) s t rest parts is = ap (λ (x : State). record x { parts = [] }) is
@@ -74,13 +76,15 @@ come_told (answers.Asked tag) parts p = refl
 come_told (answers.Refused tag) parts p = refl
 come_told (answers.Bad tag) parts p = refl
 
-answer_server : (a : Answered) (s : State) (parts : List (List ℕ)) (p : Peer) → p.server ≡ s.server → (answers_as s parts a (comes_as parts a p)).server ≡ (after_as s parts a).server
+answer_server : (a : Answered) (s : State) (parts : List (List ℕ)) (p : Peer) → p.server ≡ s.server →
+    (answers_as s parts a (comes_as parts a p)).server ≡ (after_as s parts a).server
 answer_server (answers.Carried tag command) s parts p is = refl
 answer_server (answers.Asked tag) s parts p is = is
 answer_server (answers.Refused tag) s parts p is = is
 answer_server (answers.Bad tag) s parts p is = is
 
-answer_selected : (a : Answered) (s : State) (parts : List (List ℕ)) (p : Peer) → p.talk.selected ≡ s.selected → (answers_as s parts a (comes_as parts a p)).talk.selected ≡ (after_as s parts a).selected
+answer_selected : (a : Answered) (s : State) (parts : List (List ℕ)) (p : Peer) → p.talk.selected ≡ s.selected →
+    (answers_as s parts a (comes_as parts a p)).talk.selected ≡ (after_as s parts a).selected
 answer_selected (answers.Carried tag command) s parts p is = refl
 answer_selected (answers.Asked tag) s parts p is = is
 answer_selected (answers.Refused tag) s parts p is = is
@@ -106,16 +110,27 @@ answer_comes (answers.Bad tag) s before part p = refl
 none_waits : (held : Option Held) (s : State) → None ≡ held → waiting_of s held ≡ None
 none_waits held s is = sym (ap (waiting_of s) is)
 
-module _ (files : Both) (server : State) (held : Option Held) (parts : List (List ℕ)) (unfinished : ℕ) (lines : List ℕ) (received : ℕ) (r : Run) (h : Stands files server phases.Hearing held parts unfinished lines received r) where
+module _ (files : Both) (server : State) (held : Option Held) (parts : List (List ℕ)) (unfinished : ℕ) (lines : List ℕ) (received : ℕ)
+    (r : Run) (h : Stands files server phases.Hearing held parts unfinished lines received r) where
   pub heard_stands : (answer : Answer) (u : State) (parts' : List (List ℕ)) (unfinished' : ℕ) (lines' : List ℕ) → IsAnswer server answer u
       → parts' ≡ kept_as answer.answered (parts ++ answer.part ∷ []) → unfinished' + length answer.part ≡ unfinished → lines' ≡ lines ++ answer.lines.items
       → Stands files u phases.Hearing held parts' unfinished' lines' received (step (did.Heard answer.part answer.answered) r)
   heard_stands answer u parts' unfinished' lines' is kept less more = record {
     files_are = h.files_are;
-    server_is = ap quiet is.after ∙ after_seen a server r.state is.rest (server.parts ++ answer.part ∷ []) h.server_is ∙ ap (λ (x : List (List ℕ)). quiet (after_as r.state (x ++ answer.part ∷ []) a)) same_parts;
+    server_is = ap quiet is.after ∙ after_seen a server r.state is.rest (server.parts ++ answer.part ∷ []) h.server_is
+        ∙ ap (λ (x : List (List ℕ)). quiet (after_as r.state (x ++ answer.part ∷ []) a)) same_parts;
     held_is = h.held_is;
-    parts_are = kept ∙ ap (λ (x : List (List ℕ)). kept_as a (x ++ answer.part ∷ [])) h.parts_are ∙ sym (after_parts a r.state (r.state.parts ++ answer.part ∷ []));
-    counted = omega (arith, ap (λ (x : State). length x.begun) is.after, ap length (after_begun a (record server { begun = is.rest }) (server.parts ++ answer.part ∷ [])), h.counted, ap length is.cut, length-append answer.part is.rest, less);
+    parts_are = kept ∙ ap (λ (x : List (List ℕ)). kept_as a (x ++ answer.part ∷ [])) h.parts_are
+        ∙ sym (after_parts a r.state (r.state.parts ++ answer.part ∷ []));
+    counted = omega (
+      arith,
+      ap (λ (x : State). length x.begun) is.after,
+      ap length (after_begun a (record server { begun = is.rest }) (server.parts ++ answer.part ∷ [])),
+      h.counted,
+      ap length is.cut,
+      length-append answer.part is.rest,
+      less,
+    );
     rested = refl;
     told = known h.told (λ (so_far : AreLines told lines). all so_far);
     whole = ∣ tt ∣₁;
@@ -143,13 +158,17 @@ module _ (files : Both) (server : State) (held : Option Held) (parts : List (Lis
       same_parts = ap (λ (x : State). x.parts) h.server_is
 
       grown : (answers_as r.state now a (comes_as now a p)).talk.told ≡ told ++ told_as server a
-      grown = answer_told a r.state now (comes_as now a p) ∙ ap (λ (x : List Response). x ++ told_as r.state a) (come_told a now p) ∙ ap (λ (x : List Response). told ++ x) (sym (told_seen a server r.state h.server_is))
+      grown = answer_told a r.state now (comes_as now a p) ∙ ap (λ (x : List Response). x ++ told_as r.state a) (come_told a now p)
+          ∙ ap (λ (x : List Response). told ++ x) (sym (told_seen a server r.state h.server_is))
 
       all : AreLines told lines → AreLines (answers_as r.state now a (comes_as now a p)).talk.told lines'
-      all so_far = subst (λ (x : List Response). AreLines x lines') (sym grown) (subst (AreLines (told ++ told_as server a)) (sym more) (lines_then told (told_as server a) lines answer.lines.items so_far is.lines))
+      all so_far = subst (λ (x : List Response). AreLines x lines') (sym grown)
+          (subst (AreLines (told ++ told_as server a)) (sym more) (lines_then told
+          (told_as server a) lines answer.lines.items so_far is.lines))
 
   -- memory was wanting for what it told
-  pub heard_lost : (answer : Answer) (u : State) (parts' : List (List ℕ)) (unfinished' : ℕ) (lines' : List ℕ) → IsAnswer server answer u → unfinished' + length answer.part ≡ unfinished
+  pub heard_lost : (answer : Answer) (u : State) (parts' : List (List ℕ)) (unfinished' : ℕ) (lines' : List ℕ) → IsAnswer server answer u →
+      unfinished' + length answer.part ≡ unfinished
       → Stands files u phases.Off held parts' unfinished' lines' 0 (step (did.Heard answer.part answer.answered) r)
   heard_lost answer u parts' unfinished' lines' is less =
       let whole = heard_stands answer u (kept_as answer.answered (parts ++ answer.part ∷ [])) unfinished' (lines ++ answer.lines.items) is refl less refl in
@@ -171,17 +190,23 @@ module _ (files : Both) (server : State) (held : Option Held) (parts : List (Lis
       }
 
 -- what is left behind a part
-pub left_behind : (server : State) (answer : Answer) (u : State) (unfinished : ℕ) (part : List ℕ) → IsAnswer server answer u → length server.begun ≡ unfinished → part ≡ answer.part → (unfinished - length part) + length answer.part ≡ unfinished
+pub left_behind : (server : State) (answer : Answer) (u : State) (unfinished : ℕ) (part : List ℕ) → IsAnswer server answer u →
+    length server.begun ≡ unfinished → part ≡ answer.part → (unfinished - length part) + length answer.part ≡ unfinished
 left_behind server answer u unfinished part is counted same = omega (arith, counted, ap length is.cut, length-append answer.part is.rest, ap length same)
 
-pub same_stands : (files : Both) (server server' : State) (phase : Phase) (held : Option Held) (parts : List (List ℕ)) (unfinished : ℕ) (lines : List ℕ) (received : ℕ) (r r' : Run)
-    → Stands files server phase held parts unfinished lines received r → server' ≡ server → r' ≡ r → Stands files server' phase held parts unfinished lines received r'
+pub same_stands : (files : Both) (server server' : State) (phase : Phase) (held : Option Held) (parts : List (List ℕ)) (unfinished : ℕ)
+    (lines : List ℕ) (received : ℕ) (r r' : Run)
+    → Stands files server phase held parts unfinished lines received r → server' ≡ server → r' ≡ r →
+    Stands files server' phase held parts unfinished lines received r'
 same_stands files server server' phase held parts unfinished lines received r r' h is run =
-    subst (λ (x : Run). Stands files server' phase held parts unfinished lines received x) (sym run) (subst (λ (x : State). Stands files x phase held parts unfinished lines received r) (sym is) h)
+    subst (λ (x : Run). Stands files server' phase held parts unfinished lines received x) (sym run)
+    (subst (λ (x : State). Stands files x phase held parts unfinished lines received r) (sym is) h)
 
-pub phase_stands : (files : Both) (server : State) (phase phase' : Phase) (held : Option Held) (parts : List (List ℕ)) (unfinished : ℕ) (lines : List ℕ) (received : ℕ) (r : Run)
+pub phase_stands : (files : Both) (server : State) (phase phase' : Phase) (held : Option Held) (parts : List (List ℕ)) (unfinished : ℕ)
+    (lines : List ℕ) (received : ℕ) (r : Run)
     → Stands files server phase held parts unfinished lines received r → phase ≡ phase' → Stands files server phase' held parts unfinished lines received r
-phase_stands files server phase phase' held parts unfinished lines received r h is = subst (λ (x : Phase). Stands files server x held parts unfinished lines received r) is h
+phase_stands files server phase phase' held parts unfinished lines received r h is =
+    subst (λ (x : Phase). Stands files server x held parts unfinished lines received r) is h
 
 or_true : (b : Bool) → (b || true) ≡ true
 or_true true = refl
@@ -189,7 +214,8 @@ or_true false = refl
 
 -- bytes that aren't a whole part stay
 pub began_stands : (files : Both) (server : State) (held : Option Held) (parts : List (List ℕ)) (unfinished : ℕ) (lines : List ℕ) (received : ℕ) (r : Run)
-    → Stands files server phases.Hearing held parts unfinished lines received r → Stands files server phases.On held parts unfinished lines received (step did.Began r)
+    → Stands files server phases.Hearing held parts unfinished lines received r →
+    Stands files server phases.On held parts unfinished lines received (step did.Began r)
 began_stands files server held parts unfinished lines received r h = record {
   files_are = h.files_are;
   server_is = h.server_is;

@@ -1,13 +1,14 @@
 mod Drawing
-mod PuttingIn
 mod Tearing
 pub mod Answering
+pub mod Changing
 pub mod Doing
 pub mod Faults
 pub mod Hearing
 pub mod Lines
 pub mod Numbering
 pub mod OnePart
+pub mod Parts
 pub mod Restarting
 pub mod Settling
 pub mod Sending

@@ -1,5 +1,6 @@
 -- The moments of a world in memory, counted, and that the files at each are its own.
-use Rattle.std.proofs.Common.{◌≡◌, ⊎_elim, ℕ, ◌+◌, ◌-◌, ◌<◌, ◌≤◌, ltb, List, [], ◌∷◌, ◌++◌, length, get_or, drop, reverse, slice_get, Some, sum_by, refl, sym, ◌∙◌, ap, arith}
+use Rattle.std.proofs.Common.{◌≡◌, ⊎_elim, ℕ, ◌+◌, ◌-◌, ◌<◌, ◌≤◌, ltb, List, [], ◌∷◌, ◌++◌, length, get_or, drop, reverse, slice_get}
+use Rattle.std.proofs.Common.{Some, sum_by, refl, sym, ◌∙◌, ap, arith}
 use Rattle.std.proofs.lemmas.Bool.{cases_lt, cond-true, cond-false, lt-ltb, le-ltb}
 use Rattle.std.proofs.lemmas.List.{reverse-append, length-reverse, get_or_append_left, get_or_at, drop_more}
 use Rattle.std.proofs.lemmas.List.Sums.{sum_by-cons}
@@ -68,7 +69,8 @@ early (d ∷ log) s m i le = early log (step d s) m i (omega (arith, past_more d
 abbrev Before : Did → Run → Moment → ℕ → ℕ → Type 0
 Before d s m i k = i ≡ length s.clock.past + k → k < added_by d → torn_at (get_or (moments (step d s).clock) i m) s.seen ≡ torn_at s.clock.now s.seen
 
-by_one : (d : Did) (s : Run) (m x : Moment) (i k : ℕ) → (step d s).clock ≡ tick s.clock x → i ≡ length s.clock.past + k → k < 1 → torn_at (get_or (moments (step d s).clock) i m) s.seen ≡ torn_at s.clock.now s.seen
+by_one : (d : Did) (s : Run) (m x : Moment) (i k : ℕ) → (step d s).clock ≡ tick s.clock x → i ≡ length s.clock.past + k → k < 1 →
+    torn_at (get_or (moments (step d s).clock) i m) s.seen ≡ torn_at s.clock.now s.seen
 by_one d s m x i k one is lt =
     ap (λ (c : Clock). torn_at (get_or (moments c) i m) s.seen) one
     ∙ ap (λ (n : Moment). torn_at n s.seen) (one_tick s.clock x m i (omega arith))
@@ -118,16 +120,19 @@ finds (d ∷ log) s m i k is lt =
     (cases_lt k (added_by d))
 
 -- the files at a moment by its number, where what was done is all that was done
-pub files_there : (log : List Did) (s : Run) (m : Moment) (k : ℕ) → s.clock.past ≡ [] → slice_get (moments (run log s).clock) k ≡ Some m → (seen : Files) × (files_at log s k ≡ torn_at m seen)
+pub files_there : (log : List Did) (s : Run) (m : Moment) (k : ℕ) → s.clock.past ≡ [] → slice_get (moments (run log s).clock) k ≡ Some m →
+    (seen : Files) × (files_at log s k ≡ torn_at m seen)
 files_there log s m k first is =
     let all = moments (run log s).clock in
     let found = finds log s m k k (omega (arith, ap (λ (l : List Moment). length l) first)) (slice_get_within all k m is) in
     (found.0, found.1 ∙ ap (λ (n : Moment). torn_at n found.0) (get_or_from_slice_get all k m m is))
 
 -- one thing on
-pub files_on : (log : List Did) (i : ℕ) (d : Did) (s : Run) (k n : ℕ) (x : Both) → i < length log → d ≡ get_or log i d → n ≡ added_by d → n ≤ k → files_at (drop i log) s k ≡ x → files_at (drop (i + 1) log) (step d s) (k - n) ≡ x
+pub files_on : (log : List Did) (i : ℕ) (d : Did) (s : Run) (k n : ℕ) (x : Both) → i < length log → d ≡ get_or log i d → n ≡ added_by d →
+    n ≤ k → files_at (drop i log) s k ≡ x → files_at (drop (i + 1) log) (step d s) (k - n) ≡ x
 files_on log i d s k n x lt at is le same =
     ap (λ (a : ℕ). files_at (drop (i + 1) log) (step d s) (k - a)) is
-    ∙ sym (cond-false (ltb k (added_by d)) (torn_at s.clock.now s.seen) (files_at (drop (i + 1) log) (step d s) (k - added_by d)) (le-ltb k (added_by d) (omega arith)))
+    ∙ sym (cond-false (ltb k (added_by d)) (torn_at s.clock.now s.seen) (files_at (drop (i + 1) log) (step d s) (k - added_by d))
+    (le-ltb k (added_by d) (omega arith)))
     ∙ sym (ap (λ (l : List Did). files_at l s k) (drop_more log i d lt ∙ ap (λ (e : Did). e ∷ drop (i + 1) log) (sym at)))
     ∙ same

@@ -49,24 +49,34 @@ none_less part m n one two less =
 same_due : (before : List (List ℕ)) (m n : ℕ) → IsDue before m → IsDue before n → m ≡ n
 same_due [] m n one two = one ∙ sym two
 same_due (part ∷ []) m n one two =
-    ⊎_elim (λ less. absurd (none_less part m n one two less)) (λ more. ⊎_elim (λ less. absurd (none_less part n m two one less)) (λ least. omega (arith, more, least)) (cases_lt n m)) (cases_lt m n)
+    ⊎_elim (λ less. absurd (none_less part m n one two less)) (λ more. ⊎_elim (λ less. absurd (none_less part n m two one less))
+    (λ least. omega (arith, more, least)) (cases_lt n m)) (cases_lt m n)
 same_due (part ∷ next ∷ before) m n one two = same_due (next ∷ before) m n one two
 
 -- the bytes behind a part, by its octets and its line
 opened : (octets line rest : List ℕ) → (octets ++ line ++ crlf) ++ rest ≡ octets ++ (line ++ 13 ∷ 10 ∷ rest)
 opened octets line rest = append_assoc (octets ++ line) crlf rest ∙ append_assoc octets line (13 ∷ 10 ∷ rest)
 
-pub one_part : (before : List (List ℕ)) (part other rest later : List ℕ) → IsPart before part → IsPart before other → part ++ rest ≡ other ++ later → (part ≡ other) × (rest ≡ later)
+pub one_part : (before : List (List ℕ)) (part other rest later : List ℕ) → IsPart before part → IsPart before other →
+    part ++ rest ≡ other ++ later → (part ≡ other) × (rest ≡ later)
 one_part before part other rest later p q is =
     let whole : p.octets ++ (p.line ++ 13 ∷ 10 ∷ rest) ≡ q.octets ++ (q.line ++ 13 ∷ 10 ∷ later) =
-    sym (opened p.octets p.line rest) ∙ ap (λ (t : List ℕ). t ++ rest) (sym p.text) ∙ is ∙ ap (λ (t : List ℕ). t ++ later) q.text ∙ opened q.octets q.line later in
-    let fronts = same_front p.octets q.octets (p.line ++ 13 ∷ 10 ∷ rest) (q.line ++ 13 ∷ 10 ∷ later) (same_due before (length p.octets) (length q.octets) p.due q.due) whole in
+    sym (opened p.octets p.line rest) ∙ ap (λ (t : List ℕ). t ++ rest) (sym p.text) ∙ is ∙ ap (λ (t : List ℕ). t ++ later) q.text
+    ∙ opened q.octets q.line later in
+    let fronts = same_front p.octets q.octets (p.line ++ 13 ∷ 10 ∷ rest) (q.line ++ 13 ∷ 10 ∷ later)
+    (same_due before (length p.octets) (length q.octets) p.due q.due) whole in
     let lines = same_line p.line q.line rest later p.plain q.plain fronts.1 in
     (p.text ∙ ap (λ (t : List ℕ). t ++ p.line ++ crlf) fronts.0 ∙ ap (λ (t : List ℕ). q.octets ++ t ++ crlf) lines.0 ∙ sym q.text, lines.1)
 
 -- no part is empty
 pub some_part : (before : List (List ℕ)) (part rest : List ℕ) → IsPart before part → part ++ rest ≡ [] → ⊥
-some_part before part rest p is = omega (arith, ap length is, ap length (ap (λ (t : List ℕ). t ++ rest) p.text ∙ opened p.octets p.line rest), length_of p.octets (p.line ++ 13 ∷ 10 ∷ rest), length_of p.line (13 ∷ 10 ∷ rest))
+some_part before part rest p is = omega (
+  arith,
+  ap length is,
+  ap length (ap (λ (t : List ℕ). t ++ rest) p.text ∙ opened p.octets p.line rest),
+  length_of p.octets (p.line ++ 13 ∷ 10 ∷ rest),
+  length_of p.line (13 ∷ 10 ∷ rest),
+)
   where
     length_of : (a b : List ℕ) → length b ≤ length (a ++ b)
     length_of [] b = omega arith

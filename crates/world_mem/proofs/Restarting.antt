@@ -19,7 +19,8 @@ none_in phases.On held other not_waiting is = is
 none_in phases.Hearing held other not_waiting is = is
 none_in phases.Waiting held other not_waiting is = absurd (not_waiting refl)
 
-module _ (given : Files) (files : Both) (server : State) (phase : Phase) (held : Option Held) (parts : List (List ℕ)) (unfinished : ℕ) (lines : List ℕ) (received : ℕ) (r : Run) (h : Stands files server phase held parts unfinished lines received r) where
+module _ (given : Files) (files : Both) (server : State) (phase : Phase) (held : Option Held) (parts : List (List ℕ)) (unfinished : ℕ)
+    (lines : List ℕ) (received : ℕ) (r : Run) (h : Stands files server phase held parts unfinished lines received r) where
   -- a command waits
   module _ (waits : phase ≡ phases.Waiting) where
     now : Stands files server phases.Waiting held parts unfinished lines received r
@@ -30,7 +31,8 @@ module _ (given : Files) (files : Both) (server : State) (phase : Phase) (held :
 
     kept : (x : Option Held) → ∥ IsComplete x r.state.parts ∥₁ → server ≡ left_of x r.state
     kept None whole = absurd (∥∥₁_elim whole (hlevel) (λ nothing. nothing))
-    kept (Some x) whole = ap (λ (b : List ℕ). record server { begun = b }) (waiting_whole files server phase held parts unfinished lines received r h waits) ∙ now.server_is
+    kept (Some x) whole = ap (λ (b : List ℕ). record server { begun = b })
+        (waiting_whole files server phase held parts unfinished lines received r h waits) ∙ now.server_is
 
     pub waits_on : start given server held ≡ goes_on_from given r
     waits_on =

@@ -65,10 +65,12 @@ pub sent_written : (tag : Tag) (c : Command) → IsSent tag c → IsWritten tag 
 sent_written tag c sent = record { writable = sent.writable; kept_tag = sent.tag_fits; kept = held_kept c sent.held }
 
 -- parts are the whole text of one command
-pub one_whole : (one other : Tag) (left right : Command) (parts : List (List ℕ)) → IsWhole one left parts → IsWhole other right parts → (one ≡ other) × (left ≡ right)
+pub one_whole : (one other : Tag) (left right : Command) (parts : List (List ℕ)) → IsWhole one left parts → IsWhole other right parts →
+    (one ≡ other) × (left ≡ right)
 one_whole one other left right parts a b = one_text one other left right (sent_written one left a.sent) (sent_written other right b.sent) (a.text ∙ sym b.text)
 
-module _ (files : Both) (server : State) (phase : Phase) (held : Option Held) (parts : List (List ℕ)) (unfinished : ℕ) (lines : List ℕ) (received : ℕ) (r : Run) (h : Stands files server phase held parts unfinished lines received r) where
+module _ (files : Both) (server : State) (phase : Phase) (held : Option Held) (parts : List (List ℕ)) (unfinished : ℕ) (lines : List ℕ)
+    (received : ℕ) (r : Run) (h : Stands files server phase held parts unfinished lines received r) where
   -- it is dropped
   pub dropped_stands : (u : State) → disconnected u ≡ disconnected server → Stands files u phases.Off held parts unfinished lines received (step did.Greeted r)
   dropped_stands u is = record {
@@ -109,12 +111,16 @@ module _ (files : Both) (server : State) (phase : Phase) (held : Option Held) (p
         let t = turn_at r.state x.tag x.command in
         let w : Waiting = record { selected = r.state.selected; tag = x.tag; command = x.command } in
         let same : server.server ≡ r.state.server = server_same phases.Waiting server r.state now.server_is in
-        let lawful : CarriesOut w r.state.server t.replies t.server t.selected = plain_case x.tag r.state.server (subst (λ (s : Server). IsWellFormed s.boxes) same well) r.state.choices r.state.selected x.command in
+        let lawful : CarriesOut w r.state.server t.replies t.server t.selected =
+        plain_case x.tag r.state.server (subst (λ
+        (s : Server). IsWellFormed s.boxes) same well) r.state.choices r.state.selected x.command in
         subst (λ (o : Option Held). Linked Connecting r.clock (carried_out o r).clock) (sym held_now)
         (one_step Connecting (answers_as r.state [] (answers.Carried x.tag x.command)) r.clock
-        (as_before (carries w t.replies t.server t.selected (now.waits ∙ ap (waiting_of r.state) held_now) (subst (λ (s : Server). CarriesOut w s t.replies t.server t.selected) (sym now.server_fits) lawful))))
+        (as_before (carries w t.replies t.server t.selected (now.waits ∙ ap (waiting_of r.state) held_now)
+        (subst (λ (s : Server). CarriesOut w s t.replies t.server t.selected) (sym now.server_fits) lawful))))
 
-    pub settled_stands : TextsAreCut → (u : State) → CarriesOne (with_bytes x.part server) u → Stands files u phases.Off held parts unfinished lines received (step did.Settled r)
+    pub settled_stands : TextsAreCut → (u : State) → CarriesOne (with_bytes x.part server) u →
+        Stands files u phases.Off held parts unfinished lines received (step did.Settled r)
     settled_stands cut u one =
         subst (λ (o : Option Held). Stands files u phases.Off held parts unfinished lines received (carried_out o r)) (sym held_now)
         (record {
@@ -138,15 +144,19 @@ module _ (files : Both) (server : State) (phase : Phase) (held : Option Held) (p
         same_parts = ap (λ (s : State). s.parts) now.server_is
 
         complete : ∥ IsWhole x.tag x.command (server.parts ++ x.part ∷ []) ∥₁
-        complete = subst (λ (p : List (List ℕ)). ∥ IsWhole x.tag x.command (p ++ x.part ∷ []) ∥₁) (sym same_parts) (subst (λ (o : Option Held). ∥ IsComplete o r.state.parts ∥₁) is now.whole)
+        complete = subst (λ (p : List (List ℕ)). ∥ IsWhole x.tag x.command (p ++ x.part ∷ []) ∥₁) (sym same_parts)
+            (subst (λ (o : Option Held). ∥ IsComplete o r.state.parts ∥₁) is now.whole)
 
         here : IsWhole x.tag x.command (server.parts ++ x.part ∷ []) → (one.tag ≡ x.tag) × (one.command ≡ x.command)
         here whole =
             let empty = waiting_whole files server phase held parts unfinished lines received r h waits in
             let bytes : x.part ++ [] ≡ one.answer.part ++ one.is.rest = append-nil x.part ∙ ap (λ (b : List ℕ). b ++ x.part) (sym empty) ∙ one.is.cut in
-            let part = one_part server.parts x.part one.answer.part [] one.is.rest (cut x.tag x.command server.parts x.part [] whole.sent whole.text) one.is.part bytes in
-            let may : IsWhole one.tag one.command (server.parts ++ one.answer.part ∷ []) = subst (IsAnswered (with_bytes x.part server) (server.parts ++ one.answer.part ∷ [])) one.carried one.is.may in
-            one_whole one.tag x.tag one.command x.command (server.parts ++ x.part ∷ []) (subst (λ (p : List ℕ). IsWhole one.tag one.command (server.parts ++ p ∷ [])) (sym part.0) may) whole
+            let part = one_part server.parts x.part one.answer.part [] one.is.rest
+            (cut x.tag x.command server.parts x.part [] whole.sent whole.text) one.is.part bytes in
+            let may : IsWhole one.tag one.command (server.parts ++ one.answer.part ∷ []) =
+            subst (IsAnswered (with_bytes x.part server) (server.parts ++ one.answer.part ∷ [])) one.carried one.is.may in
+            one_whole one.tag x.tag one.command x.command (server.parts ++ x.part ∷ [])
+            (subst (λ (p : List ℕ). IsWhole one.tag one.command (server.parts ++ p ∷ [])) (sym part.0) may) whole
 
         same : (one.tag ≡ x.tag) × (one.command ≡ x.command)
         same = ∥∥₁_elim complete (×_prop (Coded-set tag_row.coded one.tag x.tag) (Coded-set command_row.coded one.command x.command)) here
@@ -159,28 +169,35 @@ module _ (files : Both) (server : State) (phase : Phase) (held : Option Held) (p
 
         becomes : disconnected u ≡ disconnected (after_as r.state [] (answers.Carried x.tag x.command))
         becomes = ap disconnected one.is.after
-            ∙ ap (λ (a : Answered). disconnected (after_as (record (with_bytes x.part server) { begun = one.is.rest }) (server.parts ++ one.answer.part ∷ []) a)) answered
+            ∙ ap (λ (a : Answered). disconnected (after_as (record (with_bytes x.part server) { begun = one.is.rest })
+            (server.parts ++ one.answer.part ∷ []) a)) answered
             ∙ ap (after x.tag x.command) now.server_is
 
     -- it is carried out, where memory isn't wanting
     pub carries_it : TextsAreCut → NoTextIsAFront → CarriesNone (with_bytes x.part server) → ⊥
-    carries_it cut no_front none = ∥∥₁_elim (subst (λ (o : Option Held). ∥ IsComplete o r.state.parts ∥₁) is now.whole) (hlevel) (λ whole. here (subst (λ (p : List (List ℕ)). IsWhole x.tag x.command (p ++ x.part ∷ [])) (sym (ap (λ (s : State). s.parts) now.server_is)) whole) none)
+    carries_it cut no_front none = ∥∥₁_elim (subst (λ (o : Option Held). ∥ IsComplete o r.state.parts ∥₁) is now.whole) (hlevel)
+        (λ whole. here (subst (λ (p : List (List ℕ)). IsWhole x.tag x.command (p ++ x.part ∷ []))
+        (sym (ap (λ (s : State). s.parts) now.server_is)) whole) none)
       where
         empty : server.begun ≡ []
         empty = waiting_whole files server phase held parts unfinished lines received r h waits
 
-        no_other : (a : Answered) → IsWhole x.tag x.command (server.parts ++ x.part ∷ []) → IsAnswered (with_bytes x.part server) (server.parts ++ x.part ∷ []) a → is_carried a ≡ false → ⊥
+        no_other : (a : Answered) → IsWhole x.tag x.command (server.parts ++ x.part ∷ []) →
+            IsAnswered (with_bytes x.part server) (server.parts ++ x.part ∷ []) a → is_carried a ≡ false → ⊥
         no_other (answers.Carried tag command) whole may other = absurd (cc other)
         no_other (answers.Asked tag) whole may other = no_front x.tag tag x.command may.0 (server.parts ++ x.part ∷ []) whole may.1
         no_other (answers.Refused tag) whole may other = no_front x.tag tag x.command may.0 (server.parts ++ x.part ∷ []) whole may.2
         no_other (answers.Bad tag) whole may other = may.0.whole x.tag x.command whole
 
         here : IsWhole x.tag x.command (server.parts ++ x.part ∷ []) → CarriesNone (with_bytes x.part server) → ⊥
-        here whole (inl none) = none x.part [] (cut x.tag x.command server.parts x.part [] whole.sent whole.text) (ap (λ (b : List ℕ). b ++ x.part) empty ∙ sym (append-nil x.part))
+        here whole (inl none) = none x.part [] (cut x.tag x.command server.parts x.part [] whole.sent whole.text)
+            (ap (λ (b : List ℕ). b ++ x.part) empty ∙ sym (append-nil x.part))
         here whole (inr one) =
             let bytes : x.part ++ [] ≡ one.answer.part ++ one.is.rest = append-nil x.part ∙ ap (λ (b : List ℕ). b ++ x.part) (sym empty) ∙ one.is.cut in
-            let part = one_part server.parts x.part one.answer.part [] one.is.rest (cut x.tag x.command server.parts x.part [] whole.sent whole.text) one.is.part bytes in
-            no_other one.answer.answered whole (subst (λ (p : List ℕ). IsAnswered (with_bytes x.part server) (server.parts ++ p ∷ []) one.answer.answered) (sym part.0) one.is.may) one.other
+            let part = one_part server.parts x.part one.answer.part [] one.is.rest
+            (cut x.tag x.command server.parts x.part [] whole.sent whole.text) one.is.part bytes in
+            no_other one.answer.answered whole (subst (λ (p : List ℕ). IsAnswered (with_bytes x.part server)
+            (server.parts ++ p ∷ []) one.answer.answered) (sym part.0) one.is.may) one.other
 
 -- which answers are of a command that was carried out
 pub carried_is : (a : Answered) → is_carried a ≡ true → (tag : Tag) × (command : Command) × (a ≡ answers.Carried tag command)
@@ -189,7 +206,8 @@ carried_is (answers.Asked tag) is = absurd (cc is)
 carried_is (answers.Refused tag) is = absurd (cc is)
 carried_is (answers.Bad tag) is = absurd (cc is)
 
-pub not_carried : (a : Answered) (s : State) (rest : List ℕ) (parts : List (List ℕ)) → is_carried a ≡ false → disconnected (after_as (record s { begun = rest }) parts a) ≡ disconnected s
+pub not_carried : (a : Answered) (s : State) (rest : List ℕ) (parts : List (List ℕ)) → is_carried a ≡ false →
+    disconnected (after_as (record s { begun = rest }) parts a) ≡ disconnected s
 not_carried (answers.Carried tag command) s rest parts is = absurd (cc is)
 not_carried (answers.Asked tag) s rest parts is = refl
 not_carried (answers.Refused tag) s rest parts is = refl

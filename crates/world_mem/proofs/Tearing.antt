@@ -28,17 +28,21 @@ module _ (synced : List ℕ) (later next : Option (Vec ℕ Global)) (written mor
   range = record { low = at; high = at + length bytes }
 
   -- a write takes the file on
-  pub write_is : content synced next ≡ put at bytes (content synced later) → more ≡ written ++ range ∷ [] → torn_file synced next more ≡ wrote at bytes (torn_file synced later written)
+  pub write_is : content synced next ≡ put at bytes (content synced later) → more ≡ written ++ range ∷ [] →
+      torn_file synced next more ≡ wrote at bytes (torn_file synced later written)
   write_is reads ranges =
       ap (λ (b : List ℕ). record { stored = record { synced = synced; written = reverse more }; reads = b }) reads
-      ∙ ap (λ (rs : List Range). record { stored = record { synced = synced; written = rs }; reads = put at bytes (content synced later) }) (ap (λ (rs : List Range). reverse rs) ranges ∙ newest written range)
+      ∙ ap (λ (rs : List Range). record { stored = record { synced = synced; written = rs }; reads = put at bytes (content synced later) })
+      (ap (λ (rs : List Range). reverse rs) ranges ∙ newest written range)
 
   -- and keeps that
-  pub write_whole : IsWhole (torn_file synced later written) → content synced next ≡ put at bytes (content synced later) → more ≡ written ++ range ∷ [] → IsWhole (torn_file synced next more)
+  pub write_whole : IsWhole (torn_file synced later written) → content synced next ≡ put at bytes (content synced later) →
+      more ≡ written ++ range ∷ [] → IsWhole (torn_file synced next more)
   write_whole h reads ranges = subst IsWhole (sym (write_is reads ranges)) (wrote_whole at bytes (torn_file synced later written) h)
 
 -- a place below the synced end is unsynced where one of the ranges has it, in whatever order they stand
-pub unsynced_by : (synced : List ℕ) (later : Option (Vec ℕ Global)) (written : List Range) (k : ℕ) (r : Bool) → k < length synced → r ≡ list_any (covers k) written → r ≡ is_unsynced (torn_file synced later written).stored k
+pub unsynced_by : (synced : List ℕ) (later : Option (Vec ℕ Global)) (written : List Range) (k : ℕ) (r : Bool) → k < length synced →
+    r ≡ list_any (covers k) written → r ≡ is_unsynced (torn_file synced later written).stored k
 unsynced_by synced later written k r lt is =
     is
     ∙ list_any-IsPermutation (covers k) written (reverse written) (IsPermutation-reverse written)

@@ -1,5 +1,5 @@
 -- One part is answered, of what has come.
-use Rattle.std.specs.Prelude.{◌≡◌, ◌⊎◌, ℕ, Bool, true, false, List, [], ◌∷◌, ◌++◌, Result, OnOk, OnErr}
+use Rattle.std.specs.Prelude.{◌≡◌, ◌⊎◌, ℕ, Bool, true, false, List, [], ◌∷◌, ◌++◌, take, Result, OnOk, OnErr}
 use Rattle.imap_model.specs.declared.command.Command.{Command}
 use Rattle.mail_base.specs.declared.tag.Tag.{Tag}
 use Rattle.server_mem.specs.declared.outcome.Answered.{Answered}
@@ -7,6 +7,7 @@ use Rattle.server_mem.specs.declared.outcome.Answered.TheVariants as answers
 use Rattle.imap_model.specs.WellFormed.{IsWellFormed}
 use Rattle.server_mem.specs.Answered.{IsAnswer, IsAnswered}
 use Rattle.command_texts.specs.Cutting.{NoPart}
+use Rattle.server_mem.specs.Hearing.{with_bytes}
 use Rattle.server_mem.specs.States.{State}
 use Rattle.server_mem.specs.declared.outcome.Answer.{Answer}
 use Rattle.world_mem.specs.Running.{Run, step}
@@ -52,3 +53,30 @@ pub record CarriesOne (server server' : State) : Type 0 where
   pub command : Command
   pub is : IsAnswer server answer server'
   pub carried : answer.answered ≡ answers.Carried tag command
+
+-- whole parts at the front of what has come are answered one by one
+pub data HearsParts (s : State) (r : Run) : State → Run → Type 0 where
+  stops : HearsParts s r s r
+  hears : {t u : State} {q v : Run} → HearsParts s r t q → HearsOne t q u v → HearsParts s r u v
+
+-- all of them, so that no whole part is left
+pub record HearsAll (s : State) (old : Run) (u : State) (new : Run) : Type 0 where
+  pub parts : HearsParts s old u new
+  pub rest : NoPart u.parts u.begun
+
+-- bytes that aren't a whole part are remembered
+abbrev pub left_over : List ℕ → Run → Run
+left_over [] r = r
+left_over (byte ∷ bytes) r = step did.Began r
+
+-- these bytes come behind what came before
+pub record HearsBytes (bytes : List ℕ) (s : State) (old : Run) (u : State) (new : Run) : Type 0 where
+  pub mid : Run
+  pub all : HearsAll (with_bytes bytes s) old u mid
+  pub left : new ≡ left_over u.begun mid
+
+-- some front of these bytes comes, and some whole parts are answered
+pub record HearsSome (bytes : List ℕ) (s : State) (old new : Run) : Type 0 where
+  pub count : ℕ
+  pub after : State
+  pub parts : HearsParts (with_bytes (take count bytes) s) old after new

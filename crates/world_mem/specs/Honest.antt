@@ -17,14 +17,15 @@ front : (told : List Response) (lines : List ℕ) (received : ℕ) → AreLines 
 front told lines received are = record { rest = drop received lines; lines = subst (AreLines told) (sym (take-append-drop received lines)) are }
 
 -- where there is a connection, they are what was received
-received_in : (phase : Phase) (told : List Response) (sent lines : List ℕ) (received : ℕ) (c : Connection)
-    → connection_in (is_on phase) sent lines received ≡ Some c → ∥ TellsIn phase told lines ∥₁ → ∥ Received told c.received ∥₁
-received_in phases.Off told sent lines received c is tells = absurd (none-some c is)
-received_in phases.On told sent lines received c is tells =
-    subst (λ (x : Connection). ∥ Received told x.received ∥₁) (same_Some (record { sent = sent; received = take received lines }) c is) (∥∥₁_map tells (front told lines received))
-received_in phases.Hearing told sent lines received c is tells = absurd (none-some c is)
-received_in phases.Waiting told sent lines received c is tells = absurd (none-some c is)
+received_in : (phase : Phase) (told : List Response) (lines : List ℕ) (received : ℕ) (c : Connection)
+    → connection_in (is_on phase) lines received ≡ Some c → ∥ TellsIn phase told lines ∥₁ → ∥ Received told c.received ∥₁
+received_in phases.Off told lines received c is tells = absurd (none-some c is)
+received_in phases.On told lines received c is tells =
+    subst (λ (x : Connection). ∥ Received told x.received ∥₁) (same_Some (record { received = take received lines }) c is)
+    (∥∥₁_map tells (front told lines received))
+received_in phases.Hearing told lines received c is tells = absurd (none-some c is)
+received_in phases.Waiting told lines received c is tells = absurd (none-some c is)
 
 pub honest : (course : Course) (c : Connection) → connection_of course ≡ Some c → ∥ Received (run_of course).clock.now.outside.talk.told c.received ∥₁
 honest course c is =
-    received_in course.phase (run_of course).clock.now.outside.talk.told course.sent.items course.lines.items course.received c is course.stands.told
+    received_in course.phase (run_of course).clock.now.outside.talk.told course.lines.items course.received c is course.stands.told

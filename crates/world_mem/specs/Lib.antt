@@ -12,5 +12,6 @@ pub mod Restarting
 pub mod Numbered
 pub mod Others
 pub mod Heard
+pub mod Losing
 pub mod Worlds
 pub mod Honest

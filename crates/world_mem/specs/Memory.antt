@@ -1,5 +1,5 @@
 -- A world in memory as contracts see it.
-use Rattle.std.specs.Prelude.{ℕ, List, [], ◌++◌, Option, take, drop, if◌then◌else◌}
+use Rattle.std.specs.Prelude.{◌≡◌, ℕ, List, [], ◌++◌, Option, take, drop, if◌then◌else◌}
 use Rattle.world_traits.specs.LinkState.{Connection}
 use Rattle.world_mem.specs.Image.{bytes_of}
 use Rattle.world_mem.specs.Running.{Run, run, start}
@@ -26,16 +26,27 @@ abbrev pub line_of : Course → Line
 line_of course = record { phase = course.phase; sent = course.sent.items; lines = course.lines.items; received = course.received }
 
 -- what was sent, and what was received
-abbrev pub had_in : Line → Connection
+pub record Had : Type 0 where
+  pub sent : List ℕ
+  pub received : List ℕ
+
+abbrev pub had_in : Line → Had
 had_in l = record { sent = l.sent; received = take l.received l.lines }
 
 -- these bytes were sent besides
-abbrev pub sending : List ℕ → Connection → Connection
-sending bytes c = record c { sent = c.sent ++ bytes }
+abbrev pub sending : List ℕ → Had → Had
+sending bytes had = record had { sent = had.sent ++ bytes }
+
+-- some front of these bytes was sent besides
+abbrev pub SentSome : List ℕ → List ℕ → List ℕ → Type 0
+SentSome bytes old new = (n : ℕ) × (new ≡ old ++ take n bytes)
 
 -- the connection as a link tells it
 abbrev pub told_line : Line → Option Connection
-told_line l = connection_in (is_on l.phase) l.sent l.lines l.received
+told_line l = connection_in (is_on l.phase) l.lines l.received
+
+abbrev pub sent_of : Course → List ℕ
+sent_of course = course.sent.items
 
 abbrev pub connection_of : Course → Option Connection
 connection_of course = told_line (line_of course)

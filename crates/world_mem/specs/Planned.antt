@@ -1,5 +1,5 @@
 -- A plan of what befalls a world, and which calls it concerns.
-use Rattle.std.specs.Prelude.{◌⊎◌, ◌==◌, ◌<◌, ℕ, List, [], ◌∷◌, Option, Some, None, Contains, if◌then◌else◌}
+use Rattle.std.specs.Prelude.{◌⊎◌, ◌==◌, ◌<◌, ℕ, List, [], ◌∷◌, Option, Some, None, Contains, take, if◌then◌else◌}
 use Rattle.world_traits.specs.Counts.{counted}
 use Rattle.world_mem.specs.declared.plan.Loss.{Loss}
 use Rattle.world_mem.specs.declared.plan.Loss.TheVariants as losses
@@ -40,6 +40,13 @@ DiskIsToFail s = IsStopped s ⊎ Contains s.plan.disk_fails s.disk
 abbrev pub loss_in : List (ℕ × Loss) → ℕ → Option Loss
 loss_in [] call = None
 loss_in (l ∷ ls) call = if l.0 == call then Some l.1 else loss_in ls call
+
+-- what arrives of these bytes, where the connection is lost so
+abbrev pub arriving : Loss → List ℕ → List ℕ
+arriving losses.Nothing bytes = []
+arriving (losses.Part count) bytes = take count bytes
+arriving losses.All bytes = bytes
+arriving (losses.Waits carried) bytes = bytes
 
 -- by such a loss not all of so many bytes arrive
 abbrev pub IsShort : Loss → ℕ → Type 0

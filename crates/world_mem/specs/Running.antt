@@ -82,7 +82,8 @@ said_bad bad p = record p { talk = record p.talk { told = p.talk.told ++ bad ∷
 -- they are answered
 abbrev pub answers_as : State → List (List ℕ) → Answered → Peer → Peer
 answers_as s parts (answers.Carried tag command) p =
-    carried (record { selected = s.selected; tag = tag; command = command }) (turn_at s tag command).replies (turn_at s tag command).server (turn_at s tag command).selected p
+    carried (record { selected = s.selected; tag = tag; command = command }) (turn_at s tag command).replies (turn_at s tag command).server
+    (turn_at s tag command).selected p
 answers_as s parts (answers.Asked tag) p = went_on (fronted tag parts) p
 answers_as s parts (answers.Refused tag) p = refused (fronted tag parts) (denied codings.Other) p
 answers_as s parts (answers.Bad tag) p = said_bad (bad_of tag) p

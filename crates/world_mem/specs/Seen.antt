@@ -30,5 +30,6 @@ steps_seen : (ds : List Did) (s : Run) → IsSound s → IsSound (run ds s)
 steps_seen [] s h = h
 steps_seen (d ∷ ds) s h = steps_seen ds (step d s) (step_seen d s h)
 
-pub run_seen : (ds : List Did) (files : Files) (s : State) (held : Option Held) → MayLeave (run ds (start files s held)).clock.now (run ds (start files s held)).seen
+pub run_seen : (ds : List Did) (files : Files) (s : State) (held : Option Held) →
+    MayLeave (run ds (start files s held)).clock.now (run ds (start files s held)).seen
 run_seen ds files s held = steps_seen ds (start files s held) (record { left = holds_clean files.left; right = holds_clean files.right })

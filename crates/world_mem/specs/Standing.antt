@@ -61,10 +61,10 @@ TellsIn phases.On told lines = AreLines told lines
 TellsIn phases.Hearing told lines = AreLines told lines
 TellsIn phases.Waiting told lines = Unit {0}
 
--- the connection, with what was sent, and with so many bytes of the lines as received
-abbrev pub connection_in : Bool → List ℕ → List ℕ → ℕ → Option Connection
-connection_in false sent lines received = None
-connection_in true sent lines received = Some (record { sent = sent; received = take received lines })
+-- the connection, with so many bytes of the lines as received
+abbrev pub connection_in : Bool → List ℕ → ℕ → Option Connection
+connection_in false lines received = None
+connection_in true lines received = Some (record { received = take received lines })
 
 -- what is known of the text that is arriving: whether the next part was asked for, and the parts that came
 abbrev pub came : Option Arriving → Option (Bool × List (List ℕ))
@@ -115,7 +115,8 @@ kept_as (answers.Asked tag) parts = parts
 kept_as _ parts = []
 
 -- what the world holds is what was done
-pub record Stands (files : Both) (server : State) (phase : Phase) (held : Option Held) (parts : List (List ℕ)) (unfinished : ℕ) (lines : List ℕ) (received : ℕ) (r : Run) : Type 0 where
+pub record Stands (files : Both) (server : State) (phase : Phase) (held : Option Held) (parts : List (List ℕ)) (unfinished : ℕ)
+    (lines : List ℕ) (received : ℕ) (r : Run) : Type 0 where
   pub files_are : files ≡ torn_at r.clock.now r.seen
   pub server_is : seen_in phase server ≡ seen_in phase r.state
   pub held_is : held_in phase held ≡ r.held

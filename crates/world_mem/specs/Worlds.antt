@@ -1,11 +1,13 @@
 -- What contracts see of a world in memory.
 use Rattle.std.specs.Prelude.{◌≡◌, ◌⊎◌, ℕ, Some, Result, IsErr}
+use Rattle.server_mem.specs.States.{State}
 use Rattle.world_traits.specs.Counts.{CountsFailure}
 use Rattle.world_traits.specs.LinkState.{LinkState}
 use Rattle.world_traits.specs.Moments.{MayLeave}
 use Rattle.world_mem.specs.Image.{bytes_of}
-use Rattle.world_mem.specs.Memory.{run_of, connection_of}
+use Rattle.world_mem.specs.Memory.{run_of, connection_of, sent_of}
 use Rattle.world_mem.specs.Planned.{Planned, IsStopped, loss_in}
+use Rattle.world_mem.specs.Running.{Run}
 use Rattle.world_mem.specs.Seen.{run_seen}
 use Rattle.world_mem.specs.declared.course.Course.{Course}
 use Rattle.world_mem.specs.declared.mem_world.MemWorld.{MemWorld}
@@ -14,6 +16,14 @@ use Rattle.world_mem.specs.declared.plan.Loss.{Loss}
 -- what it holds, and what was done
 abbrev pub course_of : MemWorld → Course
 course_of world = world.course
+
+-- its server, as the connection has it
+abbrev pub server_of : MemWorld → State
+server_of world = world.course.server
+
+-- the same, with what others have made of its mailboxes since
+abbrev pub served_by : MemWorld → Run → State
+served_by world r = record (server_of world) { server = r.state.server }
 
 -- its plan, and how many calls there were
 abbrev pub planned_of : MemWorld → Planned
@@ -31,7 +41,7 @@ link_faults_of world = world.link_faults
 
 -- its link
 abbrev pub link_of : MemWorld → LinkState
-link_of world = record { faults = world.link_faults; connection = connection_of world.course }
+link_of world = record { faults = world.link_faults; connection = connection_of world.course; sent = sent_of world.course }
 
 -- A call fails for this reason, and else exactly where it was refused room.
 pub record FailsExactly {T E : Type 0} (reason : Type 0) (result : Result T E) (before after : ℕ) : Type 0 where

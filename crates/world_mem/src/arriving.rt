@@ -1,19 +1,21 @@
 //! What arrives at the server.
 
 ghost use Rattle.std.specs.Prelude.{◌≡◌, ◌≤◌, ◌++◌, ◌+◌, [], ◌∷◌, length, OnOk, OnErr, IfOk, true, false};
-ghost use Rattle.std.specs.Prelude.{◌<◌, ◌⊎◌, ℕ, List, Some, None, IfSome};
+ghost use Rattle.std.specs.Prelude.{◌<◌, ◌⊎◌, ℕ, List, Some, None, IfSome, IfNone, take};
 ghost use Rattle.imap_model.specs.Talking.{Answering, Connecting, Awaits, IsPartOf};
 ghost use Rattle.imap_model.specs.declared.command.Command.{Command};
 ghost use Rattle.mail_base.specs.declared.tag.Tag.{Tag};
 ghost use Rattle.command_texts.specs.Cutting.{IsPart, NoPart};
 ghost use Rattle.command_texts.specs.HeardParts.{IsWhole};
 ghost use Rattle.server_mem.specs.Hearing.{with_bytes};
-ghost use Rattle.server_mem.specs.States.{disconnected};
+ghost use Rattle.server_mem.specs.States.{State, disconnected};
 ghost use Rattle.world_traits.specs.Links.{Linked, AnyStep};
 ghost use Rattle.world_traits.specs.Sends.{Sent, Arrives};
-ghost use Rattle.world_mem.specs.Memory.{run_of, line_of, had_in, sending};
+ghost use Rattle.world_mem.specs.Memory.{run_of, line_of, had_in, sending, sent_of, SentSome};
 ghost use Rattle.world_mem.specs.Heard.{HearsOne, HearsOnly, CarriesOne, CarriesNone, is_carried};
-ghost use Rattle.world_mem.specs.Planned.{IsShort};
+ghost use Rattle.world_mem.specs.Heard.{HearsAll, HearsBytes, HearsParts, HearsSome, left_over};
+ghost use Rattle.world_mem.specs.Losing.{CompletesNone, HearsLast, Loses};
+ghost use Rattle.world_mem.specs.Planned.{IsShort, arriving};
 ghost use Rattle.world_mem.specs.Running.{step};
 ghost use Rattle.world_mem.specs.Standing.{kept_as, is_on};
 ghost use Rattle.world_mem.specs.declared.course.Phase.TheVariants as phases;
@@ -32,8 +34,10 @@ impl Course {
         requires { self.old.phase ≡ phases.On }
         ensures run { run_of self.new ≡ run_of self.old }
         ensures phase { OnOk result (self.new.phase ≡ phases.Hearing) }
+        ensures server { OnOk result (self.new.server ≡ with_bytes bytes.now self.old.server) }
         ensures begun { OnOk result (self.new.server.begun ≡ self.old.server.begun ++ bytes.now) }
-        ensures sent { OnOk result (self.new.sent.items ≡ self.old.sent.items ++ bytes.now) }
+        ensures sent { OnOk result (sent_of self.new ≡ sent_of self.old ++ bytes.now) }
+        ensures front { OnErr result (SentSome bytes.now (sent_of self.old) (sent_of self.new)) }
         ensures received { self.new.received ≡ self.old.received }
         ensures lines { self.new.lines.items ≡ self.old.lines.items }
         ensures kept { OnErr result (self.new.phase ≡ phases.On) }
@@ -58,7 +62,7 @@ impl Course {
         ensures less { IfOk result (λ more. more ≡ true → self.new.unfinished < self.old.unfinished) }
         ensures phase { OnOk result (self.new.phase ≡ phases.Hearing) }
         ensures broken { OnErr result ((run_of self.new ≡ run_of self.old) ⊎ HearsOne self.old.server (run_of self.old) self.new.server (run_of self.new)) }
-        ensures sent { self.new.sent.items ≡ self.old.sent.items }
+        ensures sent { sent_of self.new ≡ sent_of self.old }
         ensures received { OnOk result (self.new.received ≡ self.old.received) }
         ensures had { OnOk result (had_in (line_of self.new) ≡ had_in (line_of self.old)) }
     {
@@ -103,9 +107,11 @@ impl Course {
         requires { self.old.phase ≡ phases.Hearing }
         ensures begun { OnOk result ((self.old.unfinished ≡ 0 → run_of self.new ≡ run_of self.old)
             × (Linked AnyStep (run_of self.old).clock (run_of self.new).clock)) }
+        ensures left { OnOk result (run_of self.new ≡ left_over self.old.server.begun (run_of self.old)) }
+        ensures server { self.new.server ≡ self.old.server }
         ensures on { OnOk result (self.new.phase ≡ phases.On) }
         ensures failed { OnErr result (run_of self.new ≡ run_of self.old) }
-        ensures sent { self.new.sent.items ≡ self.old.sent.items }
+        ensures sent { sent_of self.new ≡ sent_of self.old }
         ensures received { self.new.received ≡ self.old.received }
         ensures lines { self.new.lines.items ≡ self.old.lines.items }
     {
@@ -122,9 +128,12 @@ impl Course {
     // Answers all whole parts that are left. Behind none nothing is answered, since no part is empty.
     fn hear_rest(&mut self) -> Result<(), AllocError>
         requires { self.old.phase ≡ phases.Hearing }
+        ensures all { OnOk result (HearsAll self.old.server (run_of self.old) self.new.server (run_of self.new)) }
+        ensures some { OnErr result ((after : State) × HearsParts self.old.server (run_of self.old) after (run_of self.new)) }
         ensures files { Linked AnyStep (run_of self.old).clock (run_of self.new).clock }
         ensures none { self.old.server.begun ≡ [] → run_of self.new ≡ run_of self.old }
         ensures ended { self.old.server.begun ≡ [] → OnOk result (self.new.server.begun ≡ []) }
+        ensures sent { sent_of self.new ≡ sent_of self.old }
         ensures phase { OnOk result (self.new.phase ≡ phases.Hearing) }
         ensures had { OnOk result (had_in (line_of self.new) ≡ had_in (line_of self.old)) }
     {
@@ -135,11 +144,14 @@ impl Course {
     // Answers all whole parts.
     fn hear(&mut self) -> Result<(), AllocError>
         requires { self.old.phase ≡ phases.Hearing }
+        ensures all { OnOk result (HearsAll self.old.server (run_of self.old) self.new.server (run_of self.new)) }
+        ensures some { OnErr result ((after : State) × HearsParts self.old.server (run_of self.old) after (run_of self.new)) }
         ensures files { Linked AnyStep (run_of self.old).clock (run_of self.new).clock }
         ensures one { (part : List ℕ) → IsPart self.old.server.parts part → self.old.server.begun ≡ part
             → HearsOnly part self.old.server (run_of self.old) (run_of self.new) result }
         ensures ended { IsPart self.old.server.parts self.old.server.begun → OnOk result (self.new.server.begun ≡ []) }
         ensures none { NoPart self.old.server.parts self.old.server.begun → run_of self.new ≡ run_of self.old }
+        ensures sent { sent_of self.new ≡ sent_of self.old }
         ensures phase { OnOk result (self.new.phase ≡ phases.Hearing) }
         ensures had { OnOk result (had_in (line_of self.new) ≡ had_in (line_of self.old)) }
     {
@@ -153,12 +165,15 @@ impl Course {
     /// Bytes arrive, and the server answers. A part that is awaited arrives, if it is all that they are.
     pub fn arrive(&mut self, bytes: &[u8]) -> Result<(), AllocError>
         requires { self.old.phase ≡ phases.On }
+        ensures hears { OnOk result (HearsBytes bytes.now self.old.server (run_of self.old) self.new.server (run_of self.new)) }
+        ensures some { OnErr result (HearsSome bytes.now self.old.server (run_of self.old) (run_of self.new)) }
         ensures files { Linked AnyStep (run_of self.old).clock (run_of self.new).clock }
         ensures told { (tag : Tag) (command : Command) (before behind : List (List ℕ))
             → IsPartOf tag command before bytes.now behind → Awaits tag before (run_of self.old).clock.now.outside
             → Sent tag command before bytes.now behind (run_of self.old).clock (run_of self.new).clock result }
         ensures on { OnOk result (self.new.phase ≡ phases.On) }
         ensures had { OnOk result (had_in (line_of self.new) ≡ sending bytes.now (had_in (line_of self.old))) }
+        ensures front { OnErr result (SentSome bytes.now (sent_of self.old) (sent_of self.new)) }
     {
         // Such a part is cut off as one, and is answered as what it is.
         texts_are_cut();
@@ -173,11 +188,15 @@ impl Course {
     // Bytes arrive, and the connection is lost.
     fn arrive_last(&mut self, bytes: &[u8]) -> Result<(), AllocError>
         requires { self.old.phase ≡ phases.On }
+        ensures last { OnOk result (HearsLast bytes.now self.old.server (run_of self.old) (run_of self.new)) }
+        ensures some { OnErr result (HearsSome bytes.now self.old.server (run_of self.old) (run_of self.new)) }
         ensures files { Linked AnyStep (run_of self.old).clock (run_of self.new).clock }
         ensures told { (tag : Tag) (command : Command) (before behind : List (List ℕ))
             → IsPartOf tag command before bytes.now behind → Awaits tag before (run_of self.old).clock.now.outside
             → Sent tag command before bytes.now behind (run_of self.old).clock (run_of self.new).clock result }
         ensures none { NoPart self.old.server.parts (self.old.server.begun ++ bytes.now) → run_of self.new ≡ run_of self.old }
+        ensures sent { OnOk result (sent_of self.new ≡ sent_of self.old ++ bytes.now) }
+        ensures front { OnErr result (SentSome bytes.now (sent_of self.old) (sent_of self.new)) }
     {
         // Such a part is cut off as one, and is answered as what it is.
         texts_are_cut();
@@ -192,10 +211,14 @@ impl Course {
     fn arrive_front(&mut self, bytes: &[u8], count: usize) -> Result<(), AllocError>
         requires on { self.old.phase ≡ phases.On }
         requires less { count < length bytes.now }
+        ensures last { OnOk result (HearsLast (take count bytes.now) self.old.server (run_of self.old) (run_of self.new)) }
+        ensures some { OnErr result (HearsSome bytes.now self.old.server (run_of self.old) (run_of self.new)) }
         ensures files { Linked AnyStep (run_of self.old).clock (run_of self.new).clock }
         ensures told { (tag : Tag) (command : Command) (before behind : List (List ℕ))
             → IsPartOf tag command before bytes.now behind → Awaits tag before (run_of self.old).clock.now.outside
             → run_of self.new ≡ run_of self.old }
+        ensures sent { OnOk result (sent_of self.new ≡ sent_of self.old ++ take count bytes.now) }
+        ensures front { OnErr result (SentSome bytes.now (sent_of self.old) (sent_of self.new)) }
     {
         // Such a part is cut off as one, so that its front is none.
         texts_are_cut();
@@ -205,11 +228,15 @@ impl Course {
 
     // The command whose last part the bytes are.
     fn completed(&self, bytes: &[u8]) -> Result<Option<Held>, AllocError>
+        requires { self.now.phase ≡ phases.On }
+        ensures none { IfOk result (λ found. IfNone found (CompletesNone bytes.now self.now.server)) }
         ensures ends { IfOk result (λ found. IfSome found (λ held. self.now.unfinished ≡ 0)) }
         ensures part { IfOk result (λ found. IfSome found (λ held. held.part ≡ bytes.now)) }
         ensures whole { IfOk result (λ found. IfSome found (λ held.
             IsWhole held.tag held.command (self.now.parts ++ bytes.now ∷ []))) }
     {
+        // A text is no front of another.
+        no_text_is_a_front();
         if self.unfinished > 0 {
             return Ok(None);
         }
@@ -221,17 +248,22 @@ impl Course {
                 command,
                 carried: true,
             })),
-            Heard::Front { .. } | Heard::Nothing => Ok(None),
+            Heard::Front { .. } => Ok(None),
+            Heard::Nothing => Ok(None),
         }
     }
 
     // Bytes arrive, and the connection is lost. A command that they complete waits.
     fn arrive_waiting(&mut self, bytes: &[u8], carried: bool) -> Result<(), AllocError>
         requires { self.old.phase ≡ phases.On }
+        ensures waits { OnOk result (Loses (Loss.Waits carried) bytes.now self.old.server (run_of self.old) (run_of self.new)) }
+        ensures some { OnErr result (HearsSome bytes.now self.old.server (run_of self.old) (run_of self.new)) }
         ensures files { Linked AnyStep (run_of self.old).clock (run_of self.new).clock }
         ensures told { (tag : Tag) (command : Command) (before behind : List (List ℕ))
             → IsPartOf tag command before bytes.now behind → Awaits tag before (run_of self.old).clock.now.outside
             → Sent tag command before bytes.now behind (run_of self.old).clock (run_of self.new).clock result }
+        ensures sent { OnOk result (sent_of self.new ≡ sent_of self.old ++ bytes.now) }
+        ensures front { OnErr result (SentSome bytes.now (sent_of self.old) (sent_of self.new)) }
     {
         // Parts that complete a command are no front of another.
         no_text_is_a_front();
@@ -242,6 +274,7 @@ impl Course {
         held.carried = carried;
         let own = held.copy()?;
         self.log.reserve(1)?;
+        self.sent.extend_from_slice(bytes)?;
         self.log.push_reserved(Did::Waited { held: own });
         self.held = Some(held);
         self.phase = Phase::Waiting;
@@ -251,6 +284,8 @@ impl Course {
     /// Bytes are sent as the connection is lost so.
     pub fn arrive_by(&mut self, loss: Loss, bytes: &[u8]) -> Result<(), AllocError>
         requires { self.old.phase ≡ phases.On }
+        ensures loses { OnOk result (Loses loss bytes.now self.old.server (run_of self.old) (run_of self.new)) }
+        ensures some { OnErr result (HearsSome bytes.now self.old.server (run_of self.old) (run_of self.new)) }
         ensures files { Linked AnyStep (run_of self.old).clock (run_of self.new).clock }
         ensures told { (tag : Tag) (command : Command) (before behind : List (List ℕ))
             → IsPartOf tag command before bytes.now behind → Awaits tag before (run_of self.old).clock.now.outside
@@ -262,6 +297,8 @@ impl Course {
         ensures whole { (IsShort loss (length bytes.now) → ⊥) → (tag : Tag) (command : Command) (before behind : List (List ℕ))
             → IsPartOf tag command before bytes.now behind → Awaits tag before (run_of self.old).clock.now.outside
             → Sent tag command before bytes.now behind (run_of self.old).clock (run_of self.new).clock result }
+        ensures sent { OnOk result (sent_of self.new ≡ sent_of self.old ++ arriving loss bytes.now) }
+        ensures front { OnErr result (SentSome bytes.now (sent_of self.old) (sent_of self.new)) }
     {
         match loss {
             Loss::Nothing => Ok(()),
@@ -285,6 +322,7 @@ impl Course {
         ensures carried { (held : Held) → (run_of self.old).held ≡ Some held → held.carried ≡ true
             → OnOk result (run_of self.new ≡ step did.Settled (run_of self.old)) }
         ensures off { is_on self.new.phase ≡ false }
+        ensures sent { sent_of self.new ≡ sent_of self.old }
     {
         if self.phase != Phase::Waiting {
             return Ok(());

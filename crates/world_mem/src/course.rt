@@ -86,7 +86,7 @@ impl Course {
     ghost use Rattle.world_traits.specs.Connected.{IsGreeted};
     ghost use Rattle.world_traits.specs.Links.{Linked};
     ghost use Rattle.world_mem.specs.Others.{OthersChange};
-    ghost use Rattle.world_mem.specs.Memory.{run_of, line_of, waits_in};
+    ghost use Rattle.world_mem.specs.Memory.{run_of, line_of, sent_of, waits_in};
     ghost use Rattle.world_mem.specs.Restarting.{goes_on_from, no_line};
     ghost use Rattle.world_mem.specs.Running.{step, run, start};
     ghost use Rattle.world_mem.specs.Standing.{is_on, phase_of};
@@ -151,7 +151,8 @@ impl Course {
 
     /// The server.
     pub fn server(&self) -> &MemServer
-        ensures { result.now.server ≡ (run_of self.now).state.server }
+        ensures value { result.now ≡ self.now.server }
+        ensures server { result.now.server ≡ (run_of self.now).state.server }
     {
         &self.server
     }
@@ -222,8 +223,10 @@ impl Course {
     pub fn change(&mut self, name: &BoxName, change: &Change) -> Result<(), ForeignFault>
         ensures done { OnOk result (run_of self.new ≡ step (did.Changed name.now change.now) (run_of self.old)) }
         ensures told { OthersChange (run_of self.old) (run_of self.new) }
+        ensures lawful { OnOk result (broken_rule (run_of self.old).state.server.boxes name.now change.now ≡ None) }
         ensures rule { (number : ℕ) → IsErrOf result (ForeignFault.NotLawful number)
             → broken_rule (run_of self.old).state.server.boxes name.now change.now ≡ Some number }
+        ensures server { self.new.server ≡ record self.old.server { server = (run_of self.new).state.server } }
         ensures line { line_of self.new ≡ line_of self.old }
         ensures failed { OnErr result (run_of self.new ≡ run_of self.old) }
     {
@@ -264,6 +267,7 @@ impl Course {
     pub fn lose(&mut self)
         ensures run { run_of self.new ≡ run_of self.old }
         ensures lost { is_on self.new.phase ≡ false }
+        ensures sent { sent_of self.new ≡ sent_of self.old }
     {
         if self.is_connected() {
             self.phase = Phase::Off;

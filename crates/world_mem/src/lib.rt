@@ -10,17 +10,12 @@ mod files;
 mod image;
 mod mem_world;
 mod plan;
-mod putting;
 mod replaying;
 mod schedule;
-#[cfg(test)]
-mod slow;
 #[cfg(test)]
 mod tests;
 mod torn_file;
 mod torn_files;
-#[cfg(test)]
-mod world_tests;
 
 pub use did::{Did, Held};
 pub use draws::Draws;

@@ -1,8 +1,8 @@
 //! The world in memory.
 
 ghost use Rattle.std.specs.Prelude.{◌≡◌, ◌⊎◌, ◌≤◌, ◌+◌, ◌-◌, ◌^◌, ℕ, [], Some, None, min, length, take, drop, OnOk, OnErr, IfOk, IfErr, IfSome, IsErr, IsErrOf, ◌↔◌};
-ghost use Rattle.world_mem.specs.Memory.{run_of, line_of, waits_in, told_line};
-ghost use Rattle.world_mem.specs.Worlds.{course_of, planned_of, refused_of, disk_faults_of, link_faults_of, link_of, FailsExactly, LinkIsToFail};
+ghost use Rattle.world_mem.specs.Memory.{run_of, line_of, sent_of, waits_in, told_line, SentSome};
+ghost use Rattle.world_mem.specs.Worlds.{course_of, server_of, served_by, planned_of, refused_of, disk_faults_of, link_faults_of, link_of, FailsExactly, LinkIsToFail};
 ghost use Rattle.world_mem.specs.Planned.{unbegun, next_disk, next_link, DiskIsToFail, IsStopped};
 ghost use Rattle.world_mem.specs.Both.{torn_at};
 ghost use Rattle.world_mem.specs.Restarting.{goes_on_from, no_line};
@@ -17,7 +17,7 @@ ghost use Rattle.imap_model.specs.Lawful.{broken_rule};
 ghost use Rattle.server_mem.specs.States.{disconnected};
 ghost use Rattle.world_mem.specs.declared.course.Phase.TheVariants as phases;
 ghost use Rattle.world_mem.specs.declared.did.Did.TheVariants as did;
-ghost use Rattle.world_mem.specs.Others.{OthersChange};
+ghost use Rattle.world_mem.specs.Others.{OthersChange, OthersSome, others_in, changed, changes};
 ghost use Rattle.world_traits.specs.Counts.{counted};
 ghost use Rattle.world_traits.specs.Calls.{Rose, Wrote, Synced};
 ghost use Rattle.world_traits.specs.Files.{file_of};
@@ -138,17 +138,22 @@ impl MemWorld {
         ensures told { OthersChange (run_of (course_of self.old)) (run_of (course_of self.new)) }
         ensures rule { (number : ℕ) → IsErrOf result (ForeignFault.NotLawful number)
             → broken_rule (run_of (course_of self.old)).state.server.boxes name.now change.now ≡ Some number }
+        ensures lawful { OnOk result
+            (broken_rule (run_of (course_of self.old)).state.server.boxes name.now change.now ≡ None) }
         ensures kept { OnErr result (run_of (course_of self.new) ≡ run_of (course_of self.old)) }
         ensures line { line_of (course_of self.new) ≡ line_of (course_of self.old) }
         ensures plan { planned_of self.new ≡ planned_of self.old }
         ensures refused { refused_of self.new ≡ refused_of self.old }
+        ensures faults { disk_faults_of self.new ≡ disk_faults_of self.old }
+        ensures link { link_faults_of self.new ≡ link_faults_of self.old }
     {
         self.course.change(name, change)
     }
 
     /// The server.
     pub fn server(&self) -> &MemServer
-        ensures { result.now.server ≡ (run_of (course_of self.now)).state.server }
+        ensures value { result.now ≡ server_of self.now }
+        ensures server { result.now.server ≡ (run_of (course_of self.now)).state.server }
     {
         self.course.server()
     }
@@ -215,6 +220,7 @@ impl MemWorld {
     fn fail_link(&mut self) -> LinkFailed
         ensures run { run_of (course_of self.new) ≡ run_of (course_of self.old) }
         ensures lost { is_on (course_of self.new).phase ≡ false }
+        ensures sent { sent_of (course_of self.new) ≡ sent_of (course_of self.old) }
         ensures planned { planned_of self.new ≡ planned_of self.old }
         ensures faults { link_faults_of self.new ≡ counted (link_faults_of self.old) }
         ensures refused { refused_of self.new ≡ refused_of self.old }
@@ -231,6 +237,7 @@ impl MemWorld {
     fn refuse_link(&mut self) -> LinkFailed
         ensures run { run_of (course_of self.new) ≡ run_of (course_of self.old) }
         ensures lost { is_on (course_of self.new).phase ≡ false }
+        ensures sent { sent_of (course_of self.new) ≡ sent_of (course_of self.old) }
         ensures planned { planned_of self.new ≡ planned_of self.old }
         ensures faults { link_faults_of self.new ≡ counted (link_faults_of self.old) }
         ensures refused { refused_of self.new ≡ counted (refused_of self.old) }
@@ -247,7 +254,13 @@ impl MemWorld {
         ensures next { planned_of self.new ≡ next_link (planned_of self.old) }
         ensures exact { FailsExactly (IsStopped (planned_of self.new)) result (refused_of self.old) (refused_of self.new) }
         ensures told { OthersChange (run_of (course_of self.old)) (run_of (course_of self.new)) }
+        ensures done { OnOk result (run_of (course_of self.new)
+            ≡ others_in (planned_of self.new) (run_of (course_of self.old))) }
+        ensures some { OnErr result (OthersSome (planned_of self.new)
+            (run_of (course_of self.old)) (run_of (course_of self.new))) }
         ensures stopped { IsStopped (planned_of self.new) → run_of (course_of self.new) ≡ run_of (course_of self.old) }
+        ensures server { OnOk result (server_of self.new ≡ served_by self.old (run_of (course_of self.new))) }
+        ensures sent { sent_of (course_of self.new) ≡ sent_of (course_of self.old) }
         ensures line { OnOk result (line_of (course_of self.new) ≡ line_of (course_of self.old)) }
         ensures faults { OnOk result (link_faults_of self.new ≡ link_faults_of self.old) }
         ensures lost { OnErr result (is_on (course_of self.new).phase ≡ false) }
@@ -273,6 +286,10 @@ fn change_all(
     call: u64,
 ) -> Result<(), AllocError>
     ensures told { OthersChange (run_of course.old) (run_of course.new) }
+    ensures done { OnOk result (run_of course.new ≡ changes foreign.now call (run_of course.old)) }
+    ensures some { OnErr result
+        ((n : ℕ) × (run_of course.new ≡ changes (take n foreign.now) call (run_of course.old))) }
+    ensures server { course.new.server ≡ record course.old.server { server = (run_of course.new).state.server } }
     ensures line { line_of course.new ≡ line_of course.old }
 {
     for (number, name, change) in foreign {
@@ -286,6 +303,9 @@ fn change_all(
 // Makes one of them, unless it breaks a rule.
 fn change_one(course: &mut Course, name: &BoxName, change: &Change) -> Result<(), AllocError>
     ensures told { OthersChange (run_of course.old) (run_of course.new) }
+    ensures done { OnOk result (run_of course.new ≡ changed name.now change.now (run_of course.old)) }
+    ensures failed { OnErr result (run_of course.new ≡ run_of course.old) }
+    ensures server { course.new.server ≡ record course.old.server { server = (run_of course.new).state.server } }
     ensures line { line_of course.new ≡ line_of course.old }
 {
     match course.change(name, change) {
@@ -417,10 +437,12 @@ impl Link for MemWorld {
     ghost use Rattle.world_traits.specs.LinkState.{fresh};
     ghost use Rattle.world_traits.specs.Links.{AnyStep, Linked};
     ghost use Rattle.world_traits.specs.Sends.{Sent, Arrives};
-    ghost use Rattle.world_mem.specs.Planned.{IsShort, loss_in};
+    ghost use Rattle.world_mem.specs.Planned.{IsShort, arriving, loss_in};
     ghost use Rattle.world_mem.specs.Running.{Run};
     ghost use Rattle.world_mem.specs.declared.did.Held.{Held};
     ghost use Rattle.world_mem.specs.declared.plan.Loss.{Loss};
+    ghost use Rattle.world_mem.specs.Heard.{HearsBytes};
+    ghost use Rattle.world_mem.specs.Losing.{Loses};
     ghost use Rattle.world_mem.specs.Memory.{connection_of};
     ghost use Rattle.world_mem.specs.Honest.{honest};
 
@@ -434,12 +456,21 @@ impl Link for MemWorld {
         ensures begins { OnOk result (connection_of (course_of self.new) ≡ Some fresh) }
         ensures greets { OnOk result (IsGreeted (run_of (course_of self.new)).clock.now.outside) }
         ensures free { (run_of (course_of self.old)).held ≡ None
-            → OnOk result ((mid : Run) × OthersChange (run_of (course_of self.old)) mid × (run_of (course_of self.new) ≡ step did.Greeted mid)) }
+            → OnOk result (run_of (course_of self.new)
+            ≡ step did.Greeted (others_in (planned_of self.new) (run_of (course_of self.old)))) }
         ensures dropped { (held : Held) → (run_of (course_of self.old)).held ≡ Some held → held.carried ≡ false
-            → OnOk result ((mid : Run) × OthersChange (run_of (course_of self.old)) mid × (run_of (course_of self.new) ≡ step did.Greeted mid)) }
+            → OnOk result (run_of (course_of self.new)
+            ≡ step did.Greeted (others_in (planned_of self.new) (run_of (course_of self.old)))) }
         ensures carried { (held : Held) → (run_of (course_of self.old)).held ≡ Some held → held.carried ≡ true
-            → OnOk result ((mid : Run) × OthersChange (run_of (course_of self.old)) mid
-            × (run_of (course_of self.new) ≡ step did.Greeted (step did.Settled mid))) }
+            → OnOk result (run_of (course_of self.new)
+            ≡ step did.Greeted (step did.Settled (others_in (planned_of self.new) (run_of (course_of self.old))))) }
+        ensures loses { (IsStopped (planned_of self.new) → ⊥) → (loss : Loss)
+            → loss_in (planned_of self.new).plan.link_fails (planned_of self.new).link ≡ Some loss
+            → (run_of (course_of self.new) ≡ others_in (planned_of self.new) (run_of (course_of self.old)))
+            ⊎ (OthersSome (planned_of self.new) (run_of (course_of self.old)) (run_of (course_of self.new))
+            × (refused_of self.new ≡ counted (refused_of self.old))) }
+        ensures sent { OnOk result (sent_of (course_of self.new) ≡ []) }
+        ensures unsent { OnErr result (sent_of (course_of self.new) ≡ sent_of (course_of self.old)) }
         ensures next { planned_of self.new ≡ next_link (planned_of self.old) }
         ensures exact { FailsExactly (LinkIsToFail (planned_of self.new)) result (refused_of self.old) (refused_of self.new) }
         ensures lost { OnErr result (connection_of (course_of self.new) ≡ None) }
@@ -479,8 +510,23 @@ impl Link for MemWorld {
             → IsPartOf tag command before bytes.now behind → Awaits tag before (run_of (course_of self.old)).clock.now.outside
             → Arrives tag command before bytes.now behind (run_of (course_of self.old)).clock (run_of (course_of self.new)).clock
             ⊎ (refused_of self.new ≡ counted (refused_of self.old)) }
-        ensures sent { OnOk result (IfSome (connection_of (course_of self.old)) (λ c.
-            connection_of (course_of self.new) ≡ Some (record c { sent = c.sent ++ bytes.now }))) }
+        ensures sent { OnOk result (sent_of (course_of self.new) ≡ sent_of (course_of self.old) ++ bytes.now) }
+        ensures arrived { (IsStopped (planned_of self.new) → ⊥) → (connection_of (course_of self.old) ≡ None → ⊥)
+            → (loss : Loss) → loss_in (planned_of self.new).plan.link_fails (planned_of self.new).link ≡ Some loss
+            → (sent_of (course_of self.new) ≡ sent_of (course_of self.old) ++ arriving loss bytes.now)
+            ⊎ (refused_of self.new ≡ counted (refused_of self.old)) }
+        ensures front { OnErr result (SentSome bytes.now (sent_of (course_of self.old)) (sent_of (course_of self.new))) }
+        ensures hears { OnOk result (HearsBytes bytes.now
+            (served_by self.old (others_in (planned_of self.new) (run_of (course_of self.old))))
+            (others_in (planned_of self.new) (run_of (course_of self.old)))
+            (server_of self.new) (run_of (course_of self.new))) }
+        ensures loses { (IsStopped (planned_of self.new) → ⊥) → (connection_of (course_of self.old) ≡ None → ⊥)
+            → (loss : Loss) → loss_in (planned_of self.new).plan.link_fails (planned_of self.new).link ≡ Some loss
+            → Loses loss bytes.now
+            (served_by self.old (others_in (planned_of self.new) (run_of (course_of self.old))))
+            (others_in (planned_of self.new) (run_of (course_of self.old))) (run_of (course_of self.new))
+            ⊎ (refused_of self.new ≡ counted (refused_of self.old)) }
+        ensures received { OnOk result (connection_of (course_of self.new) ≡ connection_of (course_of self.old)) }
         ensures next { planned_of self.new ≡ next_link (planned_of self.old) }
         ensures exact { FailsExactly (LinkIsToFail (planned_of self.new) ⊎ (connection_of (course_of self.old) ≡ None)) result
             (refused_of self.old) (refused_of self.new) }
@@ -516,6 +562,13 @@ impl Link for MemWorld {
         ensures bytes { IfOk result (λ n. take n into.new ≡ take n (waits_in (line_of (course_of self.old)))) }
         ensures files { Linked AnyStep (run_of (course_of self.old)).clock (run_of (course_of self.new)).clock }
         ensures told { Linked Answering (run_of (course_of self.old)).clock (run_of (course_of self.new)).clock }
+        ensures sent { sent_of (course_of self.new) ≡ sent_of (course_of self.old) }
+        ensures run { OnOk result (run_of (course_of self.new)
+            ≡ others_in (planned_of self.new) (run_of (course_of self.old))) }
+        ensures loses { (IsStopped (planned_of self.new) → ⊥) → OnErr result
+            ((run_of (course_of self.new) ≡ others_in (planned_of self.new) (run_of (course_of self.old)))
+            ⊎ (OthersSome (planned_of self.new) (run_of (course_of self.old)) (run_of (course_of self.new))
+            × (refused_of self.new ≡ counted (refused_of self.old)))) }
         ensures received { IfOk result (λ n. IfSome (connection_of (course_of self.old)) (λ c.
             connection_of (course_of self.new) ≡ Some (record c { received = c.received ++ take n into.new }))) }
         ensures next { planned_of self.new ≡ next_link (planned_of self.old) }
@@ -541,6 +594,13 @@ impl Link for MemWorld {
         ensures files { Linked AnyStep (run_of (course_of self.old)).clock (run_of (course_of self.new)).clock }
         ensures told { Linked Answering (run_of (course_of self.old)).clock (run_of (course_of self.new)).clock }
         ensures ended { connection_of (course_of self.new) ≡ None }
+        ensures sent { sent_of (course_of self.new) ≡ sent_of (course_of self.old) }
+        ensures run { (IsStopped (planned_of self.new) → ⊥)
+            → ((run_of (course_of self.new) ≡ others_in (planned_of self.new) (run_of (course_of self.old)))
+            × (refused_of self.new ≡ refused_of self.old))
+            ⊎ (OthersSome (planned_of self.new) (run_of (course_of self.old)) (run_of (course_of self.new))
+            × (refused_of self.new ≡ counted (refused_of self.old))) }
+        ensures refused { IsStopped (planned_of self.new) → refused_of self.new ≡ refused_of self.old }
         ensures next { planned_of self.new ≡ next_link (planned_of self.old) }
         ensures stopped { IsStopped (planned_of self.new) → run_of (course_of self.new) ≡ run_of (course_of self.old) }
         ensures disk { disk_faults_of self.new ≡ disk_faults_of self.old }

@@ -8,10 +8,10 @@ ghost use Rattle.world_mem.specs.Torn.{untouched, wrote, settled};
 ghost use Rattle.world_mem.specs.Unsynced.{covers, is_unsynced};
 ghost use Rattle.world_mem.specs.Image.{reach};
 
-use crate::putting::put_in;
 use mail_base::Bytes;
 use std::alloc::{AllocError, Global};
 use std::marker::Model;
+use world_traits::put_in;
 
 /// A range of places that was written: from `low` up to, and without, `high`.
 #[derive(Drop)]

@@ -10,7 +10,8 @@ use Rattle.server_mem.proofs.refusing.bad_of.Goals as goal
 pub returns-in-Some-clause-tag : goal.returns-in-Some-clause-tag
 returns-in-Some-clause-tag c =
     if_ok_more c.tagged_bad.result _ _
-    (λ bad is. subst (λ (t : Option Tag). IsBad c.args.parts.now (bad_of t)) (sym is.1) (says_tagged c.args.parts.now c.in-Some.word.now is.0 c.in-Some.ensures.some is.2)) c.tagged_bad.ensures.tag
+    (λ bad is. subst (λ (t : Option Tag). IsBad c.args.parts.now (bad_of t)) (sym is.1)
+    (says_tagged c.args.parts.now c.in-Some.word.now is.0 c.in-Some.ensures.some is.2)) c.tagged_bad.ensures.tag
 
 pub returns-in-Some-clause-line : goal.returns-in-Some-clause-line
 returns-in-Some-clause-line c =
@@ -20,9 +21,11 @@ returns-in-Some-clause-line c =
 
 pub returns-in-None-clause-tag : goal.returns-in-None-clause-tag
 returns-in-None-clause-tag c =
-    if_ok_more c.bare_bad.result _ _ (λ bad is. subst (λ (t : Option Tag). IsBad c.args.parts.now (bad_of t)) (sym is) (says_bare c.args.parts.now c.in-None.ensures.none)) c.bare_bad.ensures.tag
+    if_ok_more c.bare_bad.result _ _ (λ bad is. subst (λ (t : Option Tag). IsBad c.args.parts.now (bad_of t)) (sym is)
+    (says_bare c.args.parts.now c.in-None.ensures.none)) c.bare_bad.ensures.tag
 
 pub returns-in-None-clause-line : goal.returns-in-None-clause-line
 returns-in-None-clause-line c =
     if_ok_both c.bare_bad.result _ _ _
-    (λ bad is text. subst (λ (t : Option Tag). AreLines (bad_of t ∷ []) bad.line.items) (sym is) (tells_bare bad.line.items text)) c.bare_bad.ensures.tag c.bare_bad.ensures.line
+    (λ bad is text. subst (λ (t : Option Tag). AreLines (bad_of t ∷ []) bad.line.items) (sym is) (tells_bare bad.line.items text))
+    c.bare_bad.ensures.tag c.bare_bad.ensures.line

@@ -11,7 +11,8 @@ loop-uid-preserved c = (
   c.put.ensures.canonical,
   (
     more_uids c.loop-uid.uid-index c.args.uids.now c.uid-item.result c.loop-uid-test.true c.uid-item.is c.put.ensures.number c.loop-uid.invariant.1.0,
-    more_members c.loop-uid.uid-index c.args.uids.now c.uid-item.result c.loop-uid.set c.put.new.set c.loop-uid-test.true c.uid-item.is c.in_ok-put.ensures.members c.loop-uid.invariant.1.1,
+    more_members c.loop-uid.uid-index c.args.uids.now c.uid-item.result c.loop-uid.set c.put.new.set c.loop-uid-test.true c.uid-item.is
+        c.in_ok-put.ensures.members c.loop-uid.invariant.1.1,
   ),
 )
 

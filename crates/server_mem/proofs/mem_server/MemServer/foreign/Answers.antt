@@ -18,6 +18,7 @@ pub returns-clause-lawful : goal.returns-clause-lawful
 returns-clause-lawful c =
     let w : Well c.args.self.now.server.boxes = subst Well (ap (λ (s : State). s.server.boxes) c.self.view_is) c.self.inside.well in
     let lawful : broken_rule c.args.self.now.server.boxes c.args.name.now c.args.change.now ≡ None = search rules in
-    subst (λ (t : State). Changes c.args.self.now.server.boxes Other c.args.name.now c.args.change.now c.args.self.now.server t.server) (sym c.in_ok-commit.ensures.done)
+    subst (λ (t : State). Changes c.args.self.now.server.boxes Other c.args.name.now c.args.change.now c.args.self.now.server t.server)
+    (sym c.in_ok-commit.ensures.done)
     (subst (λ (t : Server). Changes c.args.self.now.server.boxes Other c.args.name.now c.args.change.now c.args.self.now.server t) (sym c.in_ok-made.ensures)
     (is_a_change Other c.args.name.now c.args.change.now c.args.self.now.server w lawful))

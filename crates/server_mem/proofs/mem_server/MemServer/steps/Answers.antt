@@ -10,11 +10,13 @@ loop-out-init c = subst (λ (bytes : List ℕ). Tells c.args.self.now bytes c.ar
 
 pub returns-in_err-answer-clause-fallen : goal.returns-in_err-answer-clause-fallen
 returns-in_err-answer-clause-fallen c = on_err c.from_residual.result
-    (fall_later c.args.self.now c.loop-out.out.items c.loop-out.self c.step.new.self c.loop-out.invariant (fall_here c.loop-out.self c.step.new.self c.in_err-answer.ensures.fallen))
+    (fall_later c.args.self.now c.loop-out.out.items c.loop-out.self c.step.new.self c.loop-out.invariant
+    (fall_here c.loop-out.self c.step.new.self c.in_err-answer.ensures.fallen))
 
 pub returns-in_err-extend_from_slice-clause-fallen : goal.returns-in_err-extend_from_slice-clause-fallen
 returns-in_err-extend_from_slice-clause-fallen c =
-    let one : Tells c.loop-out.self c.in-Some.answer.lines.items c.step.new.self = answer_told c.loop-out.self c.step.new.self c.in-Some.answer (search rules) in
+    let one : Tells c.loop-out.self c.in-Some.answer.lines.items c.step.new.self =
+    answer_told c.loop-out.self c.step.new.self c.in-Some.answer (search rules) in
     on_err c.from_residual-in_err-extend_from_slice.result
     (fall_later c.args.self.now (c.loop-out.out.items ++ c.in-Some.answer.lines.items) c.step.new.self c.step.new.self
     (more_told c.args.self.now c.loop-out.out.items c.loop-out.self c.in-Some.answer.lines.items c.step.new.self c.loop-out.invariant one)
@@ -22,7 +24,8 @@ returns-in_err-extend_from_slice-clause-fallen c =
 
 pub loop-out-preserved : goal.loop-out-preserved
 loop-out-preserved c =
-    let one : Tells c.loop-out.self c.in-Some.answer.lines.items c.step.new.self = answer_told c.loop-out.self c.step.new.self c.in-Some.answer (search rules) in
+    let one : Tells c.loop-out.self c.in-Some.answer.lines.items c.step.new.self =
+    answer_told c.loop-out.self c.step.new.self c.in-Some.answer (search rules) in
     let grown : c.extend_from_slice.new.self.items ≡ c.loop-out.out.items ++ c.in-Some.answer.lines.items = search rules in
     subst (λ (bytes : List ℕ). Tells c.args.self.now bytes c.step.new.self) (sym grown)
     (more_told c.args.self.now c.loop-out.out.items c.loop-out.self c.in-Some.answer.lines.items c.step.new.self c.loop-out.invariant one)

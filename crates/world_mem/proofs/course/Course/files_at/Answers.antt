@@ -8,7 +8,13 @@ use Rattle.world_mem.proofs.Numbering.{files_on}
 use Rattle.world_mem.proofs.course.Course.files_at.Goals as goal
 
 pub loop-did-init : goal.loop-did-init
-loop-did-init c = record { there = start_of c.args.self.now; stands = c.new-files.ensures ∙ ap (λ (f : Files). record { left = untouched f.left; right = untouched f.right }) c.in_ok-copy.ensures; rest = refl }
+loop-did-init c = record {
+  there = start_of c.args.self.now;
+  stands =
+      c.new-files.ensures ∙ ap (λ (f : Files). record { left = untouched f.left; right = untouched f.right }) c.in_ok-copy.ensures;
+  rest =
+      refl;
+}
 
 pub loop-did-preserved : goal.loop-did-preserved
 loop-did-preserved c =

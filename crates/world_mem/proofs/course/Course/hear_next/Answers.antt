@@ -19,7 +19,8 @@ invariant_of-self-in_default c =
     let w = c.args.self.now in
     let same : c.answer_next.new.self ≡ w.server = search rules in
     record {
-      stands = same_stands w.files w.server c.answer_next.new.self w.phase w.held w.parts w.unfinished w.lines.items w.received (run_of w) (run c.reserve.new.self.items (start (bytes_of w.given) w.began.value w.began_held.value)) w.stands same
+      stands = same_stands w.files w.server c.answer_next.new.self w.phase w.held w.parts w.unfinished w.lines.items w.received (run_of w)
+          (run c.reserve.new.self.items (start (bytes_of w.given) w.began.value w.began_held.value)) w.stands same
           (ap (λ (l : List Did). run l (start (bytes_of w.given) w.began.value w.began_held.value)) c.reserve.ensures.items);
     }
 
@@ -28,12 +29,18 @@ invariant_of-self-then-is_err c =
     let w = c.args.self.now in
     let answer = c.in-Some.answer in
     let d = did.Heard answer.part answer.answered in
-    let is : IsAnswer w.server answer c.answer_next.new.self = subst (λ (o : Option Answer). IfSome o (λ a. IsAnswer w.server a c.answer_next.new.self)) c.in-Some.is c.in-Ok.ensures.answered in
-    let log : c.push_reserved.new.self.items ≡ w.log.items ++ d ∷ [] = c.push_reserved.ensures.items ∙ ap (λ (l : List Did). l ++ d ∷ []) c.reserve.ensures.items in
+    let is : IsAnswer w.server answer c.answer_next.new.self = subst
+    (λ (o : Option Answer). IfSome o (λ a. IsAnswer w.server a c.answer_next.new.self)) c.in-Some.is c.in-Ok.ensures.answered in
+    let log : c.push_reserved.new.self.items ≡ w.log.items ++ d ∷ [] =
+    c.push_reserved.ensures.items ∙ ap (λ (l : List Did). l ++ d ∷ []) c.reserve.ensures.items in
     let h = phase_stands w.files w.server w.phase phases.Hearing w.held w.parts w.unfinished w.lines.items w.received (run_of w) w.stands c.requires in
     record {
-      stands = subst (λ (x : Run). Stands w.files c.answer_next.new.self phases.Off w.held c.keep_part-kept.new.parts (w.unfinished - length c.as_slice.result.now) c.extend_from_slice-told.new.self.items 0 x) (sym (one_did w.log.items c.push_reserved.new.self.items d (start (bytes_of w.given) w.began.value w.began_held.value) log))
-          (heard_lost w.files w.server w.held w.parts w.unfinished w.lines.items w.received (run_of w) h answer c.answer_next.new.self c.keep_part-kept.new.parts (w.unfinished - length c.as_slice.result.now) c.extend_from_slice-told.new.self.items is
+      stands = subst (λ (x : Run). Stands w.files c.answer_next.new.self phases.Off w.held c.keep_part-kept.new.parts
+          (w.unfinished - length c.as_slice.result.now) c.extend_from_slice-told.new.self.items 0 x)
+          (sym (one_did w.log.items c.push_reserved.new.self.items d (start (bytes_of w.given) w.began.value w.began_held.value) log))
+          (heard_lost w.files w.server w.held w.parts w.unfinished w.lines.items w.received
+          (run_of w) h answer c.answer_next.new.self c.keep_part-kept.new.parts
+          (w.unfinished - length c.as_slice.result.now) c.extend_from_slice-told.new.self.items is
           (left_behind w.server answer c.answer_next.new.self w.unfinished c.as_slice.result.now is h.counted c.as_slice.ensures));
     }
 
@@ -42,21 +49,36 @@ returns-then-is_err-clause-broken c =
     let w = c.args.self.now in
     let answer = c.in-Some.answer in
     let d = did.Heard answer.part answer.answered in
-    let is : IsAnswer w.server answer c.answer_next.new.self = subst (λ (o : Option Answer). IfSome o (λ a. IsAnswer w.server a c.answer_next.new.self)) c.in-Some.is c.in-Ok.ensures.answered in
-    let log : c.push_reserved.new.self.items ≡ w.log.items ++ d ∷ [] = c.push_reserved.ensures.items ∙ ap (λ (l : List Did). l ++ d ∷ []) c.reserve.ensures.items in
-    inr (record { answer = answer; answers = is; run = one_did w.log.items c.push_reserved.new.self.items d (start (bytes_of w.given) w.began.value w.began_held.value) log; well = subst (λ (s : Server). IsWellFormed s.boxes) c.server.ensures.value c.server.ensures.well })
+    let is : IsAnswer w.server answer c.answer_next.new.self = subst
+    (λ (o : Option Answer). IfSome o (λ a. IsAnswer w.server a c.answer_next.new.self)) c.in-Some.is c.in-Ok.ensures.answered in
+    let log : c.push_reserved.new.self.items ≡ w.log.items ++ d ∷ [] =
+    c.push_reserved.ensures.items ∙ ap (λ (l : List Did). l ++ d ∷ []) c.reserve.ensures.items in
+    inr (record {
+      answer = answer;
+      answers = is;
+      run = one_did w.log.items c.push_reserved.new.self.items d
+          (start (bytes_of w.given) w.began.value w.began_held.value) log;
+      well =
+          subst (λ (s : Server). IsWellFormed s.boxes) c.server.ensures.value c.server.ensures.well;
+    })
 
 pub invariant_of-self-then-is_err-2 : goal.invariant_of-self-then-is_err-2
 invariant_of-self-then-is_err-2 c =
     let w = c.args.self.now in
     let answer = c.in-Some.answer in
     let d = did.Heard answer.part answer.answered in
-    let is : IsAnswer w.server answer c.answer_next.new.self = subst (λ (o : Option Answer). IfSome o (λ a. IsAnswer w.server a c.answer_next.new.self)) c.in-Some.is c.in-Ok.ensures.answered in
-    let log : c.push_reserved.new.self.items ≡ w.log.items ++ d ∷ [] = c.push_reserved.ensures.items ∙ ap (λ (l : List Did). l ++ d ∷ []) c.reserve.ensures.items in
+    let is : IsAnswer w.server answer c.answer_next.new.self = subst
+    (λ (o : Option Answer). IfSome o (λ a. IsAnswer w.server a c.answer_next.new.self)) c.in-Some.is c.in-Ok.ensures.answered in
+    let log : c.push_reserved.new.self.items ≡ w.log.items ++ d ∷ [] =
+    c.push_reserved.ensures.items ∙ ap (λ (l : List Did). l ++ d ∷ []) c.reserve.ensures.items in
     let h = phase_stands w.files w.server w.phase phases.Hearing w.held w.parts w.unfinished w.lines.items w.received (run_of w) w.stands c.requires in
     record {
-      stands = subst (λ (x : Run). Stands w.files c.answer_next.new.self phases.Off w.held c.keep_part-kept.new.parts (w.unfinished - length c.as_slice.result.now) c.extend_from_slice-told.new.self.items 0 x) (sym (one_did w.log.items c.push_reserved.new.self.items d (start (bytes_of w.given) w.began.value w.began_held.value) log))
-          (heard_lost w.files w.server w.held w.parts w.unfinished w.lines.items w.received (run_of w) h answer c.answer_next.new.self c.keep_part-kept.new.parts (w.unfinished - length c.as_slice.result.now) c.extend_from_slice-told.new.self.items is
+      stands = subst (λ (x : Run). Stands w.files c.answer_next.new.self phases.Off w.held c.keep_part-kept.new.parts
+          (w.unfinished - length c.as_slice.result.now) c.extend_from_slice-told.new.self.items 0 x)
+          (sym (one_did w.log.items c.push_reserved.new.self.items d (start (bytes_of w.given) w.began.value w.began_held.value) log))
+          (heard_lost w.files w.server w.held w.parts w.unfinished w.lines.items w.received
+          (run_of w) h answer c.answer_next.new.self c.keep_part-kept.new.parts
+          (w.unfinished - length c.as_slice.result.now) c.extend_from_slice-told.new.self.items is
           (left_behind w.server answer c.answer_next.new.self w.unfinished c.as_slice.result.now is h.counted c.as_slice.ensures));
     }
 
@@ -65,30 +87,58 @@ returns-then-is_err-2-clause-broken c =
     let w = c.args.self.now in
     let answer = c.in-Some.answer in
     let d = did.Heard answer.part answer.answered in
-    let is : IsAnswer w.server answer c.answer_next.new.self = subst (λ (o : Option Answer). IfSome o (λ a. IsAnswer w.server a c.answer_next.new.self)) c.in-Some.is c.in-Ok.ensures.answered in
-    let log : c.push_reserved.new.self.items ≡ w.log.items ++ d ∷ [] = c.push_reserved.ensures.items ∙ ap (λ (l : List Did). l ++ d ∷ []) c.reserve.ensures.items in
-    inr (record { answer = answer; answers = is; run = one_did w.log.items c.push_reserved.new.self.items d (start (bytes_of w.given) w.began.value w.began_held.value) log; well = subst (λ (s : Server). IsWellFormed s.boxes) c.server.ensures.value c.server.ensures.well })
+    let is : IsAnswer w.server answer c.answer_next.new.self = subst
+    (λ (o : Option Answer). IfSome o (λ a. IsAnswer w.server a c.answer_next.new.self)) c.in-Some.is c.in-Ok.ensures.answered in
+    let log : c.push_reserved.new.self.items ≡ w.log.items ++ d ∷ [] =
+    c.push_reserved.ensures.items ∙ ap (λ (l : List Did). l ++ d ∷ []) c.reserve.ensures.items in
+    inr (record {
+      answer = answer;
+      answers = is;
+      run = one_did w.log.items c.push_reserved.new.self.items d
+          (start (bytes_of w.given) w.began.value w.began_held.value) log;
+      well =
+          subst (λ (s : Server). IsWellFormed s.boxes) c.server.ensures.value c.server.ensures.well;
+    })
 
 pub invariant_of-self-else-is_err-2 : goal.invariant_of-self-else-is_err-2
 invariant_of-self-else-is_err-2 c =
     let w = c.args.self.now in
     let answer = c.in-Some.answer in
     let d = did.Heard answer.part answer.answered in
-    let is : IsAnswer w.server answer c.answer_next.new.self = subst (λ (o : Option Answer). IfSome o (λ a. IsAnswer w.server a c.answer_next.new.self)) c.in-Some.is c.in-Ok.ensures.answered in
-    let log : c.push_reserved.new.self.items ≡ w.log.items ++ d ∷ [] = c.push_reserved.ensures.items ∙ ap (λ (l : List Did). l ++ d ∷ []) c.reserve.ensures.items in
+    let is : IsAnswer w.server answer c.answer_next.new.self = subst
+    (λ (o : Option Answer). IfSome o (λ a. IsAnswer w.server a c.answer_next.new.self)) c.in-Some.is c.in-Ok.ensures.answered in
+    let log : c.push_reserved.new.self.items ≡ w.log.items ++ d ∷ [] =
+    c.push_reserved.ensures.items ∙ ap (λ (l : List Did). l ++ d ∷ []) c.reserve.ensures.items in
     let h = phase_stands w.files w.server w.phase phases.Hearing w.held w.parts w.unfinished w.lines.items w.received (run_of w) w.stands c.requires in
     let kept : c.keep_part-kept.new.parts ≡ kept_as answer.answered (w.parts ++ answer.part ∷ []) = search rules in
     let told : c.extend_from_slice-told.new.self.items ≡ w.lines.items ++ answer.lines.items = search rules in
-    let now = heard_stands w.files w.server w.held w.parts w.unfinished w.lines.items w.received (run_of w) h answer c.answer_next.new.self c.keep_part-kept.new.parts (w.unfinished - length c.as_slice.result.now) c.extend_from_slice-told.new.self.items is kept
+    let now = heard_stands w.files w.server w.held w.parts w.unfinished w.lines.items w.received
+    (run_of w) h answer c.answer_next.new.self c.keep_part-kept.new.parts
+    (w.unfinished - length c.as_slice.result.now) c.extend_from_slice-told.new.self.items is kept
     (left_behind w.server answer c.answer_next.new.self w.unfinished c.as_slice.result.now is h.counted c.as_slice.ensures) told in
-    let back = phase_stands w.files c.answer_next.new.self phases.Hearing w.phase w.held c.keep_part-kept.new.parts (w.unfinished - length c.as_slice.result.now) c.extend_from_slice-told.new.self.items w.received (step d (run_of w)) now (sym c.requires) in
-    record { stands = subst (λ (x : Run). Stands w.files c.answer_next.new.self w.phase w.held c.keep_part-kept.new.parts (w.unfinished - length c.as_slice.result.now) c.extend_from_slice-told.new.self.items w.received x) (sym (one_did w.log.items c.push_reserved.new.self.items d (start (bytes_of w.given) w.began.value w.began_held.value) log)) back }
+    let back = phase_stands w.files c.answer_next.new.self phases.Hearing w.phase w.held c.keep_part-kept.new.parts
+    (w.unfinished - length c.as_slice.result.now) c.extend_from_slice-told.new.self.items w.received (step d (run_of w)) now
+    (sym c.requires) in
+    record {
+      stands = subst (λ (x : Run). Stands w.files c.answer_next.new.self w.phase w.held c.keep_part-kept.new.parts
+          (w.unfinished - length c.as_slice.result.now) c.extend_from_slice-told.new.self.items w.received x)
+          (sym (one_did w.log.items c.push_reserved.new.self.items d (start (bytes_of w.given) w.began.value w.began_held.value) log)) back;
+    }
 
 pub returns-clause-more : goal.returns-clause-more
 returns-clause-more c = λ more.
     let w = c.args.self.now in
     let answer = c.in-Some.answer in
     let d = did.Heard answer.part answer.answered in
-    let is : IsAnswer w.server answer c.answer_next.new.self = subst (λ (o : Option Answer). IfSome o (λ a. IsAnswer w.server a c.answer_next.new.self)) c.in-Some.is c.in-Ok.ensures.answered in
-    let log : c.push_reserved.new.self.items ≡ w.log.items ++ d ∷ [] = c.push_reserved.ensures.items ∙ ap (λ (l : List Did). l ++ d ∷ []) c.reserve.ensures.items in
-    record { answer = answer; answers = is; run = one_did w.log.items c.push_reserved.new.self.items d (start (bytes_of w.given) w.began.value w.began_held.value) log; well = subst (λ (s : Server). IsWellFormed s.boxes) c.server.ensures.value c.server.ensures.well }
+    let is : IsAnswer w.server answer c.answer_next.new.self = subst
+    (λ (o : Option Answer). IfSome o (λ a. IsAnswer w.server a c.answer_next.new.self)) c.in-Some.is c.in-Ok.ensures.answered in
+    let log : c.push_reserved.new.self.items ≡ w.log.items ++ d ∷ [] =
+    c.push_reserved.ensures.items ∙ ap (λ (l : List Did). l ++ d ∷ []) c.reserve.ensures.items in
+    record {
+      answer = answer;
+      answers = is;
+      run = one_did w.log.items c.push_reserved.new.self.items d
+          (start (bytes_of w.given) w.began.value w.began_held.value) log;
+      well =
+          subst (λ (s : Server). IsWellFormed s.boxes) c.server.ensures.value c.server.ensures.well;
+    }

@@ -24,18 +24,21 @@ returns-then-eq-clause-run c =
     let w = c.args.self in
     let waits : w.phase ≡ phases.Waiting = search (rules, c.if-eq.ensures) in
     subst (λ (r : Run). IfOk c.begun.result (λ course. run_of course ≡ r))
-    (waits_on (bytes_of c.args.files) w.files w.server w.phase w.held w.parts w.unfinished w.lines.items w.received (run_of w) w.stands waits) c.begun.ensures.run
+    (waits_on (bytes_of c.args.files) w.files w.server w.phase w.held w.parts w.unfinished w.lines.items w.received
+    (run_of w) w.stands waits) c.begun.ensures.run
 
 pub returns-clause-run : goal.returns-clause-run
 returns-clause-run c =
     let w = c.args.self in
     let not_waiting : w.phase ≡ phases.Waiting → ⊥ = search rules in
     subst (λ (r : Run). IfOk c.begun-2.result (λ course. run_of course ≡ r))
-    (without (bytes_of c.args.files) w.files w.server w.phase w.held w.parts w.unfinished w.lines.items w.received (run_of w) w.stands not_waiting c.lose.new.self c.lose.ensures) c.begun-2.ensures.run
+    (without (bytes_of c.args.files) w.files w.server w.phase w.held w.parts w.unfinished w.lines.items w.received
+    (run_of w) w.stands not_waiting c.lose.new.self c.lose.ensures) c.begun-2.ensures.run
 
 pub returns-clause-line : goal.returns-clause-line
 returns-clause-line c =
     let w = c.args.self in
     let not_waiting : w.phase ≡ phases.Waiting → ⊥ = search rules in
     subst (λ (x : Option Held). IfOk c.begun-2.result (λ course. line_of course ≡ no_line x))
-    (no_held (bytes_of c.args.files) w.files w.server w.phase w.held w.parts w.unfinished w.lines.items w.received (run_of w) w.stands not_waiting) c.begun-2.ensures.line
+    (no_held (bytes_of c.args.files) w.files w.server w.phase w.held w.parts w.unfinished w.lines.items w.received
+    (run_of w) w.stands not_waiting) c.begun-2.ensures.line

@@ -12,9 +12,12 @@ pub invariant_of-self-2 : goal.invariant_of-self-2
 invariant_of-self-2 c =
     let w = c.args.self.now in
     let r = run_of w in
-    let is : c.push_reserved.new.self.items ≡ w.log.items ++ did.Synced c.args.side ∷ [] = c.push_reserved.ensures.items ∙ ap (λ (l : List Did). l ++ did.Synced c.args.side ∷ []) c.reserve.ensures.items in
+    let is : c.push_reserved.new.self.items ≡ w.log.items ++ did.Synced c.args.side ∷ [] =
+    c.push_reserved.ensures.items ∙ ap (λ (l : List Did). l ++ did.Synced c.args.side ∷ []) c.reserve.ensures.items in
     record {
-      stands = subst (λ (x : Run). Stands c.sync.new.self w.server w.phase w.held w.parts w.unfinished w.lines.items w.received x) (sym (one_did w.log.items c.push_reserved.new.self.items (did.Synced c.args.side) (start (bytes_of w.given) w.began.value w.began_held.value) is))
+      stands = subst (λ (x : Run). Stands c.sync.new.self w.server w.phase w.held w.parts w.unfinished w.lines.items w.received x)
+          (sym (one_did w.log.items c.push_reserved.new.self.items (did.Synced c.args.side)
+          (start (bytes_of w.given) w.began.value w.began_held.value) is))
           (synced_stands w.files w.server w.phase w.held w.parts w.unfinished w.lines.items w.received r w.stands c.args.side c.sync.new.self
           (c.sync.ensures.moment r.clock.now r.seen w.stands.files_are));
     }
@@ -22,5 +25,6 @@ invariant_of-self-2 c =
 pub returns-clause-done : goal.returns-clause-done
 returns-clause-done c =
     let w = c.args.self.now in
-    let is : c.push_reserved.new.self.items ≡ w.log.items ++ did.Synced c.args.side ∷ [] = c.push_reserved.ensures.items ∙ ap (λ (l : List Did). l ++ did.Synced c.args.side ∷ []) c.reserve.ensures.items in
+    let is : c.push_reserved.new.self.items ≡ w.log.items ++ did.Synced c.args.side ∷ [] =
+    c.push_reserved.ensures.items ∙ ap (λ (l : List Did). l ++ did.Synced c.args.side ∷ []) c.reserve.ensures.items in
     one_did w.log.items c.push_reserved.new.self.items (did.Synced c.args.side) (start (bytes_of w.given) w.began.value w.began_held.value) is

@@ -8,5 +8,7 @@ invariant_of-self-2 c =
     let f = c.self.inside in
     let range : Range = record { low = c.args.at; high = c.args.at + length c.args.bytes.now } in
     let end : c.in_ok-high.high ≡ c.args.at + length c.args.bytes.now = search rules in
-    let is = c.push_reserved.ensures.items ∙ ap (λ (n : ℕ). c.reserve.new.self.items ++ record { low = c.args.at; high = n } ∷ []) end ∙ ap (λ (l : List Range). l ++ range ∷ []) c.reserve.ensures.items in
-    write_whole f.synced f.later c.put_later.new.later f.written.items c.push_reserved.new.self.items c.args.at c.args.bytes.now c.self.invariant c.in_ok-put_later.ensures.done is
+    let is = c.push_reserved.ensures.items ∙ ap (λ (n : ℕ). c.reserve.new.self.items ++ record { low = c.args.at; high = n } ∷ []) end
+    ∙ ap (λ (l : List Range). l ++ range ∷ []) c.reserve.ensures.items in
+    write_whole f.synced f.later c.put_later.new.later f.written.items c.push_reserved.new.self.items c.args.at c.args.bytes.now
+    c.self.invariant c.in_ok-put_later.ensures.done is
