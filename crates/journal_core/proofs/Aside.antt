@@ -12,7 +12,8 @@ use Rattle.world_traits.proofs.Passing.{since_weaker}
 use Rattle.world_traits.proofs.Calls.{SideAt, at_rest, after_write, after_sync}
 use Rattle.journal_core.specs.Gates.{Beside, Passes}
 
-pub occurs_beside : (side : Side) (others : List ℕ) (P : List ℕ → Type 0) (m : Moment) (bytes : List ℕ) → stored (other side) m ≡ clean others → MayHold (stored side m) bytes → P bytes → Occurs (Beside side others P) m
+pub occurs_beside : (side : Side) (others : List ℕ) (P : List ℕ → Type 0) (m : Moment) (bytes : List ℕ) →
+    stored (other side) m ≡ clean others → MayHold (stored side m) bytes → P bytes → Occurs (Beside side others P) m
 occurs_beside Left others P m bytes there h p = record {
   files = record { left = bytes; right = others };
   leaves = record { left = h; right = subst (λ (s : Stored). MayHold s others) (sym there) (holds_clean others) };
@@ -26,19 +27,30 @@ occurs_beside Right others P m bytes there h p = record {
 
 module _ (side : Side) (others : List ℕ) (m : Moment) (there : stored (other side) m ≡ clean others) where
   others_stay : (files : Files) → MayLeave m files → file_of (other side) files ≡ others
-  others_stay files h = image_clean others (file_of (other side) files) (subst (λ (s : Stored). MayHold s (file_of (other side) files)) there (may_hold (other side) m files h))
+  others_stay files h = image_clean others (file_of (other side) files)
+      (subst (λ (s : Stored). MayHold s (file_of (other side) files)) there (may_hold (other side) m files h))
 
-  pub only_beside : (P : List ℕ → Type 0) (state : Stored) (bytes : List ℕ) → stored side m ≡ state → ((b : List ℕ) → MayHold state b → P b) → MayHold state bytes → Only (Beside side others P) m
+  pub only_beside : (P : List ℕ → Type 0) (state : Stored) (bytes : List ℕ) → stored side m ≡ state →
+      ((b : List ℕ) → MayHold state b → P b) → MayHold state bytes → Only (Beside side others P) m
   only_beside P state bytes is each h = record {
-    each = record { each = λ files k. record { here = each (file_of side files) (subst (λ (s : Stored). MayHold s (file_of side files)) is (may_hold side m files k)); there = others_stay files k } };
+    each = record {
+      each = λ files k. record {
+        here = each (file_of side files)
+            (subst (λ (s : Stored). MayHold s (file_of side files)) is (may_hold side m files k));
+        there = others_stay files k;
+      };
+    };
     some = occurs_beside side others P m bytes there (subst (λ (s : Stored). MayHold s bytes) (sym is) h) (each bytes h);
   }
 
-  pub both_beside : (P Q : List ℕ → Type 0) (state : Stored) (x y : List ℕ) → stored side m ≡ state → ((b : List ℕ) → MayHold state b → P b ⊎ Q b) → MayHold state x → P x → MayHold state y → Q y → Both (Beside side others P) (Beside side others Q) m
+  pub both_beside : (P Q : List ℕ → Type 0) (state : Stored) (x y : List ℕ) → stored side m ≡ state →
+      ((b : List ℕ) → MayHold state b → P b ⊎ Q b) → MayHold state x → P x → MayHold state y → Q y →
+      Both (Beside side others P) (Beside side others Q) m
   both_beside P Q state x y is each hx px hy qy = record {
     each = record {
       each = λ files k.
-          ⊎_elim (λ (p : P (file_of side files)). inl (record { here = p; there = others_stay files k })) (λ (q : Q (file_of side files)). inr (record { here = q; there = others_stay files k }))
+          ⊎_elim (λ (p : P (file_of side files)). inl (record { here = p; there = others_stay files k }))
+          (λ (q : Q (file_of side files)). inr (record { here = q; there = others_stay files k }))
           (each (file_of side files) (subst (λ (s : Stored). MayHold s (file_of side files)) is (may_hold side m files k)));
     };
     before = occurs_beside side others P m x there (subst (λ (s : Stored). MayHold s x) (sym is) hx) px;
@@ -50,14 +62,17 @@ pub record At (side : Side) (others file : List ℕ) (state : Stored) (k : Clock
   pub here : SideAt side file state k f
   pub same : file_of (other side) f ≡ others
 
-pub away : (side : Side) (others file : List ℕ) (state : Stored) (k : Clock) (f : Files) → At side others file state k f → stored (other side) k.now ≡ clean others
+pub away : (side : Side) (others file : List ℕ) (state : Stored) (k : Clock) (f : Files) → At side others file state k f →
+    stored (other side) k.now ≡ clean others
 away side others file state k f at = at.here.others ∙ ap clean at.same
 
-pub resting_at : (side : Side) (file : List ℕ) (k : Clock) (f : Files) → Rests k.now f → file_of side f ≡ file → At side (file_of (other side) f) file (clean file) k f
+pub resting_at : (side : Side) (file : List ℕ) (k : Clock) (f : Files) → Rests k.now f → file_of side f ≡ file →
+    At side (file_of (other side) f) file (clean file) k f
 resting_at side file k f rests is = record { here = subst (λ (b : List ℕ). SideAt side b (clean b) k f) is (at_rest side k f rests); same = refl }
 
 module _ (side : Side) (others file : List ℕ) (state : Stored) (k l : Clock) (f g : Files) (at : At side others file state k f) where
-  pub write_at : {T E : Type 0} (place : ℕ) (bytes : List ℕ) (x : T) → Wrote {T = T} {E = E} side place bytes k l f g (Ok x) → At side others (put place bytes file) (touch place (length bytes) state) l g
+  pub write_at : {T E : Type 0} (place : ℕ) (bytes : List ℕ) (x : T) → Wrote {T = T} {E = E} side place bytes k l f g (Ok x) →
+      At side others (put place bytes file) (touch place (length bytes) state) l g
   write_at place bytes x w = record {
     here = after_write side file state k l f g at.here place bytes x w;
     same = ap (file_of (other side)) w.seen_now ∙ file_there side _ f ∙ at.same;
@@ -83,7 +98,17 @@ module _ (B A C D : Files → Type 0) (bc : (files : Files) → B files → C fi
   phase_as (suc (suc n)) m o = only_as A D ad m o
 
   goes_as : (m n : Moment) → GoesOn B A m n → GoesOn C D m n
-  goes_as m n s = record { outside = s.outside; from = s.from; to = s.to; at_from = phase_as s.from m s.at_from; at_to = phase_as s.to n s.at_to; forward = s.forward; one = s.one }
+  goes_as m n s = record {
+    outside = s.outside;
+    from = s.from;
+    to = s.to;
+    at_from = phase_as s.from m s.at_from;
+    at_to =
+        phase_as s.to n s.at_to;
+    forward = s.forward;
+    one = s.one;
+  }
 
   pub passes_as : (old new : Clock) → Passes B A old new → Passes C D old new
-  passes_as old new s = since_weaker (Images (λ files. B files ⊎ A files)) (Images (λ files. C files ⊎ D files)) (GoesOn B A) (GoesOn C D) either_as goes_as old new s
+  passes_as old new s = since_weaker (Images (λ files. B files ⊎ A files)) (Images (λ files. C files ⊎ D files)) (GoesOn B A)
+      (GoesOn C D) either_as goes_as old new s

@@ -1,5 +1,6 @@
 -- Fresh bytes behind a gate, and the gate, on the bytes of one file.
-use Rattle.std.proofs.Common.{◌≡◌, ◌⊎◌, inl, inr, ℕ, ◌+◌, ◌-◌, ◌≤◌, List, [], ◌∷◌, ◌++◌, length, get_or, take, drop, replicate, refl, sym, ◌∙◌, ap, arith, append_assoc, length-append, take-append-drop}
+use Rattle.std.proofs.Common.{◌≡◌, ◌⊎◌, inl, inr, ℕ, ◌+◌, ◌-◌, ◌≤◌, List, [], ◌∷◌, ◌++◌, length, get_or, take, drop, replicate, refl, sym}
+use Rattle.std.proofs.Common.{◌∙◌, ap, arith, append_assoc, length-append, take-append-drop}
 use Rattle.std.proofs.lemmas.List.{append-nil, take_at, drop_at, drop_more}
 use Rattle.std.proofs.lemmas.Bool.{cases_eq}
 use Rattle.world_traits.specs.Files.{MayHold, clean, touch, put}
@@ -27,7 +28,8 @@ module _ (pre : List ℕ) (place : ℕ) (at : place ≡ length pre) where
   behind_gate gate rest = ap (drop (place + 1)) (split gate rest) ∙ drop_at (pre ++ gate ∷ []) rest (place + 1) (front_long gate)
 
   -- while bytes are written behind it, the gate stands in each image
-  pub behind_image : (size gate : ℕ) (rest bytes : List ℕ) → MayHold (touch (place + 1) size (clean (pre ++ gate ∷ rest))) bytes → bytes ≡ pre ++ gate ∷ drop (place + 1) bytes
+  pub behind_image : (size gate : ℕ) (rest bytes : List ℕ) → MayHold (touch (place + 1) size (clean (pre ++ gate ∷ rest))) bytes →
+      bytes ≡ pre ++ gate ∷ drop (place + 1) bytes
   behind_image size gate rest bytes h =
       let le : place + 1 ≤ length (pre ++ gate ∷ rest) = omega (arith, long gate rest) in
       let front : take (place + 1) bytes ≡ pre ++ gate ∷ [] = image_front (place + 1) _ bytes h (omega arith, tt) le ∙ to_gate gate rest in
@@ -36,7 +38,8 @@ module _ (pre : List ℕ) (place : ℕ) (at : place ≡ length pre) where
   no_gap : (n : ℕ) (bytes : List ℕ) → n ≤ length bytes → replicate {A = ℕ} (n - length bytes) 0 ≡ []
   no_gap n bytes le = let e : n - length bytes ≡ 0 = omega arith in ap (λ (k : ℕ). replicate {A = ℕ} k 0) e
 
-  pub put_behind : (gate : ℕ) (rest fresh : List ℕ) → put (place + 1) fresh (pre ++ gate ∷ rest) ≡ pre ++ gate ∷ (fresh ++ drop (place + 1 + length fresh) (pre ++ gate ∷ rest))
+  pub put_behind : (gate : ℕ) (rest fresh : List ℕ) → put (place + 1) fresh (pre ++ gate ∷ rest)
+      ≡ pre ++ gate ∷ (fresh ++ drop (place + 1 + length fresh) (pre ++ gate ∷ rest))
   put_behind gate rest fresh =
       let tail = drop (place + 1 + length fresh) (pre ++ gate ∷ rest) in
       ap (λ (l : List ℕ). l ++ replicate (place + 1 - length (pre ++ gate ∷ rest)) 0 ++ fresh ++ tail) (to_gate gate rest)

@@ -29,29 +29,35 @@ one_generation v w g h bytes s t =
 pub open_head : (v : Version) (g : ℕ) (bytes : List ℕ) → IsSetUp v g bytes → IsBegun bytes
 open_head First g bytes s = record { long = set_up_long First g bytes s; open_gate = ap (λ (l : List ℕ). slice_index l 0) s.is }
 
-right_both : (side any : Side) (files : Files) → (HasWrongHeader (file_of side files) → ⊥) → (HasWrongHeader (file_of (other side) files) → ⊥) → HasWrongHeader (file_of any files) → ⊥
+right_both : (side any : Side) (files : Files) → (HasWrongHeader (file_of side files) → ⊥) →
+    (HasWrongHeader (file_of (other side) files) → ⊥) → HasWrongHeader (file_of any files) → ⊥
 right_both Left Left files here there w = here w
 right_both Left Right files here there w = there w
 right_both Right Left files here there w = there w
 right_both Right Right files here there w = here w
 
 -- the only side that is set up
-pub alone : (side : Side) (v : Version) (g : ℕ) (files : Files) → IsSetUp v g (file_of side files) → (IsBegun (file_of (other side) files) → ⊥) → IsPresent side v g files
+pub alone : (side : Side) (v : Version) (g : ℕ) (files : Files) → IsSetUp v g (file_of side files) →
+    (IsBegun (file_of (other side) files) → ⊥) → IsPresent side v g files
 alone side v g files s none = record {
-  right = λ any. right_both side any files (λ (w : HasWrongHeader (file_of side files)). w.wrong v g s) (λ (w : HasWrongHeader (file_of (other side) files)). none w.begun);
+  right = λ any. right_both side any files (λ (w : HasWrongHeader (file_of side files)). w.wrong v g s)
+      (λ (w : HasWrongHeader (file_of (other side) files)). none w.begun);
   set_up = s;
   newer = λ w h t. absurd (none (open_head w h (file_of (other side) files) t));
 }
 
 -- the one with the higher generation
-pub higher : (side : Side) (v w : Version) (g h : ℕ) (files : Files) → IsSetUp v g (file_of side files) → IsSetUp w h (file_of (other side) files) → h < g → IsPresent side v g files
+pub higher : (side : Side) (v w : Version) (g h : ℕ) (files : Files) → IsSetUp v g (file_of side files) →
+    IsSetUp w h (file_of (other side) files) → h < g → IsPresent side v g files
 higher side v w g h files s t lt = record {
-  right = λ any. right_both side any files (λ (x : HasWrongHeader (file_of side files)). x.wrong v g s) (λ (x : HasWrongHeader (file_of (other side) files)). x.wrong w h t);
+  right = λ any. right_both side any files (λ (x : HasWrongHeader (file_of side files)). x.wrong v g s)
+      (λ (x : HasWrongHeader (file_of (other side) files)). x.wrong w h t);
   set_up = s;
   newer = λ u i r. omega (arith, lt, one_generation u w i h (file_of (other side) files) r t);
 }
 
-pub first_is : (side : Side) (v : Version) (g : ℕ) (files : Files) (journal : Standing) → journal ≡ at_first side v g → IsPresent side v g files → IsAtFirst journal files
+pub first_is : (side : Side) (v : Version) (g : ℕ) (files : Files) (journal : Standing) → journal ≡ at_first side v g →
+    IsPresent side v g files → IsAtFirst journal files
 first_is side v g files journal is p = subst (λ (j : Standing). IsAtFirst j files) (sym is) (record { present = p; is = refl })
 
 -- where the disk is at rest, a journal before its first record is still
@@ -64,7 +70,8 @@ still_first m seen files journal rests same a =
       sizes = tt;
       gate = a.present.set_up.gate;
       rest = a.present.set_up.rest;
-      is = ap (file_of journal.side) same ∙ a.present.set_up.is ∙ sym (append_assoc (head_of journal.version journal.generation) [] (a.present.set_up.gate ∷ a.present.set_up.rest));
+      is = ap (file_of journal.side) same ∙ a.present.set_up.is ∙ sym
+          (append_assoc (head_of journal.version journal.generation) [] (a.present.set_up.gate ∷ a.present.set_up.rest));
       next = sym (ap length (append-nil (head_of journal.version journal.generation)) ∙ head_long journal.version journal.generation);
       closed = λ (t : false ≡ true). absurd (false_true t);
     })

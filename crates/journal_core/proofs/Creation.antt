@@ -1,19 +1,22 @@
 -- A journal that is created.
-use Rattle.std.proofs.Common.{◌≡◌, ◌⊎◌, inl, inr, ⊎_elim, ℕ, zero, suc, ◌+◌, ◌≤◌, ◌<◌, List, [], ◌∷◌, ◌++◌, length, get_or, take, sym, ◌∙◌, true, false, min, ap, subst, arith, append_assoc, length-append, Result, Ok, OnOk}
+use Rattle.std.proofs.Common.{◌≡◌, ◌⊎◌, inl, inr, ⊎_elim, ℕ, zero, suc, ◌+◌, ◌≤◌, ◌<◌, List, [], ◌∷◌, ◌++◌, length, get_or, take, sym}
+use Rattle.std.proofs.Common.{◌∙◌, true, false, min, ap, subst, arith, append_assoc, length-append, Result, Ok, OnOk}
 use Rattle.std.specs.Int.{w32, to_be_bytes}
 use Rattle.std.proofs.lemmas.List.{append-nil, take_more}
 use Rattle.world_traits.specs.Files.{Files}
 use Rattle.world_traits.specs.Moments.{Clock, Images, Within, GoesOn, Narrows, Rests}
 use Rattle.world_traits.specs.declared.disk.Side.TheVariants.{Left, Right}
-use Rattle.world_traits.proofs.Passing.{since_then, since_weaker}
+use Rattle.world_traits.proofs.Passing.{since_start, since_then, since_weaker}
 use Rattle.journal_core.specs.declared.version.Version.TheVariants.{First}
-use Rattle.journal_core.specs.Records.{IsBody, AreBodies, open_record, records}
+use Rattle.mail_base.specs.Bodies.{IsBody}
+use Rattle.journal_core.specs.Records.{AreBodies, open_record, records}
 use Rattle.journal_core.specs.Sides.{head_of, IsBegun, IsGeneration}
 use Rattle.journal_core.specs.Holds.{Holds, IsPresent}
 use Rattle.journal_core.specs.Standing.{Standing, IsStill}
-use Rattle.journal_core.specs.Gates.{IsShut, Beside}
+use Rattle.journal_core.specs.Gates.{IsShut, Beside, Passes}
 use Rattle.journal_core.specs.Appending.{told_end}
-use Rattle.journal_core.specs.Creating.{AsBefore, SetsUp, NoneEmpty, IsFree, IsUnbegun, CreatesThrough, created, end_of}
+use Rattle.journal_core.specs.Settling.{Settles}
+use Rattle.journal_core.specs.Creating.{AsBefore, SetsUp, NoneEmpty, IsUnbegun, CreatesThrough, CreatesBehind, created, end_of}
 use Rattle.journal_core.proofs.Aside.{passes_as}
 use Rattle.journal_core.proofs.Choice.{open_head, alone}
 use Rattle.journal_core.proofs.Lists.{records-push}
@@ -21,23 +24,36 @@ use Rattle.journal_core.proofs.Presence.{head_long, set_up_shut, from_behind}
 
 pub narrows_creates : (bodies : List (List ℕ)) (old new : Clock) → Narrows old new → CreatesThrough bodies old new
 narrows_creates bodies old new n =
-    since_weaker (Within old.now) (λ m. Within old.now m ⊎ Images (λ files. IsFree files ⊎ Holds First bodies files) m) Within (λ m n. Within m n ⊎ GoesOn IsFree (Holds First bodies) m n)
+    since_weaker (Within old.now) (λ m. Within old.now m ⊎ Images (λ files. IsUnbegun files ⊎ Holds First bodies files) m) Within
+    (λ m n. Within m n ⊎ GoesOn IsUnbegun (Holds First bodies) m n)
     (λ m w. inl w) (λ m n s. inl s) old new n
+
+-- where nothing was written
+pub settles_creates : (bodies : List (List ℕ)) (old new : Clock) (seen : Files) → Settles old new seen → Narrows old new → CreatesBehind bodies old new seen
+settles_creates bodies old new seen settles narrows = record {
+  at = new;
+  settles = settles;
+  narrows = narrows;
+  passes = since_start (Images (λ files. IsUnbegun files ⊎ Holds First bodies files)) (GoesOn IsUnbegun (Holds First bodies)) new;
+}
 
 one_generation_is : IsGeneration 1
 one_generation_is = record { some = omega arith; fits = omega arith }
 
 -- a side that no one began, as it was or still not begun
-free_beside : (f1 : Files) → IsUnbegun f1 → (files : Files) → Beside Left f1.right (AsBefore f1.left) files → IsFree files
-free_beside f1 none files b Left v g s =
-    ⊎_elim (λ (same : files.left ≡ f1.left). none Left (subst IsBegun same (open_head v g files.left s))) (λ (no : IsBegun files.left → ⊥). no (open_head v g files.left s)) b.here
-free_beside f1 none files b Right v g s = none Right (subst IsBegun b.there (open_head v g files.right s))
+free_beside : (f1 : Files) → IsUnbegun f1 → (files : Files) → Beside Left f1.right (AsBefore f1.left) files → IsUnbegun files
+free_beside f1 none files b Left o =
+    ⊎_elim (λ (same : files.left ≡ f1.left). none Left (subst IsBegun same o)) (λ (no : IsBegun files.left → ⊥). no o) b.here
+free_beside f1 none files b Right o = none Right (subst IsBegun b.there o)
 
-present_beside : (f1 : Files) → IsUnbegun f1 → (bodies : List (List ℕ)) (files : Files) → Beside Left f1.right (IsShut (head_of First 1 ++ records bodies)) files → IsPresent Left First 1 files
+present_beside : (f1 : Files) → IsUnbegun f1 → (bodies : List (List ℕ)) (files : Files) →
+    Beside Left f1.right (IsShut (head_of First 1 ++ records bodies)) files → IsPresent Left First 1 files
 present_beside f1 none bodies files b =
-    alone Left First 1 files (set_up_shut First 1 bodies files.left b.here.gate b.here.rest one_generation_is b.here.is) (λ (o : IsBegun files.right). none Right (subst IsBegun b.there o))
+    alone Left First 1 files (set_up_shut First 1 bodies files.left b.here.gate b.here.rest one_generation_is b.here.is)
+    (λ (o : IsBegun files.right). none Right (subst IsBegun b.there o))
 
-holds_beside : (f1 : Files) → IsUnbegun f1 → (bodies : List (List ℕ)) → AreBodies bodies → (files : Files) → Beside Left f1.right (IsShut (head_of First 1 ++ records bodies)) files → Holds First bodies files
+holds_beside : (f1 : Files) → IsUnbegun f1 → (bodies : List (List ℕ)) → AreBodies bodies → (files : Files) →
+    Beside Left f1.right (IsShut (head_of First 1 ++ records bodies)) files → Holds First bodies files
 holds_beside f1 none bodies sizes files b = record {
   side = Left;
   generation = 1;
@@ -45,19 +61,29 @@ holds_beside f1 none bodies sizes files b = record {
   records = from_behind First 1 bodies files.left sizes b.here;
 }
 
-module _ (bodies : List (List ℕ)) (sizes : AreBodies bodies) (k0 k1 k2 : Clock) (f0 f1 f2 : Files) (narrow : Narrows k0 k1) (rests : Rests k1.now f1) (same : f1 ≡ f0) (unbegun : IsUnbegun f0) {T E : Type 0} (r : Result T E) (s : SetsUp Left First 1 bodies k1 k2 f1 f2 r) where
+module _ (bodies : List (List ℕ)) (sizes : AreBodies bodies) (k0 k1 k2 : Clock) (f0 f1 f2 : Files) (narrow : Narrows k0 k1)
+    (rests : Rests k1.now f1) (same : f1 ≡ f0) (unbegun : IsUnbegun f0) {T E : Type 0} (r : Result T E)
+    (s : SetsUp Left First 1 bodies k1 k2 f1 f2 r) where
   none_now : IsUnbegun f1
   none_now = subst IsUnbegun (sym same) unbegun
+
+  sets_passes : Passes IsUnbegun (Holds First bodies) k1 k2
+  sets_passes = passes_as _ _ _ _ (free_beside f1 none_now) (holds_beside f1 none_now bodies sizes) k1 k2 (s.passing rests)
 
   pub sets_creates : CreatesThrough bodies k0 k2
   sets_creates =
       since_then _ _ k0 k1 k2 (narrows_creates bodies k0 k1 narrow)
-      (since_weaker (Images (λ files. IsFree files ⊎ Holds First bodies files)) (λ m. Within k0.now m ⊎ Images (λ files. IsFree files ⊎ Holds First bodies files) m) (GoesOn IsFree (Holds First bodies)) (λ m n. Within m n ⊎ GoesOn IsFree (Holds First bodies) m n)
-      (λ m i. inr i) (λ m n g. inr g) k1 k2
-      (passes_as _ _ _ _ (free_beside f1 none_now) (holds_beside f1 none_now bodies sizes) k1 k2 (s.passing rests)))
+      (since_weaker (Images (λ files. IsUnbegun files ⊎ Holds First bodies files))
+      (λ m. Within k0.now m ⊎ Images (λ files. IsUnbegun files ⊎ Holds First bodies files) m) (GoesOn IsUnbegun (Holds First bodies))
+      (λ m n. Within m n ⊎ GoesOn IsUnbegun (Holds First bodies) m n)
+      (λ m i. inr i) (λ m n g. inr g) k1 k2 sets_passes)
+
+  pub sets_behind : (seen : Files) → Settles k0 k1 seen → CreatesBehind bodies k0 k2 seen
+  sets_behind seen settles = record { at = k1; settles = settles; narrows = narrow; passes = sets_passes }
 
 -- the journal behind its first bodies
-module _ (bodies : List (List ℕ)) (sizes : AreBodies bodies) (k1 k2 : Clock) (f0 f1 f2 : Files) (rests : Rests k1.now f1) (same : f1 ≡ f0) (unbegun : IsUnbegun f0) {T E : Type 0} (r : Result T E) (x : T) (ok : r ≡ Ok x) (s : SetsUp Left First 1 bodies k1 k2 f1 f2 r) where
+module _ (bodies : List (List ℕ)) (sizes : AreBodies bodies) (k1 k2 : Clock) (f0 f1 f2 : Files) (rests : Rests k1.now f1) (same : f1 ≡ f0)
+    (unbegun : IsUnbegun f0) {T E : Type 0} (r : Result T E) (x : T) (ok : r ≡ Ok x) (s : SetsUp Left First 1 bodies k1 k2 f1 f2 r) where
   rests_there : Rests k2.now f2
   rests_there = subst (λ (q : Result T E). OnOk q (Rests k2.now f2)) ok (s.rests rests)
 
@@ -90,7 +116,8 @@ at_index (b ∷ bs) all zero x lt is = subst IsBody (sym is) all.0
 at_index (b ∷ bs) all (suc i) x lt is = at_index bs all.1 i x (omega (arith, lt)) is
 
 -- one body more
-pub records_take : (bodies : List (List ℕ)) (i : ℕ) (x : List ℕ) → i < length bodies → x ≡ get_or bodies i x → records (take (i + 1) bodies) ≡ records (take i bodies) ++ open_record x
+pub records_take : (bodies : List (List ℕ)) (i : ℕ) (x : List ℕ) → i < length bodies → x ≡ get_or bodies i x →
+    records (take (i + 1) bodies) ≡ records (take i bodies) ++ open_record x
 records_take bodies i x lt is =
     ap records (take_more bodies i x lt ∙ ap (λ (b : List ℕ). take i bodies ++ b ∷ []) (sym is))
     ∙ sym (append-nil (records (take i bodies ++ x ∷ [])))
@@ -105,7 +132,8 @@ module _ (bodies : List (List ℕ)) (i : ℕ) (x y : List ℕ) (lt : i < length 
   more : records (take (i + 1) bodies) ≡ records (take i bodies) ++ open_record y
   more = records_take bodies i x lt is ∙ ap (λ (b : List ℕ). records (take i bodies) ++ open_record b) (sym given)
 
-  pub place_more : (place mid new : ℕ) → place ≡ told_end (end_of (take i bodies)) → mid ≡ min (place + 5) 18446744073709551615 → new ≡ min (mid + length y) 18446744073709551615 → new ≡ told_end (end_of (take (i + 1) bodies))
+  pub place_more : (place mid new : ℕ) → place ≡ told_end (end_of (take i bodies)) → mid ≡ min (place + 5) 18446744073709551615 →
+      new ≡ min (mid + length y) 18446744073709551615 → new ≡ told_end (end_of (take (i + 1) bodies))
   place_more place mid new a b d =
       omega (arith, a, b, d, ap length more, length-append (records (take i bodies)) (open_record y), length-append (to_be_bytes w32 (length y)) y)
 

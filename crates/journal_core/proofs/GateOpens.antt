@@ -47,25 +47,31 @@ module _ (side : Side) (others front fresh : List ℕ) (place : ℕ) (next : pla
   New = Beside side others (IsOpened front fresh)
 
   -- the images of a side whose file is clean, is written behind the gate, or at it
-  shut_clean : (gate : ℕ) (rest : List ℕ) → gate ≢ 1 → (m : Moment) → stored (other side) m ≡ clean others → stored side m ≡ clean (front ++ gate ∷ rest) → Only Old m
+  shut_clean : (gate : ℕ) (rest : List ℕ) → gate ≢ 1 → (m : Moment) → stored (other side) m ≡ clean others →
+      stored side m ≡ clean (front ++ gate ∷ rest) → Only Old m
   shut_clean gate rest closed m there is = only_beside side others m there (IsShut front) (clean (front ++ gate ∷ rest)) (front ++ gate ∷ rest) is
       (λ b h. record { gate = gate; rest = rest; closed = closed; is = image_clean (front ++ gate ∷ rest) b h })
       (holds_clean (front ++ gate ∷ rest))
 
-  shut_behind : (gate : ℕ) (rest : List ℕ) → gate ≢ 1 → (size : ℕ) (m : Moment) → stored (other side) m ≡ clean others → stored side m ≡ touch (place + 1) size (clean (front ++ gate ∷ rest)) → Only Old m
-  shut_behind gate rest closed size m there is = only_beside side others m there (IsShut front) (touch (place + 1) size (clean (front ++ gate ∷ rest))) (front ++ gate ∷ rest) is
+  shut_behind : (gate : ℕ) (rest : List ℕ) → gate ≢ 1 → (size : ℕ) (m : Moment) → stored (other side) m ≡ clean others →
+      stored side m ≡ touch (place + 1) size (clean (front ++ gate ∷ rest)) → Only Old m
+  shut_behind gate rest closed size m there is = only_beside side others m there (IsShut front)
+      (touch (place + 1) size (clean (front ++ gate ∷ rest))) (front ++ gate ∷ rest) is
       (λ b h. record { gate = gate; rest = drop (place + 1) b; closed = closed; is = behind_image front place next size gate rest b h })
       (image_self (touch (place + 1) size (clean (front ++ gate ∷ rest))) (omega arith))
 
-  at_gate : (gate : ℕ) (tail : List ℕ) → gate ≢ 1 → (m : Moment) → stored (other side) m ≡ clean others → stored side m ≡ touch place 1 (clean (front ++ gate ∷ (fresh ++ tail))) → Both Old New m
+  at_gate : (gate : ℕ) (tail : List ℕ) → gate ≢ 1 → (m : Moment) → stored (other side) m ≡ clean others →
+      stored side m ≡ touch place 1 (clean (front ++ gate ∷ (fresh ++ tail))) → Both Old New m
   at_gate gate tail closed m there is =
       let X = front ++ gate ∷ (fresh ++ tail) in
       let Y = front ++ 1 ∷ (fresh ++ tail) in
       let self : MayHold (touch place 1 (clean X)) X = image_self (touch place 1 (clean X)) (omega arith) in
       let open_there : MayHold (touch place 1 (clean X)) Y =
-      subst (λ (b : List ℕ). MayHold (touch place 1 (clean X)) b) (put_gate front place next gate 1 (fresh ++ tail)) (holds_put (clean X) X place (1 ∷ []) (holds_clean X)) in
+      subst (λ (b : List ℕ). MayHold (touch place 1 (clean X)) b) (put_gate front place next gate 1 (fresh ++ tail))
+      (holds_put (clean X) X place (1 ∷ []) (holds_clean X)) in
       both_beside side others m there (IsShut front) (IsOpened front fresh) (touch place 1 (clean X)) X Y is
-      (λ b h. subst (λ (c : List ℕ). IsShut front c ⊎ IsOpened front fresh c) (sym (gate_image front place next gate (fresh ++ tail) b h)) (either front fresh tail (get_or b place 0)))
+      (λ b h. subst (λ (c : List ℕ). IsShut front c ⊎ IsOpened front fresh c) (sym (gate_image front place next gate (fresh ++ tail) b h))
+      (either front fresh tail (get_or b place 0)))
       self (record { gate = gate; rest = fresh ++ tail; closed = closed; is = refl })
       open_there (record { rest = tail; is = refl })
 
@@ -74,7 +80,8 @@ module _ (side : Side) (others front fresh : List ℕ) (place : ℕ) (next : pla
       (λ b h. record { rest = tail; is = image_clean (front ++ 1 ∷ (fresh ++ tail)) b h })
       (holds_clean (front ++ 1 ∷ (fresh ++ tail)))
 
-module _ (side : Side) (front fresh : List ℕ) (place : ℕ) (k0 k1 k2 k3 k4 : Clock) (f0 f1 f2 f3 f4 : Files) (rests : Rests k0.now f0) (shut : IsShut front (file_of side f0)) (next : place ≡ length front) where
+module _ (side : Side) (front fresh : List ℕ) (place : ℕ) (k0 k1 k2 k3 k4 : Clock) (f0 f1 f2 f3 f4 : Files) (rests : Rests k0.now f0)
+    (shut : IsShut front (file_of side f0)) (next : place ≡ length front) where
   abbrev pub others : List ℕ
   others = file_of (other side) f0
 
@@ -100,12 +107,14 @@ module _ (side : Side) (front fresh : List ℕ) (place : ℕ) (k0 k1 k2 k3 k4 : 
   old0 = shut_clean side others front fresh place next shut.gate shut.rest shut.closed k0.now (away side others F (clean F) k0 f0 at0) at0.here.stores
 
   old1 : Only (Old side others front fresh place next) (written side (place + 1) fresh k0.now)
-  old1 = shut_behind side others front fresh place next shut.gate shut.rest shut.closed (length fresh) _ (stored_there side _ k0.now ∙ away side others F (clean F) k0 f0 at0)
+  old1 = shut_behind side others front fresh place next shut.gate shut.rest shut.closed (length fresh) _
+      (stored_there side _ k0.now ∙ away side others F (clean F) k0 f0 at0)
       (written_state side F (clean F) k0 k1 f0 f1 at0.here (place + 1) fresh)
 
   -- the first write
   pub exit1 : {V E : Type 0} (r : Result V E) → Wrote side (place + 1) fresh k0 k1 f0 f1 r → Since Q T k0 k1
-  exit1 r w = since_write Q T side k0 k0 k1 f0 f1 (since_start Q T k0) (old_is_either _ _ k0.now old0) (old_to_old _ _ k0.now k0.now refl old0 old0) (place + 1) fresh r w
+  exit1 r w = since_write Q T side k0 k0 k1 f0 f1 (since_start Q T k0) (old_is_either _ _ k0.now old0)
+      (old_to_old _ _ k0.now k0.now refl old0 old0) (place + 1) fresh r w
       (old_is_either _ _ _ old1) (old_to_old _ _ k0.now _ (outside_written side (place + 1) fresh k0.now) old0 old1)
 
   module _ {V E : Type 0} (x : V) (w1 : Wrote {T = V} {E = E} side (place + 1) fresh k0 k1 f0 f1 (Ok x)) where
@@ -121,7 +130,8 @@ module _ (side : Side) (front fresh : List ℕ) (place : ℕ) (k0 k1 k2 k3 k4 : 
     old1' = shut_behind side others front fresh place next shut.gate shut.rest shut.closed (length fresh) k1.now away1 at1.here.stores
 
     old2 : Only (Old side others front fresh place next) (settled side (file_of side f1) k1.now)
-    old2 = shut_clean side others front fresh place next shut.gate _ shut.closed _ (stored_there side _ k1.now ∙ away1) (settled_state side X _ k1 k2 f1 f2 at1.here)
+    old2 = shut_clean side others front fresh place next shut.gate _ shut.closed _ (stored_there side _ k1.now ∙ away1)
+        (settled_state side X _ k1 k2 f1 f2 at1.here)
 
     -- the first sync
     pub exit2 : (r : Result V E) → Synced side k1 k2 f1 f2 r → Since Q T k0 k2
@@ -139,11 +149,13 @@ module _ (side : Side) (front fresh : List ℕ) (place : ℕ) (k0 k1 k2 k3 k4 : 
       old2' = shut_clean side others front fresh place next shut.gate _ shut.closed k2.now away2 at2.here.stores
 
       begun : Both (Old side others front fresh place next) (New side others front fresh place next) (written side place (1 ∷ []) k2.now)
-      begun = at_gate side others front fresh place next shut.gate _ shut.closed _ (stored_there side _ k2.now ∙ away2) (written_state side X (clean X) k2 k3 f2 f3 at2.here place (1 ∷ []))
+      begun = at_gate side others front fresh place next shut.gate _ shut.closed _ (stored_there side _ k2.now ∙ away2)
+          (written_state side X (clean X) k2 k3 f2 f3 at2.here place (1 ∷ []))
 
       -- the gate's write
       pub exit3 : (r : Result V E) → Wrote side place (1 ∷ []) k2 k3 f2 f3 r → Since Q T k0 k3
-      exit3 r w = since_write Q T side k0 k2 k3 f2 f3 (exit2 (Ok y) s1) (old_is_either _ _ k2.now old2') (old_to_old _ _ k2.now k2.now refl old2' old2') place (1 ∷ []) r w
+      exit3 r w = since_write Q T side k0 k2 k3 f2 f3 (exit2 (Ok y) s1) (old_is_either _ _ k2.now old2')
+          (old_to_old _ _ k2.now k2.now refl old2' old2') place (1 ∷ []) r w
           begun.each (begins _ _ k2.now _ (outside_written side place (1 ∷ []) k2.now) old2' begun)
 
       module _ (z : V) (w2 : Wrote {T = V} {E = E} side place (1 ∷ []) k2 k3 f2 f3 (Ok z)) where

@@ -1,5 +1,7 @@
 -- The head of a side, byte by byte.
-use Rattle.std.proofs.Common.{◌≡◌, ℕ, zero, suc, ◌-◌, ◌≤◌, ◌<◌, ◌^◌, min, List, [], ◌∷◌, ◌++◌, length, get_or, take, drop, codes, eqb, not, Bool, true, false, refl, sym, ◌∙◌, ap, subst, arith, append_assoc, length-take, take-append-drop, get_or-take}
+use Rattle.std.proofs.Common.{◌≡◌, ℕ, zero, suc, ◌-◌, ◌≤◌, ◌<◌, ◌^◌, min, List, [], ◌∷◌, ◌++◌, length, get_or, take, drop, codes, eqb}
+use Rattle.std.proofs.Common.{not, Bool, true, false, refl, sym, ◌∙◌, ap, subst, arith, append_assoc, length-take, take-append-drop}
+use Rattle.std.proofs.Common.{get_or-take}
 use Rattle.std.specs.Int.{w32, from_be_bytes}
 use Rattle.std.proofs.lemmas.Nat.{be_bytes_4}
 use Rattle.std.proofs.lemmas.List.{drop_more, drop-drop}
@@ -28,7 +30,8 @@ module _ (bytes : List ℕ) (long : 14 ≤ length bytes) where
       ∙ ap (λ (l : List ℕ). get_or bytes 9 0 ∷ get_or bytes 10 0 ∷ get_or bytes 11 0 ∷ l) (drop_more bytes 12 0 (omega (arith, long)))
       ∙ ap (λ (l : List ℕ). get_or bytes 9 0 ∷ get_or bytes 10 0 ∷ get_or bytes 11 0 ∷ get_or bytes 12 0 ∷ l) (drop_more bytes 13 0 (omega (arith, long)))
 
-  four_small : ((i : ℕ) → get_or bytes i 0 < 256) → (i : ℕ) → get_or (get_or bytes 9 0 ∷ get_or bytes 10 0 ∷ get_or bytes 11 0 ∷ get_or bytes 12 0 ∷ []) i 0 < 256
+  four_small : ((i : ℕ) → get_or bytes i 0 < 256) → (i : ℕ) → get_or
+      (get_or bytes 9 0 ∷ get_or bytes 10 0 ∷ get_or bytes 11 0 ∷ get_or bytes 12 0 ∷ []) i 0 < 256
   four_small small zero = small 9
   four_small small (suc zero) = small 10
   four_small small (suc (suc zero)) = small 11
@@ -40,7 +43,9 @@ module _ (bytes : List ℕ) (long : 14 ≤ length bytes) where
   same_word r word is same = (bytes_eq-Decides (take 8 (drop 1 bytes)) word).0 (not_false (pointwise eqb (take 8 (drop 1 bytes)) word) (sym is ∙ same))
 
   -- the magic word and a generation behind an open gate
-  pub set_up_read : get_or bytes 0 0 ≡ 1 → (r : Bool) → r ≡ not (pointwise eqb (take 8 (drop 1 bytes)) (codes "ODMAILJ1")) → r ≡ false → ((i : ℕ) → get_or bytes i 0 < 256) → (n : ℕ) → n ≡ from_be_bytes w32 (get_or bytes 9 0 ∷ get_or bytes 10 0 ∷ get_or bytes 11 0 ∷ get_or bytes 12 0 ∷ []) → 0 < n → n < 2 ^ 32 → IsSetUp First n bytes
+  pub set_up_read : get_or bytes 0 0 ≡ 1 → (r : Bool) → r ≡ not (pointwise eqb (take 8 (drop 1 bytes)) (codes "ODMAILJ1")) → r ≡ false →
+      ((i : ℕ) → get_or bytes i 0 < 256) → (n : ℕ) → n ≡ from_be_bytes w32
+      (get_or bytes 9 0 ∷ get_or bytes 10 0 ∷ get_or bytes 11 0 ∷ get_or bytes 12 0 ∷ []) → 0 < n → n < 2 ^ 32 → IsSetUp First n bytes
   set_up_read open_gate r word same small n is some fits = record {
     number = record { some = some; fits = fits };
     gate = get_or bytes 13 0;
@@ -50,7 +55,9 @@ module _ (bytes : List ℕ) (long : 14 ≤ length bytes) where
         ∙ ap (λ (l : List ℕ). 1 ∷ l) (sym (take-append-drop 8 (drop 1 bytes)))
         ∙ ap (λ (l : List ℕ). 1 ∷ (l ++ drop 8 (drop 1 bytes))) (same_word r (codes "ODMAILJ1") word same)
         ∙ ap (λ (l : List ℕ). 1 ∷ (codes "ODMAILJ1" ++ l)) (drop-drop 8 1 bytes ∙ behind_magic)
-        ∙ ap (λ (l : List ℕ). 1 ∷ (codes "ODMAILJ1" ++ (l ++ get_or bytes 13 0 ∷ drop 14 bytes))) (sym (be_bytes_4 (get_or bytes 9 0 ∷ get_or bytes 10 0 ∷ get_or bytes 11 0 ∷ get_or bytes 12 0 ∷ []) n refl (four_small small) is));
+        ∙ ap (λ (l : List ℕ). 1 ∷ (codes "ODMAILJ1" ++ (l ++ get_or bytes 13 0 ∷ drop 14 bytes)))
+        (sym (be_bytes_4 (get_or bytes 9 0 ∷ get_or bytes 10 0 ∷ get_or bytes 11 0 ∷ get_or bytes 12 0 ∷ []) n refl
+        (four_small small) is));
   }
 
 -- a side that is set up has at least 14 bytes, and they decide
@@ -90,7 +97,8 @@ module _ (n : ℕ) (file : List ℕ) (all : n ≡ min 14 (length file)) where
   }
 
 -- what the first bytes say is what the file says
-pub read_head_is : (n : ℕ) (file into : List ℕ) → n ≡ min 14 (length file - 0) → (head : Head) → take n into ≡ take n file → HeadIs head (take n into) → HeadIs head file
+pub read_head_is : (n : ℕ) (file into : List ℕ) → n ≡ min 14 (length file - 0) → (head : Head) → take n into ≡ take n file →
+    HeadIs head (take n into) → HeadIs head file
 read_head_is n file into all head same is =
     let full : n ≡ min 14 (length file) = omega (arith, all) in
     head_long_is n file full head (subst (HeadIs head) same is)

@@ -1,5 +1,6 @@
 -- The head gate is closed, and a side is set up behind it.
-use Rattle.std.proofs.Common.{◌≡◌, ◌≢◌, ◌⊎◌, inl, inr, ⊎_elim, ℕ, ◌-◌, ◌<◌, min, List, [], ◌∷◌, ◌++◌, length, get_or, take, drop, replicate, slice_index, refl, sym, ◌∙◌, ap, subst, arith, append_assoc, get_or-take, Result, Ok, Err, OnOk}
+use Rattle.std.proofs.Common.{◌≡◌, ◌≢◌, ◌⊎◌, inl, inr, ⊎_elim, ℕ, ◌-◌, ◌<◌, min, List, [], ◌∷◌, ◌++◌, length, get_or, take, drop}
+use Rattle.std.proofs.Common.{replicate, slice_index, refl, sym, ◌∙◌, ap, subst, arith, append_assoc, get_or-take, Result, Ok, Err, OnOk}
 use Rattle.std.proofs.lemmas.List.{drop_more}
 use Rattle.std.proofs.lemmas.Bool.{cases_eq}
 use Rattle.world_traits.specs.Files.{MayHold, Files, clean, touch, put, file_of, other}
@@ -45,7 +46,8 @@ closing before bytes (inl few) h =
     inr (λ (b : IsBegun bytes). absurd (omega (arith, few, le, b.long)))
 closing before bytes (inr o) h =
     let split : before ≡ get_or before 0 0 ∷ drop 1 before = drop_more before 0 0 o.0 in
-    let held : MayHold (touch 0 1 (clean ([] ++ get_or before 0 0 ∷ drop 1 before))) bytes = subst (λ (l : List ℕ). MayHold (touch 0 1 (clean l)) bytes) split h in
+    let held : MayHold (touch 0 1 (clean ([] ++ get_or before 0 0 ∷ drop 1 before))) bytes =
+    subst (λ (l : List ℕ). MayHold (touch 0 1 (clean l)) bytes) split h in
     let is = gate_image [] 0 refl (get_or before 0 0) (drop 1 before) bytes held in
     ⊎_elim
     (λ (one : get_or bytes 0 0 ≡ 1). inl (is ∙ ap (λ (x : ℕ). x ∷ drop 1 before) (one ∙ sym o.1) ∙ sym split))
@@ -86,16 +88,19 @@ module _ (side : Side) (version : Version) (generation : ℕ) (bodies : List (Li
     zeroed = 0 ∷ drop 1 (file_of side f0)
 
     touched_only : (m : Moment) → stored (other side) m ≡ clean others → stored side m ≡ touch 0 1 (clean before) → Only B m
-    touched_only m there is = only_beside side others m there (AsBefore before) (touch 0 1 (clean before)) before is (λ b h. closing before b close h) (image_self (touch 0 1 (clean before)) (omega arith))
+    touched_only m there is = only_beside side others m there (AsBefore before) (touch 0 1 (clean before)) before is
+        (λ b h. closing before b close h) (image_self (touch 0 1 (clean before)) (omega arith))
 
     zeroed_only : (m : Moment) → stored (other side) m ≡ clean others → stored side m ≡ clean zeroed → Only B m
-    zeroed_only m there is = only_beside side others m there (AsBefore before) (clean zeroed) zeroed is (λ b h. inr (shut_gate 0 (drop 1 before) b (λ e. cc) (image_clean zeroed b h))) (holds_clean zeroed)
+    zeroed_only m there is = only_beside side others m there (AsBefore before) (clean zeroed) zeroed is
+        (λ b h. inr (shut_gate 0 (drop 1 before) b (λ e. cc) (image_clean zeroed b h))) (holds_clean zeroed)
 
     -- after calls that only looked
     module _ (k1 k2 k3 : Clock) (f1 f2 f3 : Files) (l1 : Looked k0 k1 f0 f1) where
       at1 : At side others before (clean before) k1 f1
       at1 = record {
-        here = subst (λ (b : List ℕ). SideAt side b (clean b) k1 f1) (ap (file_of side) l1.seen_same) (at_rest side k1 f1 (rests_look k0 k1 f0 f1 rests (looks k0 k1 f0 f1 l1)));
+        here = subst (λ (b : List ℕ). SideAt side b (clean b) k1 f1) (ap (file_of side) l1.seen_same)
+            (at_rest side k1 f1 (rests_look k0 k1 f0 f1 rests (looks k0 k1 f0 f1 l1)));
         same = ap (file_of (other side)) l1.seen_same;
       }
 
@@ -105,12 +110,16 @@ module _ (side : Side) (version : Version) (generation : ℕ) (bodies : List (Li
 
       pub close_write : {V E : Type 0} (r : Result V E) → Wrote side 0 (0 ∷ []) k1 k2 f1 f2 r → Since (Only B) To k0 k2
       close_write r w =
-          let there = touched_only (written side 0 (0 ∷ []) k1.now) (stored_there side _ k1.now ∙ away side others before (clean before) k1 f1 at1) (written_state side before (clean before) k1 k2 f1 f2 at1.here 0 (0 ∷ [])) in
-          since_write (Only B) To side k0 k1 k2 f1 f2 (close_look k1 f1 l1) only1 (same k1.now only1) 0 (0 ∷ []) r w there (old_to_old B A k1.now _ (outside_written side 0 (0 ∷ []) k1.now) only1 there)
+          let there = touched_only (written side 0 (0 ∷ []) k1.now) (stored_there side _ k1.now
+          ∙ away side others before (clean before) k1 f1 at1) (written_state side before (clean before) k1 k2 f1 f2 at1.here 0
+          (0 ∷ [])) in
+          since_write (Only B) To side k0 k1 k2 f1 f2 (close_look k1 f1 l1) only1 (same k1.now only1) 0 (0 ∷ []) r w there
+          (old_to_old B A k1.now _ (outside_written side 0 (0 ∷ []) k1.now) only1 there)
 
       module _ {V E : Type 0} (x : V) (w : Wrote {T = V} {E = E} side 0 (0 ∷ []) k1 k2 f1 f2 (Ok x)) where
         at2 : At side others zeroed (touch 0 1 (clean before)) k2 f2
-        at2 = subst (λ (b : List ℕ). At side others b (touch 0 1 (clean before)) k2 f2) (zero_first before) (write_at side others before (clean before) k1 k2 f1 f2 at1 0 (0 ∷ []) x w)
+        at2 = subst (λ (b : List ℕ). At side others b (touch 0 1 (clean before)) k2 f2) (zero_first before)
+            (write_at side others before (clean before) k1 k2 f1 f2 at1 0 (0 ∷ []) x w)
 
         away2 : stored (other side) k2.now ≡ clean others
         away2 = away side others zeroed (touch 0 1 (clean before)) k2 f2 at2
@@ -120,15 +129,18 @@ module _ (side : Side) (version : Version) (generation : ℕ) (bodies : List (Li
 
         pub close_sync : (r : Result V E) → Synced side k2 k3 f2 f3 r → Since (Only B) To k0 k3
         close_sync r s =
-            let there = zeroed_only (settled side (file_of side f2) k2.now) (stored_there side _ k2.now ∙ away2) (settled_state side zeroed _ k2 k3 f2 f3 at2.here) in
-            since_sync (Only B) To side k0 k2 k3 f2 f3 (close_write (Ok x) w) only2 (same k2.now only2) r s there (old_to_old B A k2.now _ (outside_settled side (file_of side f2) k2.now) only2 there)
+            let there = zeroed_only (settled side (file_of side f2) k2.now) (stored_there side _ k2.now ∙ away2)
+            (settled_state side zeroed _ k2 k3 f2 f3 at2.here) in
+            since_sync (Only B) To side k0 k2 k3 f2 f3 (close_write (Ok x) w) only2 (same k2.now only2) r s there
+            (old_to_old B A k2.now _ (outside_settled side (file_of side f2) k2.now) only2 there)
 
         pub close_rests : (r : Result V E) → Synced side k2 k3 f2 f3 r → OnOk r (Rests k3.now f3)
         close_rests (Ok y) s = rests_again side zeroed k3 f3 (sync_at side others zeroed _ k2 k3 f2 f3 at2 y s).here
         close_rests (Err e) s = tt
 
         pub close_done : (r : Result V E) → Synced side k2 k3 f2 f3 r → OnOk r (Beside side others (IsShut []) f3)
-        close_done (Ok y) s = let at3 = sync_at side others zeroed _ k2 k3 f2 f3 at2 y s in record { here = record { gate = 0; rest = drop 1 before; closed = λ e. cc; is = at3.here.reads }; there = at3.same }
+        close_done (Ok y) s = let at3 = sync_at side others zeroed _ k2 k3 f2 f3 at2 y s in
+            record { here = record { gate = 0; rest = drop 1 before; closed = λ e. cc; is = at3.here.reads }; there = at3.same }
         close_done (Err e) s = tt
 
 -- what a read of the first 14 bytes says
@@ -159,21 +171,25 @@ module _ (side : Side) where
     done = λ rests. at_err s e _ is;
   }
 
-  pub closed_already : {X F : Type 0} (k0 k1 : Clock) (f0 f1 : Files) (x : X) → Looked k0 k1 f0 f1 → IsShut [] (file_of side f0) → ClosesHead {E = F} side k0 k1 f0 f1 (Ok x)
+  pub closed_already : {X F : Type 0} (k0 k1 : Clock) (f0 f1 : Files) (x : X) → Looked k0 k1 f0 f1 → IsShut [] (file_of side f0) →
+      ClosesHead {E = F} side k0 k1 f0 f1 (Ok x)
   closed_already k0 k1 f0 f1 x l shut = record {
     passing = λ v g bodies rests. close_look side v g bodies k0 f0 rests k1 f1 l;
     rests = λ rests. rests_look k0 k1 f0 f1 rests (looks k0 k1 f0 f1 l);
     done = λ rests. record { here = subst (λ (f : Files). IsShut [] (file_of side f)) (sym l.seen_same) shut; there = ap (file_of (other side)) l.seen_same };
   }
 
-  pub closed_unwritten : {V E X F : Type 0} (k0 k1 k2 : Clock) (f0 f1 f2 : Files) (r : Result V E) (s : Result X F) (e : F) → s ≡ Err e → Looked k0 k1 f0 f1 → IsToClose (file_of side f0) → Wrote side 0 (0 ∷ []) k1 k2 f1 f2 r → ClosesHead side k0 k2 f0 f2 s
+  pub closed_unwritten : {V E X F : Type 0} (k0 k1 k2 : Clock) (f0 f1 f2 : Files) (r : Result V E) (s : Result X F) (e : F) → s ≡ Err e →
+      Looked k0 k1 f0 f1 → IsToClose (file_of side f0) → Wrote side 0 (0 ∷ []) k1 k2 f1 f2 r → ClosesHead side k0 k2 f0 f2 s
   closed_unwritten k0 k1 k2 f0 f1 f2 r s e is l close w = record {
     passing = λ v g bodies rests. close_write side v g bodies k0 f0 rests close k1 k2 k2 f1 f2 f2 l r w;
     rests = λ rests. at_err s e _ is;
     done = λ rests. at_err s e _ is;
   }
 
-pub closed_synced : {V E : Type 0} (side : Side) (k0 k1 k2 k3 : Clock) (f0 f1 f2 f3 : Files) (x : V) (r : Result V E) → Looked k0 k1 f0 f1 → IsToClose (file_of side f0) → Wrote {T = V} {E = E} side 0 (0 ∷ []) k1 k2 f1 f2 (Ok x) → Synced side k2 k3 f2 f3 r → ClosesHead side k0 k3 f0 f3 r
+pub closed_synced : {V E : Type 0} (side : Side) (k0 k1 k2 k3 : Clock) (f0 f1 f2 f3 : Files) (x : V) (r : Result V E) →
+    Looked k0 k1 f0 f1 → IsToClose (file_of side f0) → Wrote {T = V} {E = E} side 0 (0 ∷ []) k1 k2 f1 f2 (Ok x) →
+    Synced side k2 k3 f2 f3 r → ClosesHead side k0 k3 f0 f3 r
 closed_synced side k0 k1 k2 k3 f0 f1 f2 f3 x r l close w s = record {
   passing = λ v g bodies rests. close_sync side v g bodies k0 f0 rests close k1 k2 k3 f1 f2 f3 l x w r s;
   rests = λ rests. close_rests side First 0 [] k0 f0 rests close k1 k2 k3 f1 f2 f3 l x w r s;
@@ -181,25 +197,30 @@ closed_synced side k0 k1 k2 k3 f0 f1 f2 f3 x r l close w s = record {
 }
 
 -- a closed gate, and then the bytes behind it
-module _ (side : Side) (version : Version) (generation : ℕ) (bodies : List (List ℕ)) (fresh : List ℕ) (is : fresh ≡ set_up_bytes version generation bodies) where
+module _ (side : Side) (version : Version) (generation : ℕ) (bodies : List (List ℕ)) (fresh : List ℕ)
+    (is : fresh ≡ set_up_bytes version generation bodies) where
   set_up_shut_gate : (bytes : List ℕ) → IsOpened [] fresh bytes → IsShut (head_of version generation ++ records bodies) bytes
   set_up_shut_gate bytes o = record {
     gate = 0;
     rest = o.rest;
     closed = λ e. cc;
-    is = o.is ∙ ap (λ (l : List ℕ). 1 ∷ (l ++ o.rest)) is ∙ ap (λ (l : List ℕ). 1 ∷ l) (append_assoc (header_of version generation ++ records bodies) (0 ∷ []) o.rest);
+    is = o.is ∙ ap (λ (l : List ℕ). 1 ∷ (l ++ o.rest)) is ∙ ap (λ (l : List ℕ). 1 ∷ l)
+        (append_assoc (header_of version generation ++ records bodies) (0 ∷ []) o.rest);
   }
 
   module _ (k0 k1 : Clock) (f0 f1 : Files) where
-    pub not_set_up : {V E X F : Type 0} (r : Result V E) (s : Result X F) (e : F) → s ≡ Err e → ClosesHead side k0 k1 f0 f1 r → SetsUp side version generation bodies k0 k1 f0 f1 s
+    pub not_set_up : {V E X F : Type 0} (r : Result V E) (s : Result X F) (e : F) → s ≡ Err e → ClosesHead side k0 k1 f0 f1 r →
+        SetsUp side version generation bodies k0 k1 f0 f1 s
     not_set_up r s e err c = record {
       passing = λ rests. since_weaker _ _ _ _ (old_is_either _ _) (λ m n t. t) k0 k1 (c.passing version generation bodies rests);
       rests = λ rests. at_err s e _ err;
       done = λ rests. at_err s e _ err;
     }
 
-    module _ (k2 : Clock) (f2 : Files) {V E : Type 0} (x : V) (c : ClosesHead {T = V} {E = E} side k0 k1 f0 f1 (Ok x)) (r : Result V E) (o : OpensGate side 0 fresh k1 k2 f1 f2 r) where
-      sets_passing : Rests k0.now f0 → Passes (Beside side (file_of (other side) f0) (AsBefore (file_of side f0))) (Beside side (file_of (other side) f0) (IsShut (head_of version generation ++ records bodies))) k0 k2
+    module _ (k2 : Clock) (f2 : Files) {V E : Type 0} (x : V) (c : ClosesHead {T = V} {E = E} side k0 k1 f0 f1 (Ok x)) (r : Result V E)
+        (o : OpensGate side 0 fresh k1 k2 f1 f2 r) where
+      sets_passing : Rests k0.now f0 → Passes (Beside side (file_of (other side) f0) (AsBefore (file_of side f0)))
+          (Beside side (file_of (other side) f0) (IsShut (head_of version generation ++ records bodies))) k0 k2
       sets_passing rests =
           let d = c.done rests in
           since_then _ _ k0 k1 k2
@@ -209,7 +230,9 @@ module _ (side : Side) (version : Version) (generation : ℕ) (bodies : List (Li
           (λ files a. record { here = set_up_shut_gate (file_of side files) a.here; there = a.there ∙ d.there })
           k1 k2 (o.passing [] (c.rests rests) d.here refl))
 
-      sets_done : (d : Beside side (file_of (other side) f0) (IsShut []) f1) → (r : Result V E) → OnOk r (Beside side (file_of (other side) f1) (IsOpened [] fresh) f2) → OnOk r (Beside side (file_of (other side) f0) (IsShut (head_of version generation ++ records bodies)) f2)
+      sets_done : (d : Beside side (file_of (other side) f0) (IsShut []) f1) → (r : Result V E) →
+          OnOk r (Beside side (file_of (other side) f1) (IsOpened [] fresh) f2) →
+          OnOk r (Beside side (file_of (other side) f0) (IsShut (head_of version generation ++ records bodies)) f2)
       sets_done d (Ok y) a = record { here = set_up_shut_gate (file_of side f2) a.here; there = a.there ∙ d.there }
       sets_done d (Err e) a = tt
 

@@ -9,10 +9,11 @@ use Rattle.world_traits.proofs.Resting.{resting}
 use Rattle.journal_core.specs.declared.version.Version.{Version}
 use Rattle.journal_core.specs.Holds.{Holds}
 use Rattle.journal_core.specs.Standing.{Standing, IsStill}
-use Rattle.journal_core.specs.Creating.{IsFree}
+use Rattle.journal_core.specs.Creating.{IsUnbegun}
 use Rattle.journal_core.specs.Held.{HasHeld, HeldGrows, KeepsHeld}
 use Rattle.journal_core.proofs.Unique.{one_book}
 use Rattle.journal_core.proofs.Presence.{from_behind}
+use Rattle.journal_core.proofs.Choice.{open_head}
 
 -- an item stays at its place while others come behind it
 pub more : (bodies : List (List ℕ)) (x a : List ℕ) (i : ℕ) → slice_get bodies i ≡ Some a → slice_get (bodies ++ x ∷ []) i ≡ Some a
@@ -32,7 +33,8 @@ there_in v bodies i a m occurs held =
     ap (λ (d : List (List ℕ)). slice_get d i) (one_book v h.version bodies h.bodies occurs.files occurs.has h.holds) ∙ h.there
 
 -- images that hold bodies with this one at this place
-pub all_hold : (v : Version) (bodies : List (List ℕ)) (i : ℕ) (a : List ℕ) (n : Moment) → slice_get bodies i ≡ Some a → Images (Holds v bodies) n → HasHeld i a n
+pub all_hold : (v : Version) (bodies : List (List ℕ)) (i : ℕ) (a : List ℕ) (n : Moment) → slice_get bodies i ≡ Some a →
+    Images (Holds v bodies) n → HasHeld i a n
 all_hold v bodies i a n e images = record { each = λ files h. record { version = v; bodies = bodies; holds = images.each files h; there = e } }
 
 module _ (v : Version) (b : List (List ℕ)) (x : List ℕ) (m n : Moment) where
@@ -44,7 +46,8 @@ module _ (v : Version) (b : List (List ℕ)) (x : List ℕ) (m n : Moment) where
         (images.each files h);
   }
 
-  adds_phases : (from to i : ℕ) (a : List ℕ) → from ≤ to → AtPhase (Holds v b) (Holds v (b ++ x ∷ [])) from m → AtPhase (Holds v b) (Holds v (b ++ x ∷ [])) to n → HasHeld i a m → HasHeld i a n
+  adds_phases : (from to i : ℕ) (a : List ℕ) → from ≤ to → AtPhase (Holds v b) (Holds v (b ++ x ∷ [])) from m →
+      AtPhase (Holds v b) (Holds v (b ++ x ∷ [])) to n → HasHeld i a m → HasHeld i a n
   adds_phases zero zero i a le p q held = all_hold v b i a n (there_in v b i a m p.some held) q.each
   adds_phases zero (suc zero) i a le p q held = both_hold i a (there_in v b i a m p.some held) q.each
   adds_phases zero (suc (suc to)) i a le p q held = all_hold v (b ++ x ∷ []) i a n (more b x a i (there_in v b i a m p.some held)) q.each
@@ -59,14 +62,15 @@ module _ (v : Version) (b : List (List ℕ)) (x : List ℕ) (m n : Moment) where
   pub adds_held : GoesOn (Holds v b) (Holds v (b ++ x ∷ [])) m n → KeepsHeld m n
   adds_held s = record { held = record { stays = λ i a held. adds_phases s.from s.to i a s.forward s.at_from s.at_to held }; outside = s.outside }
 
--- where no side is set up nothing is held
-none_held : (i : ℕ) (a : List ℕ) (m : Moment) → Occurs IsFree m → HasHeld i a m → ⊥
+-- where no side was begun nothing is held
+none_held : (i : ℕ) (a : List ℕ) (m : Moment) → Occurs IsUnbegun m → HasHeld i a m → ⊥
 none_held i a m occurs held =
     let h = held.each occurs.files occurs.leaves in
-    occurs.has h.holds.side h.version h.holds.generation h.holds.present.set_up
+    occurs.has h.holds.side (open_head h.version h.holds.generation (file_of h.holds.side occurs.files) h.holds.present.set_up)
 
 module _ (v : Version) (b : List (List ℕ)) (m n : Moment) where
-  creates_phases : (from to i : ℕ) (a : List ℕ) → from ≤ to → AtPhase IsFree (Holds v b) from m → AtPhase IsFree (Holds v b) to n → HasHeld i a m → HasHeld i a n
+  creates_phases : (from to i : ℕ) (a : List ℕ) → from ≤ to → AtPhase IsUnbegun (Holds v b) from m → AtPhase IsUnbegun (Holds v b) to n →
+      HasHeld i a m → HasHeld i a n
   creates_phases zero to i a le p q held = absurd (none_held i a m p.some held)
   creates_phases (suc zero) to i a le p q held = absurd (none_held i a m p.before held)
   creates_phases (suc (suc from)) zero i a le p q held = absurd (omega arith)
@@ -74,7 +78,7 @@ module _ (v : Version) (b : List (List ℕ)) (m n : Moment) where
   creates_phases (suc (suc from)) (suc (suc to)) i a le p q held = all_hold v b i a n (there_in v b i a m p.some held) q.each
 
   -- a step of a creation
-  pub creates_held : GoesOn IsFree (Holds v b) m n → KeepsHeld m n
+  pub creates_held : GoesOn IsUnbegun (Holds v b) m n → KeepsHeld m n
   creates_held s = record { held = record { stays = λ i a held. creates_phases s.from s.to i a s.forward s.at_from s.at_to held }; outside = s.outside }
 
 -- fewer images hold no less
@@ -100,16 +104,19 @@ pub narrowed : (k l : Clock) → Narrows k l → Within k.now l.now
 narrowed k l n = since_now (Within k.now) (Within k.now) Within (λ m o p s q. p) k (within_self k.now) l n
 
 -- a journal whose records were all read is what the files hold
-pub still_holds : (j : Standing) (bodies : List (List ℕ)) (m : Moment) (seen : Files) → IsStill j bodies m seen → IsTrue j.all_read → Holds j.version bodies seen
+pub still_holds : (j : Standing) (bodies : List (List ℕ)) (m : Moment) (seen : Files) → IsStill j bodies m seen → IsTrue j.all_read →
+    Holds j.version bodies seen
 still_holds j bodies m seen still read = record {
   side = j.side;
   generation = j.generation;
   present = still.present;
-  records = from_behind j.version j.generation bodies (file_of j.side seen) still.sizes (record { gate = still.gate; rest = still.rest; closed = still.closed read; is = still.is });
+  records = from_behind j.version j.generation bodies (file_of j.side seen) still.sizes
+      (record { gate = still.gate; rest = still.rest; closed = still.closed read; is = still.is });
 }
 
 -- and what each image holds
-pub still_images : (j : Standing) (bodies : List (List ℕ)) (m : Moment) (seen : Files) → IsStill j bodies m seen → IsTrue j.all_read → Images (Holds j.version bodies) m
+pub still_images : (j : Standing) (bodies : List (List ℕ)) (m : Moment) (seen : Files) → IsStill j bodies m seen → IsTrue j.all_read →
+    Images (Holds j.version bodies) m
 still_images j bodies m seen still read = record {
   each = λ files h. subst (Holds j.version bodies) (sym (resting m seen files still.rests h)) (still_holds j bodies m seen still read);
 }

@@ -1,5 +1,5 @@
 -- Calls that only look, one after the other.
-use Rattle.std.proofs.Common.{◌≡◌, refl, sym, ◌∙◌, subst}
+use Rattle.std.proofs.Common.{◌≡◌, ◌⊎◌, inl, inr, refl, sym, ◌∙◌, subst}
 use Rattle.world_traits.specs.Files.{Files}
 use Rattle.world_traits.specs.Moments.{Moment, Clock, Rests, Within, Narrows}
 use Rattle.world_traits.specs.Calls.{Looked}
@@ -9,6 +9,7 @@ use Rattle.world_traits.proofs.Calls.{since_look}
 use Rattle.world_traits.proofs.Keeping.{since_now}
 use Rattle.world_traits.proofs.Narrowing.{within_self}
 use Rattle.journal_core.specs.Reading.{OnlyLooks}
+use Rattle.journal_core.specs.Settling.{Settles}
 
 pub looks : (k l : Clock) (f g : Files) → Looked k l f g → OnlyLooks k l f g
 looks k l f g looked = record {
@@ -41,3 +42,18 @@ narrows_look k l n f g a b =
 
 pub rests_look : (k l : Clock) (f g : Files) → Rests k.now f → OnlyLooks k l f g → Rests l.now g
 rests_look k l f g r b = subst (λ (m : Moment). Rests m g) (sym b.now) (subst (Rests k.now) (sym b.seen_same) r)
+
+-- nor does it do more than those syncs
+module _ (k : Clock) (seen : Files) where
+  abbrev Either : Moment → Type 0
+  Either m = (m ≡ k.now) ⊎ Rests m seen
+
+  abbrev Comes : Moment → Moment → Type 0
+  Comes m o = (o ≡ m) ⊎ Rests o seen
+
+  pub settles_look : (l n : Clock) (f g : Files) → Settles k l seen → OnlyLooks l n f g → Settles k n seen
+  settles_look l n f g a b =
+      since_then Either Comes k l n a
+      (since_weaker (λ m. m ≡ l.now) Either (λ m o. o ≡ m) Comes
+      (λ m is. subst Either (sym is) (since_now Either Either Comes (λ m o p s q. p) k (inl refl) l a))
+      (λ m o is. inl is) l n b.passing)

@@ -1,11 +1,14 @@
 -- The next record of an open journal.
-use Rattle.std.proofs.Common.{◌≡◌, ℕ, ◌+◌, ◌≤◌, ◌<◌, true, List, [], ◌∷◌, ◌++◌, length, get_or, take, drop, slice_index, Some, None, refl, sym, ◌∙◌, ap, subst, arith, append_assoc, length-append, length-drop, length-take, take-append-drop, get_or-drop}
+use Rattle.std.proofs.Common.{◌≡◌, ℕ, ◌+◌, ◌≤◌, ◌<◌, true, List, [], ◌∷◌, ◌++◌, length, get_or, take, drop, slice_index, Some, None, refl}
+use Rattle.std.proofs.Common.{sym, ◌∙◌, ap, subst, arith, append_assoc, length-append, length-drop, length-take, take-append-drop}
+use Rattle.std.proofs.Common.{get_or-drop}
 use Rattle.std.specs.Int.{w32, to_be_bytes, from_be_bytes}
 use Rattle.std.proofs.lemmas.Nat.{from_be_bytes-to_be_bytes_4}
 use Rattle.std.proofs.lemmas.List.{append-nil, drop_more, drop-drop, take_at, drop_at}
 use Rattle.world_traits.specs.Files.{Files, file_of}
 use Rattle.world_traits.specs.Moments.{Clock}
-use Rattle.journal_core.specs.Records.{IsBody, From, open_record, records}
+use Rattle.mail_base.specs.Bodies.{IsBody}
+use Rattle.journal_core.specs.Records.{From, open_record, records}
 use Rattle.journal_core.specs.Sides.{head_of}
 use Rattle.journal_core.specs.Holds.{IsPresent}
 use Rattle.journal_core.specs.Standing.{Standing, IsStill}
@@ -31,9 +34,16 @@ module _ (place : ℕ) (file : List ℕ) where
   torn_at t = record { open_gate = sym gate_here ∙ t.open_gate; broken = λ body s. t.broken body (at_zero body s) }
 
   -- a whole record stands there with the bytes behind its length
-  pub stands_at : (size : ℕ) → IsWhole size (drop place file) → (body : List ℕ) → body ≡ take size (drop (place + 5) file) → StandsAt place body file × (length body ≡ size)
+  pub stands_at : (size : ℕ) → IsWhole size (drop place file) → (body : List ℕ) → body ≡ take size (drop (place + 5) file) →
+      StandsAt place body file × (length body ≡ size)
   stands_at size w body is =
-      let long : length body ≡ size = ap length is ∙ omega (arith, w.long, length-take size (drop (place + 5) file), length-drop (place + 5) file, length-drop place file) in
+      let long : length body ≡ size = ap length is ∙ omega (
+        arith,
+        w.long,
+        length-take size (drop (place + 5) file),
+        length-drop (place + 5) file,
+        length-drop place file,
+      ) in
       let five : drop 5 (drop place file) ≡ drop (place + 5) file = drop-drop 5 place file in
       let tail = drop size (drop (place + 5) file) in
       let more : 0 < length tail = omega (arith, w.long, length-drop size (drop (place + 5) file), length-drop (place + 5) file, length-drop place file) in (
@@ -86,14 +96,23 @@ module _ (place : ℕ) (file : List ℕ) where
   first_none after [] f shut = refl
   first_none after (b ∷ bs) f shut = absurd (shut (gate_first 1 _ f.is))
 
-  pub first_some : (after : Standing) (bodies : List (List ℕ)) → From place bodies file → (body : List ℕ) → StandsAt place body file → after.place ≡ place + 5 + length body → TakesFirst bodies file after (Some body)
+  pub first_some : (after : Standing) (bodies : List (List ℕ)) → From place bodies file → (body : List ℕ) → StandsAt place body file →
+      after.place ≡ place + 5 + length body → TakesFirst bodies file after (Some body)
   first_some after [] f body s moved = absurd (f.closed (sym (gate_first f.gate f.rest f.is) ∙ gate_first 1 _ s.is))
   first_some after (b ∷ bs) f body s moved =
       let whole : drop place file ≡ open_record b ++ (records bs ++ f.gate ∷ f.rest) = f.is ∙ append_assoc (open_record b) (records bs) (f.gate ∷ f.rest) in
       let same : body ≡ b = one_body body b (s.gate ∷ s.rest) (records bs ++ f.gate ∷ f.rest) s.size f.sizes.0 (sym s.is ∙ whole) in
-      let tail : s.gate ∷ s.rest ≡ records bs ++ f.gate ∷ f.rest = one_rest body b (s.gate ∷ s.rest) (records bs ++ f.gate ∷ f.rest) s.size f.sizes.0 (sym s.is ∙ whole) in (
+      let tail : s.gate ∷ s.rest ≡ records bs ++ f.gate ∷ f.rest =
+      one_rest body b (s.gate ∷ s.rest) (records bs ++ f.gate ∷ f.rest) s.size f.sizes.0 (sym s.is ∙ whole) in (
         ap (λ (x : List ℕ). Some x) same,
-        record { sizes = f.sizes.1; gate = f.gate; rest = f.rest; closed = f.closed; is = ap (λ (n : ℕ). drop n file) moved ∙ behind_record place body (s.gate ∷ s.rest) file s.is ∙ tail },
+        record {
+          sizes = f.sizes.1;
+          gate = f.gate;
+          rest = f.rest;
+          closed = f.closed;
+          is =
+              ap (λ (n : ℕ). drop n file) moved ∙ behind_record place body (s.gate ∷ s.rest) file s.is ∙ tail;
+        },
       )
 
 -- the journal stays still behind what it has read
@@ -102,7 +121,8 @@ module _ (journal : Standing) (bodies : List (List ℕ)) (k l : Clock) (f g : Fi
   front = head_of journal.version journal.generation ++ records bodies
 
   there : drop journal.place (file_of journal.side f) ≡ still.gate ∷ still.rest
-  there = ap (drop journal.place) still.is ∙ drop_at (head_of journal.version journal.generation ++ records bodies) (still.gate ∷ still.rest) journal.place (sym still.next)
+  there = ap (drop journal.place) still.is ∙ drop_at (head_of journal.version journal.generation ++ records bodies)
+      (still.gate ∷ still.rest) journal.place (sym still.next)
 
   still_gate : slice_index (file_of journal.side f) journal.place ≡ still.gate
   still_gate = gate_first journal.place (file_of journal.side f) still.gate still.rest there
@@ -110,7 +130,8 @@ module _ (journal : Standing) (bodies : List (List ℕ)) (k l : Clock) (f g : Fi
   present_now : IsPresent journal.side journal.version journal.generation g
   present_now = subst (IsPresent journal.side journal.version journal.generation) (sym looks.seen_same) still.present
 
-  pub still_none : (after : Standing) → after ≡ record journal { all_read = true } → HasClosedGate journal.place (file_of journal.side f) → IsStill after (bodies ++ []) l.now g
+  pub still_none : (after : Standing) → after ≡ record journal { all_read = true } → HasClosedGate journal.place (file_of journal.side f) →
+      IsStill after (bodies ++ []) l.now g
   still_none after is shut =
       subst (λ (j : Standing). IsStill j (bodies ++ []) l.now g) (sym is)
       (subst (λ (b : List (List ℕ)). IsStill (record journal { all_read = true }) b l.now g) (sym (append-nil bodies))
@@ -125,7 +146,8 @@ module _ (journal : Standing) (bodies : List (List ℕ)) (k l : Clock) (f g : Fi
         closed = λ t. λ e. shut (still_gate ∙ e);
       }))
 
-  pub still_some : (after : Standing) (body : List ℕ) → after ≡ behind (length body) journal → StandsAt journal.place body (file_of journal.side f) → IsStill after (bodies ++ body ∷ []) l.now g
+  pub still_some : (after : Standing) (body : List ℕ) → after ≡ behind (length body) journal →
+      StandsAt journal.place body (file_of journal.side f) → IsStill after (bodies ++ body ∷ []) l.now g
   still_some after body is s =
       let head = head_of journal.version journal.generation in
       let tail : still.gate ∷ still.rest ≡ open_record body ++ s.gate ∷ s.rest = sym there ∙ s.is in
@@ -146,9 +168,12 @@ module _ (journal : Standing) (bodies : List (List ℕ)) (k l : Clock) (f g : Fi
       })
     where
       pushed : (bodies : List (List ℕ)) (body rest : List ℕ) → records bodies ++ (open_record body ++ rest) ≡ records (bodies ++ body ∷ []) ++ rest
-      pushed bodies body rest = ap (λ (t : List ℕ). records bodies ++ 1 ∷ t) (append_assoc (to_be_bytes w32 (length body)) body rest ∙ sym (append_assoc (to_be_bytes w32 (length body)) body rest)) ∙ sym (records-push bodies body rest)
+      pushed bodies body rest = ap (λ (t : List ℕ). records bodies ++ 1 ∷ t)
+          (append_assoc (to_be_bytes w32 (length body)) body rest ∙ sym (append_assoc (to_be_bytes w32 (length body)) body rest))
+          ∙ sym (records-push bodies body rest)
 
-      long : (bodies : List (List ℕ)) (body : List ℕ) → length (head_of journal.version journal.generation ++ records (bodies ++ body ∷ [])) ≡ length (head_of journal.version journal.generation ++ records bodies) + 5 + length body
+      long : (bodies : List (List ℕ)) (body : List ℕ) → length (head_of journal.version journal.generation
+          ++ records (bodies ++ body ∷ [])) ≡ length (head_of journal.version journal.generation ++ records bodies) + 5 + length body
       long bodies body =
           omega (
             arith,
@@ -162,19 +187,27 @@ module _ (journal : Standing) (bodies : List (List ℕ)) (k l : Clock) (f g : Fi
           )
 
 -- a whole record was read: what stands there, and where the journal stands then
-pub whole_next : (journal now : Standing) (f f1 : Files) (front : Front) (size : ℕ) (body : List ℕ) (later : Standing) → journal ≡ now → f1 ≡ f → front ≡ Whole size → FrontIs front (drop journal.place (file_of journal.side f))
-    → (journal.place + 5 + size ≤ length (file_of journal.side f1) → body ≡ take size (drop (journal.place + 5) (file_of journal.side f1))) → later ≡ record journal { place = journal.place + (size + 5) }
+pub whole_next : (journal now : Standing) (f f1 : Files) (front : Front) (size : ℕ) (body : List ℕ) (later : Standing) → journal ≡ now →
+    f1 ≡ f → front ≡ Whole size → FrontIs front (drop journal.place (file_of journal.side f))
+    → (journal.place + 5 + size ≤ length (file_of journal.side f1) →
+    body ≡ take size (drop (journal.place + 5) (file_of journal.side f1))) →
+    later ≡ record journal { place = journal.place + (size + 5) }
     → StandsAt now.place body (file_of now.side f) × (later ≡ behind (length body) now)
 whole_next journal now f f1 front size body later view same is whole given moved =
     let file = file_of journal.side f in
-    let w : IsWhole size (drop journal.place (file_of journal.side f)) = subst (λ (x : Front). FrontIs x (drop journal.place (file_of journal.side f))) is whole in
-    let given' = subst (λ (x : Files). journal.place + 5 + size ≤ length (file_of journal.side x) → body ≡ take size (drop (journal.place + 5) (file_of journal.side x))) same given in
+    let w : IsWhole size (drop journal.place (file_of journal.side f)) =
+    subst (λ (x : Front). FrontIs x (drop journal.place (file_of journal.side f))) is whole in
+    let given' = subst (λ (x : Files). journal.place + 5 + size ≤ length (file_of journal.side x) →
+    body ≡ take size (drop (journal.place + 5) (file_of journal.side x))) same given in
     let s = stands_at journal.place (file_of journal.side f) size w body (given' (omega (arith, w.long, length-drop journal.place (file_of journal.side f)))) in
     let there : later ≡ behind (length body) journal = moved ∙ ap (λ (n : ℕ). record journal { place = n }) (omega (arith, s.1)) in
     subst (λ (j : Standing). StandsAt j.place body (file_of j.side f) × (later ≡ behind (length body) j)) view (s.0, there)
 
-pub torn_next : (journal now : Standing) (f : Files) (first : Front) → journal ≡ now → first ≡ Torn → FrontIs first (drop journal.place (file_of journal.side f)) → (journal.place ≡ now.place) × IsTorn now.place (file_of now.side f)
+pub torn_next : (journal now : Standing) (f : Files) (first : Front) → journal ≡ now → first ≡ Torn →
+    FrontIs first (drop journal.place (file_of journal.side f)) → (journal.place ≡ now.place) × IsTorn now.place (file_of now.side f)
 torn_next journal now f first view is torn = (
   ap (λ (j : Standing). j.place) view,
-  subst (λ (j : Standing). IsTorn j.place (file_of j.side f)) view (torn_at journal.place (file_of journal.side f) (subst (λ (x : Front). FrontIs x (drop journal.place (file_of journal.side f))) is torn)),
+  subst (λ (j : Standing). IsTorn j.place (file_of j.side f)) view
+      (torn_at journal.place (file_of journal.side f) (subst (λ (x : Front). FrontIs x
+      (drop journal.place (file_of journal.side f))) is torn)),
 )

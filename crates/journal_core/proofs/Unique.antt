@@ -4,6 +4,8 @@ use Rattle.world_traits.specs.Files.{Files, file_of}
 use Rattle.world_traits.specs.declared.disk.Side.{Side}
 use Rattle.world_traits.specs.declared.disk.Side.TheVariants.{Left, Right}
 use Rattle.journal_core.specs.declared.version.Version.{Version}
+use Rattle.journal_core.specs.declared.version.Version.TheVariants.{First}
+use Rattle.journal_core.specs.Sides.{IsSetUp}
 use Rattle.journal_core.specs.Records.{AreBodies, From, open_record, records}
 use Rattle.journal_core.specs.Holds.{IsPresent, Holds}
 use Rattle.journal_core.proofs.Nexting.{one_body, one_rest}
@@ -22,7 +24,8 @@ one_list (b ∷ bs) (c ∷ cs) g h r s gs hs sb sc same =
 pub one_from : (place : ℕ) (bs cs : List (List ℕ)) (bytes : List ℕ) → From place bs bytes → From place cs bytes → bs ≡ cs
 one_from place bs cs bytes a b = one_list bs cs a.gate b.gate a.rest b.rest a.closed b.closed a.sizes b.sizes (sym a.is ∙ b.is)
 
-by_sides : (s t : Side) (v w : Version) (g h : ℕ) (bs cs : List (List ℕ)) (files : Files) → IsPresent s v g files → IsPresent t w h files → From 13 bs (file_of s files) → From 13 cs (file_of t files) → bs ≡ cs
+by_sides : (s t : Side) (v w : Version) (g h : ℕ) (bs cs : List (List ℕ)) (files : Files) → IsPresent s v g files → IsPresent t w h files →
+    From 13 bs (file_of s files) → From 13 cs (file_of t files) → bs ≡ cs
 by_sides Left Left v w g h bs cs files p q a b = one_from 13 bs cs files.left a b
 by_sides Right Right v w g h bs cs files p q a b = one_from 13 bs cs files.right a b
 by_sides Left Right v w g h bs cs files p q a b = let x = p.newer w h q.set_up in let y = q.newer v g p.set_up in absurd (omega (arith, x, y))
@@ -30,3 +33,17 @@ by_sides Right Left v w g h bs cs files p q a b = let x = p.newer w h q.set_up i
 
 pub one_book : (v w : Version) (bs cs : List (List ℕ)) (files : Files) → Holds v bs files → Holds w cs files → bs ≡ cs
 one_book v w bs cs files a b = by_sides a.side b.side v w a.generation b.generation bs cs files a.present b.present a.records b.records
+
+-- a side is set up in one version
+version_of : (v w : Version) (g h : ℕ) (bytes : List ℕ) → IsSetUp v g bytes → IsSetUp w h bytes → v ≡ w
+version_of First First g h bytes s t = refl
+
+-- and so is the side that is the journal
+pub one_presence : (s t : Side) (v w : Version) (g h : ℕ) (files : Files) → IsPresent s v g files → IsPresent t w h files → v ≡ w
+one_presence Left Left v w g h files p q = version_of v w g h files.left p.set_up q.set_up
+one_presence Right Right v w g h files p q = version_of v w g h files.right p.set_up q.set_up
+one_presence Left Right v w g h files p q = let x = p.newer w h q.set_up in let y = q.newer v g p.set_up in absurd (omega (arith, x, y))
+one_presence Right Left v w g h files p q = let x = p.newer w h q.set_up in let y = q.newer v g p.set_up in absurd (omega (arith, x, y))
+
+pub one_version : (v w : Version) (bs cs : List (List ℕ)) (files : Files) → Holds v bs files → Holds w cs files → v ≡ w
+one_version v w bs cs files a b = one_presence a.side b.side v w a.generation b.generation files a.present b.present

@@ -2,7 +2,7 @@
 use Rattle.std.specs.Prelude.{◌≡◌, ℕ, ◌+◌, min, List, [], ◌∷◌, ◌++◌, Result, OnOk}
 use Rattle.world_traits.specs.Files.{Files}
 use Rattle.world_traits.specs.Moments.{Clock}
-use Rattle.journal_core.specs.Records.{IsBody, frame_of}
+use Rattle.mail_base.specs.Bodies.{IsBody, frame_of}
 use Rattle.journal_core.specs.Holds.{Holds}
 use Rattle.journal_core.specs.Gates.{Passes}
 use Rattle.journal_core.specs.Standing.{Standing, IsStill}

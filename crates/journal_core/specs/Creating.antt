@@ -2,7 +2,7 @@
 use Rattle.std.specs.Prelude.{◌≡◌, ◌⊎◌, ℕ, ◌+◌, ◌<◌, true, false, List, [], ◌∷◌, ◌++◌, length, Result, OnOk}
 use Rattle.std.specs.List.{AllByRecursion}
 use Rattle.world_traits.specs.Files.{Files, file_of, other}
-use Rattle.world_traits.specs.Moments.{Clock, Rests, Since, Only, GoesOn, Images, Within}
+use Rattle.world_traits.specs.Moments.{Clock, Rests, Since, Only, GoesOn, Images, Within, Narrows}
 use Rattle.world_traits.specs.declared.disk.Side.{Side}
 use Rattle.journal_core.specs.declared.version.Version.{Version}
 use Rattle.journal_core.specs.Records.{records}
@@ -12,6 +12,7 @@ use Rattle.journal_core.specs.Standing.{Standing}
 use Rattle.journal_core.specs.declared.version.Version.TheVariants.{First}
 use Rattle.world_traits.specs.declared.disk.Side.TheVariants.{Left}
 use Rattle.journal_core.specs.Gates.{Beside, IsShut, Passes}
+use Rattle.journal_core.specs.Settling.{Settles}
 
 -- the bytes of a file that was never begun, or as it was
 abbrev pub AsBefore : List ℕ → List ℕ → Type 0
@@ -23,7 +24,8 @@ set_up_bytes version generation bodies = header_of version generation ++ records
 
 -- A side is set up with these bodies, and the other one stays: the images go from those in which the side is as it was
 -- or isn't begun to those in which it holds the bodies behind its head.
-pub record SetsUp {T E : Type 0} (side : Side) (version : Version) (generation : ℕ) (bodies : List (List ℕ)) (old new : Clock) (seen seen_after : Files) (result : Result T E) : Type 0 where
+pub record SetsUp {T E : Type 0} (side : Side) (version : Version) (generation : ℕ) (bodies : List (List ℕ)) (old new : Clock)
+    (seen seen_after : Files) (result : Result T E) : Type 0 where
   pub passing : Rests old.now seen →
       Passes (Beside side (file_of (other side) seen) (AsBefore (file_of side seen)))
       (Beside side (file_of (other side) seen) (IsShut (head_of version generation ++ records bodies))) old new
@@ -76,9 +78,17 @@ created bodies = record {
   failed = false;
 }
 
--- First syncs leave some of the images that were there. Then the images go from those with no side set up to those that
+-- First syncs leave some of the images that were there. Then the images go from those with no side begun to those that
 -- hold the bodies.
 abbrev pub CreatesThrough : List (List ℕ) → Clock → Clock → Type 0
 CreatesThrough bodies old new =
-    Since (λ m. Within old.now m ⊎ Images (λ files. IsFree files ⊎ Holds First bodies files) m)
-    (λ m n. Within m n ⊎ GoesOn IsFree (Holds First bodies) m n) old new
+    Since (λ m. Within old.now m ⊎ Images (λ files. IsUnbegun files ⊎ Holds First bodies files) m)
+    (λ m n. Within m n ⊎ GoesOn IsUnbegun (Holds First bodies) m n) old new
+
+-- The same where one side was on the disk: the first syncs come to what is read, at a clock between the two, and behind it
+-- the images go from those with no side begun to those that hold the bodies.
+pub record CreatesBehind (bodies : List (List ℕ)) (old new : Clock) (seen : Files) : Type 0 where
+  pub at : Clock
+  pub settles : Settles old at seen
+  pub narrows : Narrows old at
+  pub passes : Passes IsUnbegun (Holds First bodies) at new

@@ -11,3 +11,5 @@ pub mod Creating
 pub mod Taken
 pub mod Held
 pub mod Several
+pub mod Settling
+pub mod Broken

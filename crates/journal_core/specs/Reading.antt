@@ -8,7 +8,8 @@ use Rattle.journal_core.specs.declared.fault.Place9.{Place9}
 use Rattle.journal_core.specs.declared.fault.Place9.TheVariants.{Absent, Header, Generations, Record}
 use Rattle.journal_core.specs.declared.fault.OpenFault.{OpenFault}
 use Rattle.journal_core.specs.declared.fault.OpenFault.TheVariants.{Disk, Memory, NotAJournal}
-use Rattle.journal_core.specs.Records.{IsBody, From, open_record}
+use Rattle.mail_base.specs.Bodies.{IsBody}
+use Rattle.journal_core.specs.Records.{From, open_record}
 use Rattle.journal_core.specs.Sides.{IsBegun, IsSetUp, HasWrongHeader}
 use Rattle.journal_core.specs.Holds.{IsPresent}
 use Rattle.journal_core.specs.Standing.{Standing}

@@ -2,18 +2,11 @@
 use Rattle.std.specs.Prelude.{◌≡◌, ◌≢◌, ℕ, ◌≤◌, ◌<◌, List, [], ◌∷◌, ◌++◌, length, drop}
 use Rattle.std.specs.Int.{w32, to_be_bytes}
 use Rattle.std.specs.List.{AllByRecursion}
+use Rattle.mail_base.specs.Bodies.{IsBody}
 
--- a record's body has from 1 to 2^30 bytes
-pub record IsBody (body : List ℕ) : Type 0 where
-  pub some : 0 < length body
-  pub fits : length body ≤ 1073741824
-
+-- bodies, each of which a record can have
 abbrev pub AreBodies : List (List ℕ) → Type 0
 AreBodies bodies = AllByRecursion IsBody bodies
-
--- what is written behind a closed gate: the length, the body, and the next gate, closed
-abbrev pub frame_of : List ℕ → List ℕ
-frame_of body = to_be_bytes w32 (length body) ++ body ++ 0 ∷ []
 
 -- a record whose gate is open
 abbrev pub open_record : List ℕ → List ℕ

@@ -22,6 +22,12 @@ pub record StandFrom (place : ℕ) (bodies : List (List ℕ)) (bytes : List ℕ)
 abbrev pub behind_all : List (List ℕ) → Standing → Standing
 behind_all bodies journal = record journal { place = journal.place + length (records bodies) }
 
+-- some bytes from the front of these on, one at least where there is one
+pub record IsFrontOf (piece bytes : List ℕ) : Type 0 where
+  pub size : ℕ
+  pub some : 0 < size
+  pub is : piece ≡ take size bytes
+
 -- What the next records are, in a file of these bytes: bodies of which there is one at least, and which stand one behind
 -- the other from the journal's place on. Otherwise the answer is the one for a single record.
 abbrev pub NextAre : Standing → List ℕ → Standing → Result (Option (List (List ℕ))) OpenFault → Type 0

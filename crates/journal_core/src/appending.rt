@@ -1,5 +1,7 @@
 //! A record is added behind the others.
 
+ghost use Rattle.world_traits.specs.Files.{other};
+ghost use Rattle.world_traits.specs.Moments.{stored};
 ghost use Rattle.std.specs.Prelude.{◌≡◌, ◌≤◌, ◌<◌, ◌+◌, ◌^◌, ℕ, IsTrue, OnErr, length};
 ghost use Rattle.std.specs.Prelude.{IsErrOf, OnOk, true};
 
@@ -53,6 +55,8 @@ impl Journal {
         ensures disk_within { IsErrOf result faults.Disk →
             end_with (length frame.now) self.old ≤ limit }
         ensures broken { IsErrOf result faults.Disk → self.new ≡ record self.old { failed = true } }
+        ensures beside { D.tells_files → stored (other self.old.side) (D.clock disk.new).now
+            ≡ stored (other self.old.side) (D.clock disk.old).now }
         ensures link { D.link disk.new ≡ D.link disk.old }
         ensures count { D.disk_faults disk.old ≤ D.disk_faults disk.new }
         ensures cause { IsErrOf result faults.Disk →

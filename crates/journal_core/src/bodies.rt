@@ -1,6 +1,6 @@
 //! Bodies that were read together.
 
-ghost use Rattle.std.specs.Prelude.{◌≡◌, ◌<◌, ◌+◌, [], ◌∷◌, Some, IfOk, IfSome, IsTrue, length, take, drop, slice_get};
+ghost use Rattle.std.specs.Prelude.{◌≡◌, ◌<◌, ◌≤◌, ◌+◌, [], ◌∷◌, Some, IfOk, IfSome, IsTrue, length, take, drop, slice_get};
 ghost use Rattle.std.specs.Prelude.{vec_len, vec_capacity, map};
 ghost use Rattle.journal_core.specs.Records.{records};
 ghost use Rattle.journal_core.specs.Fronts.{IsWhole};
@@ -117,6 +117,31 @@ pub fn is_shut(piece: &[u8]) -> bool
     ensures some { (IsTrue result → ⊥) → 0 < length piece.now }
 {
     piece.len() == 0 || piece[0] != OPEN
+}
+
+/// How many bytes are missing of the record that a piece cuts off, and of the next gate. None are where its first five
+/// bytes don't stand there, or tell no record.
+pub fn missing_in(piece: &[u8]) -> u32 {
+    let at = whole_end(piece);
+    let Front::Whole { size } = front_in(up_to(piece, at, 5), u64::MAX) else {
+        return 0;
+    };
+    let left = u32::try_from(piece.len() - at).unwrap_or(u32::MAX);
+    size.saturating_add(6).saturating_sub(left)
+}
+
+// Where the records end that stand whole at the front of a piece.
+fn whole_end(piece: &[u8]) -> usize
+    ensures { result ≤ length piece.now }
+{
+    let mut end: usize = 0;
+    while end < piece.len() {
+        let Some(size) = whole_at(piece, end) else {
+            return end;
+        };
+        end += size + 5;
+    }
+    end
 }
 
 // So many bytes from a place on, or those that there are.

@@ -4,9 +4,9 @@ ghost use Rattle.std.specs.Prelude.{◌≡◌, ◌≤◌, ◌<◌, ◌+◌, ◌^
 ghost use Rattle.std.specs.Prelude.{length, OnOk, IsNone, IfSome};
 ghost use Rattle.world_traits.specs.Calls.{Rose};
 ghost use Rattle.world_traits.specs.Files.{Files};
-ghost use Rattle.world_traits.specs.Moments.{Narrows};
+ghost use Rattle.world_traits.specs.Moments.{Narrows, OneSideAtRest};
 ghost use Rattle.journal_core.specs.Appending.{told_end};
-ghost use Rattle.journal_core.specs.Creating.{NoneEmpty, IsTaken, IsUnbegun, CreatesThrough};
+ghost use Rattle.journal_core.specs.Creating.{NoneEmpty, IsTaken, IsUnbegun, CreatesThrough, CreatesBehind};
 ghost use Rattle.journal_core.specs.Creating.{set_up_bytes, end_of, created};
 ghost use Rattle.journal_core.specs.Heads.{HeadIs};
 ghost use Rattle.journal_core.specs.Reading.{AnyWrong};
@@ -17,6 +17,7 @@ ghost use Rattle.journal_core.specs.declared.fault.Place9.{Place9};
 ghost use Rattle.journal_core.specs.declared.fault.Place9.TheVariants as places;
 ghost use Rattle.journal_core.specs.declared.creating.CreateFault.TheVariants as faults;
 
+use crate::gated::{CLOSED, OPEN};
 use crate::heads::{Head, MAGIC};
 use crate::opening::read_sides;
 use crate::setting_up::set_up;
@@ -35,7 +36,7 @@ pub enum CreateFault {
     /// Memory is wanting.
     #[error("out of memory")]
     Memory,
-    /// The disk failed. A stop leaves no side set up, or all the bodies.
+    /// The disk failed. A stop leaves no side begun, or all the bodies.
     #[error("the disk failed")]
     Disk,
     /// A side has a wrong header.
@@ -78,6 +79,12 @@ impl Journal {
             IsErrOf result (faults.Full end wanted) → IsUnbegun (D.seen disk.old) }
         ensures told { D.tells_files →
             CreatesThrough bodies.now (D.clock disk.old) (D.clock disk.new) }
+
+        // Where one side was at rest the syncs come to what is read, and one side stays at rest.
+        ensures exact { D.tells_files → OneSideAtRest (D.clock disk.old).now →
+            CreatesBehind bodies.now (D.clock disk.old) (D.clock disk.new) (D.seen disk.old) }
+        ensures one_side { D.tells_files → OneSideAtRest (D.clock disk.old).now →
+            OneSideAtRest (D.clock disk.new).now }
 
         // But after a failure of the disk, an error leaves the files as they were.
         ensures kept { D.tells_files → IsErr result → (IsErrOf result faults.Disk → ⊥) →
@@ -157,7 +164,7 @@ fn side_bytes(
     for body in bodies {
         push_record(&mut bytes, body.as_slice())?;
     }
-    bytes.push(0)?;
+    bytes.push(CLOSED)?;
     Ok(bytes)
 }
 
@@ -166,7 +173,7 @@ fn push_record(bytes: &mut Vec<u8>, body: &[u8]) -> Result<(), AllocError>
     requires fits { length body.now < 2 ^ 32 }
     ensures { OnOk result (bytes.new.items ≡ bytes.old.items ++ open_record body.now) }
 {
-    bytes.push(1)?;
+    bytes.push(OPEN)?;
     bytes.extend_from_slice(&(body.len() as u32).to_be_bytes())?;
     bytes.extend_from_slice(body)
 }

@@ -2,12 +2,17 @@
 
 ghost use Rattle.std.specs.Prelude.{◌≡◌, ◌≤◌, ◌+◌, ◌^◌, length, OnErr};
 ghost use Rattle.world_traits.specs.Calls.{Rose};
+ghost use Rattle.world_traits.specs.Files.{other};
+ghost use Rattle.world_traits.specs.Moments.{stored};
 ghost use Rattle.journal_core.specs.Gates.{OpensGate};
 
 use world_traits::{Clocked, Disk, DiskFailed, Side};
 
 /// The byte of an open gate. Every other byte is a closed one.
 pub const OPEN: u8 = 1;
+
+/// The byte of a gate that is written closed.
+pub const CLOSED: u8 = 0;
 
 /// Writes bytes behind the closed gate at the place, and then opens the gate.
 ///
@@ -21,6 +26,8 @@ pub fn write_gated<D: Disk>(
     requires room { place + 1 + length fresh.now ≤ 2 ^ 32 }
     ensures told { D.tells_files → OpensGate side place fresh.now (D.clock disk.old)
         (D.clock disk.new) (D.seen disk.old) (D.seen disk.new) result }
+    ensures beside { D.tells_files → stored (other side) (D.clock disk.new).now
+        ≡ stored (other side) (D.clock disk.old).now }
     ensures link { D.link disk.new ≡ D.link disk.old }
     ensures count { D.disk_faults disk.old ≤ D.disk_faults disk.new }
     ensures cause { OnErr result (Rose (D.disk_faults disk.old) (D.disk_faults disk.new)) }

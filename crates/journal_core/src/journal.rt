@@ -39,4 +39,11 @@ impl Journal {
     {
         self.place
     }
+
+    /// The version of its format.
+    pub fn version(&self) -> Version
+        ensures { result ≡ self.now.version }
+    {
+        self.version
+    }
 }

@@ -60,6 +60,7 @@ impl Journal {
         ensures advances { IfOk result (λ next. OnSome next (self.old.place < self.new.place)) }
         ensures ended { IfOk result (λ next. IfNone next (IsTrue self.new.all_read)) }
         ensures sound { self.new.failed ≡ self.old.failed }
+        ensures version { self.new.version ≡ self.old.version }
         ensures told { D.tells_files → OnlyLooks (D.clock disk.old) (D.clock disk.new)
             (D.seen disk.old) (D.seen disk.new) }
         ensures link { D.link disk.new ≡ D.link disk.old }

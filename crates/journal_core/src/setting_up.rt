@@ -2,10 +2,12 @@
 
 ghost use Rattle.std.specs.Prelude.{◌≡◌, ◌≤◌, ◌+◌, ◌^◌, ℕ, List, length, OnErr};
 ghost use Rattle.world_traits.specs.Calls.{Rose};
+ghost use Rattle.world_traits.specs.Files.{other};
+ghost use Rattle.world_traits.specs.Moments.{stored};
 ghost use Rattle.journal_core.specs.Creating.{ClosesHead, SetsUp, set_up_bytes};
 ghost use Rattle.journal_core.specs.declared.version.Version.{Version};
 
-use crate::gated::{OPEN, write_gated};
+use crate::gated::{CLOSED, OPEN, write_gated};
 use crate::heads::HEAD;
 use world_traits::{Clocked, Disk, DiskFailed, Side};
 
@@ -17,6 +19,8 @@ pub fn set_up<D: Disk>(disk: &mut D, side: Side, fresh: &[u8]) -> Result<(), Dis
         fresh.now ≡ set_up_bytes version generation bodies →
         SetsUp side version generation bodies (D.clock disk.old) (D.clock disk.new)
         (D.seen disk.old) (D.seen disk.new) result }
+    ensures beside { D.tells_files → stored (other side) (D.clock disk.new).now
+        ≡ stored (other side) (D.clock disk.old).now }
     ensures link { D.link disk.new ≡ D.link disk.old }
     ensures count { D.disk_faults disk.old ≤ D.disk_faults disk.new }
     ensures cause { OnErr result (Rose (D.disk_faults disk.old) (D.disk_faults disk.new)) }
@@ -29,6 +33,8 @@ pub fn set_up<D: Disk>(disk: &mut D, side: Side, fresh: &[u8]) -> Result<(), Dis
 fn close_head<D: Disk>(disk: &mut D, side: Side) -> Result<(), DiskFailed>
     ensures told { D.tells_files → ClosesHead side (D.clock disk.old) (D.clock disk.new)
         (D.seen disk.old) (D.seen disk.new) result }
+    ensures beside { D.tells_files → stored (other side) (D.clock disk.new).now
+        ≡ stored (other side) (D.clock disk.old).now }
     ensures link { D.link disk.new ≡ D.link disk.old }
     ensures count { D.disk_faults disk.old ≤ D.disk_faults disk.new }
     ensures cause { OnErr result (Rose (D.disk_faults disk.old) (D.disk_faults disk.new)) }
@@ -38,6 +44,6 @@ fn close_head<D: Disk>(disk: &mut D, side: Side) -> Result<(), DiskFailed>
     if count == HEAD && front[0] != OPEN {
         return Ok(());
     }
-    disk.write_at(side, 0, &[0])?;
+    disk.write_at(side, 0, &[CLOSED])?;
     disk.sync(side)
 }

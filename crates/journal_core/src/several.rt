@@ -1,20 +1,22 @@
 //! Several records of an open journal are read by one call of the disk.
 
-ghost use Rattle.std.specs.Prelude.{◌≡◌, ◌≤◌, ◌+◌, ◌<◌, ◌++◌, [], List, ℕ, length, unwrap_or};
+ghost use Rattle.std.specs.Prelude.{◌≡◌, ◌≤◌, ◌+◌, ◌<◌, ◌++◌, [], List, ℕ, drop, length, unwrap_or};
 ghost use Rattle.std.specs.Prelude.{IfNone, IfOk, IfSome, IsErrOf, IsTrue, OnErr};
 ghost use Rattle.world_traits.specs.Calls.{Rose};
 ghost use Rattle.world_traits.specs.Files.{file_of};
 ghost use Rattle.journal_core.specs.Records.{From};
 ghost use Rattle.journal_core.specs.Standing.{IsStill};
 ghost use Rattle.journal_core.specs.Reading.{OnlyLooks};
-ghost use Rattle.journal_core.specs.Several.{NextAre, TakesFew};
+ghost use Rattle.journal_core.specs.Several.{IsFrontOf, NextAre, TakesFew};
+ghost use Rattle.journal_core.specs.declared.fault.Place9.{Place9};
 ghost use Rattle.journal_core.specs.declared.fault.OpenFault.TheVariants as faults;
 
-use crate::bodies::is_shut;
+use crate::bodies::{is_shut, missing_in};
 use crate::reading::read_up_to;
 use crate::{Bodies, Journal, OpenFault};
+use mail_base::Bytes;
 use std::alloc::Global;
-use world_traits::{Clocked, Disk};
+use world_traits::{Clocked, Disk, Side};
 
 // The bytes that are read by one call.
 const PIECE: u32 = 65_536;
@@ -22,8 +24,9 @@ const PIECE: u32 = 65_536;
 impl Journal {
     /// Gives the bodies of the next records, one at least, or `None` at the closed gate behind the last one.
     ///
-    /// It reads 64 KiB at a time, and gives the records that stand whole in them. A longer record is given alone. It
-    /// takes memory for those bytes or for that one body. After a fault the journal is as it was.
+    /// It reads 64 KiB at a time, and what is missing of the record that they cut off. So each byte is read once, but for
+    /// the gate behind a piece and a front of five bytes that is cut off. It takes memory for those bytes. After a fault
+    /// the journal is as it was.
     pub fn next_few<D: Disk>(
         &mut self,
         alloc: Global,
@@ -50,6 +53,7 @@ impl Journal {
             self.old.place + length few ≤ self.new.place)) }
         ensures ended { IfOk result (λ next. IfNone next (IsTrue self.new.all_read)) }
         ensures sound { self.new.failed ≡ self.old.failed }
+        ensures version { self.new.version ≡ self.old.version }
         ensures told { D.tells_files → OnlyLooks (D.clock disk.old) (D.clock disk.new)
             (D.seen disk.old) (D.seen disk.new) }
         ensures link { D.link disk.new ≡ D.link disk.old }
@@ -60,7 +64,7 @@ impl Journal {
         self.next_within(alloc, disk, PIECE)
     }
 
-    /// The same by reads of so many bytes.
+    /// The same by pieces of so many bytes.
     pub(crate) fn next_within<D: Disk>(
         &mut self,
         alloc: Global,
@@ -83,6 +87,7 @@ impl Journal {
             self.old.place + length few ≤ self.new.place)) }
         ensures ended { IfOk result (λ next. IfNone next (IsTrue self.new.all_read)) }
         ensures sound { self.new.failed ≡ self.old.failed }
+        ensures version { self.new.version ≡ self.old.version }
         ensures told { D.tells_files → OnlyLooks (D.clock disk.old) (D.clock disk.new)
             (D.seen disk.old) (D.seen disk.new) }
         ensures link { D.link disk.new ≡ D.link disk.old }
@@ -90,7 +95,7 @@ impl Journal {
         ensures cause { IsErrOf result faults.Disk →
             Rose (D.disk_faults disk.old) (D.disk_faults disk.new) }
     {
-        let piece = read_up_to(alloc, disk, self.side, self.place, size)?;
+        let piece = read_piece(alloc, disk, self.side, self.place, size)?;
         if is_shut(piece.as_slice()) {
             self.all_read = true;
             return Ok(None);
@@ -124,6 +129,7 @@ impl Journal {
             self.old.place + length few ≤ self.new.place)) }
         ensures ended { IfOk result (λ next. IfNone next (IsTrue self.new.all_read)) }
         ensures sound { self.new.failed ≡ self.old.failed }
+        ensures version { self.new.version ≡ self.old.version }
         ensures told { D.tells_files → OnlyLooks (D.clock disk.old) (D.clock disk.new)
             (D.seen disk.old) (D.seen disk.new) }
         ensures link { D.link disk.new ≡ D.link disk.old }
@@ -137,4 +143,36 @@ impl Journal {
             Some(body) => Ok(Some(Bodies::one(room, body))),
         }
     }
+}
+
+// Reads so many bytes from a place on, and what is missing of the record that they cut off.
+fn read_piece<D: Disk>(
+    alloc: Global,
+    disk: &mut D,
+    side: Side,
+    at: u64,
+    size: u32,
+) -> Result<Bytes, OpenFault>
+    requires { 0 < size }
+    ensures value { D.tells_files →
+        IfOk result (λ piece. IsFrontOf piece (drop at (file_of side (D.seen disk.old)))) }
+    ensures only { (why : Place9) → IsErrOf result (faults.NotAJournal why) → ⊥ }
+    ensures told { D.tells_files → OnlyLooks (D.clock disk.old) (D.clock disk.new)
+        (D.seen disk.old) (D.seen disk.new) }
+    ensures link { D.link disk.new ≡ D.link disk.old }
+    ensures count { D.disk_faults disk.old ≤ D.disk_faults disk.new }
+    ensures cause { IsErrOf result faults.Disk →
+        Rose (D.disk_faults disk.old) (D.disk_faults disk.new) }
+{
+    let mut piece = read_up_to(alloc, disk, side, at, size)?;
+    let missing = missing_in(piece.as_slice());
+    let Some(next) = at.checked_add(size as u64) else {
+        return Ok(piece);
+    };
+    if missing == 0 {
+        return Ok(piece);
+    }
+    let more = read_up_to(alloc, disk, side, next, missing)?;
+    piece.extend(more.as_slice())?;
+    Ok(piece)
 }

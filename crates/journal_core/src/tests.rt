@@ -370,8 +370,17 @@ fn first_few(alloc: Global, size: u32) -> Result<Option<usize>, OpenFault>
 #[test]
 fn a_piece_gives_the_records_that_are_whole_in_it(rt: HostRuntime) -> Result<(), Fail> {
     let alloc = rt.alloc();
-    // The first record and its next gate have 22 bytes, and the second one has 8 more.
-    for (size, many) in [(1, 1), (21, 1), (22, 1), (29, 1), (30, 2), (65_536, 2)] {
+    // The first record and its next gate have 22 bytes, and the second one has 8 more. Where the first five bytes of a
+    // record stand in the piece, what is missing of it is read.
+    for (size, many) in [
+        (1, 1),
+        (5, 1),
+        (21, 1),
+        (25, 1),
+        (26, 2),
+        (30, 2),
+        (65_536, 2),
+    ] {
         assert_eq!(rt; first_few(alloc, size)?, Some(many));
     }
     Ok(())

@@ -1,3 +1,5 @@
+use Rattle.std.proofs.Common.{◌∙◌, ◌+◌, [], ◌∷◌}
+use Rattle.world_traits.proofs.OneSide.{wrote_there, synced_there}
 use Rattle.std.proofs.lemmas.Result.{err_from_is_err_and}
 use Rattle.journal_core.proofs.Exits.{told1, told2, told3, told4}
 use Rattle.journal_core.proofs.gated.write_gated.Goals as goal
@@ -19,4 +21,31 @@ returns-in_err-write_at-2-clause-told g c tells =
 
 pub returns-clause-told : goal.returns-clause-told
 returns-clause-told g c tells =
-    told4 _ _ _ _ _ _ _ _ _ _ _ _ _ _ _ _ _ (c.in_ok-write_at.ensures.told tells) (c.in_ok-sync.ensures.told tells) (c.in_ok-write_at-2.ensures.told tells) (c.sync-2.ensures.told tells)
+    told4 _ _ _ _ _ _ _ _ _ _ _ _ _ _ _ _ _ (c.in_ok-write_at.ensures.told tells) (c.in_ok-sync.ensures.told tells)
+    (c.in_ok-write_at-2.ensures.told tells) (c.sync-2.ensures.told tells)
+
+pub returns-in_err-write_at-clause-beside : goal.returns-in_err-write_at-clause-beside
+returns-in_err-write_at-clause-beside g c tells = wrote_there c.args.side (c.args.place + 1) c.args.fresh.now
+    (g.D.Clocked.clock c.args.disk.now) (g.D.Clocked.clock c.write_at.new.self) (c.write_at.ensures.told tells).moment
+
+pub returns-in_err-sync-clause-beside : goal.returns-in_err-sync-clause-beside
+returns-in_err-sync-clause-beside g c tells = synced_there c.args.side (g.D.Clocked.clock c.write_at.new.self)
+    (g.D.Clocked.clock c.sync.new.self) _ _ _ (c.sync.ensures.told tells)
+    ∙ wrote_there c.args.side (c.args.place + 1) c.args.fresh.now (g.D.Clocked.clock c.args.disk.now)
+    (g.D.Clocked.clock c.write_at.new.self) (c.write_at.ensures.told tells).moment
+
+pub returns-in_err-write_at-2-clause-beside : goal.returns-in_err-write_at-2-clause-beside
+returns-in_err-write_at-2-clause-beside g c tells = wrote_there c.args.side c.args.place (1 ∷ []) (g.D.Clocked.clock c.sync.new.self)
+    (g.D.Clocked.clock c.write_at-2.new.self) (c.write_at-2.ensures.told tells).moment
+    ∙ synced_there c.args.side (g.D.Clocked.clock c.write_at.new.self) (g.D.Clocked.clock c.sync.new.self) _ _ _
+    (c.sync.ensures.told tells) ∙ wrote_there c.args.side (c.args.place + 1) c.args.fresh.now (g.D.Clocked.clock c.args.disk.now)
+    (g.D.Clocked.clock c.write_at.new.self) (c.write_at.ensures.told tells).moment
+
+pub returns-clause-beside : goal.returns-clause-beside
+returns-clause-beside g c tells = synced_there c.args.side (g.D.Clocked.clock c.write_at-2.new.self)
+    (g.D.Clocked.clock c.sync-2.new.self) _ _ _ (c.sync-2.ensures.told tells)
+    ∙ wrote_there c.args.side c.args.place (1 ∷ []) (g.D.Clocked.clock c.sync.new.self) (g.D.Clocked.clock c.write_at-2.new.self)
+    (c.write_at-2.ensures.told tells).moment ∙ synced_there c.args.side (g.D.Clocked.clock c.write_at.new.self)
+    (g.D.Clocked.clock c.sync.new.self) _ _ _ (c.sync.ensures.told tells)
+    ∙ wrote_there c.args.side (c.args.place + 1) c.args.fresh.now (g.D.Clocked.clock c.args.disk.now)
+    (g.D.Clocked.clock c.write_at.new.self) (c.write_at.ensures.told tells).moment

@@ -7,4 +7,5 @@ pub returns-then-right-left-clause-value : goal.returns-then-right-left-clause-v
 returns-then-right-left-clause-value c files l r = first_is Left _ _ files _ c.before_records.ensures (higher Left _ _ _ _ files l r c.if-right-left.true)
 
 pub returns-clause-value : goal.returns-clause-value
-returns-clause-value c files l r = first_is Right _ _ files _ c.before_records-2.ensures (higher Right _ _ _ _ files r l (omega (arith, c.if-left-right.false, c.if-right-left.false)))
+returns-clause-value c files l r = first_is Right _ _ files _ c.before_records-2.ensures
+    (higher Right _ _ _ _ files r l (omega (arith, c.if-left-right.false, c.if-right-left.false)))

@@ -1,8 +1,14 @@
+use Rattle.std.proofs.Common.{◌∙◌, ap, [], ◌∷◌}
 use Rattle.std.proofs.lemmas.Result.{err_from_is_err_and}
+use Rattle.world_traits.specs.Files.{other}
+use Rattle.world_traits.specs.Moments.{stored}
+use Rattle.world_traits.proofs.OneSide.{wrote_there, synced_there}
+use Rattle.world_traits.proofs.Passing.{stays_now}
 use Rattle.world_traits.specs.Files.{file_of}
 use Rattle.journal_core.proofs.HeadCloses.{IsToClose, is_shut, few_to_close, open_to_close, closed_looked, closed_already, closed_unwritten, closed_synced}
 use Rattle.journal_core.proofs.setting_up.close_head.Goals as goal
-use Rattle.journal_core.proofs.setting_up.close_head.Goals.{else-count-eq-HEAD-via-then-count-eq-HEAD+else-front-ne-OPEN, else-count-eq-HEAD-via-else-count-eq-HEAD}
+use Rattle.journal_core.proofs.setting_up.close_head.Goals.{else-count-eq-HEAD-via-then-count-eq-HEAD+else-front-ne-OPEN}
+use Rattle.journal_core.proofs.setting_up.close_head.Goals.{else-count-eq-HEAD-via-else-count-eq-HEAD}
 
 pub returns-in_err-count-clause-told : goal.returns-in_err-count-clause-told
 returns-in_err-count-clause-told g c tells =
@@ -34,3 +40,20 @@ returns-clause-told g c tells =
       | else-count-eq-HEAD-via-else-count-eq-HEAD w ↦ few_to_close _ _ _ value bytes w.if-count-eq-HEAD.false
     ] in
     closed_synced _ _ _ _ _ _ _ _ _ _ _ (c.in_ok-count.ensures.told tells) close (c.in_ok-write_at.ensures.told tells) (c.sync.ensures.told tells)
+
+pub returns-in_err-count-clause-beside : goal.returns-in_err-count-clause-beside
+returns-in_err-count-clause-beside g c tells = ap (stored (other c.args.side)) (stays_now (c.read.ensures.told tells).moment)
+
+pub returns-then-front-ne-OPEN-clause-beside : goal.returns-then-front-ne-OPEN-clause-beside
+returns-then-front-ne-OPEN-clause-beside g c tells = ap (stored (other c.args.side)) (stays_now (c.read.ensures.told tells).moment)
+
+pub returns-in_err-write_at-clause-beside : goal.returns-in_err-write_at-clause-beside
+returns-in_err-write_at-clause-beside g c tells =
+    wrote_there c.args.side 0 (0 ∷ []) (g.D.Clocked.clock c.read.new.self) (g.D.Clocked.clock c.write_at.new.self) (c.write_at.ensures.told tells).moment
+    ∙ ap (stored (other c.args.side)) (stays_now (c.read.ensures.told tells).moment)
+
+pub returns-clause-beside : goal.returns-clause-beside
+returns-clause-beside g c tells =
+    synced_there c.args.side (g.D.Clocked.clock c.write_at.new.self) (g.D.Clocked.clock c.sync.new.self) _ _ _ (c.sync.ensures.told tells)
+    ∙ wrote_there c.args.side 0 (0 ∷ []) (g.D.Clocked.clock c.read.new.self) (g.D.Clocked.clock c.write_at.new.self) (c.write_at.ensures.told tells).moment
+    ∙ ap (stored (other c.args.side)) (stays_now (c.read.ensures.told tells).moment)

@@ -1,3 +1,4 @@
+use Rattle.std.proofs.Common.{◌∙◌}
 use Rattle.std.proofs.lemmas.Result.{err_from_is_err_and}
 use Rattle.journal_core.proofs.HeadCloses.{not_set_up, is_set_up}
 use Rattle.journal_core.proofs.setting_up.set_up.Goals as goal
@@ -8,4 +9,8 @@ returns-in_err-close_head-clause-told g c tells version generation bodies is =
     not_set_up _ _ _ _ _ is _ _ _ _ _ _ _ p.1 (c.close_head.ensures.told tells)
 
 pub returns-clause-told : goal.returns-clause-told
-returns-clause-told g c tells version generation bodies is = is_set_up _ _ _ _ _ is _ _ _ _ _ _ _ (c.in_ok-close_head.ensures.told tells) _ (c.write_gated.ensures.told tells)
+returns-clause-told g c tells version generation bodies is =
+    is_set_up _ _ _ _ _ is _ _ _ _ _ _ _ (c.in_ok-close_head.ensures.told tells) _ (c.write_gated.ensures.told tells)
+
+pub returns-clause-beside : goal.returns-clause-beside
+returns-clause-beside g c tells = c.write_gated.ensures.beside tells ∙ c.in_ok-close_head.ensures.beside tells

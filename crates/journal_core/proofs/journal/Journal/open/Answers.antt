@@ -1,0 +1,5 @@
+use Rattle.journal_core.proofs.AtRest.{settles_one}
+use Rattle.journal_core.proofs.journal.Journal.open.Goals as goal
+
+pub returns-in-Err-clause-one_side : goal.returns-in-Err-clause-one_side
+returns-in-Err-clause-one_side g c tells one = settles_one _ _ _ one (c.read_sides.ensures.exact tells one)
