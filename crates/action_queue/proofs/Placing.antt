@@ -1,5 +1,6 @@
 -- A mailbox's new cache goes to the place of its name.
-use Rattle.std.proofs.Common.{◌≡◌, ℕ, zero, suc, ◌+◌, ◌<◌, ◌≤◌, Bool, true, false, cond, ltb, List, [], ◌∷◌, length, slice_set, slice_get, get_or, Option, Some, None, refl, sym, ◌∙◌, ap, arith}
+use Rattle.std.proofs.Common.{◌≡◌, ℕ, zero, suc, ◌+◌, ◌<◌, ◌≤◌, Bool, true, false, cond, ltb, List, [], ◌∷◌, length, slice_set, slice_get}
+use Rattle.std.proofs.Common.{get_or, Option, Some, None, refl, sym, ◌∙◌, ap, arith}
 use Rattle.std.specs.Prelude.{not, bytes_eq}
 use Rattle.std.specs.List.{position, position_or_len}
 use Rattle.std.proofs.lemmas.Bool.{cond-true, cond-false, ltb-false}
@@ -22,7 +23,8 @@ put_there : (name : List ℕ) (cache : Option Cache) (boxes : List Known) (i : �
     ((k : ℕ) → k < i → is_named name (get_or boxes k d) ≡ false) → slice_set boxes i (renewed name cache) ≡ put_cache name cache boxes
 put_there name cache [] i d l t f = absurd (omega arith)
 put_there name cache (k ∷ ks) zero d l t f =
-    ap (λ (x : Known). x ∷ ks) (sym (same_name name cache k t)) ∙ sym (cond-true (is_named name k) (record k { cache = cache } ∷ ks) (k ∷ put_cache name cache ks) t)
+    ap (λ (x : Known). x ∷ ks) (sym (same_name name cache k t)) ∙ sym
+    (cond-true (is_named name k) (record k { cache = cache } ∷ ks) (k ∷ put_cache name cache ks) t)
 put_there name cache (k ∷ ks) (suc i) d l t f =
     ap (λ (xs : List Known). k ∷ xs) (put_there name cache ks i d (omega arith) t (λ j h. f (suc j) (omega arith)))
     ∙ sym (cond-false (is_named name k) (record k { cache = cache } ∷ ks) (k ∷ put_cache name cache ks) (f 0 (omega arith)))
@@ -58,11 +60,13 @@ fail_then : (b : Bool) (n m : ℕ) → suc m ≤ cond (not b) (1 + n) 0 → (b �
 fail_then true n m h = absurd (omega arith)
 fail_then false n m h = (refl, omega arith)
 
-put_nowhere : (name : List ℕ) (cache : Option Cache) (boxes : List Known) → length boxes ≤ position_or_len (is_named name) boxes → put_cache name cache boxes ≡ boxes
+put_nowhere : (name : List ℕ) (cache : Option Cache) (boxes : List Known) → length boxes ≤ position_or_len (is_named name) boxes →
+    put_cache name cache boxes ≡ boxes
 put_nowhere name cache [] h = refl
 put_nowhere name cache (k ∷ ks) h =
     let parts = fail_then (is_named name k) (position_or_len (is_named name) ks) (length ks) h in
-    cond-false (is_named name k) (record k { cache = cache } ∷ ks) (k ∷ put_cache name cache ks) parts.0 ∙ ap (λ (xs : List Known). k ∷ xs) (put_nowhere name cache ks parts.1)
+    cond-false (is_named name k) (record k { cache = cache } ∷ ks) (k ∷ put_cache name cache ks) parts.0
+    ∙ ap (λ (xs : List Known). k ∷ xs) (put_nowhere name cache ks parts.1)
 
 none_then : (b : Bool) (n : ℕ) → cond b (Some n) None ≡ None → b ≡ false
 none_then true n e = absurd (cc)
@@ -71,4 +75,5 @@ none_then false n e = refl
 -- where no mailbox has the name, nothing changes
 pub put_none : (name : List ℕ) (cache : Option Cache) (boxes : List Known) → position (is_named name) boxes ≡ None → put_cache name cache boxes ≡ boxes
 put_none name cache boxes e =
-    put_nowhere name cache boxes (ltb-false (position_or_len (is_named name) boxes) (length boxes) (none_then (ltb (position_or_len (is_named name) boxes) (length boxes)) (position_or_len (is_named name) boxes) e))
+    put_nowhere name cache boxes (ltb-false (position_or_len (is_named name) boxes) (length boxes)
+    (none_then (ltb (position_or_len (is_named name) boxes) (length boxes)) (position_or_len (is_named name) boxes) e))

@@ -1,5 +1,6 @@
 -- The first unsettled action of a queue, and what settling it does.
-use Rattle.std.proofs.Common.{rules, slice_set, slice_index_or, ◌≡◌, ℕ, suc, ◌<◌, ◌≤◌, List, [], ◌∷◌, ◌++◌, length, Option, Some, None, refl, sym, ◌∙◌, ap, subst, arith}
+use Rattle.std.proofs.Common.{rules, slice_set, slice_index_or, ◌≡◌, ℕ, suc, ◌<◌, ◌≤◌, List, [], ◌∷◌, ◌++◌, length, Option, Some, None}
+use Rattle.std.proofs.Common.{refl, sym, ◌∙◌, ap, subst, arith}
 use Rattle.std.specs.Prelude.{IsSome}
 use Rattle.action_queue.specs.Queues.{due, settled_then, accepted, settled, change_first, change_queued, AllSettled, AllOpen, IsInOrder, InOrderThen}
 use Rattle.action_queue.specs.declared.action.Action.{Action}
@@ -59,7 +60,8 @@ set_then f x q qs changed n None l e h = ap (λ (y : Queued). f y ∷ qs) e
 set_then f x q qs changed n (Some outcome) l e h = ap (λ (ys : List Queued). x ∷ ys) (h (omega arith) e)
 
 -- the first unsettled action stands at the place of the one that is due
-pub set_first : (f : Queued → Queued) (qs : List Queued) (q : Queued) → due qs < length qs → q ≡ slice_index_or qs (due qs) q → slice_set qs (due qs) (f q) ≡ change_first f qs
+pub set_first : (f : Queued → Queued) (qs : List Queued) (q : Queued) → due qs < length qs → q ≡ slice_index_or qs (due qs) q →
+    slice_set qs (due qs) (f q) ≡ change_first f qs
 set_first f [] q l e = absurd (omega arith)
 set_first f (x ∷ qs) q l e = set_then f x q qs (change_first f qs) (due qs) x.outcome l e (set_first f qs q)
 
@@ -92,7 +94,8 @@ pub order_settled : (outcome : Outcome) (qs : List Queued) → IsInOrder qs → 
 order_settled outcome [] a = tt
 order_settled outcome (q ∷ qs) a = order_settled_then outcome q qs (change_first (settled outcome) qs) q.outcome refl a (order_settled outcome qs)
 
-length_then : (f : Queued → Queued) (x : Queued) (qs changed : List Queued) (o : Option Outcome) → length changed ≡ length qs → length (change_queued f x qs changed o) ≡ suc (length qs)
+length_then : (f : Queued → Queued) (x : Queued) (qs changed : List Queued) (o : Option Outcome) → length changed ≡ length qs →
+    length (change_queued f x qs changed o) ≡ suc (length qs)
 length_then f x qs changed None h = refl
 length_then f x qs changed (Some old) h = ap suc h
 

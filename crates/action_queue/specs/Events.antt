@@ -1,4 +1,4 @@
--- Which events are lawful, and the book as the fold of a journal's events (this client's profile of RFC 4549).
+-- Which events are lawful, and the book after the next event of a journal (this client's profile of RFC 4549).
 use Rattle.std.specs.Prelude.{◌≡◌, ◌≢◌, ℕ, ◌≤◌, List, [], ◌∷◌, length, Option, Some, None, ⊤}
 use Rattle.action_queue.specs.declared.event.Event.{Event}
 use Rattle.action_queue.specs.declared.event.Event.TheVariants as events
@@ -30,23 +30,19 @@ pub record AreNames (names : List (List ℕ)) : Type 0 where
 -- what may be the first event
 abbrev pub IsFirst : Event → Type 0
 IsFirst (events.Begin names) = AreNames names
-IsFirst _ = ⊥
-
--- what may be the next event of a journal; no book stands for a journal without events
-abbrev pub MayCome : Option Meaning → Event → Type 0
-MayCome None event = IsFirst event
-MayCome (Some b) event = IsLawful b event
+IsFirst (events.Accept id action) = ⊥
+IsFirst (events.Intend id intent) = ⊥
+IsFirst (events.Settle id outcome) = ⊥
+IsFirst (events.Learn name delta) = ⊥
 
 abbrev pub first_book : Event → Meaning
 first_book (events.Begin names) = begun names
-first_book _ = begun []
+first_book (events.Accept id action) = begun []
+first_book (events.Intend id intent) = begun []
+first_book (events.Settle id outcome) = begun []
+first_book (events.Learn name delta) = begun []
 
--- the book after the next event
+-- the book after the next event; no book stands for a journal without events
 abbrev pub next_book : Option Meaning → Event → Meaning
 next_book None event = first_book event
 next_book (Some b) event = after b event
-
--- these events may come one behind the other, and make this of a book
-abbrev pub Folds : Option Meaning → List Event → Option Meaning → Type 0
-Folds b [] c = c ≡ b
-Folds b (event ∷ events) c = MayCome b event × Folds (Some (next_book b event)) events c

@@ -4,6 +4,5 @@ pub mod Events
 pub mod Queues
 pub mod Readiness
 pub mod Rules
-pub mod Steps
 pub mod Targets
 pub mod Writable

@@ -1,5 +1,6 @@
 -- The rules of the book (this client's profile): each as a test of its own, and the first one that an event breaks.
-use Rattle.std.specs.Prelude.{ℕ, ◌+◌, Bool, true, false, not, ◌&&◌, ◌||◌, ◌==◌, cond, nat_lt, nat_le, List, [], ◌∷◌, length, bytes_eq, Option, Some, None, is_some, is_none}
+use Rattle.std.specs.Prelude.{ℕ, ◌+◌, Bool, true, false, not, ◌&&◌, ◌||◌, ◌==◌, cond, nat_lt, nat_le, List, [], ◌∷◌, length, bytes_eq}
+use Rattle.std.specs.Prelude.{Option, Some, None, is_some, is_none}
 use Rattle.mailbox_cache.specs.declared.cache.Cache.{Cache}
 use Rattle.mailbox_cache.specs.declared.delta.Delta.{Delta}
 use Rattle.action_queue.specs.declared.target.Target.{Target}
@@ -219,44 +220,103 @@ delta_of cache delta =
 
 -- whether an event breaks a rule that speaks of accepted actions
 abbrev pub breaks_accept : Meaning → ℕ → Action → Rule → Bool
+breaks_accept b id action rule.BeginAgain = false
 breaks_accept b id action rule.WrongNumber = not (id == length b.queue + 1)
 breaks_accept b id action rule.UnknownBox = is_unknown_action b.boxes action
 breaks_accept b id action rule.BadTarget = is_bad_action b.queue action
 breaks_accept b id action rule.TooMany = nat_le 1000000 (length b.queue)
-breaks_accept b id action _ = false
+breaks_accept b id action rule.PendingAlready = false
+breaks_accept b id action rule.NothingWaiting = false
+breaks_accept b id action rule.WrongAction = false
+breaks_accept b id action rule.WrongIntent = false
+breaks_accept b id action rule.NeedsIntent = false
+breaks_accept b id action rule.NoIntentDue = false
+breaks_accept b id action rule.WrongPlace = false
+breaks_accept b id action rule.WrongKind = false
+breaks_accept b id action rule.WrongWhole = false
+breaks_accept b id action rule.WrongValidity = false
+breaks_accept b id action rule.LowerMark = false
+breaks_accept b id action rule.TooManyRows = false
 
 -- the same of intents
 abbrev pub breaks_intend : Meaning → ℕ → Intent → Rule → Bool
+breaks_intend b id intent rule.BeginAgain = false
+breaks_intend b id intent rule.WrongNumber = false
 breaks_intend b id intent rule.UnknownBox = is_unknown_intent b.boxes intent
+breaks_intend b id intent rule.BadTarget = false
+breaks_intend b id intent rule.TooMany = false
 breaks_intend b id intent rule.PendingAlready = is_some b.pending
 breaks_intend b id intent rule.NothingWaiting = is_none (due_action b.queue)
 breaks_intend b id intent rule.WrongAction = not (id == due b.queue + 1)
 breaks_intend b id intent rule.WrongIntent = is_unsuited b.queue (due_action b.queue) intent
-breaks_intend b id intent _ = false
+breaks_intend b id intent rule.NeedsIntent = false
+breaks_intend b id intent rule.NoIntentDue = false
+breaks_intend b id intent rule.WrongPlace = false
+breaks_intend b id intent rule.WrongKind = false
+breaks_intend b id intent rule.WrongWhole = false
+breaks_intend b id intent rule.WrongValidity = false
+breaks_intend b id intent rule.LowerMark = false
+breaks_intend b id intent rule.TooManyRows = false
 
 -- the same of outcomes
 abbrev pub breaks_settle : Meaning → ℕ → Outcome → Rule → Bool
+breaks_settle b id outcome rule.BeginAgain = false
+breaks_settle b id outcome rule.WrongNumber = false
+breaks_settle b id outcome rule.UnknownBox = false
+breaks_settle b id outcome rule.BadTarget = false
+breaks_settle b id outcome rule.TooMany = false
+breaks_settle b id outcome rule.PendingAlready = false
 breaks_settle b id outcome rule.NothingWaiting = is_none (due_action b.queue)
 breaks_settle b id outcome rule.WrongAction = not (id == due b.queue + 1)
+breaks_settle b id outcome rule.WrongIntent = false
 breaks_settle b id outcome rule.NeedsIntent = is_none b.pending && rests_on_intent outcome
 breaks_settle b id outcome rule.NoIntentDue = is_some b.pending && comes_before_intent outcome
 breaks_settle b id outcome rule.WrongPlace = is_misplaced (due_action b.queue) outcome
 breaks_settle b id outcome rule.WrongKind = is_misfit b (due_action b.queue) outcome
-breaks_settle b id outcome _ = false
+breaks_settle b id outcome rule.WrongWhole = false
+breaks_settle b id outcome rule.WrongValidity = false
+breaks_settle b id outcome rule.LowerMark = false
+breaks_settle b id outcome rule.TooManyRows = false
 
 -- the same of what a resynchronisation told
 abbrev pub breaks_learn : Meaning → List ℕ → Delta → Rule → Bool
+breaks_learn b name delta rule.BeginAgain = false
+breaks_learn b name delta rule.WrongNumber = false
 breaks_learn b name delta rule.UnknownBox = is_unknown b.boxes name
+breaks_learn b name delta rule.BadTarget = false
+breaks_learn b name delta rule.TooMany = false
+breaks_learn b name delta rule.PendingAlready = false
+breaks_learn b name delta rule.NothingWaiting = false
+breaks_learn b name delta rule.WrongAction = false
+breaks_learn b name delta rule.WrongIntent = false
+breaks_learn b name delta rule.NeedsIntent = false
+breaks_learn b name delta rule.NoIntentDue = false
+breaks_learn b name delta rule.WrongPlace = false
+breaks_learn b name delta rule.WrongKind = false
 breaks_learn b name delta rule.WrongWhole = is_wrong_whole (cache_at name b.boxes) delta
 breaks_learn b name delta rule.WrongValidity = is_wrong_validity (cache_at name b.boxes) delta
 breaks_learn b name delta rule.LowerMark = is_lower_mark (cache_at name b.boxes) delta
 breaks_learn b name delta rule.TooManyRows = nat_lt 200000 (length (learned (cache_at name b.boxes) delta).rows)
-breaks_learn b name delta _ = false
 
 -- a book has begun, so it never begins again
 abbrev pub breaks_begin : Rule → Bool
 breaks_begin rule.BeginAgain = true
-breaks_begin _ = false
+breaks_begin rule.WrongNumber = false
+breaks_begin rule.UnknownBox = false
+breaks_begin rule.BadTarget = false
+breaks_begin rule.TooMany = false
+breaks_begin rule.PendingAlready = false
+breaks_begin rule.NothingWaiting = false
+breaks_begin rule.WrongAction = false
+breaks_begin rule.WrongIntent = false
+breaks_begin rule.NeedsIntent = false
+breaks_begin rule.NoIntentDue = false
+breaks_begin rule.WrongPlace = false
+breaks_begin rule.WrongKind = false
+breaks_begin rule.WrongWhole = false
+breaks_begin rule.WrongValidity = false
+breaks_begin rule.LowerMark = false
+breaks_begin rule.TooManyRows = false
 
 -- whether an event breaks a rule of a journal of this version, on this book
 abbrev pub breaks : Version → Meaning → Event → Rule → Bool

@@ -29,7 +29,7 @@ pub struct Book {
 
 impl Known {
     /// The same once more. Fails for want of memory alone.
-    pub fn copy(&self, alloc: Global) -> Result<Known, AllocError>
+    pub fn copy(&self) -> Result<Known, AllocError>
         ensures { IfOk result (λ known. known ≡ self.now) }
     {
         let Some(cache) = &self.cache else {
@@ -38,7 +38,7 @@ impl Known {
                 cache: None,
             });
         };
-        let cache = cache.copy(alloc)?;
+        let cache = cache.copy()?;
         Ok(Known {
             name: self.name.copy(),
             cache: Some(cache),
@@ -107,11 +107,11 @@ impl Book {
     }
 
     /// The same book once more. Fails for want of memory alone.
-    pub fn copy(&self, alloc: Global) -> Result<Book, AllocError>
+    pub fn copy(&self) -> Result<Book, AllocError>
         ensures { IfOk result (λ book. meaning book ≡ meaning self.now) }
     {
-        let boxes = copied(alloc, self.boxes.as_slice())?;
-        let queue = self.queue.copy(alloc)?;
+        let boxes = copied(self.queue.allocator(), self.boxes.as_slice())?;
+        let queue = self.queue.copy()?;
         Ok(Book {
             boxes: List::of(boxes),
             queue,
@@ -182,7 +182,7 @@ fn copied(alloc: Global, boxes: &[Known]) -> Result<Vec<Known>, AllocError>
 {
     let mut copies = Vec::with_capacity(alloc, boxes.len())?;
     for known in boxes {
-        copies.push(known.copy(alloc)?)?;
+        copies.push(known.copy()?)?;
     }
     Ok(copies)
 }

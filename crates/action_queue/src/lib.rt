@@ -14,8 +14,6 @@ mod queued;
 mod ready;
 mod rule;
 mod target;
-#[cfg(test)]
-mod tests;
 
 pub use action::Action;
 pub use book::{Book, Known};

@@ -69,6 +69,11 @@ impl Queue {
         self.items.get(self.settled)
     }
 
+    // Where its memory comes from.
+    pub(crate) fn allocator(&self) -> Global {
+        *self.items.allocator()
+    }
+
     // Makes room for one more action. On want of memory nothing changes.
     pub(crate) fn reserve(&mut self) -> Result<(), AllocError>
         ensures same { self.new.items ≡ self.old.items }
@@ -102,10 +107,10 @@ impl Queue {
     }
 
     /// The same actions once more. Fails for want of memory alone.
-    pub fn copy(&self, alloc: Global) -> Result<Queue, AllocError>
+    pub fn copy(&self) -> Result<Queue, AllocError>
         ensures { IfOk result (λ queue. queue.items ≡ self.now.items) }
     {
-        let items = copied(alloc, &self.items)?;
+        let items = copied(self.allocator(), &self.items)?;
         Ok(Queue {
             items,
             settled: self.settled,

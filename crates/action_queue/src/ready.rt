@@ -6,38 +6,38 @@ ghost use Rattle.action_queue.specs.Book.{meaning, after, learned, cache_at, cac
 ghost use Rattle.action_queue.specs.declared.book.Known.{Known};
 ghost use Rattle.action_queue.specs.Events.{IsLawful};
 ghost use Rattle.action_queue.specs.Queues.{accepted};
-ghost use Rattle.action_queue.specs.Readiness.{IsReady, AtHand};
+ghost use Rattle.action_queue.specs.Readiness.{IsReady, AtHand, HasRoom};
 ghost use Rattle.action_queue.specs.Rules.{delta_of};
 ghost use Rattle.action_queue.specs.declared.event.Event.TheVariants as events;
 
 use crate::{Action, Book, Event, Known, Outcome};
 use mail_base::{ActionId, BoxName, List};
-use mailbox_cache::{Cache, Delta};
+use mailbox_cache::{Cache, Delta, Room};
 use std::alloc::{AllocError, Global};
 use std::mem;
 
-/// An event with what it needs to be entered: for a resynchronised mailbox its new cache.
+/// An event with what it needs to be entered: where a mailbox with a cache is told rows, room for these and for its own.
 #[derive(Drop)]
 pub struct Ready {
     pub event: Event,
-    pub cache: Option<Cache>,
+    pub room: Room,
 }
 
 impl Book {
-    /// Makes an event ready to be entered: the room for one more action, or a mailbox's new cache. The book's meaning
-    /// stays. Fails for want of memory alone.
-    pub fn prepare(&mut self, alloc: Global, event: Event) -> Result<Ready, AllocError>
+    /// Makes an event ready to be entered: takes room for one more action, or, where a mailbox with a cache is told rows, for
+    /// all its rows and the told ones. No row is copied. The book's meaning stays. Fails for want of memory alone.
+    pub fn prepare(&mut self, event: Event) -> Result<Ready, AllocError>
         requires { IsLawful (meaning self.old) event }
         ensures same { meaning self.new ≡ meaning self.old }
         ensures event { IfOk result (λ ready. ready.event ≡ event) }
-        ensures ready { IfOk result (λ ready. IsReady self.new ready.event ready.cache) }
+        ensures ready { IfOk result (λ ready. IsReady self.new ready.event ready.room) }
     {
-        let cache = self.need(alloc, &event)?;
-        Ok(Ready { event, cache })
+        let room = self.need(&event)?;
+        Ok(Ready { event, room })
     }
 
     // What an event needs to be entered.
-    fn need(&mut self, alloc: Global, event: &Event) -> Result<Option<Cache>, AllocError>
+    fn need(&mut self, event: &Event) -> Result<Room, AllocError>
         requires { IsLawful (meaning self.old) event.now }
         ensures same { meaning self.new ≡ meaning self.old }
         ensures at_hand { IfOk result (AtHand self.new event.now) }
@@ -45,38 +45,36 @@ impl Book {
         match event {
             Event::Accept { .. } => {
                 self.queue.reserve()?;
-                Ok(None)
+                Ok(Room::none(self.queue.allocator()))
             }
-            Event::Learn { name, delta } => {
-                let cache = self.learned(alloc, name, delta)?;
-                Ok(Some(cache))
+            Event::Learn { name, delta } => self.room(name, delta),
+            Event::Begin { .. } | Event::Intend { .. } | Event::Settle { .. } => {
+                Ok(Room::none(self.queue.allocator()))
             }
-            Event::Begin { .. } | Event::Intend { .. } | Event::Settle { .. } => Ok(None),
         }
     }
 
-    // The mailbox's cache after a delta.
-    fn learned(&self, alloc: Global, name: &BoxName, delta: &Delta) -> Result<Cache, AllocError>
-        requires { delta_of (cache_at name.now self.now.boxes) delta.now ≡ None }
-        ensures { IfOk result (λ cache. cache ≡ learned (cache_at name.now self.now.boxes) delta.now) }
+    // The room that a mailbox's cache needs for a delta.
+    fn room(&self, name: &BoxName, delta: &Delta) -> Result<Room, AllocError>
+        ensures { IfOk result (HasRoom (cache_at name.now self.now.boxes) delta.now) }
     {
         match self.known(name) {
-            Some(known) => learned_by(alloc, &known.cache, delta),
-            None => Cache::first(alloc, delta),
+            Some(known) => room_in(self.queue.allocator(), &known.cache, delta),
+            None => Ok(Room::none(self.queue.allocator())),
         }
     }
 
     /// Enters an event that was prepared on the book as it is. It takes no memory, and never fails.
     pub fn enter(&mut self, ready: Ready)
-        requires { IsReady self.old ready.event ready.cache }
+        requires { IsReady self.old ready.event ready.room }
         ensures { meaning self.new ≡ after (meaning self.old) ready.event }
     {
-        self.enter_event(ready.event, ready.cache);
+        self.enter_event(ready.event, ready.room);
     }
 
     // The same of an event and what it needs.
-    fn enter_event(&mut self, event: Event, cache: Option<Cache>)
-        requires { IsReady self.old event cache }
+    fn enter_event(&mut self, event: Event, room: Room)
+        requires { IsReady self.old event room }
         ensures { meaning self.new ≡ after (meaning self.old) event }
     {
         match event {
@@ -84,10 +82,7 @@ impl Book {
             Event::Accept { id: _id, action } => self.queue.accept(action),
             Event::Intend { id: _id, intent } => self.pending = Some(intent),
             Event::Settle { id, outcome } => self.settle(id, outcome),
-            Event::Learn {
-                name,
-                delta: _delta,
-            } => self.learn(&name, cache),
+            Event::Learn { name, delta } => self.learn(&name, delta, room),
         }
     }
 
@@ -102,7 +97,7 @@ impl Book {
 
     /// Enters an event that stands in the journal already, and moves what it holds. For want of memory, which alone
     /// fails it, the book is no more that of the events, and is to be given up.
-    pub fn follow(&mut self, alloc: Global, event: Event) -> Result<(), AllocError>
+    pub fn follow(&mut self, event: Event) -> Result<(), AllocError>
         requires { IsLawful (meaning self.old) event }
         ensures { OnOk result (meaning self.new ≡ after (meaning self.old) event) }
     {
@@ -117,7 +112,7 @@ impl Book {
                 self.settle(id, outcome);
                 Ok(())
             }
-            Event::Learn { name, delta } => self.follow_delta(alloc, &name, delta),
+            Event::Learn { name, delta } => self.follow_delta(&name, delta),
         }
     }
 
@@ -134,71 +129,57 @@ impl Book {
     }
 
     // Changes a mailbox's cache by a delta.
-    fn follow_delta(
-        &mut self,
-        alloc: Global,
-        name: &BoxName,
-        delta: Delta,
-    ) -> Result<(), AllocError>
+    fn follow_delta(&mut self, name: &BoxName, delta: Delta) -> Result<(), AllocError>
         requires { delta_of (cache_at name.now self.old.boxes) delta ≡ None }
         ensures boxes { OnOk result (self.new.boxes ≡ put_cache name.now (Some (learned (cache_at name.now self.old.boxes) delta)) self.old.boxes) }
         ensures queue { self.new.queue ≡ self.old.queue }
         ensures pending { self.new.pending ≡ self.old.pending }
     {
-        let boxes = mem::replace(&mut self.boxes, List::new(alloc));
-        self.boxes = with_delta(alloc, boxes, name, delta)?;
+        let room = self.room(name, &delta)?;
+        self.learn(name, delta, room);
         Ok(())
     }
 
-    // Puts a mailbox's new cache in place of its old one.
-    fn learn(&mut self, name: &BoxName, cache: Option<Cache>)
-        ensures boxes { self.new.boxes ≡ put_cache name.now cache self.old.boxes }
+    // Changes a mailbox's cache by a delta, with the room that it needs.
+    fn learn(&mut self, name: &BoxName, delta: Delta, room: Room)
+        requires fits { delta_of (cache_at name.now self.old.boxes) delta ≡ None }
+        requires room { HasRoom (cache_at name.now self.old.boxes) delta room }
+        ensures boxes { self.new.boxes ≡ put_cache name.now (Some (learned (cache_at name.now self.old.boxes) delta)) self.old.boxes }
         ensures queue { self.new.queue ≡ self.old.queue }
         ensures pending { self.new.pending ≡ self.old.pending }
     {
-        if let Some(at) = place_of(self.boxes.as_slice(), name) {
-            self.boxes.put(
-                at,
-                Known {
-                    name: name.copy(),
-                    cache,
-                },
-            );
-        }
+        let none = List::new(self.queue.allocator());
+        let boxes = mem::replace(&mut self.boxes, none);
+        self.boxes = with_delta(boxes, name, delta, room);
     }
 }
 
-// The cache after a delta, where there is one or none.
-fn learned_by(alloc: Global, cache: &Option<Cache>, delta: &Delta) -> Result<Cache, AllocError>
-    requires { delta_of cache.now delta.now ≡ None }
-    ensures { IfOk result (λ new. new ≡ learned cache.now delta.now) }
+// The room that a cache needs for a delta, where there is one.
+fn room_in(alloc: Global, cache: &Option<Cache>, delta: &Delta) -> Result<Room, AllocError>
+    ensures { IfOk result (HasRoom cache.now delta.now) }
 {
     match cache {
-        Some(cache) => cache.apply(alloc, delta),
-        None => Cache::first(alloc, delta),
+        Some(cache) => cache.room(delta),
+        None => Ok(Room::none(alloc)),
     }
 }
 
 // The mailboxes with the cache of this name after a delta.
-fn with_delta(
-    alloc: Global,
-    boxes: List<Known>,
-    name: &BoxName,
-    delta: Delta,
-) -> Result<List<Known>, AllocError>
-    requires { delta_of (cache_at name.now boxes) delta ≡ None }
-    ensures { IfOk result (λ new. new ≡ put_cache name.now (Some (learned (cache_at name.now boxes) delta)) boxes) }
+fn with_delta(boxes: List<Known>, name: &BoxName, delta: Delta, room: Room) -> List<Known>
+    requires fits { delta_of (cache_at name.now boxes) delta ≡ None }
+    requires room { HasRoom (cache_at name.now boxes) delta room }
+    ensures { result ≡ put_cache name.now (Some (learned (cache_at name.now boxes) delta)) boxes }
 {
     let Some(at) = place_of(boxes.as_slice(), name) else {
-        return Ok(boxes);
+        return boxes;
     };
     let mut content = boxes.into_vec();
     let old = take_cache(&mut content, at);
-    let cache = Some(moved_by(alloc, old, delta)?);
+    let cache = Some(moved_by(old, delta, room));
     let name = name.copy();
     let mut boxes = List::of(content);
     boxes.put(at, Known { name, cache });
-    Ok(boxes)
+    boxes
 }
 
 // Takes the cache of the mailbox at this place.
@@ -212,13 +193,14 @@ fn take_cache(boxes: &mut Vec<Known>, at: usize) -> Option<Cache>
 }
 
 // The cache after a delta, where there is one or none, which are given up.
-fn moved_by(alloc: Global, cache: Option<Cache>, delta: Delta) -> Result<Cache, AllocError>
-    requires { delta_of cache delta ≡ None }
-    ensures { IfOk result (λ new. new ≡ learned cache delta) }
+fn moved_by(cache: Option<Cache>, delta: Delta, room: Room) -> Cache
+    requires fits { delta_of cache delta ≡ None }
+    requires room { HasRoom cache delta room }
+    ensures { result ≡ learned cache delta }
 {
     match cache {
-        Some(cache) => cache.after(delta),
-        None => Cache::of(alloc, delta),
+        Some(cache) => cache.within(delta, room),
+        None => Cache::of(delta),
     }
 }
 

@@ -2,5 +2,7 @@
 pub mod Counting
 pub mod Lookups
 pub mod Members
-pub mod Putting
 pub mod Rising
+pub mod Setting
+pub mod Splitting
+pub mod Vanishing

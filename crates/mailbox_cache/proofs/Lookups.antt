@@ -43,13 +43,15 @@ without_in uid us [] h = refl
 without_in uid us (r ∷ rs) h =
     cond_both (has_uid us r.0) (without_uids us rs) (r ∷ without_uids us rs) (λ (l : List (ℕ × Row)). row_at uid l ≡ None)
     (λ t. without_in uid us rs h)
-    (λ f. cond-false (eqb r.0 uid) (Some r.1) (row_at uid (without_uids us rs)) (ne_eqb r.0 uid (λ e. let g : has_uid us r.0 ≡ true = ap (has_uid us) e ∙ h in absurd (cc))) ∙ without_in uid us rs h)
+    (λ f. cond-false (eqb r.0 uid) (Some r.1) (row_at uid (without_uids us rs))
+    (ne_eqb r.0 uid (λ e. let g : has_uid us r.0 ≡ true = ap (has_uid us) e ∙ h in absurd (cc))) ∙ without_in uid us rs h)
 
 pub without_out : (uid : ℕ) (us : List UidRange) (rows : List (ℕ × Row)) → has_uid us uid ≡ false → row_at uid (without_uids us rows) ≡ row_at uid rows
 without_out uid us [] h = refl
 without_out uid us (r ∷ rs) h =
     cond_both (has_uid us r.0) (without_uids us rs) (r ∷ without_uids us rs) (λ (l : List (ℕ × Row)). row_at uid l ≡ row_at uid (r ∷ rs))
-    (λ t. without_out uid us rs h ∙ sym (cond-false (eqb r.0 uid) (Some r.1) (row_at uid rs) (ne_eqb r.0 uid (λ e. let g : has_uid us uid ≡ true = ap (has_uid us) (sym e) ∙ t in absurd (cc)))))
+    (λ t. without_out uid us rs h ∙ sym (cond-false (eqb r.0 uid) (Some r.1) (row_at uid rs)
+    (ne_eqb r.0 uid (λ e. let g : has_uid us uid ≡ true = ap (has_uid us) (sym e) ∙ t in absurd (cc)))))
     (λ f. ap (λ (o : Option Row). cond (eqb r.0 uid) (Some r.1) o) (without_out uid us rs h))
 
 known : (uid : ℕ) (us : List UidRange) (ds rows : List (ℕ × Row)) (o : Option Row) (v : Bool) → row_at uid ds ≡ o → has_uid us uid ≡ v →

@@ -14,5 +14,6 @@ pub has_uid-Decides : (ranges : List UidRange) (uid : ℕ) → Decides (has_uid 
 has_uid-Decides [] uid = (λ e. absurd (cc), λ m. absurd m)
 has_uid-Decides (range ∷ ranges) uid =
     Decides-or (leb range.low uid && leb uid range.high) (has_uid ranges uid)
-    (Decides-like (leb range.low uid && leb uid range.high) (λ p. record { above = p.0; below = p.1 }) (λ w. (w.above, w.below)) (Decides-and (leb range.low uid) (leb uid range.high) (Decides-leb range.low uid) (Decides-leb uid range.high)))
+    (Decides-like (leb range.low uid && leb uid range.high) (λ p. record { above = p.0; below = p.1 }) (λ w. (w.above, w.below))
+    (Decides-and (leb range.low uid) (leb uid range.high) (Decides-leb range.low uid) (Decides-leb uid range.high)))
     (has_uid-Decides ranges uid)

@@ -1,5 +1,6 @@
 -- Rows by UID, in rising order (RFC 9051, section 2.3.1.1), and what a delta makes of them (RFC 7162, section 3.2).
-use Rattle.std.specs.Prelude.{◌≡◌, ℕ, ◌<◌, Bool, true, false, cond, eqb, ltb, nat_le, ◌&&◌, ◌||◌, List, [], ◌∷◌, Option, Some, None, is_some, ⊤, ◌+◌}
+use Rattle.std.specs.Prelude.{◌≡◌, ℕ, ◌<◌, Bool, true, false, cond, eqb, ltb, nat_le, ◌&&◌, ◌||◌, ◌≤◌, List, [], ◌∷◌, length, Option}
+use Rattle.std.specs.Prelude.{Some, None, is_some, ⊤, ◌+◌}
 use Rattle.std.specs.Coded.{×_prop, Unit-prop, le_prop, Coded-set, coded_bool}
 use Rattle.uid_sets.specs.declared.uid.UidRange.{UidRange}
 use Rattle.mailbox_cache.specs.declared.row.Row.{Row}
@@ -39,6 +40,29 @@ told None false before = before
 abbrev pub strangers : List (ℕ × Row) → List (ℕ × Row) → ℕ
 strangers [] rows = 0
 strangers (r ∷ new) rows = cond (is_some (row_at r.0 rows)) 0 1 + strangers new rows
+
+-- the room that so many rows need among so many others: none where none is told
+abbrev pub told_room : ℕ → ℕ → ℕ
+told_room len told = cond (eqb told 0) 0 (len + told)
+
+-- the room that the second rows need among the first
+abbrev pub room_for : List (ℕ × Row) → List (ℕ × Row) → ℕ
+room_for rows told = told_room (length rows) (length told)
+
+-- whether the first row has this UID
+abbrev pub starts_with_uid : ℕ → List (ℕ × Row) → Bool
+starts_with_uid uid [] = false
+starts_with_uid uid (r ∷ rows) = eqb r.0 uid
+
+-- the first row's UID is at least this one; where rows rise, so is each later one
+abbrev pub StartsFrom : ℕ → List (ℕ × Row) → Type 0
+StartsFrom uid [] = ⊤
+StartsFrom uid (r ∷ rows) = uid ≤ r.0
+
+-- each row's UID is below this one
+abbrev pub AllBelow : ℕ → List (ℕ × Row) → Type 0
+AllBelow uid [] = ⊤
+AllBelow uid (r ∷ rows) = (r.0 < uid) × AllBelow uid rows
 
 -- each UID is above the one before it, and the first above floor
 abbrev pub RisesAbove : ℕ → List (ℕ × Row) → Type 0

@@ -1,15 +1,16 @@
 //! A mailbox as the last resynchronisation left it (RFC 7162, section 3.2).
 
 ghost use Rattle.std.specs.Prelude.{◌≡◌, ◌≤◌, ◌<◌, ◌↔◌, ◌+◌, ℕ, length, IfOk, IsTrue, true, false};
-ghost use Rattle.mailbox_cache.specs.Rows.{row_at, has_uid, told};
+ghost use Rattle.mailbox_cache.specs.Rows.{row_at, has_uid, told, room_for};
 ghost use Rattle.mailbox_cache.specs.Cache.{first, applied};
 
-use crate::rows::{kept, kept_len, move_rows, new_len, put_rows, remove_uids};
-use crate::{Delta, Row};
-use mail_base::{Map, ModSeq, Validity};
+use crate::merge::{put_rows, remove_uids};
+use crate::rows::copied;
+use crate::search::{kept_len, new_len};
+use crate::{Delta, Room, Rows};
+use mail_base::{ModSeq, Validity};
 use std::alloc::{AllocError, Global};
-use std::collections::BTreeMap;
-use uid_sets::{Uid, UidSet};
+use uid_sets::Uid;
 
 /// The rows of a mailbox by UID, with its UIDVALIDITY, its highest mod-sequence and its UIDNEXT.
 #[derive(Drop)]
@@ -17,7 +18,7 @@ pub struct Cache {
     pub validity: Validity,
     pub highest: ModSeq,
     pub uidnext: Uid,
-    pub rows: Map<Uid, Row>,
+    pub rows: Rows,
 }
 
 impl Cache {
@@ -26,19 +27,17 @@ impl Cache {
         requires { delta.now.whole ≡ true }
         ensures value { IfOk result (λ cache. cache ≡ first delta.now) }
     {
-        let mut rows = BTreeMap::new(alloc);
-        put_rows(&mut rows, delta.rows.as_slice())?;
+        let rows = copied(alloc, delta.rows.as_slice())?;
         Ok(Cache {
             validity: delta.validity,
             highest: delta.highest,
             uidnext: delta.uidnext,
-            rows: Map::of(rows),
+            rows: Rows::of(rows),
         })
     }
 
     /// The cache after a resynchronisation: without the vanished UIDs, and with each row of the delta in place of an
-    /// old one. It costs one pass over the cache, and a look-up for each row of the delta. Fails for want of memory
-    /// alone.
+    /// old one. It costs a copy of the cache and of the delta, and what `after` costs. Fails for want of memory alone.
     pub fn apply(&self, alloc: Global, delta: &Delta) -> Result<Cache, AllocError>
         requires part { delta.now.whole ≡ false }
         requires same { delta.now.validity ≡ self.now.validity }
@@ -49,73 +48,89 @@ impl Cache {
         ensures rows { IfOk result (λ cache. (uid : ℕ) → row_at uid cache.rows
             ≡ told (row_at uid delta.now.rows) (has_uid delta.now.vanished uid) (row_at uid self.now.rows)) }
     {
-        let mut rows = kept(alloc, self.rows.as_map(), &delta.vanished)?;
-        put_rows(&mut rows, delta.rows.as_slice())?;
-        Ok(Cache {
-            validity: delta.validity,
-            highest: delta.highest,
-            uidnext: delta.uidnext,
-            rows: Map::of(rows),
-        })
+        let cache = self.copy()?;
+        let delta = delta.copy(alloc)?;
+        cache.after(delta)
     }
 
-    /// What `first` gives, of a delta that is given up: its rows are moved. Fails for want of memory alone.
-    pub fn of(alloc: Global, delta: Delta) -> Result<Cache, AllocError>
+    /// What `first` gives, of a delta that is given up: its rows are the cache's. It takes no memory.
+    pub fn of(delta: Delta) -> Cache
         requires { delta.whole ≡ true }
-        ensures value { IfOk result (λ cache. cache ≡ first delta) }
+        ensures { result ≡ first delta }
     {
-        let mut rows = BTreeMap::new(alloc);
-        move_rows(&mut rows, delta.rows.into_vec())?;
-        Ok(Cache {
+        Cache {
             validity: delta.validity,
             highest: delta.highest,
             uidnext: delta.uidnext,
-            rows: Map::of(rows),
-        })
+            rows: Rows::of(delta.rows.into_vec()),
+        }
     }
 
-    /// What `apply` gives, of a cache and a delta that are given up: no row is copied. It costs a look-up for each row of
-    /// the delta, and one pass over the cache where UIDs vanished. Fails for want of memory alone.
+    /// What `apply` gives, of a cache and a delta that are given up: no row is copied. Fails for want of memory alone.
     pub fn after(self, delta: Delta) -> Result<Cache, AllocError>
         requires part { delta.whole ≡ false }
         requires same { delta.validity ≡ self.validity }
         requires rises { self.highest ≤ delta.highest }
         ensures value { IfOk result (λ cache. cache ≡ applied self delta) }
+
+        // As of `apply`.
+        ensures rows { IfOk result (λ cache. (uid : ℕ) → row_at uid cache.rows
+            ≡ told (row_at uid delta.rows) (has_uid delta.vanished uid) (row_at uid self.rows)) }
     {
-        let mut rows = self.rows.into_map();
-        remove_uids(&mut rows, &delta.vanished);
-        move_rows(&mut rows, delta.rows.into_vec())?;
-        Ok(Cache {
+        let room = self.room(&delta)?;
+        Ok(self.within(delta, room))
+    }
+
+    /// The room that the cache needs for a delta. It takes no memory where no row is told.
+    pub fn room(&self, delta: &Delta) -> Result<Room, AllocError>
+        ensures { IfOk result (λ room. room_for self.now.rows delta.now.rows ≤ room) }
+    {
+        self.rows.room(delta.rows.len())
+    }
+
+    /// What `after` gives, with the room that it needs. It takes no memory, and never fails. Where nothing was told, it sets
+    /// three numbers; a told row costs a look-up. Other rows move where a new UID isn't the greatest: those above it, and all
+    /// of them where the rows have no room for the new ones.
+    pub fn within(self, delta: Delta, room: Room) -> Cache
+        requires part { delta.whole ≡ false }
+        requires same { delta.validity ≡ self.validity }
+        requires rises { self.highest ≤ delta.highest }
+        requires room { room_for self.rows delta.rows ≤ room }
+        ensures { result ≡ applied self delta }
+    {
+        let told = delta.rows.into_vec();
+        let rows = self.rows.after(&delta.vanished, told, room);
+        Cache {
             validity: delta.validity,
             highest: delta.highest,
             uidnext: delta.uidnext,
-            rows: Map::of(rows),
-        })
+            rows,
+        }
     }
 
     /// The same cache once more. Fails for want of memory alone.
-    pub fn copy(&self, alloc: Global) -> Result<Cache, AllocError>
+    pub fn copy(&self) -> Result<Cache, AllocError>
         ensures { IfOk result (λ cache. cache ≡ self.now) }
     {
-        let rows = kept(alloc, self.rows.as_map(), &UidSet::none(alloc))?;
+        let rows = self.rows.copy()?;
         Ok(Cache {
             validity: self.validity,
             highest: self.highest,
             uidnext: self.uidnext,
-            rows: Map::of(rows),
+            rows,
         })
     }
 
     /// Whether the cache would have more than `limit` rows after a resynchronisation. It costs nothing where all rows
-    /// of both stay below the limit, and else what `apply` costs, without memory.
+    /// of both stay below the limit, and else a pass over the cache and a look-up for each row of the delta.
     pub fn would_exceed(&self, limit: usize, delta: &Delta) -> bool
         ensures { IsTrue result ↔ (limit < length (applied self.now delta.now).rows) }
     {
         if self.fits_with(limit, delta.rows.len()) {
             return false;
         }
-        let kept = kept_len(self.rows.as_map(), &delta.vanished);
-        let new = new_len(self.rows.as_map(), delta.rows.as_slice());
+        let kept = kept_len(self.rows.as_slice(), &delta.vanished);
+        let new = new_len(self.rows.as_slice(), delta.rows.as_slice());
         kept > limit || new > limit - kept
     }
 
@@ -123,6 +138,6 @@ impl Cache {
     fn fits_with(&self, limit: usize, more: usize) -> bool
         ensures { IsTrue result ↔ (length self.now.rows + more ≤ limit) }
     {
-        more <= limit && self.rows.as_map().len() <= limit - more
+        more <= limit && self.rows.len() <= limit - more
     }
 }

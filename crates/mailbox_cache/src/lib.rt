@@ -3,11 +3,14 @@
 
 mod cache;
 mod delta;
+mod merge;
+mod room;
 mod row;
 mod rows;
-#[cfg(test)]
-mod tests;
+mod search;
 
 pub use cache::Cache;
 pub use delta::Delta;
+pub use room::Room;
 pub use row::Row;
+pub use rows::Rows;

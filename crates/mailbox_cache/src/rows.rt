@@ -1,12 +1,109 @@
-//! Rows by UID, as they are copied, kept and put (RFC 7162, section 3.2).
+//! The rows of a mailbox by UID (RFC 7162, section 3.2).
 
-ghost use Rattle.std.specs.Prelude.{◌≡◌, OnOk, IfOk, length, is_some};
-ghost use Rattle.mailbox_cache.specs.Rows.{row_at, has_uid, without_uids, put_row, put_rows, strangers, Rises};
+ghost use Rattle.std.specs.Prelude.{◌≡◌, ◌≤◌, IfOk, length};
+ghost use Rattle.std.specs.Option.{option_copied};
+ghost use Rattle.mailbox_cache.specs.Rows.{row_at, put_rows, without_uids, room_for, told_room, Rises};
 
-use crate::Row;
+use crate::merge::{put_rows, remove_uids};
+use crate::search::row_in;
+use crate::{Room, Row};
 use std::alloc::{AllocError, Global};
-use std::collections::BTreeMap;
+use std::marker::Model;
 use uid_sets::{Uid, UidSet};
+
+/// Rows by UID, rising, in one piece of memory. Contracts see them as the list of pairs, and not how many more are taken
+/// without memory.
+#[derive(Drop)]
+pub struct Rows {
+    content: Vec<(Uid, Row)>,
+}
+
+impl Model for Rows {
+    ghost use Rattle.std.specs.Prelude.{ℕ, List};
+    ghost use Rattle.mailbox_cache.specs.Rows.{Rises};
+    ghost use Rattle.mailbox_cache.specs.declared.row.Row.{Row};
+
+    ghost Value = { List (ℕ × Row) };
+
+    ghost view = { λ rows. rows.content.items };
+
+    ghost invariant = { λ rows. Rises rows.content.items };
+}
+
+impl Rows {
+    // The rows of a `Vec`, which the value then holds. It takes no memory.
+    pub(crate) fn of(content: Vec<(Uid, Row)>) -> Rows
+        requires { Rises content.items }
+        ensures { result ≡ content.items }
+    {
+        Rows { content }
+    }
+
+    /// How many rows there are.
+    pub fn len(&self) -> usize
+        ensures { result ≡ length self.now }
+    {
+        self.content.len()
+    }
+
+    /// The rows, to read them.
+    pub fn as_slice(&self) -> &[(Uid, Row)]
+        ensures value { result.now ≡ self.now }
+        ensures rising { Rises self.now }
+    {
+        &self.content
+    }
+
+    /// The row of a UID, by a binary search.
+    pub fn get(&self, uid: Uid) -> Option<&Row>
+        ensures { option_copied result ≡ row_at uid self.now }
+    {
+        row_in(&self.content, uid)
+    }
+
+    // The rows, given up to change them.
+    pub(crate) fn into_vec(self) -> Vec<(Uid, Row)>
+        ensures value { result.items ≡ self }
+        ensures rising { Rises self }
+    {
+        self.content
+    }
+
+    // The room that so many told rows need.
+    pub(crate) fn room(&self, told: usize) -> Result<Room, AllocError>
+        ensures { IfOk result (λ room. told_room (length self.now) told ≤ room) }
+    {
+        let alloc = *self.content.allocator();
+        if told == 0 {
+            return Ok(Room::none(alloc));
+        }
+        Room::new(alloc, self.content.len(), told)
+    }
+
+    // The rows without the vanished UIDs, and with the told ones. It takes no memory.
+    pub(crate) fn after(self, vanished: &UidSet, told: Vec<(Uid, Row)>, room: Room) -> Rows
+        requires told { Rises told.items }
+        requires room { room_for self told.items ≤ room }
+        ensures { result ≡ put_rows told.items (without_uids vanished.now self) }
+    {
+        let mut content = self.content;
+        remove_uids(&mut content, vanished);
+        if told.is_empty() {
+            return Rows { content };
+        }
+        Rows {
+            content: put_rows(content, told, room.into_vec()),
+        }
+    }
+
+    /// The same rows once more. Fails for want of memory alone.
+    pub fn copy(&self) -> Result<Rows, AllocError>
+        ensures { IfOk result (λ rows. rows ≡ self.now) }
+    {
+        let content = copied(*self.content.allocator(), &self.content)?;
+        Ok(Rows { content })
+    }
+}
 
 /// The same rows once more.
 pub(crate) fn copied(alloc: Global, rows: &[(Uid, Row)]) -> Result<Vec<(Uid, Row)>, AllocError>
@@ -17,108 +114,4 @@ pub(crate) fn copied(alloc: Global, rows: &[(Uid, Row)]) -> Result<Vec<(Uid, Row
         copies.push((*uid, row.copy()?))?;
     }
     Ok(copies)
-}
-
-/// Whether the UID is one of the set.
-pub(crate) fn has_uid(set: &UidSet, uid: Uid) -> bool
-    ensures { result ≡ has_uid set.now uid }
-{
-    set.contains(uid)
-}
-
-// Puts a row in place of that of its UID, or at its place.
-fn put_row(rows: &mut BTreeMap<Uid, Row>, uid: Uid, row: Row) -> Result<(), AllocError>
-    ensures { OnOk result (rows.new.entries ≡ put_row (uid, row) rows.old.entries) }
-{
-    rows.insert(uid, row)?;
-    Ok(())
-}
-
-// Whether there is a row of this UID.
-fn has_row(rows: &BTreeMap<Uid, Row>, uid: Uid) -> bool
-    ensures { result ≡ is_some (row_at uid rows.now.entries) }
-{
-    rows.contains_key(&uid)
-}
-
-/// The rows whose UIDs aren't among the vanished ones, in one pass.
-pub(crate) fn kept(
-    alloc: Global,
-    rows: &BTreeMap<Uid, Row>,
-    vanished: &UidSet,
-) -> Result<BTreeMap<Uid, Row>, AllocError>
-    ensures { IfOk result (λ kept. kept.entries ≡ without_uids vanished.now rows.now.entries) }
-{
-    let mut kept = BTreeMap::new(alloc);
-    for (uid, row) in rows {
-        if has_uid(vanished, *uid) {
-            continue;
-        }
-        put_row(&mut kept, *uid, row.copy()?)?;
-    }
-    Ok(kept)
-}
-
-/// Puts rows in place of those of their UIDs, or at their places. For want of memory some of them are put.
-pub(crate) fn put_rows(rows: &mut BTreeMap<Uid, Row>, new: &[(Uid, Row)]) -> Result<(), AllocError>
-    ensures { OnOk result (rows.new.entries ≡ put_rows new.now rows.old.entries) }
-{
-    let mut left = new;
-    while let Some(((uid, row), before)) = left.split_last() {
-        put_row(rows, *uid, row.copy()?)?;
-        left = before;
-    }
-    Ok(())
-}
-
-/// The same of rows that are given up.
-pub(crate) fn move_rows(
-    rows: &mut BTreeMap<Uid, Row>,
-    mut new: Vec<(Uid, Row)>,
-) -> Result<(), AllocError>
-    ensures { OnOk result (rows.new.entries ≡ put_rows new.items rows.old.entries) }
-{
-    while let Some((uid, row)) = new.pop() {
-        put_row(rows, uid, row)?;
-    }
-    Ok(())
-}
-
-/// Removes the rows whose UIDs are among the vanished ones: one pass, where there are any of these.
-pub(crate) fn remove_uids(rows: &mut BTreeMap<Uid, Row>, vanished: &UidSet)
-    ensures { rows.new.entries ≡ without_uids vanished.now rows.old.entries }
-{
-    if vanished.is_empty() {
-        return;
-    }
-    rows.retain(|uid, _| !has_uid(vanished, *uid));
-}
-
-/// How many rows have UIDs that aren't among the vanished ones.
-pub(crate) fn kept_len(rows: &BTreeMap<Uid, Row>, vanished: &UidSet) -> usize
-    ensures rising { Rises rows.now.entries }
-    ensures value { result ≡ length (without_uids vanished.now rows.now.entries) }
-{
-    let mut count = 0;
-    for (uid, _) in rows {
-        if has_uid(vanished, *uid) {
-            continue;
-        }
-        count += 1;
-    }
-    count
-}
-
-/// How many of the new rows have UIDs that the others don't have.
-pub(crate) fn new_len(rows: &BTreeMap<Uid, Row>, new: &[(Uid, Row)]) -> usize
-    ensures { result ≡ strangers new.now rows.now.entries }
-{
-    let mut count = 0;
-    for (uid, _) in new {
-        if has_row(rows, *uid) {
-            continue;
-        }
-        count += 1;
-    }
-    count
 }

@@ -9,17 +9,23 @@ returns-in_default c =
     let none = rw c.as_slice.ensures at c.in_default.ensures in
     sym (put_none c.args.name.now (Some (learned (cache_at c.args.name.now c.args.boxes) c.args.delta)) c.args.boxes (sym none))
 
-pub moved_by-requires : goal.moved_by-requires
-moved_by-requires c =
+pub moved_by-requires-clause-fits : goal.moved_by-requires-clause-fits
+moved_by-requires-clause-fits c =
     let there = rw c.as_slice.ensures at c.in-Some.ensures in
     let old = rw c.into_vec-content.ensures at c.take_cache-old.ensures.value in
-    rw (old ∙ cache_there c.args.name.now c.args.boxes c.in-Some.at (sym there)) c.requires
+    rw (old ∙ cache_there c.args.name.now c.args.boxes c.in-Some.at (sym there)) c.requires.fits
+
+pub moved_by-requires-clause-room : goal.moved_by-requires-clause-room
+moved_by-requires-clause-room c =
+    let there = rw c.as_slice.ensures at c.in-Some.ensures in
+    let old = rw c.into_vec-content.ensures at c.take_cache-old.ensures.value in
+    rw (old ∙ cache_there c.args.name.now c.args.boxes c.in-Some.at (sym there)) c.requires.room
 
 pub returns : goal.returns
 returns c =
     let there = rw c.as_slice.ensures at c.in-Some.ensures in
     let old = rw c.into_vec-content.ensures at c.take_cache-old.ensures.value in
-    let new = rw (old ∙ cache_there c.args.name.now c.args.boxes c.in-Some.at (sym there)) at c.in_ok-moved_by.ensures in
+    let new = rw (old ∙ cache_there c.args.name.now c.args.boxes c.in-Some.at (sym there)) at c.moved_by.ensures in
     let put = rw (c.of-boxes.ensures, c.copy-name.ensures) at c.put.ensures in
     let others = rw c.into_vec-content.ensures at c.take_cache-old.ensures.others in
-    rw new at (put ∙ others _ ∙ put_at c.args.name.now (Some c.in_ok-moved_by.field-0) c.args.boxes c.in-Some.at (sym there))
+    rw new at (put ∙ others _ ∙ put_at c.args.name.now (Some c.moved_by.result) c.args.boxes c.in-Some.at (sym there))

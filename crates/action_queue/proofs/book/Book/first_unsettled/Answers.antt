@@ -9,5 +9,8 @@ returns-then-settled-len-clause-none c =
     (λ e. all_settled c.args.self.now.queue.items same, λ a. refl)
 
 pub returns-clause-none : goal.returns-clause-none
-returns-clause-none c =
-    (λ n. let zero = c.new.ensures.zero.0 n in absurd (omega arith), λ a. let full = settled_all c.args.self.now.queue.items a in absurd (omega (arith, full, c.settled.ensures.value, c.len.ensures.value)))
+returns-clause-none c = (
+  λ n. let zero = c.new.ensures.zero.0 n in absurd (omega arith),
+  λ a. let full = settled_all c.args.self.now.queue.items a in
+      absurd (omega (arith, full, c.settled.ensures.value, c.len.ensures.value)),
+)

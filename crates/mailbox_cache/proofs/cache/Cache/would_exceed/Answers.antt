@@ -11,15 +11,15 @@ returns-then-fits_with c =
 
 pub returns-then-kept-limit : goal.returns-then-kept-limit
 returns-then-kept-limit c =
-    let rising = rw c.as_map.ensures at c.kept_len-kept.ensures.rising in
-    let kept = rw c.as_map.ensures at c.kept_len-kept.ensures.value in
+    let rising = c.as_slice.ensures.rising in
+    let kept = rw c.as_slice.ensures.value at c.kept_len-kept.ensures in
     let after = length_after c.args.delta.now.vanished c.args.delta.now.rows c.args.self.now.rows c.args.delta.now.rising c.args.delta.now.apart rising in
     grind (arith, nat_tests, after, kept)
 
 pub returns-else-kept-limit : goal.returns-else-kept-limit
 returns-else-kept-limit c =
-    let rising = rw c.as_map.ensures at c.kept_len-kept.ensures.rising in
-    let kept = rw c.as_map.ensures at c.kept_len-kept.ensures.value in
-    let new = rw (c.as_slice.ensures, c.as_map-2.ensures) at c.new_len-new.ensures in
+    let rising = c.as_slice.ensures.rising in
+    let kept = rw c.as_slice.ensures.value at c.kept_len-kept.ensures in
+    let new = rw (c.as_slice-3.ensures, c.as_slice-2.ensures.value) at c.new_len-new.ensures in
     let after = length_after c.args.delta.now.vanished c.args.delta.now.rows c.args.self.now.rows c.args.delta.now.rising c.args.delta.now.apart rising in
     grind (arith, nat_tests, after, kept, new)
