@@ -33,7 +33,8 @@ few_at (first ∷ rows) zero r few there is = subst (λ (x : ℕ × Row). length
 few_at (first ∷ rows) (suc at) r few there is = few_at rows at r few.1 (omega (arith, there)) is
 
 -- what holds of the items so far, and of the next one
-pub all_more : {A : Type 0} (P : A → Type 0) (xs : List A) (at : ℕ) (x : A) → at < length xs → x ≡ slice_index_or xs at x → AllByRecursion P (take at xs) → P x → AllByRecursion P (take (suc at) xs)
+pub all_more : {A : Type 0} (P : A → Type 0) (xs : List A) (at : ℕ) (x : A) → at < length xs → x ≡ slice_index_or xs at x →
+    AllByRecursion P (take at xs) → P x → AllByRecursion P (take (suc at) xs)
 all_more P [] at x there is all p = absurd (omega (arith, there))
 all_more P (y ∷ xs) zero x there is all p = (subst P is p, tt)
 all_more P (y ∷ xs) (suc at) x there is all p = (all.0, all_more P xs at x (omega (arith, there)) is all.1 p)

@@ -43,13 +43,16 @@ counted_same x y r s same =
 
 -- items, one behind the other, each of which tells itself and what stands behind it
 pub many_same : {A : Type 0} (f : A → List ℕ) (P : A → Type 0) (cut : (x y : A) (r s : List ℕ) → P x → P y → f x ++ r ≡ f y ++ s → (x ≡ y) × (r ≡ s))
-    (xs ys : List A) (r s : List ℕ) → length xs ≡ length ys → AllByRecursion P xs → AllByRecursion P ys → flat_map f xs ++ r ≡ flat_map f ys ++ s → (xs ≡ ys) × (r ≡ s)
+    (xs ys : List A) (r s : List ℕ) → length xs ≡ length ys → AllByRecursion P xs → AllByRecursion P ys →
+    flat_map f xs ++ r ≡ flat_map f ys ++ s → (xs ≡ ys) × (r ≡ s)
 many_same f P cut [] [] r s len all all' same = (refl, same)
 many_same f P cut [] (y ∷ ys) r s len all all' same = absurd (omega arith)
 many_same f P cut (x ∷ xs) [] r s len all all' same = absurd (omega arith)
 many_same f P cut (x ∷ xs) (y ∷ ys) r s len all all' same =
-    let left : flat_map f (x ∷ xs) ++ r ≡ f x ++ (flat_map f xs ++ r) = ap (λ (t : List ℕ). t ++ r) (flat_map-cons f x xs) ∙ append_assoc (f x) (flat_map f xs) r in
-    let right : flat_map f (y ∷ ys) ++ s ≡ f y ++ (flat_map f ys ++ s) = ap (λ (t : List ℕ). t ++ s) (flat_map-cons f y ys) ∙ append_assoc (f y) (flat_map f ys) s in
+    let left : flat_map f (x ∷ xs) ++ r ≡ f x ++ (flat_map f xs ++ r) =
+    ap (λ (t : List ℕ). t ++ r) (flat_map-cons f x xs) ∙ append_assoc (f x) (flat_map f xs) r in
+    let right : flat_map f (y ∷ ys) ++ s ≡ f y ++ (flat_map f ys ++ s) =
+    ap (λ (t : List ℕ). t ++ s) (flat_map-cons f y ys) ∙ append_assoc (f y) (flat_map f ys) s in
     let first = cut x y (flat_map f xs ++ r) (flat_map f ys ++ s) all.0 all'.0 (sym left ∙ same ∙ right) in
     let others = many_same f P cut xs ys r s (omega arith) all.1 all'.1 first.1 in
     let heads : x ≡ y = first.0 in

@@ -1,5 +1,6 @@
 -- Whole events: what is read is spelled so.
-use Rattle.std.proofs.Common.{◌≡◌, ◌≤◌, inl, inr, ℕ, Bool, true, false, ◌&&◌, ◌==◌, List, [], ◌∷◌, ◌++◌, length, Option, Some, None, Result, Ok, Err, nat_le, refl, sym, ap, subst, ◌∙◌, append_assoc, arith, if◌then◌else◌}
+use Rattle.std.proofs.Common.{◌≡◌, ◌≤◌, inl, inr, ℕ, Bool, true, false, ◌&&◌, ◌==◌, List, [], ◌∷◌, ◌++◌, length, Option, Some, None}
+use Rattle.std.proofs.Common.{Result, Ok, Err, nat_le, refl, sym, ap, subst, ◌∙◌, append_assoc, arith, if◌then◌else◌}
 use Rattle.std.specs.Int.{w32, w64, to_be_bytes}
 use Rattle.std.specs.List.{flat_map}
 use Rattle.std.proofs.lemmas.List.{append-nil}
@@ -22,12 +23,19 @@ use Rattle.action_queue.specs.declared.outcome.Outcome.TheVariants as outcomes
 use Rattle.action_queue.specs.declared.event.Event.{Event}
 use Rattle.action_queue.specs.declared.event.Event.TheVariants as events
 use Rattle.record_codec.specs.Fields.{counted, flag_field, target_field, sign, bit}
-use Rattle.record_codec.specs.Bodies.{action_fields, intent_fields, place_fields, kind_fields, outcome_fields, mark_fields, range_fields, row_fields, delta_fields, body_of}
+use Rattle.record_codec.specs.Bodies.{action_fields, intent_fields, place_fields, kind_fields, outcome_fields, mark_fields, range_fields}
+use Rattle.record_codec.specs.Bodies.{row_fields, delta_fields, body_of}
 use Rattle.record_codec.specs.Spelling.{IsNumber, IsModSeq, IsKeptTarget, IsKeptAction, IsKeptIntent, IsKeptPlace, IsKeptKind, IsKeptOutcome, IsKept, Spelled}
-use Rattle.record_codec.specs.Reading.{Reading, ◌>>=◌, AreBytes, Told, Plain, Begin, Accept, Intend, Settle, Learn, plain, number_at, nonzero_at, modseq_at, name_at, octets_at, real_at, dummy_at, target_at, sign_at, flags_at, the_id, with_id, text_at, flag_at, move_at, append_at, action_at, store_at, shift_at, put_at, intent_at, landed_at, place_at, changed_at, unknown_at, unsure_at, ambiguous_at, kind_by, kind_at, done_at, conflict_at, outcome_at, bit_at, vanished_at, row_list_at, told_at, name_list_at, begin_at, accept_at, intend_at, settle_at, learn_at, plain_at, place_of, all_of, body_at}
+use Rattle.record_codec.specs.Reading.{Reading, ◌>>=◌, AreBytes, Told, Plain, Begin, Accept, Intend, Settle, Learn, plain, number_at}
+use Rattle.record_codec.specs.Reading.{nonzero_at, modseq_at, name_at, octets_at, real_at, dummy_at, target_at, sign_at, flags_at, the_id}
+use Rattle.record_codec.specs.Reading.{with_id, text_at, flag_at, move_at, append_at, action_at, store_at, shift_at, put_at, intent_at}
+use Rattle.record_codec.specs.Reading.{landed_at, place_at, changed_at, unknown_at, unsure_at, ambiguous_at, kind_by, kind_at, done_at}
+use Rattle.record_codec.specs.Reading.{conflict_at, outcome_at, bit_at, vanished_at, row_list_at, told_at, name_list_at, begin_at}
+use Rattle.record_codec.specs.Reading.{accept_at, intend_at, settle_at, learn_at, plain_at, place_of, all_of, body_at}
 use Rattle.record_codec.proofs.Ids.{told_id, same-true}
 use Rattle.record_codec.proofs.OneByOne.{four, target_apart}
-use Rattle.record_codec.proofs.Taking.{bound, ok_same, chosen, Sound, Reads, reads_same, lettered, number_reads, nonzero_reads, modseq_reads, name_reads, octets_reads, sign_reads, bit_reads}
+use Rattle.record_codec.proofs.Taking.{bound, ok_same, chosen, Sound, Reads, reads_same, lettered, number_reads, nonzero_reads}
+use Rattle.record_codec.proofs.Taking.{modseq_reads, name_reads, octets_reads, sign_reads, bit_reads}
 use Rattle.record_codec.proofs.Items.{flags_reads, vanished_reads, AreKeptRows, row_list_reads, AreKeptNames, name_list_reads}
 
 -- a byte in front of what was read
@@ -41,14 +49,16 @@ behind start bytes more is = ap (λ (t : List ℕ). start ++ t) is
 abbrev Follows : {A : Type 0} → (A → List ℕ) → (A → Type 0) → ℕ → List ℕ → (A × List ℕ) → Type 0
 Follows f K b more y = Sound (f y.0) (b ∷ more) y.1 (K y.0)
 
-abbrev follows_same : {A : Type 0} (f : A → List ℕ) (K : A → Type 0) (b : ℕ) (more : List ℕ) (x y : A × List ℕ) → ◌≡◌ {A = Result (A × List ℕ) ℕ} (Ok x) (Ok y) → Follows f K b more x → Follows f K b more y
+abbrev follows_same : {A : Type 0} (f : A → List ℕ) (K : A → Type 0) (b : ℕ) (more : List ℕ) (x y : A × List ℕ) →
+    ◌≡◌ {A = Result (A × List ℕ) ℕ} (Ok x) (Ok y) → Follows f K b more x → Follows f K b more y
 follows_same f K b more x y same follows = subst (λ z. Follows f K b more z) (ok_same x y same) follows
 
 follow : (start : List ℕ) (b : ℕ) (more rest : List ℕ) (K : Type 0) → AreBytes rest → b ∷ more ≡ start ++ rest → K → Sound start (b ∷ more) rest K
 follow start b more rest K clean is kept = record { is = is; kept = kept; clean = clean }
 
 -- the letter was this one
-lead : {A : Type 0} (f : A → List ℕ) (K : A → Type 0) (bytes : List ℕ) (b k : ℕ) (more : List ℕ) (y : A × List ℕ) → bytes ≡ b ∷ more → b ≡ k → Follows f K k more y → Reads f K bytes y
+lead : {A : Type 0} (f : A → List ℕ) (K : A → Type 0) (bytes : List ℕ) (b k : ℕ) (more : List ℕ) (y : A × List ℕ) → bytes ≡ b ∷ more →
+    b ≡ k → Follows f K k more y → Reads f K bytes y
 lead f K bytes b k more y is same follows = subst (λ (bs : List ℕ). Reads f K bs y) (sym (is ∙ ap (λ (c : ℕ). c ∷ more) same)) follows
 
 -- ---- messages
@@ -56,7 +66,8 @@ lead f K bytes b k more y is same follows = subst (λ (bs : List ℕ). Reads f K
 real_reads : (bytes : List ℕ) (y : Target × List ℕ) → AreBytes bytes → real_at bytes ≡ Ok y → Follows target_field IsKeptTarget 82 bytes y
 unfolding real_at
 real_reads bytes y all is =
-    let one = bound (name_at bytes) (λ name. nonzero_at name.1 >>= (λ validity. nonzero_at validity.1 >>= (λ uid. Ok (targets.Real name.0 validity.0 uid.0, uid.1)))) y is in
+    let one = bound (name_at bytes) (λ name. nonzero_at name.1 >>=
+    (λ validity. nonzero_at validity.1 >>= (λ uid. Ok (targets.Real name.0 validity.0 uid.0, uid.1)))) y is in
     let name = one.value in
     let two = bound (nonzero_at name.1) (λ validity. nonzero_at validity.1 >>= (λ uid. Ok (targets.Real name.0 validity.0 uid.0, uid.1))) y one.later in
     let validity = two.value in
@@ -101,7 +112,8 @@ pub record IsReadAction (action : Action) : Type 0 where
 flag_reads : (bytes : List ℕ) (y : Action × List ℕ) → AreBytes bytes → flag_at bytes ≡ Ok y → Follows action_fields IsReadAction 70 bytes y
 unfolding flag_at
 flag_reads bytes y all is =
-    let one = bound (target_at bytes) (λ target. sign_at target.1 >>= (λ add. flags_at 1 add.1 >>= (λ flags. Ok (actions.Flag target.0 add.0 flags.0, flags.1)))) y is in
+    let one = bound (target_at bytes) (λ target. sign_at target.1 >>=
+    (λ add. flags_at 1 add.1 >>= (λ flags. Ok (actions.Flag target.0 add.0 flags.0, flags.1)))) y is in
     let target = one.value in
     let two = bound (sign_at target.1) (λ add. flags_at 1 add.1 >>= (λ flags. Ok (actions.Flag target.0 add.0 flags.0, flags.1))) y one.later in
     let add = two.value in
@@ -112,7 +124,8 @@ flag_reads bytes y all is =
     let f = flags_reads 1 add.1 flags s.clean three.first in
     follows_same action_fields IsReadAction 70 bytes (actions.Flag target.0 add.0 flags.0, flags.1) y three.later
     (follow (action_fields (actions.Flag target.0 add.0 flags.0)) 70 bytes flags.1 (IsReadAction (actions.Flag target.0 add.0 flags.0)) f.clean
-    (front 70 _ _ (t.is ∙ behind (target_field target.0) _ _ (s.is ∙ front (sign add.0) _ _ f.is) ∙ sym (append_assoc (target_field target.0) (sign add.0 ∷ flag_field flags.0) flags.1)))
+    (front 70 _ _ (t.is ∙ behind (target_field target.0) _ _ (s.is ∙ front (sign add.0) _ _ f.is)
+    ∙ sym (append_assoc (target_field target.0) (sign add.0 ∷ flag_field flags.0) flags.1)))
     (record { kept = (t.kept, f.kept.set); writable = (f.kept.some, f.kept.few) }))
 
 move_reads : (bytes : List ℕ) (y : Action × List ℕ) → AreBytes bytes → move_at bytes ≡ Ok y → Follows action_fields IsReadAction 77 bytes y
@@ -137,14 +150,17 @@ record TextRead (bytes : List ℕ) (y : (List ℕ × List ℕ) × List ℕ) : Ty
 
 id_by : (left : ℕ) (text : List ℕ) (o : Option (List ℕ)) (y : List ℕ × List ℕ) → with_id left text o ≡ Ok y → (y.0 ≡ text) × (o ≡ Some y.1)
 id_by left text None y is = absurd (cc)
-id_by left text (Some id) y is = let same = ok_same (text, id) y is in (ap (λ (p : List ℕ × List ℕ). p.0) (sym same), ap (λ (p : List ℕ × List ℕ). Some p.1) same)
+id_by left text (Some id) y is = let same = ok_same (text, id) y is in
+    (ap (λ (p : List ℕ × List ℕ). p.0) (sym same), ap (λ (p : List ℕ × List ℕ). Some p.1) same)
 
 text_reads : (bytes : List ℕ) (y : (List ℕ × List ℕ) × List ℕ) → AreBytes bytes → text_at bytes ≡ Ok y → TextRead bytes y
 unfolding text_at
 text_reads bytes y all is =
-    let one = bound (number_at w32 bytes) (λ size. octets_at size.0 size.1 >>= (λ text. with_id (length size.1) text.0 (the_id (id_bodies text.0)) >>= (λ told. Ok (told, text.1)))) y is in
+    let one = bound (number_at w32 bytes) (λ size. octets_at size.0 size.1 >>=
+    (λ text. with_id (length size.1) text.0 (the_id (id_bodies text.0)) >>= (λ told. Ok (told, text.1)))) y is in
     let size = one.value in
-    let two = bound (octets_at size.0 size.1) (λ text. with_id (length size.1) text.0 (the_id (id_bodies text.0)) >>= (λ told. Ok (told, text.1))) y one.later in
+    let two = bound (octets_at size.0 size.1) (λ text. with_id (length size.1) text.0 (the_id (id_bodies text.0)) >>=
+    (λ told. Ok (told, text.1))) y one.later in
     let text = two.value in
     let three = bound (with_id (length size.1) text.0 (the_id (id_bodies text.0))) (λ told. Ok (told, text.1)) y two.later in
     let told = three.value in
@@ -155,12 +171,15 @@ text_reads bytes y all is =
     let long : length text.0 ≡ size.0 = t.kept in
     subst (λ z. TextRead bytes z) (ok_same (told, text.1) y three.later)
     (record {
-      is = n.is ∙ behind (to_be_bytes w32 size.0) _ _ t.is ∙ ap (λ (n : ℕ). to_be_bytes w32 n ++ (text.0 ++ text.1)) (sym long) ∙ ap (λ (u : List ℕ). to_be_bytes w32 (length u) ++ (u ++ text.1)) (sym i.0);
+      is = n.is ∙ behind (to_be_bytes w32 size.0) _ _ t.is ∙ ap (λ (n : ℕ). to_be_bytes w32 n ++ (text.0 ++ text.1)) (sym long)
+          ∙ ap (λ (u : List ℕ). to_be_bytes w32 (length u) ++ (u ++ text.1)) (sym i.0);
       id = subst (λ (u : List ℕ). HasMessageId u told.1) (sym i.0) id;
       clean = t.clean;
     })
 
-pub append_apart : (to : List ℕ) (flags : List (List ℕ)) (text id rest : List ℕ) → action_fields (actions.Append to flags text id) ++ rest ≡ 80 ∷ (counted to ++ (flag_field flags ++ (to_be_bytes w32 (length text) ++ (text ++ rest))))
+pub append_apart : (to : List ℕ) (flags : List (List ℕ)) (text id rest : List ℕ) →
+    action_fields (actions.Append to flags text id) ++ rest ≡ 80 ∷
+    (counted to ++ (flag_field flags ++ (to_be_bytes w32 (length text) ++ (text ++ rest))))
 append_apart to flags text id rest =
     append_assoc (80 ∷ counted to ++ flag_field flags ++ to_be_bytes w32 (length text)) text rest
     ∙ four (80 ∷ counted to) (flag_field flags) (to_be_bytes w32 (length text)) (text ++ rest)
@@ -168,7 +187,8 @@ append_apart to flags text id rest =
 append_reads : (bytes : List ℕ) (y : Action × List ℕ) → AreBytes bytes → append_at bytes ≡ Ok y → Follows action_fields IsReadAction 80 bytes y
 unfolding append_at
 append_reads bytes y all is =
-    let one = bound (name_at bytes) (λ to. flags_at 0 to.1 >>= (λ flags. text_at flags.1 >>= (λ text. Ok (actions.Append to.0 flags.0 text.0.0 text.0.1, text.1)))) y is in
+    let one = bound (name_at bytes) (λ to. flags_at 0 to.1 >>= (λ flags. text_at flags.1 >>=
+    (λ text. Ok (actions.Append to.0 flags.0 text.0.0 text.0.1, text.1)))) y is in
     let to = one.value in
     let two = bound (flags_at 0 to.1) (λ flags. text_at flags.1 >>= (λ text. Ok (actions.Append to.0 flags.0 text.0.0 text.0.1, text.1))) y one.later in
     let flags = two.value in
@@ -178,14 +198,17 @@ append_reads bytes y all is =
     let f = flags_reads 0 to.1 flags n.clean two.first in
     let t = text_reads flags.1 text f.clean three.first in
     follows_same action_fields IsReadAction 80 bytes (actions.Append to.0 flags.0 text.0.0 text.0.1, text.1) y three.later
-    (follow (action_fields (actions.Append to.0 flags.0 text.0.0 text.0.1)) 80 bytes text.1 (IsReadAction (actions.Append to.0 flags.0 text.0.0 text.0.1)) t.clean
+    (follow (action_fields (actions.Append to.0 flags.0 text.0.0 text.0.1)) 80 bytes text.1
+    (IsReadAction (actions.Append to.0 flags.0 text.0.0 text.0.1)) t.clean
     (front 80 _ _ (n.is ∙ behind (counted to.0) _ _ (f.is ∙ behind (flag_field flags.0) _ _ t.is)) ∙ sym (append_apart to.0 flags.0 text.0.0 text.0.1 text.1))
     (record { kept = (n.kept, f.kept.set); writable = (f.kept.few, t.id) }))
 
 action_reads : (bytes : List ℕ) (y : Action × List ℕ) → AreBytes bytes → action_at bytes ≡ Ok y → Reads action_fields IsReadAction bytes y
 unfolding action_at
 action_reads bytes y all is =
-    let l = lettered bytes (λ letter. if letter.0 == 70 then flag_at letter.1 else if letter.0 == 77 then move_at letter.1 else if letter.0 == 80 then append_at letter.1 else Err (length bytes)) y all is in
+    let l = lettered bytes
+    (λ letter. if letter.0 == 70 then flag_at letter.1 else if letter.0 == 77 then move_at letter.1 else if letter.0 == 80 then
+    append_at letter.1 else Err (length bytes)) y all is in
     elim (chosen l.b 70 (flag_at l.more) (if l.b == 77 then move_at l.more else if l.b == 80 then append_at l.more else Err (length bytes)) y l.later) [
       | inl w ↦ lead action_fields IsReadAction bytes l.b 70 l.more y l.is w.0 (flag_reads l.more y l.clean w.1)
       | inr v ↦ elim (chosen l.b 77 (move_at l.more) (if l.b == 80 then append_at l.more else Err (length bytes)) y v) [
@@ -199,7 +222,9 @@ action_reads bytes y all is =
 
 -- ---- intents
 
-pub store_apart : (name : List ℕ) (validity uid modseq : ℕ) (rest : List ℕ) → intent_fields (intents.Store name validity uid modseq) ++ rest ≡ 83 ∷ (counted name ++ (to_be_bytes w32 validity ++ (to_be_bytes w32 uid ++ (to_be_bytes w64 modseq ++ rest))))
+pub store_apart : (name : List ℕ) (validity uid modseq : ℕ) (rest : List ℕ) →
+    intent_fields (intents.Store name validity uid modseq) ++ rest
+    ≡ 83 ∷ (counted name ++ (to_be_bytes w32 validity ++ (to_be_bytes w32 uid ++ (to_be_bytes w64 modseq ++ rest))))
 store_apart name validity uid modseq rest =
     append_assoc (83 ∷ counted name ++ to_be_bytes w32 validity ++ to_be_bytes w32 uid) (to_be_bytes w64 modseq) rest
     ∙ four (83 ∷ counted name) (to_be_bytes w32 validity) (to_be_bytes w32 uid) (to_be_bytes w64 modseq ++ rest)
@@ -207,11 +232,15 @@ store_apart name validity uid modseq rest =
 store_reads : (bytes : List ℕ) (y : Intent × List ℕ) → AreBytes bytes → store_at bytes ≡ Ok y → Follows intent_fields IsKeptIntent 83 bytes y
 unfolding store_at
 store_reads bytes y all is =
-    let one = bound (name_at bytes) (λ name. nonzero_at name.1 >>= (λ validity. nonzero_at validity.1 >>= (λ uid. modseq_at uid.1 >>= (λ modseq. Ok (intents.Store name.0 validity.0 uid.0 modseq.0, modseq.1))))) y is in
+    let one = bound (name_at bytes) (λ name. nonzero_at name.1 >>=
+    (λ validity. nonzero_at validity.1 >>= (λ uid. modseq_at uid.1 >>=
+    (λ modseq. Ok (intents.Store name.0 validity.0 uid.0 modseq.0, modseq.1))))) y is in
     let name = one.value in
-    let two = bound (nonzero_at name.1) (λ validity. nonzero_at validity.1 >>= (λ uid. modseq_at uid.1 >>= (λ modseq. Ok (intents.Store name.0 validity.0 uid.0 modseq.0, modseq.1)))) y one.later in
+    let two = bound (nonzero_at name.1) (λ validity. nonzero_at validity.1 >>=
+    (λ uid. modseq_at uid.1 >>= (λ modseq. Ok (intents.Store name.0 validity.0 uid.0 modseq.0, modseq.1)))) y one.later in
     let validity = two.value in
-    let three = bound (nonzero_at validity.1) (λ uid. modseq_at uid.1 >>= (λ modseq. Ok (intents.Store name.0 validity.0 uid.0 modseq.0, modseq.1))) y two.later in
+    let three = bound (nonzero_at validity.1) (λ uid. modseq_at uid.1 >>=
+    (λ modseq. Ok (intents.Store name.0 validity.0 uid.0 modseq.0, modseq.1))) y two.later in
     let uid = three.value in
     let last = bound (modseq_at uid.1) (λ modseq. Ok (intents.Store name.0 validity.0 uid.0 modseq.0, modseq.1)) y three.later in
     let modseq = last.value in
@@ -220,11 +249,15 @@ store_reads bytes y all is =
     let u = nonzero_reads validity.1 uid v.clean three.first in
     let m = modseq_reads uid.1 modseq u.clean last.first in
     follows_same intent_fields IsKeptIntent 83 bytes (intents.Store name.0 validity.0 uid.0 modseq.0, modseq.1) y last.later
-    (follow (intent_fields (intents.Store name.0 validity.0 uid.0 modseq.0)) 83 bytes modseq.1 (IsKeptIntent (intents.Store name.0 validity.0 uid.0 modseq.0)) m.clean
-    (front 83 _ _ (n.is ∙ behind (counted name.0) _ _ (v.is ∙ behind (to_be_bytes w32 validity.0) _ _ (u.is ∙ behind (to_be_bytes w32 uid.0) _ _ m.is))) ∙ sym (store_apart name.0 validity.0 uid.0 modseq.0 modseq.1))
+    (follow (intent_fields (intents.Store name.0 validity.0 uid.0 modseq.0)) 83 bytes modseq.1
+    (IsKeptIntent (intents.Store name.0 validity.0 uid.0 modseq.0)) m.clean
+    (front 83 _ _ (n.is ∙ behind (counted name.0) _ _ (v.is ∙ behind (to_be_bytes w32 validity.0) _ _
+    (u.is ∙ behind (to_be_bytes w32 uid.0) _ _ m.is))) ∙ sym (store_apart name.0 validity.0 uid.0 modseq.0 modseq.1))
     (n.kept, v.kept, u.kept, m.kept))
 
-pub shift_apart : (from : List ℕ) (validity uid : ℕ) (to rest : List ℕ) → intent_fields (intents.Shift from validity uid to) ++ rest ≡ 77 ∷ (counted from ++ (to_be_bytes w32 validity ++ (to_be_bytes w32 uid ++ (counted to ++ rest))))
+pub shift_apart : (from : List ℕ) (validity uid : ℕ) (to rest : List ℕ) →
+    intent_fields (intents.Shift from validity uid to) ++ rest ≡ 77 ∷
+    (counted from ++ (to_be_bytes w32 validity ++ (to_be_bytes w32 uid ++ (counted to ++ rest))))
 shift_apart from validity uid to rest =
     append_assoc (77 ∷ counted from ++ to_be_bytes w32 validity ++ to_be_bytes w32 uid) (counted to) rest
     ∙ four (77 ∷ counted from) (to_be_bytes w32 validity) (to_be_bytes w32 uid) (counted to ++ rest)
@@ -232,9 +265,12 @@ shift_apart from validity uid to rest =
 shift_reads : (bytes : List ℕ) (y : Intent × List ℕ) → AreBytes bytes → shift_at bytes ≡ Ok y → Follows intent_fields IsKeptIntent 77 bytes y
 unfolding shift_at
 shift_reads bytes y all is =
-    let one = bound (name_at bytes) (λ from. nonzero_at from.1 >>= (λ validity. nonzero_at validity.1 >>= (λ uid. name_at uid.1 >>= (λ to. Ok (intents.Shift from.0 validity.0 uid.0 to.0, to.1))))) y is in
+    let one = bound (name_at bytes) (λ from. nonzero_at from.1 >>=
+    (λ validity. nonzero_at validity.1 >>= (λ uid. name_at uid.1 >>=
+    (λ to. Ok (intents.Shift from.0 validity.0 uid.0 to.0, to.1))))) y is in
     let from = one.value in
-    let two = bound (nonzero_at from.1) (λ validity. nonzero_at validity.1 >>= (λ uid. name_at uid.1 >>= (λ to. Ok (intents.Shift from.0 validity.0 uid.0 to.0, to.1)))) y one.later in
+    let two = bound (nonzero_at from.1) (λ validity. nonzero_at validity.1 >>=
+    (λ uid. name_at uid.1 >>= (λ to. Ok (intents.Shift from.0 validity.0 uid.0 to.0, to.1)))) y one.later in
     let validity = two.value in
     let three = bound (nonzero_at validity.1) (λ uid. name_at uid.1 >>= (λ to. Ok (intents.Shift from.0 validity.0 uid.0 to.0, to.1))) y two.later in
     let uid = three.value in
@@ -246,13 +282,15 @@ shift_reads bytes y all is =
     let t = name_reads uid.1 to u.clean last.first in
     follows_same intent_fields IsKeptIntent 77 bytes (intents.Shift from.0 validity.0 uid.0 to.0, to.1) y last.later
     (follow (intent_fields (intents.Shift from.0 validity.0 uid.0 to.0)) 77 bytes to.1 (IsKeptIntent (intents.Shift from.0 validity.0 uid.0 to.0)) t.clean
-    (front 77 _ _ (n.is ∙ behind (counted from.0) _ _ (v.is ∙ behind (to_be_bytes w32 validity.0) _ _ (u.is ∙ behind (to_be_bytes w32 uid.0) _ _ t.is))) ∙ sym (shift_apart from.0 validity.0 uid.0 to.0 to.1))
+    (front 77 _ _ (n.is ∙ behind (counted from.0) _ _ (v.is ∙ behind (to_be_bytes w32 validity.0) _ _
+    (u.is ∙ behind (to_be_bytes w32 uid.0) _ _ t.is))) ∙ sym (shift_apart from.0 validity.0 uid.0 to.0 to.1))
     (n.kept, v.kept, u.kept, t.kept))
 
 put_reads : (bytes : List ℕ) (y : Intent × List ℕ) → AreBytes bytes → put_at bytes ≡ Ok y → Follows intent_fields IsKeptIntent 80 bytes y
 unfolding put_at
 put_reads bytes y all is =
-    let one = bound (name_at bytes) (λ to. nonzero_at to.1 >>= (λ validity. nonzero_at validity.1 >>= (λ uidnext. Ok (intents.Put to.0 validity.0 uidnext.0, uidnext.1)))) y is in
+    let one = bound (name_at bytes) (λ to. nonzero_at to.1 >>= (λ validity. nonzero_at validity.1 >>=
+    (λ uidnext. Ok (intents.Put to.0 validity.0 uidnext.0, uidnext.1)))) y is in
     let to = one.value in
     let two = bound (nonzero_at to.1) (λ validity. nonzero_at validity.1 >>= (λ uidnext. Ok (intents.Put to.0 validity.0 uidnext.0, uidnext.1))) y one.later in
     let validity = two.value in
@@ -263,13 +301,16 @@ put_reads bytes y all is =
     let u = nonzero_reads validity.1 uidnext v.clean three.first in
     follows_same intent_fields IsKeptIntent 80 bytes (intents.Put to.0 validity.0 uidnext.0, uidnext.1) y three.later
     (follow (intent_fields (intents.Put to.0 validity.0 uidnext.0)) 80 bytes uidnext.1 (IsKeptIntent (intents.Put to.0 validity.0 uidnext.0)) u.clean
-    (front 80 _ _ (n.is ∙ behind (counted to.0) _ _ (v.is ∙ behind (to_be_bytes w32 validity.0) _ _ u.is)) ∙ sym (four (80 ∷ counted to.0) (to_be_bytes w32 validity.0) (to_be_bytes w32 uidnext.0) uidnext.1))
+    (front 80 _ _ (n.is ∙ behind (counted to.0) _ _ (v.is ∙ behind (to_be_bytes w32 validity.0) _ _ u.is))
+    ∙ sym (four (80 ∷ counted to.0) (to_be_bytes w32 validity.0) (to_be_bytes w32 uidnext.0) uidnext.1))
     (n.kept, v.kept, u.kept))
 
 intent_reads : (bytes : List ℕ) (y : Intent × List ℕ) → AreBytes bytes → intent_at bytes ≡ Ok y → Reads intent_fields IsKeptIntent bytes y
 unfolding intent_at
 intent_reads bytes y all is =
-    let l = lettered bytes (λ letter. if letter.0 == 83 then store_at letter.1 else if letter.0 == 77 then shift_at letter.1 else if letter.0 == 80 then put_at letter.1 else Err (length bytes)) y all is in
+    let l = lettered bytes
+    (λ letter. if letter.0 == 83 then store_at letter.1 else if letter.0 == 77 then shift_at letter.1 else if letter.0 == 80 then
+    put_at letter.1 else Err (length bytes)) y all is in
     elim (chosen l.b 83 (store_at l.more) (if l.b == 77 then shift_at l.more else if l.b == 80 then put_at l.more else Err (length bytes)) y l.later) [
       | inl w ↦ lead intent_fields IsKeptIntent bytes l.b 83 l.more y l.is w.0 (store_reads l.more y l.clean w.1)
       | inr v ↦ elim (chosen l.b 77 (shift_at l.more) (if l.b == 80 then put_at l.more else Err (length bytes)) y v) [
@@ -283,8 +324,10 @@ intent_reads bytes y all is =
 
 -- ---- outcomes
 
-none_reads : (bytes : List ℕ) (y : Option Place × List ℕ) → AreBytes bytes → ◌≡◌ {A = Reading (Option Place)} (Ok (None, bytes)) (Ok y) → Follows place_fields IsKeptPlace 0 bytes y
-none_reads bytes y all is = follows_same place_fields IsKeptPlace 0 bytes (None, bytes) y is (follow (place_fields None) 0 bytes bytes (IsKeptPlace None) all refl tt)
+none_reads : (bytes : List ℕ) (y : Option Place × List ℕ) → AreBytes bytes → ◌≡◌ {A = Reading (Option Place)} (Ok (None, bytes)) (Ok y) →
+    Follows place_fields IsKeptPlace 0 bytes y
+none_reads bytes y all is = follows_same place_fields IsKeptPlace 0 bytes (None, bytes) y is
+    (follow (place_fields None) 0 bytes bytes (IsKeptPlace None) all refl tt)
 
 landed_reads : (bytes : List ℕ) (y : Option Place × List ℕ) → AreBytes bytes → landed_at bytes ≡ Ok y → Follows place_fields IsKeptPlace 1 bytes y
 unfolding landed_at
@@ -297,7 +340,8 @@ landed_reads bytes y all is =
     let u = nonzero_reads validity.1 uid v.clean two.first in
     let place : Place = record { validity = validity.0; uid = uid.0 } in
     follows_same place_fields IsKeptPlace 1 bytes (Some place, uid.1) y two.later
-    (follow (place_fields (Some place)) 1 bytes uid.1 (IsKeptPlace (Some place)) u.clean (front 1 _ _ (v.is ∙ behind (to_be_bytes w32 validity.0) _ _ u.is)) (v.kept, u.kept))
+    (follow (place_fields (Some place)) 1 bytes uid.1 (IsKeptPlace (Some place)) u.clean
+    (front 1 _ _ (v.is ∙ behind (to_be_bytes w32 validity.0) _ _ u.is)) (v.kept, u.kept))
 
 place_reads : (bytes : List ℕ) (y : Option Place × List ℕ) → AreBytes bytes → place_at bytes ≡ Ok y → Reads place_fields IsKeptPlace bytes y
 unfolding place_at
@@ -337,7 +381,8 @@ unsure_reads bytes y all is =
     let a = modseq_reads bytes m all one.first in
     let b = modseq_reads m.1 f a.clean two.first in
     follows_same kind_fields IsKeptKind 9 bytes (kinds.StoreUnsure m.0 f.0, f.1) y two.later
-    (follow (kind_fields (kinds.StoreUnsure m.0 f.0)) 9 bytes f.1 (IsKeptKind (kinds.StoreUnsure m.0 f.0)) b.clean (front 9 _ _ (a.is ∙ behind (to_be_bytes w64 m.0) _ _ b.is)) (a.kept, b.kept))
+    (follow (kind_fields (kinds.StoreUnsure m.0 f.0)) 9 bytes f.1 (IsKeptKind (kinds.StoreUnsure m.0 f.0)) b.clean
+    (front 9 _ _ (a.is ∙ behind (to_be_bytes w64 m.0) _ _ b.is)) (a.kept, b.kept))
 
 ambiguous_reads : (bytes : List ℕ) (y : Kind × List ℕ) → AreBytes bytes → ambiguous_at bytes ≡ Ok y → Follows kind_fields IsKeptKind 12 bytes y
 unfolding ambiguous_at
@@ -349,10 +394,13 @@ ambiguous_reads bytes y all is =
     let a = nonzero_reads bytes u all one.first in
     let b = nonzero_reads u.1 v a.clean two.first in
     follows_same kind_fields IsKeptKind 12 bytes (kinds.Ambiguous u.0 v.0, v.1) y two.later
-    (follow (kind_fields (kinds.Ambiguous u.0 v.0)) 12 bytes v.1 (IsKeptKind (kinds.Ambiguous u.0 v.0)) b.clean (front 12 _ _ (a.is ∙ behind (to_be_bytes w32 u.0) _ _ b.is)) (a.kept, b.kept))
+    (follow (kind_fields (kinds.Ambiguous u.0 v.0)) 12 bytes v.1 (IsKeptKind (kinds.Ambiguous u.0 v.0)) b.clean
+    (front 12 _ _ (a.is ∙ behind (to_be_bytes w32 u.0) _ _ b.is)) (a.kept, b.kept))
 
 -- a kind without numbers
-bare_reads : (kind : Kind) (b k : ℕ) (bytes more : List ℕ) (y : Kind × List ℕ) → AreBytes more → bytes ≡ b ∷ more → kind_fields kind ≡ k ∷ [] → IsKeptKind kind → (b ≡ k) × ◌≡◌ {A = Reading Kind} (Ok (kind, more)) (Ok y) → Reads kind_fields IsKeptKind bytes y
+bare_reads : (kind : Kind) (b k : ℕ) (bytes more : List ℕ) (y : Kind × List ℕ) → AreBytes more → bytes ≡ b ∷ more →
+    kind_fields kind ≡ k ∷ [] → IsKeptKind kind → (b ≡ k) × ◌≡◌ {A = Reading Kind} (Ok (kind, more)) (Ok y) →
+    Reads kind_fields IsKeptKind bytes y
 bare_reads kind b k bytes more y all is spelled kept w =
     reads_same kind_fields IsKeptKind bytes (kind, more) y w.1
     (record { is = is ∙ ap (λ (c : ℕ). c ∷ more) w.0 ∙ ap (λ (t : List ℕ). t ++ more) (sym spelled); kept = kept; clean = all })
@@ -398,7 +446,12 @@ kind_reads bytes y all is =
                                                                 elim (chosen b 11 (Ok (kinds.GoneAfterLoss, more)) _ y v11) [
                                                                   | inl w ↦ bare kinds.GoneAfterLoss 11 refl tt w
                                                                   | inr v12 ↦
-                                                                      elim (chosen b 12 (ambiguous_at more) (Err (length bytes)) y v12) [ inl w ↦ led 12 w.0 (ambiguous_reads more y l.clean w.1) | inr w ↦ absurd (cc w) ]
+                                                                      elim (chosen b 12 (ambiguous_at more) (Err
+                                                                      (length bytes)) y v12) [
+                                                                        | inl w ↦ led 12 w.0
+                                                                            (ambiguous_reads more y l.clean w.1)
+                                                                        | inr w ↦ absurd (cc w)
+                                                                      ]
                                                                 ]
                                                           ]
                                                     ]
@@ -430,7 +483,8 @@ conflict_reads bytes y all is =
 pub outcome_reads : (bytes : List ℕ) (y : Outcome × List ℕ) → AreBytes bytes → outcome_at bytes ≡ Ok y → Reads outcome_fields IsKeptOutcome bytes y
 unfolding outcome_at
 outcome_reads bytes y all is =
-    let l = lettered bytes (λ letter. if letter.0 == 68 then done_at letter.1 else if letter.0 == 67 then conflict_at letter.1 else Err (length bytes)) y all is in
+    let l = lettered bytes (λ letter. if letter.0 == 68 then done_at letter.1 else if letter.0 == 67 then conflict_at letter.1 else Err
+    (length bytes)) y all is in
     elim (chosen l.b 68 (done_at l.more) (if l.b == 67 then conflict_at l.more else Err (length bytes)) y l.later) [
       | inl w ↦ lead outcome_fields IsKeptOutcome bytes l.b 68 l.more y l.is w.0 (done_reads l.more y l.clean w.1)
       | inr v ↦ elim (chosen l.b 67 (conflict_at l.more) (Err (length bytes)) y v) [
@@ -447,7 +501,9 @@ mark_of told = to_be_bytes w32 told.validity ++ to_be_bytes w64 told.highest ++ 
 abbrev pub told_fields : Told → List ℕ
 told_fields told = bit told.whole ∷ mark_of told ++ range_fields told.vanished ++ row_fields told.rows
 
-pub told_apart : (told : Told) (rest : List ℕ) → told_fields told ++ rest ≡ bit told.whole ∷ (to_be_bytes w32 told.validity ++ (to_be_bytes w64 told.highest ++ (to_be_bytes w32 told.uidnext ++ (range_fields told.vanished ++ (row_fields told.rows ++ rest)))))
+pub told_apart : (told : Told) (rest : List ℕ) → told_fields told ++ rest
+    ≡ bit told.whole ∷ (to_be_bytes w32 told.validity ++ (to_be_bytes w64 told.highest
+    ++ (to_be_bytes w32 told.uidnext ++ (range_fields told.vanished ++ (row_fields told.rows ++ rest)))))
 told_apart told rest = append_assoc (bit told.whole ∷ mark_of told ++ range_fields told.vanished) (row_fields told.rows) rest
 
 -- a delta that was read
@@ -461,23 +517,43 @@ pub record IsKeptTold (told : Told) : Type 0 where
 told_reads : (bytes : List ℕ) (y : Told × List ℕ) → AreBytes bytes → told_at bytes ≡ Ok y → Reads told_fields IsKeptTold bytes y
 unfolding told_at
 told_reads bytes y all is =
-    let one = bound (bit_at bytes) (λ whole. nonzero_at whole.1 >>= (λ validity. modseq_at validity.1 >>= (λ highest. nonzero_at highest.1 >>= (λ uidnext. vanished_at uidnext.1 >>= (λ vanished. row_list_at vanished.0 vanished.1 >>= (λ rows.
+    let one = bound (bit_at bytes) (λ whole. nonzero_at whole.1 >>=
+    (λ validity. modseq_at validity.1 >>= (λ highest. nonzero_at highest.1 >>=
+    (λ uidnext. vanished_at uidnext.1 >>= (λ vanished. row_list_at vanished.0 vanished.1 >>= (λ rows.
     Ok (record { whole = whole.0; validity = validity.0; highest = highest.0; uidnext = uidnext.0; vanished = vanished.0; rows = rows.0 }, rows.1))))))) y is in
     let whole = one.value in
-    let two = bound (nonzero_at whole.1) (λ validity. modseq_at validity.1 >>= (λ highest. nonzero_at highest.1 >>= (λ uidnext. vanished_at uidnext.1 >>= (λ vanished. row_list_at vanished.0 vanished.1 >>= (λ rows.
-    Ok (record { whole = whole.0; validity = validity.0; highest = highest.0; uidnext = uidnext.0; vanished = vanished.0; rows = rows.0 }, rows.1)))))) y one.later in
+    let two = bound (nonzero_at whole.1) (λ validity. modseq_at validity.1 >>=
+    (λ highest. nonzero_at highest.1 >>= (λ uidnext. vanished_at uidnext.1 >>=
+    (λ vanished. row_list_at vanished.0 vanished.1 >>= (λ rows.
+    Ok (
+      record { whole = whole.0; validity = validity.0; highest = highest.0; uidnext = uidnext.0; vanished = vanished.0; rows = rows.0 },
+      rows.1,
+    )))))) y one.later in
     let validity = two.value in
-    let three = bound (modseq_at validity.1) (λ highest. nonzero_at highest.1 >>= (λ uidnext. vanished_at uidnext.1 >>= (λ vanished. row_list_at vanished.0 vanished.1 >>= (λ rows.
-    Ok (record { whole = whole.0; validity = validity.0; highest = highest.0; uidnext = uidnext.0; vanished = vanished.0; rows = rows.0 }, rows.1))))) y two.later in
+    let three = bound (modseq_at validity.1) (λ highest. nonzero_at highest.1 >>=
+    (λ uidnext. vanished_at uidnext.1 >>= (λ vanished. row_list_at vanished.0 vanished.1 >>= (λ rows.
+    Ok (
+      record { whole = whole.0; validity = validity.0; highest = highest.0; uidnext = uidnext.0; vanished = vanished.0; rows = rows.0 },
+      rows.1,
+    ))))) y two.later in
     let highest = three.value in
     let fourth = bound (nonzero_at highest.1) (λ uidnext. vanished_at uidnext.1 >>= (λ vanished. row_list_at vanished.0 vanished.1 >>= (λ rows.
-    Ok (record { whole = whole.0; validity = validity.0; highest = highest.0; uidnext = uidnext.0; vanished = vanished.0; rows = rows.0 }, rows.1)))) y three.later in
+    Ok (
+      record { whole = whole.0; validity = validity.0; highest = highest.0; uidnext = uidnext.0; vanished = vanished.0; rows = rows.0 },
+      rows.1,
+    )))) y three.later in
     let uidnext = fourth.value in
     let fifth = bound (vanished_at uidnext.1) (λ vanished. row_list_at vanished.0 vanished.1 >>= (λ rows.
-    Ok (record { whole = whole.0; validity = validity.0; highest = highest.0; uidnext = uidnext.0; vanished = vanished.0; rows = rows.0 }, rows.1))) y fourth.later in
+    Ok (
+      record { whole = whole.0; validity = validity.0; highest = highest.0; uidnext = uidnext.0; vanished = vanished.0; rows = rows.0 },
+      rows.1,
+    ))) y fourth.later in
     let vanished = fifth.value in
     let last = bound (row_list_at vanished.0 vanished.1) (λ rows.
-    Ok (record { whole = whole.0; validity = validity.0; highest = highest.0; uidnext = uidnext.0; vanished = vanished.0; rows = rows.0 }, rows.1)) y fifth.later in
+    Ok (
+      record { whole = whole.0; validity = validity.0; highest = highest.0; uidnext = uidnext.0; vanished = vanished.0; rows = rows.0 },
+      rows.1,
+    )) y fifth.later in
     let rows = last.value in
     let w = bit_reads bytes whole all one.first in
     let v = nonzero_reads whole.1 validity w.clean two.first in
@@ -488,7 +564,9 @@ told_reads bytes y all is =
     let told : Told = record { whole = whole.0; validity = validity.0; highest = highest.0; uidnext = uidnext.0; vanished = vanished.0; rows = rows.0 } in
     reads_same told_fields IsKeptTold bytes (told, rows.1) y last.later
     (record {
-      is = w.is ∙ front (bit whole.0) _ _ (v.is ∙ behind (to_be_bytes w32 validity.0) _ _ (h.is ∙ behind (to_be_bytes w64 highest.0) _ _ (u.is ∙ behind (to_be_bytes w32 uidnext.0) _ _ (g.is ∙ behind (range_fields vanished.0) _ _ r.is)))) ∙ sym (told_apart told rows.1);
+      is = w.is ∙ front (bit whole.0) _ _ (v.is ∙ behind (to_be_bytes w32 validity.0) _ _
+          (h.is ∙ behind (to_be_bytes w64 highest.0) _ _ (u.is ∙ behind (to_be_bytes w32 uidnext.0) _ _
+          (g.is ∙ behind (range_fields vanished.0) _ _ r.is)))) ∙ sym (told_apart told rows.1);
       kept = record { validity = v.kept; highest = h.kept; uidnext = u.kept; vanished = g.kept; rows = r.kept };
       clean = r.clean;
     })
@@ -527,7 +605,8 @@ accept_reads bytes y all is =
     let n = nonzero_reads bytes id all one.first in
     let a = action_reads id.1 action n.clean two.first in
     follows_same plain_fields IsKeptPlain 65 bytes (Accept id.0 action.0, action.1) y two.later
-    (follow (plain_fields (Accept id.0 action.0)) 65 bytes action.1 (IsKeptPlain (Accept id.0 action.0)) a.clean (front 65 _ _ (n.is ∙ behind (to_be_bytes w32 id.0) _ _ a.is)) (n.kept, a.kept))
+    (follow (plain_fields (Accept id.0 action.0)) 65 bytes action.1 (IsKeptPlain (Accept id.0 action.0)) a.clean
+    (front 65 _ _ (n.is ∙ behind (to_be_bytes w32 id.0) _ _ a.is)) (n.kept, a.kept))
 
 intend_reads : (bytes : List ℕ) (y : Plain × List ℕ) → AreBytes bytes → intend_at bytes ≡ Ok y → Follows plain_fields IsKeptPlain 73 bytes y
 unfolding intend_at
@@ -539,7 +618,8 @@ intend_reads bytes y all is =
     let n = nonzero_reads bytes id all one.first in
     let a = intent_reads id.1 intent n.clean two.first in
     follows_same plain_fields IsKeptPlain 73 bytes (Intend id.0 intent.0, intent.1) y two.later
-    (follow (plain_fields (Intend id.0 intent.0)) 73 bytes intent.1 (IsKeptPlain (Intend id.0 intent.0)) a.clean (front 73 _ _ (n.is ∙ behind (to_be_bytes w32 id.0) _ _ a.is)) (n.kept, a.kept))
+    (follow (plain_fields (Intend id.0 intent.0)) 73 bytes intent.1 (IsKeptPlain (Intend id.0 intent.0)) a.clean
+    (front 73 _ _ (n.is ∙ behind (to_be_bytes w32 id.0) _ _ a.is)) (n.kept, a.kept))
 
 settle_reads : (bytes : List ℕ) (y : Plain × List ℕ) → AreBytes bytes → settle_at bytes ≡ Ok y → Follows plain_fields IsKeptPlain 83 bytes y
 unfolding settle_at
@@ -551,7 +631,8 @@ settle_reads bytes y all is =
     let n = nonzero_reads bytes id all one.first in
     let a = outcome_reads id.1 outcome n.clean two.first in
     follows_same plain_fields IsKeptPlain 83 bytes (Settle id.0 outcome.0, outcome.1) y two.later
-    (follow (plain_fields (Settle id.0 outcome.0)) 83 bytes outcome.1 (IsKeptPlain (Settle id.0 outcome.0)) a.clean (front 83 _ _ (n.is ∙ behind (to_be_bytes w32 id.0) _ _ a.is)) (n.kept, a.kept))
+    (follow (plain_fields (Settle id.0 outcome.0)) 83 bytes outcome.1 (IsKeptPlain (Settle id.0 outcome.0)) a.clean
+    (front 83 _ _ (n.is ∙ behind (to_be_bytes w32 id.0) _ _ a.is)) (n.kept, a.kept))
 
 learn_reads : (bytes : List ℕ) (y : Plain × List ℕ) → AreBytes bytes → learn_at bytes ≡ Ok y → Follows plain_fields IsKeptPlain 76 bytes y
 unfolding learn_at
@@ -569,14 +650,20 @@ learn_reads bytes y all is =
 plain_reads : (bytes : List ℕ) (y : Plain × List ℕ) → AreBytes bytes → plain_at bytes ≡ Ok y → Reads plain_fields IsKeptPlain bytes y
 unfolding plain_at
 plain_reads bytes y all is =
-    let l = lettered bytes (λ letter. if letter.0 == 66 then begin_at letter.1 else if letter.0 == 65 then accept_at letter.1 else if letter.0 == 73 then intend_at letter.1 else if letter.0 == 83 then settle_at letter.1 else if letter.0 == 76 then learn_at letter.1 else Err (length bytes)) y all is in
+    let l = lettered bytes
+    (λ letter. if letter.0 == 66 then begin_at letter.1 else if letter.0 == 65 then accept_at letter.1 else if letter.0 == 73 then
+    intend_at letter.1 else if letter.0 == 83 then settle_at letter.1 else if letter.0 == 76 then learn_at letter.1 else Err (length bytes)) y all is in
     let b = l.b in
     let more = l.more in
     let led = λ (k : ℕ). lead plain_fields IsKeptPlain bytes b k more y l.is in
-    elim (chosen b 66 (begin_at more) (if b == 65 then accept_at more else if b == 73 then intend_at more else if b == 83 then settle_at more else if b == 76 then learn_at more else Err (length bytes)) y l.later) [
+    elim (chosen b 66 (begin_at more)
+    (if b == 65 then accept_at more else if b == 73 then intend_at more else if b == 83 then settle_at more else if b == 76 then
+    learn_at more else Err (length bytes)) y l.later) [
       | inl w ↦ led 66 w.0 (begin_reads more y l.clean w.1)
       | inr v2 ↦
-          elim (chosen b 65 (accept_at more) (if b == 73 then intend_at more else if b == 83 then settle_at more else if b == 76 then learn_at more else Err (length bytes)) y v2) [
+          elim (chosen b 65 (accept_at more)
+          (if b == 73 then intend_at more else if b == 83 then settle_at more else if b == 76 then learn_at more else Err
+          (length bytes)) y v2) [
             | inl w ↦ led 65 w.0 (accept_reads more y l.clean w.1)
             | inr v3 ↦
                 elim (chosen b 73 (intend_at more) (if b == 83 then settle_at more else if b == 76 then learn_at more else Err (length bytes)) y v3) [
@@ -585,7 +672,11 @@ plain_reads bytes y all is =
                       elim (chosen b 83 (settle_at more) (if b == 76 then learn_at more else Err (length bytes)) y v4) [
                         | inl w ↦ led 83 w.0 (settle_reads more y l.clean w.1)
                         | inr v5 ↦
-                            elim (chosen b 76 (learn_at more) (Err (length bytes)) y v5) [ inl w ↦ led 76 w.0 (learn_reads more y l.clean w.1) | inr w ↦ absurd (cc w) ]
+                            elim (chosen b 76 (learn_at more) (Err (length bytes)) y v5) [
+                              | inl w ↦
+                                  led 76 w.0 (learn_reads more y l.clean w.1)
+                              | inr w ↦ absurd (cc w)
+                            ]
                       ]
                 ]
           ]
@@ -607,7 +698,13 @@ whole : (body : List ℕ) (read : Reading Plain) (p : Plain) → all_of body rea
 whole body (Ok read) p is =
     let told = whole_if ((length read.1 == 0) && nat_le (length body) 1073741824) read.0 p (place_of body (length read.1)) is in
     let both = and_parts (length read.1 == 0) (nat_le (length body) 1073741824) told.0 in
-    record { rest = read.1; is = ap (λ (q : Plain). Ok (q, read.1)) told.1; ended = same-true (length read.1) 0 both.0; fits = leb-true (length body) 1073741824 both.1 }
+    record {
+      rest = read.1;
+      is = ap (λ (q : Plain). Ok (q, read.1)) told.1;
+      ended = same-true (length read.1) 0 both.0;
+      fits =
+          leb-true (length body) 1073741824 both.1;
+    }
 whole body (Err left) p is = absurd (cc)
 
 none_left : (rest : List ℕ) → length rest ≡ 0 → rest ≡ []
@@ -640,7 +737,17 @@ kept_of (events.Begin names) kept = kept.kept
 kept_of (events.Accept id action) kept = (kept.0, kept.1.kept)
 kept_of (events.Intend id intent) kept = kept
 kept_of (events.Settle id outcome) kept = kept
-kept_of (events.Learn name delta) kept = (kept.0, record { validity = kept.1.validity; highest = kept.1.highest; uidnext = kept.1.uidnext; vanished = kept.1.vanished; rows = kept.1.rows.kept })
+kept_of (events.Learn name delta) kept = (
+  kept.0,
+  record {
+    validity = kept.1.validity;
+    highest = kept.1.highest;
+    uidnext =
+        kept.1.uidnext;
+    vanished = kept.1.vanished;
+    rows = kept.1.rows.kept;
+  },
+)
 
 writable_of : (event : Event) → IsKeptPlain (plain event) → IsWritable event
 writable_of (events.Begin names) kept = kept.list
@@ -666,7 +773,17 @@ event_of (Accept id action) kept = record { event = events.Accept id action; is 
 event_of (Intend id intent) kept = record { event = events.Intend id intent; is = refl }
 event_of (Settle id outcome) kept = record { event = events.Settle id outcome; is = refl }
 event_of (Learn name told) kept = record {
-  event = events.Learn name (record { whole = told.whole; validity = told.validity; highest = told.highest; uidnext = told.uidnext; vanished = told.vanished; rows = told.rows; rising = kept.1.rows.rising; apart = kept.1.rows.apart });
+  event = events.Learn name (record {
+    whole = told.whole;
+    validity = told.validity;
+    highest = told.highest;
+    uidnext =
+        told.uidnext;
+    vanished = told.vanished;
+    rows = told.rows;
+    rising = kept.1.rows.rising;
+    apart = kept.1.rows.apart;
+  });
   is = refl;
 }
 

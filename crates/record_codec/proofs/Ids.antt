@@ -1,5 +1,6 @@
 -- The test of a text's Message-ID tells what it is.
-use Rattle.std.proofs.Common.{◌≡◌, ◌≢◌, ◌<◌, ◌≤◌, ℕ, Bool, true, false, ◌&&◌, ◌==◌, List, [], ◌∷◌, ◌++◌, length, Option, Some, None, nat_le, refl, sym, ap, subst, ◌∙◌, arith, if◌then◌else◌}
+use Rattle.std.proofs.Common.{◌≡◌, ◌≢◌, ◌<◌, ◌≤◌, ℕ, Bool, true, false, ◌&&◌, ◌==◌, List, [], ◌∷◌, ◌++◌, length, Option, Some, None}
+use Rattle.std.proofs.Common.{nat_le, refl, sym, ap, subst, ◌∙◌, arith, if◌then◌else◌}
 use Rattle.std.specs.Prelude.{All}
 use Rattle.std.proofs.lemmas.Bool.{and_parts, leb-true, le-leb}
 use Rattle.std.proofs.lemmas.Bool.Decides.{nat_tests}
@@ -40,7 +41,12 @@ ends-true (b ∷ []) is = record { inside = []; bytes = All-nil IsIdByte; whole 
 ends-true (b ∷ c ∷ rest) is =
     let both = and_parts (is_id_byte b) (ends_id (c ∷ rest)) is in
     let later = ends-true (c ∷ rest) both.1 in
-    record { inside = b ∷ later.inside; bytes = All-cons IsIdByte b later.inside (id_byte-true b both.0) later.bytes; whole = ap (λ (xs : List ℕ). b ∷ xs) later.whole }
+    record {
+      inside = b ∷ later.inside;
+      bytes = All-cons IsIdByte b later.inside (id_byte-true b both.0) later.bytes;
+      whole =
+          ap (λ (xs : List ℕ). b ∷ xs) later.whole;
+    }
 
 some_inside : (c : ℕ) (rest inside : List ℕ) → IsIdByte c → c ∷ rest ≡ inside ++ 62 ∷ [] → 0 < length inside
 some_inside c rest [] byte whole = absurd (byte.right (cc))
@@ -61,7 +67,8 @@ ends-holds : (inside : List ℕ) → All IsIdByte inside → ends_id (inside ++ 
 ends-holds [] all = refl
 ends-holds (b ∷ []) all = and_true (is_id_byte b) true (id_byte-holds b (All-head IsIdByte b [] all)) refl
 ends-holds (b ∷ c ∷ rest) all =
-    and_true (is_id_byte b) (ends_id (c ∷ (rest ++ 62 ∷ []))) (id_byte-holds b (All-head IsIdByte b (c ∷ rest) all)) (ends-holds (c ∷ rest) (All-tail IsIdByte b (c ∷ rest) all))
+    and_true (is_id_byte b) (ends_id (c ∷ (rest ++ 62 ∷ []))) (id_byte-holds b (All-head IsIdByte b (c ∷ rest) all))
+    (ends-holds (c ∷ rest) (All-tail IsIdByte b (c ∷ rest) all))
 
 inside-holds : (inside : List ℕ) → 0 < length inside → All IsIdByte inside → is_id (60 ∷ (inside ++ 62 ∷ [])) ≡ true
 inside-holds [] some all = absurd (omega arith)
@@ -112,7 +119,9 @@ id_told text id has =
     let few : length (id_of has.body) ≤ 512 = subst (λ (x : List ℕ). length x ≤ 512) has.value has.few in
     let form : IsId (id_of has.body) = subst IsId has.value has.form in
     ap the_id has.one.1
-    ∙ one_told (nat_le (length (id_of has.body)) 512 && is_id (id_of has.body)) (id_of has.body) (and_true (nat_le (length (id_of has.body)) 512) (is_id (id_of has.body)) (le-leb (length (id_of has.body)) 512 few) (is_id-holds (id_of has.body) form))
+    ∙ one_told (nat_le (length (id_of has.body)) 512 && is_id (id_of has.body)) (id_of has.body)
+    (and_true (nat_le (length (id_of has.body)) 512) (is_id (id_of has.body)) (le-leb (length (id_of has.body)) 512 few)
+    (is_id-holds (id_of has.body) form))
     ∙ ap Some (sym has.value)
 
 none_or : (told : Option (List ℕ)) → ((id : List ℕ) → told ≡ Some id → ⊥) → told ≡ None

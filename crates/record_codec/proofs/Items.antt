@@ -1,5 +1,7 @@
 -- Items one behind the other: what is read is spelled so, and what is spelled is read.
-use Rattle.std.proofs.Common.{◌≡◌, ◌≢◌, ◌<◌, ◌≤◌, ℕ, zero, suc, ◌+◌, ◌^◌, Bool, true, false, not, ◌&&◌, ◌||◌, List, [], ◌∷◌, ◌++◌, length, Option, Some, None, Result, Ok, cond, nat_le, nat_lt, is_none, refl, sym, ap, subst, ◌∙◌, append_assoc, arith}
+use Rattle.std.proofs.Common.{◌≡◌, ◌≢◌, ◌<◌, ◌≤◌, ℕ, zero, suc, ◌+◌, ◌^◌, Bool, true, false, not, ◌&&◌, ◌||◌, List, [], ◌∷◌, ◌++◌, length}
+use Rattle.std.proofs.Common.{Option, Some, None, Result, Ok, cond, nat_le, nat_lt, is_none, refl, sym, ap, subst, ◌∙◌, append_assoc}
+use Rattle.std.proofs.Common.{arith}
 use Rattle.std.specs.Int.{w16, w32, w64, to_be_bytes}
 use Rattle.std.specs.List.{flat_map, list_any, AllByRecursion}
 use Rattle.std.specs.Str.{bytes_eq}
@@ -28,11 +30,15 @@ use Rattle.action_queue.specs.Writable.{HaveFewFlags}
 use Rattle.record_codec.specs.Fields.{counted, flag_field, range_field, row_field}
 use Rattle.record_codec.specs.Bodies.{range_fields, row_fields}
 use Rattle.record_codec.specs.Spelling.{IsKeptRow}
-use Rattle.record_codec.specs.Reading.{Reading, ◌>>=◌, passing, AreBytes, byte_at, number_at, modseq_at, counted_at, name_at, many_at, stands_behind, is_next_key, key_at, this_key, flags_at, low_at, high_at, range_at, behind_range, vanished_at, row_uid_at, row_at, row_uid, row_list_at, new_name_at, and_name, name_list_at}
+use Rattle.record_codec.specs.Reading.{Reading, ◌>>=◌, passing, AreBytes, byte_at, number_at, modseq_at, counted_at, name_at, many_at}
+use Rattle.record_codec.specs.Reading.{stands_behind, is_next_key, key_at, this_key, flags_at, low_at, high_at, range_at, behind_range}
+use Rattle.record_codec.specs.Reading.{vanished_at, row_uid_at, row_at, row_uid, row_list_at, new_name_at, and_name, name_list_at}
 use Rattle.record_codec.proofs.Counts.{few_ranges}
 use Rattle.record_codec.proofs.Ids.{and_true}
 use Rattle.record_codec.proofs.KeyOrder.{less_from}
-use Rattle.record_codec.proofs.Taking.{bound, then_by, passed, passes, tested, tests, Reads, reads_same, sound_by, knowing, lettered, IsShort, short_reads, number_reads, modseq_reads, counted_reads, name_reads, byte_read, short_read, number_read, modseq_read, counted_read, name_read}
+use Rattle.record_codec.proofs.Taking.{bound, then_by, passed, passes, tested, tests, Reads, reads_same, sound_by, knowing, lettered}
+use Rattle.record_codec.proofs.Taking.{IsShort, short_reads, number_reads, modseq_reads, counted_reads, name_reads, byte_read, short_read}
+use Rattle.record_codec.proofs.Taking.{number_read, modseq_read, counted_read, name_read}
 
 -- ---- items of any kind
 
@@ -61,7 +67,8 @@ many_reads {A = A} item next f K each (suc n) s bytes y all is =
     let size : length others.0 ≡ n = more.kept.0 in
     reads_same (flat_map f) (AreEach K next (suc n) s) bytes (x.0 ∷ others.0, others.1) y rest.later
     (sound_by (flat_map f (x.0 ∷ others.0)) bytes others.1 (AreEach K next (suc n) s (x.0 ∷ others.0)) all
-    (first.is ∙ ap (λ (t : List ℕ). f x.0 ++ t) more.is ∙ sym (append_assoc (f x.0) (flat_map f others.0) others.1) ∙ ap (λ (t : List ℕ). t ++ others.1) (sym (flat_map-cons f x.0 others.0)))
+    (first.is ∙ ap (λ (t : List ℕ). f x.0 ++ t) more.is ∙ sym (append_assoc (f x.0) (flat_map f others.0) others.1)
+    ∙ ap (λ (t : List ℕ). t ++ others.1) (sym (flat_map-cons f x.0 others.0)))
     (omega arith, (first.kept, more.kept.1)))
 
 pub many_read : {A S : Type 0} (item : S → List ℕ → Reading A) (next : S → A → S) (f : A → List ℕ) (K : S → A → Type 0)
@@ -71,10 +78,12 @@ unfolding many_at
 many_read item next f K each s [] rest all = refl
 many_read item next f K each s (x ∷ xs) rest all =
     let more = λ (y : _ × List ℕ). many_at item next (length xs) (next s y.0) y.1 >>= (λ others. Ok (y.0 ∷ others.0, others.1)) in
-    let parted : flat_map f (x ∷ xs) ++ rest ≡ f x ++ (flat_map f xs ++ rest) = ap (λ (t : List ℕ). t ++ rest) (flat_map-cons f x xs) ∙ append_assoc (f x) (flat_map f xs) rest in
+    let parted : flat_map f (x ∷ xs) ++ rest ≡ f x ++ (flat_map f xs ++ rest) =
+    ap (λ (t : List ℕ). t ++ rest) (flat_map-cons f x xs) ∙ append_assoc (f x) (flat_map f xs) rest in
     ap (λ (bytes : List ℕ). item s bytes >>= more) parted
     ∙ then_by (item s (f x ++ (flat_map f xs ++ rest))) (x, flat_map f xs ++ rest) more (Ok (x ∷ xs, rest)) (each s x (flat_map f xs ++ rest) all.0)
-    (then_by (many_at item next (length xs) (next s x) (flat_map f xs ++ rest)) (xs, rest) (λ others. Ok (x ∷ others.0, others.1)) (Ok (x ∷ xs, rest)) (many_read item next f K each (next s x) xs rest all.1) refl)
+    (then_by (many_at item next (length xs) (next s x) (flat_map f xs ++ rest)) (xs, rest) (λ others. Ok (x ∷ others.0, others.1))
+    (Ok (x ∷ xs, rest)) (many_read item next f K each (next s x) xs rest all.1) refl)
 
 -- ---- flags
 
@@ -101,7 +110,8 @@ is_next before key k =
     and_true (is_none (refusal key)) (bytes_eq (key_of key) key && stands_behind before key) (ap is_none (key_accepted key k.0))
     (and_true (bytes_eq (key_of key) key) (stands_behind before key) ((bytes_eq-Decides (key_of key) key).1 k.0.lower) k.1)
 
-key_reads : (before : Option (List ℕ)) (bytes : List ℕ) (y : List ℕ × List ℕ) → AreBytes bytes → key_at before bytes ≡ Ok y → Reads counted (IsNextKey before) bytes y
+key_reads : (before : Option (List ℕ)) (bytes : List ℕ) (y : List ℕ × List ℕ) → AreBytes bytes → key_at before bytes ≡ Ok y →
+    Reads counted (IsNextKey before) bytes y
 unfolding key_at
 key_reads before bytes y all is =
     let told = tested (counted_at bytes) (is_next_key before) bytes y is in
@@ -109,7 +119,8 @@ key_reads before bytes y all is =
 
 key_read : (before : Option (List ℕ)) (key rest : List ℕ) → IsNextKey before key → key_at before (counted key ++ rest) ≡ Ok (key, rest)
 unfolding key_at
-key_read before key rest k = tests (counted_at (counted key ++ rest)) (is_next_key before) (counted key ++ rest) (key, rest) (counted_read key rest) (is_next before key k)
+key_read before key rest k = tests (counted_at (counted key ++ rest)) (is_next_key before) (counted key ++ rest) (key, rest)
+    (counted_read key rest) (is_next before key k)
 
 rises_from : (before : List ℕ) (keys : List (List ℕ)) → Each IsNextKey this_key (Some before) keys → AllKeys (λ later. order before later ≡ Less) keys
 rises_from before [] each = tt
@@ -131,7 +142,8 @@ keys_set keys each = record { rising = keys_rise None keys each; flags = keys_al
 behind_first : (before key : List ℕ) → order before key ≡ Less → stands_behind (Some before) key ≡ true
 behind_first before key less = ap (λ o. match_ordering o true false false) less
 
-each_behind : (before : List ℕ) (keys : List (List ℕ)) → AllKeys (λ later. order before later ≡ Less) keys → IsRising keys → AllKeys IsKey keys → Each IsNextKey this_key (Some before) keys
+each_behind : (before : List ℕ) (keys : List (List ℕ)) → AllKeys (λ later. order before later ≡ Less) keys → IsRising keys →
+    AllKeys IsKey keys → Each IsNextKey this_key (Some before) keys
 each_behind before [] below rising keys = tt
 each_behind before (key ∷ rest) below rising keys = ((keys.0, behind_first before key below.0), each_behind key rest rising.0 rising.1 keys.1)
 
@@ -155,18 +167,21 @@ record Counted (A B : Type 0) (m : Reading A) (test : A → Bool) (g : A × List
   fits : test count.0 ≡ true
   later : g count ≡ Ok y
 
-counting : {A B : Type 0} (m : Reading A) (test : A → Bool) (bytes : List ℕ) (g : A × List ℕ → Result B ℕ) (y : B) → (m >>= (λ x. passing (test x.0) bytes x >>= g)) ≡ Ok y → Counted A B m test g y
+counting : {A B : Type 0} (m : Reading A) (test : A → Bool) (bytes : List ℕ) (g : A × List ℕ → Result B ℕ) (y : B) →
+    (m >>= (λ x. passing (test x.0) bytes x >>= g)) ≡ Ok y → Counted A B m test g y
 counting m test bytes g y is =
     let outer = bound m (λ x. passing (test x.0) bytes x >>= g) y is in
     let inner = bound (passing (test outer.value.0) bytes outer.value) g y outer.later in
     let told = passed (test outer.value.0) bytes outer.value inner.value inner.first in
     record { count = outer.value; first = outer.first; fits = told.0; later = ap g told.1 ∙ inner.later }
 
-counts : {A B : Type 0} (m : Reading A) (test : A → Bool) (bytes : List ℕ) (g : A × List ℕ → Result B ℕ) (x : A × List ℕ) (y : Result B ℕ) → m ≡ Ok x → test x.0 ≡ true → g x ≡ y → (m >>= (λ x. passing (test x.0) bytes x >>= g)) ≡ y
+counts : {A B : Type 0} (m : Reading A) (test : A → Bool) (bytes : List ℕ) (g : A × List ℕ → Result B ℕ) (x : A × List ℕ)
+    (y : Result B ℕ) → m ≡ Ok x → test x.0 ≡ true → g x ≡ y → (m >>= (λ x. passing (test x.0) bytes x >>= g)) ≡ y
 counts m test bytes g x y is holds later =
     then_by m x (λ x. passing (test x.0) bytes x >>= g) y is (then_by (passing (test x.0) bytes x) x g y (passes (test x.0) bytes x holds) later)
 
-pub flags_reads : (least : ℕ) (bytes : List ℕ) (y : List (List ℕ) × List ℕ) → AreBytes bytes → flags_at least bytes ≡ Ok y → Reads flag_field (IsKeptFlags least) bytes y
+pub flags_reads : (least : ℕ) (bytes : List ℕ) (y : List (List ℕ) × List ℕ) → AreBytes bytes → flags_at least bytes ≡ Ok y →
+    Reads flag_field (IsKeptFlags least) bytes y
 unfolding flags_at
 flags_reads least bytes y all is =
     let c = counting (number_at w16 bytes) (flag_count least) bytes (λ fit. many_at key_at this_key fit.0 None fit.1) y is in
@@ -184,7 +199,8 @@ pub flags_read : (least : ℕ) (keys : List (List ℕ)) (rest : List ℕ) → Is
 unfolding flags_at
 flags_read least keys rest kept =
     let few : length keys ≤ 1024 = kept.few in
-    counts (number_at w16 (flag_field keys ++ rest)) (flag_count least) (flag_field keys ++ rest) (λ fit. many_at key_at this_key fit.0 None fit.1) (length keys, flat_map counted keys ++ rest) (Ok (keys, rest))
+    counts (number_at w16 (flag_field keys ++ rest)) (flag_count least) (flag_field keys ++ rest)
+    (λ fit. many_at key_at this_key fit.0 None fit.1) (length keys, flat_map counted keys ++ rest) (Ok (keys, rest))
     (short_read (length keys) (flat_map counted keys ++ rest) (omega arith))
     (and_true (nat_le least (length keys)) (nat_le (length keys) 1024) (le-leb least (length keys) kept.some) (le-leb (length keys) 1024 kept.few))
     (many_read key_at this_key counted IsNextKey key_read None keys rest (each_key keys kept.set))
@@ -212,10 +228,15 @@ unfolding range_at low_at high_at
 range_read floor range rest kept =
     let ordered : range.low ≤ range.high = kept.ordered in
     let fits : range.high < 2 ^ 32 = kept.fits in
-    then_by (low_at floor (range_field range ++ rest)) (range.low, to_be_bytes w32 range.high ++ rest) (λ low. high_at low.0 low.1 >>= (λ high. Ok (record { low = low.0; high = high.0 }, high.1))) (Ok (range, rest))
-    (tests (number_at w32 (range_field range ++ rest)) (λ n. nat_lt floor n) (range_field range ++ rest) (range.low, to_be_bytes w32 range.high ++ rest) (number_read range.low (to_be_bytes w32 range.high ++ rest) (omega arith)) (lt-ltb floor range.low kept.above))
-    (then_by (high_at range.low (to_be_bytes w32 range.high ++ rest)) (range.high, rest) (λ high. Ok (record { low = range.low; high = high.0 }, high.1)) (Ok (range, rest))
-    (tests (number_at w32 (to_be_bytes w32 range.high ++ rest)) (λ n. nat_le range.low n) (to_be_bytes w32 range.high ++ rest) (range.high, rest) (number_read range.high rest fits) (le-leb range.low range.high ordered))
+    then_by (low_at floor (range_field range ++ rest)) (range.low, to_be_bytes w32 range.high ++ rest)
+    (λ low. high_at low.0 low.1 >>= (λ high. Ok (record { low = low.0; high = high.0 }, high.1))) (Ok (range, rest))
+    (tests (number_at w32 (range_field range ++ rest)) (λ n. nat_lt floor n) (range_field range ++ rest)
+    (range.low, to_be_bytes w32 range.high ++ rest) (number_read range.low (to_be_bytes w32 range.high ++ rest) (omega arith))
+    (lt-ltb floor range.low kept.above))
+    (then_by (high_at range.low (to_be_bytes w32 range.high ++ rest)) (range.high, rest)
+    (λ high. Ok (record { low = range.low; high = high.0 }, high.1)) (Ok (range, rest))
+    (tests (number_at w32 (to_be_bytes w32 range.high ++ rest)) (λ n. nat_le range.low n) (to_be_bytes w32 range.high ++ rest)
+    (range.high, rest) (number_read range.high rest fits) (le-leb range.low range.high ordered))
     refl)
 
 ranges_rise : (floor : ℕ) (ranges : List UidRange) → Each IsRange behind_range floor ranges → RisesAbove floor ranges
@@ -241,7 +262,8 @@ vanished_reads bytes y all is =
 pub vanished_read : (ranges : List UidRange) (rest : List ℕ) → IsCanonical ranges → vanished_at (range_fields ranges ++ rest) ≡ Ok (ranges, rest)
 unfolding vanished_at range_fields
 vanished_read ranges rest canonical =
-    then_by (number_at w32 (to_be_bytes w32 (length ranges) ++ (flat_map range_field ranges ++ rest))) (length ranges, flat_map range_field ranges ++ rest) (λ count. many_at range_at behind_range count.0 0 count.1) (Ok (ranges, rest))
+    then_by (number_at w32 (to_be_bytes w32 (length ranges) ++ (flat_map range_field ranges ++ rest)))
+    (length ranges, flat_map range_field ranges ++ rest) (λ count. many_at range_at behind_range count.0 0 count.1) (Ok (ranges, rest))
     (number_read (length ranges) (flat_map range_field ranges ++ rest) (few_ranges ranges canonical))
     (many_read range_at behind_range range_field IsRange range_read 0 ranges rest (each_range 0 ranges canonical))
 
@@ -256,12 +278,15 @@ pub record IsNextRow (vanished : List UidRange) (floor : ℕ) (r : ℕ × Row) :
 abbrev pub uid_fits : List UidRange → ℕ → ℕ → Bool
 uid_fits vanished floor n = nat_lt floor n && not (has_uid vanished n)
 
-row_reads : (vanished : List UidRange) (floor : ℕ) (bytes : List ℕ) (y : (ℕ × Row) × List ℕ) → AreBytes bytes → row_at vanished floor bytes ≡ Ok y → Reads row_field (IsNextRow vanished floor) bytes y
+row_reads : (vanished : List UidRange) (floor : ℕ) (bytes : List ℕ) (y : (ℕ × Row) × List ℕ) → AreBytes bytes →
+    row_at vanished floor bytes ≡ Ok y → Reads row_field (IsNextRow vanished floor) bytes y
 unfolding row_at row_uid_at row_field
 row_reads vanished floor bytes y all is =
-    let one = bound (row_uid_at vanished floor bytes) (λ uid. modseq_at uid.1 >>= (λ modseq. flags_at 0 modseq.1 >>= (λ flags. Ok ((uid.0, record { flags = flags.0; modseq = modseq.0 }), flags.1)))) y is in
+    let one = bound (row_uid_at vanished floor bytes) (λ uid. modseq_at uid.1 >>=
+    (λ modseq. flags_at 0 modseq.1 >>= (λ flags. Ok ((uid.0, record { flags = flags.0; modseq = modseq.0 }), flags.1)))) y is in
     let uid = one.value in
-    let two = bound (modseq_at uid.1) (λ modseq. flags_at 0 modseq.1 >>= (λ flags. Ok ((uid.0, record { flags = flags.0; modseq = modseq.0 }), flags.1))) y one.later in
+    let two = bound (modseq_at uid.1) (λ modseq. flags_at 0 modseq.1 >>=
+    (λ flags. Ok ((uid.0, record { flags = flags.0; modseq = modseq.0 }), flags.1))) y one.later in
     let modseq = two.value in
     let three = bound (flags_at 0 modseq.1) (λ flags. Ok ((uid.0, record { flags = flags.0; modseq = modseq.0 }), flags.1)) y two.later in
     let flags = three.value in
@@ -275,18 +300,30 @@ row_reads vanished floor bytes y all is =
     reads_same row_field (IsNextRow vanished floor) bytes (r, flags.1) y three.later
     (sound_by (to_be_bytes w32 uid.0 ++ to_be_bytes w64 modseq.0 ++ flag_field flags.0) bytes flags.1 (IsNextRow vanished floor r) all
     (u.is ∙ ap (λ (t : List ℕ). to_be_bytes w32 uid.0 ++ t) (m.is ∙ ap (λ (t : List ℕ). to_be_bytes w64 modseq.0 ++ t) f.is))
-    (record { kept = record { uid = (omega arith, u.kept); modseq = m.kept; flags = f.kept.set }; above = above; apart = not-true (has_uid vanished uid.0) both.1; few = f.kept.few }))
+    (record {
+      kept = record { uid = (omega arith, u.kept); modseq = m.kept; flags = f.kept.set };
+      above = above;
+      apart =
+          not-true (has_uid vanished uid.0) both.1;
+      few = f.kept.few;
+    }))
 
-row_read : (vanished : List UidRange) (floor : ℕ) (r : ℕ × Row) (rest : List ℕ) → IsNextRow vanished floor r → row_at vanished floor (row_field r ++ rest) ≡ Ok (r, rest)
+row_read : (vanished : List UidRange) (floor : ℕ) (r : ℕ × Row) (rest : List ℕ) → IsNextRow vanished floor r →
+    row_at vanished floor (row_field r ++ rest) ≡ Ok (r, rest)
 unfolding row_at row_uid_at row_field
 row_read vanished floor r rest kept =
     let bytes = to_be_bytes w32 r.0 ++ (to_be_bytes w64 r.1.modseq ++ (flag_field r.1.flags ++ rest)) in
-    then_by (row_uid_at vanished floor bytes) (r.0, to_be_bytes w64 r.1.modseq ++ (flag_field r.1.flags ++ rest)) (λ uid. modseq_at uid.1 >>= (λ modseq. flags_at 0 modseq.1 >>= (λ flags. Ok ((uid.0, record { flags = flags.0; modseq = modseq.0 }), flags.1)))) (Ok (r, rest))
-    (tests (number_at w32 bytes) (uid_fits vanished floor) bytes (r.0, to_be_bytes w64 r.1.modseq ++ (flag_field r.1.flags ++ rest)) (number_read r.0 (to_be_bytes w64 r.1.modseq ++ (flag_field r.1.flags ++ rest)) kept.kept.uid.1)
+    then_by (row_uid_at vanished floor bytes) (r.0, to_be_bytes w64 r.1.modseq ++ (flag_field r.1.flags ++ rest))
+    (λ uid. modseq_at uid.1 >>= (λ modseq. flags_at 0 modseq.1 >>=
+    (λ flags. Ok ((uid.0, record { flags = flags.0; modseq = modseq.0 }), flags.1)))) (Ok (r, rest))
+    (tests (number_at w32 bytes) (uid_fits vanished floor) bytes (r.0, to_be_bytes w64 r.1.modseq ++ (flag_field r.1.flags ++ rest))
+    (number_read r.0 (to_be_bytes w64 r.1.modseq ++ (flag_field r.1.flags ++ rest)) kept.kept.uid.1)
     (and_true (nat_lt floor r.0) (not (has_uid vanished r.0)) (lt-ltb floor r.0 kept.above) (ap not kept.apart)))
-    (then_by (modseq_at (to_be_bytes w64 r.1.modseq ++ (flag_field r.1.flags ++ rest))) (r.1.modseq, flag_field r.1.flags ++ rest) (λ modseq. flags_at 0 modseq.1 >>= (λ flags. Ok ((r.0, record { flags = flags.0; modseq = modseq.0 }), flags.1))) (Ok (r, rest))
+    (then_by (modseq_at (to_be_bytes w64 r.1.modseq ++ (flag_field r.1.flags ++ rest))) (r.1.modseq, flag_field r.1.flags ++ rest)
+    (λ modseq. flags_at 0 modseq.1 >>= (λ flags. Ok ((r.0, record { flags = flags.0; modseq = modseq.0 }), flags.1))) (Ok (r, rest))
     (modseq_read r.1.modseq (flag_field r.1.flags ++ rest) kept.kept.modseq)
-    (then_by (flags_at 0 (flag_field r.1.flags ++ rest)) (r.1.flags, rest) (λ flags. Ok ((r.0, record { flags = flags.0; modseq = r.1.modseq }), flags.1)) (Ok (r, rest))
+    (then_by (flags_at 0 (flag_field r.1.flags ++ rest)) (r.1.flags, rest)
+    (λ flags. Ok ((r.0, record { flags = flags.0; modseq = r.1.modseq }), flags.1)) (Ok (r, rest))
     (flags_read 0 r.1.flags rest (record { set = kept.kept.flags; some = omega arith; few = kept.few })) refl))
 
 module _ (vanished : List UidRange) where
@@ -306,9 +343,13 @@ module _ (vanished : List UidRange) where
   rows_few floor [] each = tt
   rows_few floor (r ∷ rows) each = (each.0.few, rows_few r.0 rows each.1)
 
-  each_row : (floor : ℕ) (rows : List (ℕ × Row)) → RowsRise floor rows → AreApart vanished rows → AllByRecursion IsKeptRow rows → HaveFewFlags rows → Each (IsNextRow vanished) row_uid floor rows
+  each_row : (floor : ℕ) (rows : List (ℕ × Row)) → RowsRise floor rows → AreApart vanished rows → AllByRecursion IsKeptRow rows →
+      HaveFewFlags rows → Each (IsNextRow vanished) row_uid floor rows
   each_row floor [] rises apart kept few = tt
-  each_row floor (r ∷ rows) rises apart kept few = (record { kept = kept.0; above = rises.0; apart = apart.0; few = few.0 }, each_row r.0 rows rises.1 apart.1 kept.1 few.1)
+  each_row floor (r ∷ rows) rises apart kept few = (
+    record { kept = kept.0; above = rises.0; apart = apart.0; few = few.0 },
+    each_row r.0 rows rises.1 apart.1 kept.1 few.1,
+  )
 
 from_first : (rows : List (ℕ × Row)) → AllByRecursion IsKeptRow rows → Rises rows → RowsRise 0 rows
 from_first [] kept rises = tt
@@ -329,7 +370,8 @@ pub record AreKeptRows (vanished : List UidRange) (rows : List (ℕ × Row)) : T
 abbrev row_count : ℕ → Bool
 row_count n = nat_le n 200000
 
-pub row_list_reads : (vanished : List UidRange) (bytes : List ℕ) (y : List (ℕ × Row) × List ℕ) → AreBytes bytes → row_list_at vanished bytes ≡ Ok y → Reads row_fields (AreKeptRows vanished) bytes y
+pub row_list_reads : (vanished : List UidRange) (bytes : List ℕ) (y : List (ℕ × Row) × List ℕ) → AreBytes bytes →
+    row_list_at vanished bytes ≡ Ok y → Reads row_fields (AreKeptRows vanished) bytes y
 unfolding row_list_at row_fields
 row_list_reads vanished bytes y all is =
     let c = counting (number_at w32 bytes) row_count bytes (λ few. many_at (row_at vanished) row_uid few.0 0 few.1) y is in
@@ -347,15 +389,18 @@ row_list_reads vanished bytes y all is =
       flags = rows_few vanished 0 y.0 rows.kept.1;
     })
 
-pub row_list_read : (vanished : List UidRange) (rows : List (ℕ × Row)) (rest : List ℕ) → AreKeptRows vanished rows → row_list_at vanished (row_fields rows ++ rest) ≡ Ok (rows, rest)
+pub row_list_read : (vanished : List UidRange) (rows : List (ℕ × Row)) (rest : List ℕ) → AreKeptRows vanished rows →
+    row_list_at vanished (row_fields rows ++ rest) ≡ Ok (rows, rest)
 unfolding row_list_at row_fields
 row_list_read vanished rows rest kept =
     let few : length rows ≤ 200000 = kept.few in
     let bytes = to_be_bytes w32 (length rows) ++ (flat_map row_field rows ++ rest) in
-    counts (number_at w32 bytes) row_count bytes (λ few. many_at (row_at vanished) row_uid few.0 0 few.1) (length rows, flat_map row_field rows ++ rest) (Ok (rows, rest))
+    counts (number_at w32 bytes) row_count bytes (λ few. many_at (row_at vanished) row_uid few.0 0 few.1)
+    (length rows, flat_map row_field rows ++ rest) (Ok (rows, rest))
     (number_read (length rows) (flat_map row_field rows ++ rest) (omega arith))
     (le-leb (length rows) 200000 few)
-    (many_read (row_at vanished) row_uid row_field (IsNextRow vanished) (row_read vanished) 0 rows rest (each_row vanished 0 rows (from_first rows kept.kept kept.rising) kept.apart kept.kept kept.flags))
+    (many_read (row_at vanished) row_uid row_field (IsNextRow vanished) (row_read vanished) 0 rows rest
+    (each_row vanished 0 rows (from_first rows kept.kept kept.rising) kept.apart kept.kept kept.flags))
 
 -- ---- names
 
@@ -365,15 +410,18 @@ IsNewName before name = IsBoxName name × (list_any (bytes_eq name) before ≡ f
 abbrev is_new : List (List ℕ) → List ℕ → Bool
 is_new before name = not (list_any (bytes_eq name) before)
 
-new_name_reads : (before : List (List ℕ)) (bytes : List ℕ) (y : List ℕ × List ℕ) → AreBytes bytes → new_name_at before bytes ≡ Ok y → Reads counted (IsNewName before) bytes y
+new_name_reads : (before : List (List ℕ)) (bytes : List ℕ) (y : List ℕ × List ℕ) → AreBytes bytes → new_name_at before bytes ≡ Ok y →
+    Reads counted (IsNewName before) bytes y
 unfolding new_name_at
 new_name_reads before bytes y all is =
     let told = tested (name_at bytes) (is_new before) bytes y is in
-    knowing (counted y.0) bytes y.1 (IsBoxName y.0) (IsNewName before y.0) (name_reads bytes y all told.0) (λ kept. (kept, not-true (list_any (bytes_eq y.0) before) told.1))
+    knowing (counted y.0) bytes y.1 (IsBoxName y.0) (IsNewName before y.0) (name_reads bytes y all told.0)
+    (λ kept. (kept, not-true (list_any (bytes_eq y.0) before) told.1))
 
 new_name_read : (before : List (List ℕ)) (name rest : List ℕ) → IsNewName before name → new_name_at before (counted name ++ rest) ≡ Ok (name, rest)
 unfolding new_name_at
-new_name_read before name rest kept = tests (name_at (counted name ++ rest)) (is_new before) (counted name ++ rest) (name, rest) (name_read name rest kept.0) (ap not kept.1)
+new_name_read before name rest kept = tests (name_at (counted name ++ rest)) (is_new before) (counted name ++ rest) (name, rest)
+    (name_read name rest kept.0) (ap not kept.1)
 
 or_parts : (x y : Bool) → (x || y) ≡ false → (x ≡ false) × (y ≡ false)
 or_parts true y is = absurd (cc)
@@ -393,10 +441,12 @@ differ_bytes : (a b : List ℕ) → b ≢ a → bytes_eq a b ≡ false
 differ_bytes a b other = false_from_ne_true (bytes_eq a b) (λ t. other (sym ((bytes_eq-Decides a b).0 t)))
 
 -- what stands among names before stays away from names that follow
-names_absent : (name : List ℕ) (before names : List (List ℕ)) → list_any (bytes_eq name) before ≡ true → Each IsNewName and_name before names → IsAbsent name names
+names_absent : (name : List ℕ) (before names : List (List ℕ)) → list_any (bytes_eq name) before ≡ true →
+    Each IsNewName and_name before names → IsAbsent name names
 names_absent name before [] there each = tt
 names_absent name before (next ∷ names) there each =
-    let stays : list_any (bytes_eq name) (before ++ next ∷ []) ≡ true = list_any-append (bytes_eq name) before (next ∷ []) ∙ ap (λ t. t || list_any (bytes_eq name) (next ∷ [])) there in (
+    let stays : list_any (bytes_eq name) (before ++ next ∷ []) ≡ true =
+    list_any-append (bytes_eq name) before (next ∷ []) ∙ ap (λ t. t || list_any (bytes_eq name) (next ∷ [])) there in (
       λ same. let e : list_any (bytes_eq name) before ≡ false = ap (λ (n : List ℕ). list_any (bytes_eq n) before) (sym same) ∙ each.0.1 in absurd (cc),
       names_absent name (before ++ next ∷ []) names stays each.1,
     )
@@ -429,7 +479,10 @@ new_behind before name (next ∷ names) new absent = (
 
 each_new : (before names : List (List ℕ)) → AreNew before names → AreDistinct names → AllByRecursion IsBoxName names → Each IsNewName and_name before names
 each_new before [] new distinct kept = tt
-each_new before (name ∷ names) new distinct kept = ((kept.0, new.0), each_new (before ++ name ∷ []) names (new_behind before name names new.1 distinct.0) distinct.1 kept.1)
+each_new before (name ∷ names) new distinct kept = (
+  (kept.0, new.0),
+  each_new (before ++ name ∷ []) names (new_behind before name names new.1 distinct.0) distinct.1 kept.1,
+)
 
 all_new : (names : List (List ℕ)) → AreNew [] names
 all_new [] = tt
@@ -452,7 +505,8 @@ name_list_reads bytes y all is =
     let l = lettered bytes (λ count. passing (name_count count.0) bytes count >>= (λ fit. many_at new_name_at and_name fit.0 [] fit.1)) y all is in
     let inner = bound (passing (name_count l.b) bytes (l.b, l.more)) (λ fit. many_at new_name_at and_name fit.0 [] fit.1) y l.later in
     let told = passed (name_count l.b) bytes (l.b, l.more) inner.value inner.first in
-    let later : many_at new_name_at and_name l.b [] l.more ≡ Ok y = ap (λ (fit : ℕ × List ℕ). many_at new_name_at and_name fit.0 [] fit.1) told.1 ∙ inner.later in
+    let later : many_at new_name_at and_name l.b [] l.more ≡ Ok y =
+    ap (λ (fit : ℕ × List ℕ). many_at new_name_at and_name fit.0 [] fit.1) told.1 ∙ inner.later in
     let names = many_reads new_name_at and_name counted IsNewName new_name_reads l.b [] l.more y l.clean later in
     let both = and_parts (nat_le 1 l.b) (nat_le l.b 32) told.0 in
     let size : length y.0 ≡ l.b = names.kept.0 in
@@ -466,7 +520,8 @@ pub name_list_read : (names : List (List ℕ)) (rest : List ℕ) → AreKeptName
 unfolding name_list_at
 name_list_read names rest kept =
     let bytes = length names ∷ (flat_map counted names ++ rest) in
-    counts (byte_at bytes) name_count bytes (λ fit. many_at new_name_at and_name fit.0 [] fit.1) (length names, flat_map counted names ++ rest) (Ok (names, rest))
+    counts (byte_at bytes) name_count bytes (λ fit. many_at new_name_at and_name fit.0 [] fit.1)
+    (length names, flat_map counted names ++ rest) (Ok (names, rest))
     (byte_read (length names) (flat_map counted names ++ rest))
     (and_true (nat_le 1 (length names)) (nat_le (length names) 32) (le-leb 1 (length names) kept.list.some) (le-leb (length names) 32 kept.list.few))
     (many_read new_name_at and_name counted IsNewName new_name_read [] names rest (each_new [] names (all_new names) kept.list.distinct kept.kept))

@@ -21,7 +21,8 @@ less_of Greater is = absurd (cc)
 pub less_from : (before key : List ℕ) → stands_behind (Some before) key ≡ true → order before key ≡ Less
 less_from before key is = less_of (order before key) is
 
-first_below : (first key : List ℕ) (rest : List (List ℕ)) → IsRising (first ∷ rest) → stands_behind (last_key (first ∷ rest)) key ≡ true → order first key ≡ Less
+first_below : (first key : List ℕ) (rest : List (List ℕ)) → IsRising (first ∷ rest) → stands_behind (last_key (first ∷ rest)) key ≡ true →
+    order first key ≡ Less
 first_below first key [] rising stands = less_from first key stands
 first_below first key (next ∷ rest) rising stands =
     nat_list_cmp_total.trans first next key rising.0.0 (first_below next key rest rising.1 stands)
@@ -30,4 +31,5 @@ pub put_last : (key : List ℕ) (keys : List (List ℕ)) → IsRising keys → s
 put_last key [] rising stands = refl
 put_last key (first ∷ []) rising stands = put_behind key first [] (first_below first key [] rising stands)
 put_last key (first ∷ next ∷ rest) rising stands =
-    put_behind key first (next ∷ rest) (first_below first key (next ∷ rest) rising stands) ∙ ap (λ keys. first ∷ keys) (put_last key (next ∷ rest) rising.1 stands)
+    put_behind key first (next ∷ rest) (first_below first key (next ∷ rest) rising stands)
+    ∙ ap (λ keys. first ∷ keys) (put_last key (next ∷ rest) rising.1 stands)

@@ -8,7 +8,8 @@ use Rattle.uid_sets.specs.UidSet.{RisesAbove, IsCanonical}
 use Rattle.mailbox_cache.specs.Rows.{has_uid, Rises, AreApart}
 use Rattle.mailbox_cache.specs.Rows.{RisesAbove as RowsRise}
 use Rattle.mailbox_cache.specs.declared.row.Row.{Row}
-use Rattle.record_codec.specs.Reading.{Reading, ◌>>=◌, number_at, modseq_at, flags_at, many_at, low_at, high_at, range_at, behind_range, row_uid_at, row_at, row_uid}
+use Rattle.record_codec.specs.Reading.{Reading, ◌>>=◌, number_at, modseq_at, flags_at, many_at, low_at, high_at, range_at, behind_range}
+use Rattle.record_codec.specs.Reading.{row_uid_at, row_at, row_uid}
 use Rattle.record_codec.proofs.Taking.{bound, ok_same, tested}
 use Rattle.record_codec.proofs.Items.{Each, uid_fits}
 
@@ -51,10 +52,14 @@ range_ordered floor bytes y is =
 
 ranges_rise : (floor : ℕ) (ranges : List UidRange) → Each IsOrdered behind_range floor ranges → AllByRecursion HighFits ranges → RisesAbove floor ranges
 ranges_rise floor [] each fit = tt
-ranges_rise floor (range ∷ ranges) each fit = (record { above = each.0.above; ordered = each.0.ordered; fits = fit.0 }, ranges_rise (range.high + 1) ranges each.1 fit.1)
+ranges_rise floor (range ∷ ranges) each fit = (
+  record { above = each.0.above; ordered = each.0.ordered; fits = fit.0 },
+  ranges_rise (range.high + 1) ranges each.1 fit.1,
+)
 
 -- the ranges that are read are those of a set
-pub ranges_canonical : (n : ℕ) (bytes : List ℕ) (y : List UidRange × List ℕ) → many_at range_at behind_range n 0 bytes ≡ Ok y → AllByRecursion HighFits y.0 → IsCanonical y.0
+pub ranges_canonical : (n : ℕ) (bytes : List ℕ) (y : List UidRange × List ℕ) → many_at range_at behind_range n 0 bytes ≡ Ok y →
+    AllByRecursion HighFits y.0 → IsCanonical y.0
 ranges_canonical n bytes y is fit = ranges_rise 0 y.0 (many_each range_at behind_range IsOrdered range_ordered n 0 bytes y is) fit
 
 -- ---- rows
@@ -66,9 +71,11 @@ record IsApart (vanished : List UidRange) (floor : ℕ) (r : ℕ × Row) : Type 
 row_apart : (vanished : List UidRange) (floor : ℕ) (bytes : List ℕ) (y : (ℕ × Row) × List ℕ) → row_at vanished floor bytes ≡ Ok y → IsApart vanished floor y.0
 unfolding row_at row_uid_at
 row_apart vanished floor bytes y is =
-    let one = bound (row_uid_at vanished floor bytes) (λ uid. modseq_at uid.1 >>= (λ modseq. flags_at 0 modseq.1 >>= (λ flags. Ok ((uid.0, record { flags = flags.0; modseq = modseq.0 }), flags.1)))) y is in
+    let one = bound (row_uid_at vanished floor bytes) (λ uid. modseq_at uid.1 >>=
+    (λ modseq. flags_at 0 modseq.1 >>= (λ flags. Ok ((uid.0, record { flags = flags.0; modseq = modseq.0 }), flags.1)))) y is in
     let uid = one.value in
-    let two = bound (modseq_at uid.1) (λ modseq. flags_at 0 modseq.1 >>= (λ flags. Ok ((uid.0, record { flags = flags.0; modseq = modseq.0 }), flags.1))) y one.later in
+    let two = bound (modseq_at uid.1) (λ modseq. flags_at 0 modseq.1 >>=
+    (λ flags. Ok ((uid.0, record { flags = flags.0; modseq = modseq.0 }), flags.1))) y one.later in
     let modseq = two.value in
     let three = bound (flags_at 0 modseq.1) (λ flags. Ok ((uid.0, record { flags = flags.0; modseq = modseq.0 }), flags.1)) y two.later in
     let flags = three.value in
@@ -90,8 +97,10 @@ all_apart vanished floor [] each = tt
 all_apart vanished floor (r ∷ rows) each = (each.0.apart, all_apart vanished r.0 rows each.1)
 
 -- the rows that are read rise, and aren't vanished
-pub read_rise : (vanished : List UidRange) (n : ℕ) (bytes : List ℕ) (y : List (ℕ × Row) × List ℕ) → many_at (row_at vanished) row_uid n 0 bytes ≡ Ok y → Rises y.0
+pub read_rise : (vanished : List UidRange) (n : ℕ) (bytes : List ℕ) (y : List (ℕ × Row) × List ℕ) →
+    many_at (row_at vanished) row_uid n 0 bytes ≡ Ok y → Rises y.0
 read_rise vanished n bytes y is = rows_rise vanished 0 y.0 (many_each (row_at vanished) row_uid (IsApart vanished) (row_apart vanished) n 0 bytes y is)
 
-pub read_apart : (vanished : List UidRange) (n : ℕ) (bytes : List ℕ) (y : List (ℕ × Row) × List ℕ) → many_at (row_at vanished) row_uid n 0 bytes ≡ Ok y → AreApart vanished y.0
+pub read_apart : (vanished : List UidRange) (n : ℕ) (bytes : List ℕ) (y : List (ℕ × Row) × List ℕ) →
+    many_at (row_at vanished) row_uid n 0 bytes ≡ Ok y → AreApart vanished y.0
 read_apart vanished n bytes y is = all_apart vanished 0 y.0 (many_each (row_at vanished) row_uid (IsApart vanished) (row_apart vanished) n 0 bytes y is)

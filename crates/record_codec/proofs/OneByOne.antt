@@ -1,5 +1,6 @@
 -- The body of a record tells its event, field by field.
-use Rattle.std.proofs.Common.{◌≡◌, ℕ, ◌+◌, ◌<◌, ◌≤◌, ◌^◌, Bool, true, false, Option, Some, None, List, [], ◌∷◌, ◌++◌, length, refl, ap, sym, subst, ◌∙◌, append_assoc, arith}
+use Rattle.std.proofs.Common.{◌≡◌, ℕ, ◌+◌, ◌<◌, ◌≤◌, ◌^◌, Bool, true, false, Option, Some, None, List, [], ◌∷◌, ◌++◌, length, refl, ap}
+use Rattle.std.proofs.Common.{sym, subst, ◌∙◌, append_assoc, arith}
 use Rattle.std.specs.Int.{w32, w64, to_be_bytes}
 use Rattle.std.specs.List.{flat_map, AllByRecursion}
 use Rattle.std.proofs.lemmas.List.{length-append}
@@ -24,8 +25,10 @@ use Rattle.action_queue.specs.declared.outcome.Outcome.TheVariants as outcomes
 use Rattle.action_queue.specs.declared.event.Event.{Event}
 use Rattle.action_queue.specs.declared.event.Event.TheVariants as events
 use Rattle.record_codec.specs.Fields.{counted, flag_field, target_field, sign, bit, range_field, row_field}
-use Rattle.record_codec.specs.Bodies.{action_fields, intent_fields, place_fields, kind_fields, outcome_fields, mark_fields, range_fields, row_fields, delta_fields, body_of}
-use Rattle.record_codec.specs.Spelling.{IsKeptTarget, IsKeptAction, IsKeptIntent, IsKeptPlace, IsKeptKind, IsKeptOutcome, IsKeptRow, IsKeptDelta, IsKept, OneEvent}
+use Rattle.record_codec.specs.Bodies.{action_fields, intent_fields, place_fields, kind_fields, outcome_fields, mark_fields, range_fields}
+use Rattle.record_codec.specs.Bodies.{row_fields, delta_fields, body_of}
+use Rattle.record_codec.specs.Spelling.{IsKeptTarget, IsKeptAction, IsKeptIntent, IsKeptPlace, IsKeptKind, IsKeptOutcome, IsKeptRow}
+use Rattle.record_codec.specs.Spelling.{IsKeptDelta, IsKept, OneEvent}
 use Rattle.record_codec.proofs.Counts.{few_ranges}
 use Rattle.record_codec.proofs.Cutting.{byte_same, number_same, long_same, counted_same, many_same, texts_same, flags_same}
 
@@ -39,7 +42,8 @@ three a b c = append_assoc a b c
 pub four : (a b c d : List ℕ) → ((a ++ b) ++ c) ++ d ≡ a ++ (b ++ (c ++ d))
 four a b c d = append_assoc (a ++ b) c d ∙ append_assoc a b (c ++ d)
 
-pub target_apart : (name : List ℕ) (validity uid : ℕ) (r : List ℕ) → target_field (targets.Real name validity uid) ++ r ≡ 82 ∷ (counted name ++ (to_be_bytes w32 validity ++ (to_be_bytes w32 uid ++ r)))
+pub target_apart : (name : List ℕ) (validity uid : ℕ) (r : List ℕ) →
+    target_field (targets.Real name validity uid) ++ r ≡ 82 ∷ (counted name ++ (to_be_bytes w32 validity ++ (to_be_bytes w32 uid ++ r)))
 target_apart name validity uid r = four (82 ∷ counted name) (to_be_bytes w32 validity) (to_be_bytes w32 uid) r
 
 target_same : (a b : Target) (r s : List ℕ) → IsKeptTarget a → IsKeptTarget b → target_field a ++ r ≡ target_field b ++ s → (a ≡ b) × (r ≡ s)
@@ -78,11 +82,13 @@ id_same text text' id id' same has has' =
     let bodies = ap first_body (sym has.one.1 ∙ ap id_bodies same ∙ has'.one.1) in
     has.value ∙ ap id_of bodies ∙ sym has'.value
 
-pub text_fits : (to : List ℕ) (flags : List (List ℕ)) (text id : List ℕ) → length (action_fields (actions.Append to flags text id)) ≤ 1073741824 → length text < 2 ^ 32
+pub text_fits : (to : List ℕ) (flags : List (List ℕ)) (text id : List ℕ) →
+    length (action_fields (actions.Append to flags text id)) ≤ 1073741824 → length text < 2 ^ 32
 text_fits to flags text id fits =
     omega (arith, fits, length-append (80 ∷ counted to ++ flag_field flags ++ to_be_bytes w32 (length text)) text)
 
-action_same : (a b : Action) → IsKeptAction a → IsKeptAction b → IsWritableAction a → IsWritableAction b → length (action_fields a) ≤ 1073741824 → length (action_fields b) ≤ 1073741824 → action_fields a ≡ action_fields b → a ≡ b
+action_same : (a b : Action) → IsKeptAction a → IsKeptAction b → IsWritableAction a → IsWritableAction b →
+    length (action_fields a) ≤ 1073741824 → length (action_fields b) ≤ 1073741824 → action_fields a ≡ action_fields b → a ≡ b
 action_same (actions.Flag t add flags) (actions.Flag t' add' flags') kept kept' can can' fits fits' same =
     let fields = byte_same 70 70 (target_field t ++ sign add ∷ flag_field flags) (target_field t' ++ sign add' ∷ flag_field flags') same in
     let messages = target_same t t' (sign add ∷ flag_field flags) (sign add' ∷ flag_field flags') kept.0 kept'.0 fields.1 in
@@ -98,9 +104,12 @@ action_same (actions.Move t to) (actions.Move t' to') kept kept' can can' fits f
     λ i. actions.Move (messages.0 i) (names.0 i)
 action_same (actions.Move t to) b kept kept' can can' fits fits' same = let first = byte_same _ _ _ _ same in absurd (omega (arith, first.0))
 action_same (actions.Append to flags text id) (actions.Append to' flags' text' id') kept kept' can can' fits fits' same =
-    let whole = sym (four (80 ∷ counted to) (flag_field flags) (to_be_bytes w32 (length text)) text) ∙ same ∙ four (80 ∷ counted to') (flag_field flags') (to_be_bytes w32 (length text')) text' in
-    let fields = byte_same 80 80 (counted to ++ (flag_field flags ++ (to_be_bytes w32 (length text) ++ text))) (counted to' ++ (flag_field flags' ++ (to_be_bytes w32 (length text') ++ text'))) whole in
-    let names = counted_same to to' (flag_field flags ++ (to_be_bytes w32 (length text) ++ text)) (flag_field flags' ++ (to_be_bytes w32 (length text') ++ text')) fields.1 in
+    let whole = sym (four (80 ∷ counted to) (flag_field flags) (to_be_bytes w32 (length text)) text) ∙ same
+    ∙ four (80 ∷ counted to') (flag_field flags') (to_be_bytes w32 (length text')) text' in
+    let fields = byte_same 80 80 (counted to ++ (flag_field flags ++ (to_be_bytes w32 (length text) ++ text)))
+    (counted to' ++ (flag_field flags' ++ (to_be_bytes w32 (length text') ++ text'))) whole in
+    let names = counted_same to to' (flag_field flags ++ (to_be_bytes w32 (length text) ++ text))
+    (flag_field flags' ++ (to_be_bytes w32 (length text') ++ text')) fields.1 in
     let sets = flags_same flags flags' (to_be_bytes w32 (length text) ++ text) (to_be_bytes w32 (length text') ++ text') can.0 can'.0 names.1 in
     let texts = number_same (length text) (length text') text text' (text_fits to flags text id fits) (text_fits to' flags' text' id' fits') sets.1 in
     let ids = id_same text text' id id' texts.1 can.1 can'.1 in
@@ -109,25 +118,32 @@ action_same (actions.Append to flags text id) b kept kept' can can' fits fits' s
 
 intent_same : (a b : Intent) → IsKeptIntent a → IsKeptIntent b → intent_fields a ≡ intent_fields b → a ≡ b
 intent_same (intents.Store n v u m) (intents.Store n' v' u' m') kept kept' same =
-    let whole = sym (four (83 ∷ counted n) (to_be_bytes w32 v) (to_be_bytes w32 u) (to_be_bytes w64 m)) ∙ same ∙ four (83 ∷ counted n') (to_be_bytes w32 v') (to_be_bytes w32 u') (to_be_bytes w64 m') in
-    let fields = byte_same 83 83 (counted n ++ (to_be_bytes w32 v ++ (to_be_bytes w32 u ++ to_be_bytes w64 m))) (counted n' ++ (to_be_bytes w32 v' ++ (to_be_bytes w32 u' ++ to_be_bytes w64 m'))) whole in
-    let names = counted_same n n' (to_be_bytes w32 v ++ (to_be_bytes w32 u ++ to_be_bytes w64 m)) (to_be_bytes w32 v' ++ (to_be_bytes w32 u' ++ to_be_bytes w64 m')) fields.1 in
+    let whole = sym (four (83 ∷ counted n) (to_be_bytes w32 v) (to_be_bytes w32 u) (to_be_bytes w64 m)) ∙ same
+    ∙ four (83 ∷ counted n') (to_be_bytes w32 v') (to_be_bytes w32 u') (to_be_bytes w64 m') in
+    let fields = byte_same 83 83 (counted n ++ (to_be_bytes w32 v ++ (to_be_bytes w32 u ++ to_be_bytes w64 m)))
+    (counted n' ++ (to_be_bytes w32 v' ++ (to_be_bytes w32 u' ++ to_be_bytes w64 m'))) whole in
+    let names = counted_same n n' (to_be_bytes w32 v ++ (to_be_bytes w32 u ++ to_be_bytes w64 m))
+    (to_be_bytes w32 v' ++ (to_be_bytes w32 u' ++ to_be_bytes w64 m')) fields.1 in
     let validities = number_same v v' (to_be_bytes w32 u ++ to_be_bytes w64 m) (to_be_bytes w32 u' ++ to_be_bytes w64 m') kept.1.1 kept'.1.1 names.1 in
     let uids = number_same u u' (to_be_bytes w64 m) (to_be_bytes w64 m') kept.2.1 kept'.2.1 validities.1 in
     let marks = long_same m m' [] [] kept.3.1 kept'.3.1 (ap ended uids.1) in
     λ i. intents.Store (names.0 i) (validities.0 i) (uids.0 i) (marks.0 i)
 intent_same (intents.Store n v u m) b kept kept' same = let first = byte_same _ _ _ _ same in absurd (omega (arith, first.0))
 intent_same (intents.Shift n v u to) (intents.Shift n' v' u' to') kept kept' same =
-    let whole = sym (four (77 ∷ counted n) (to_be_bytes w32 v) (to_be_bytes w32 u) (counted to)) ∙ same ∙ four (77 ∷ counted n') (to_be_bytes w32 v') (to_be_bytes w32 u') (counted to') in
-    let fields = byte_same 77 77 (counted n ++ (to_be_bytes w32 v ++ (to_be_bytes w32 u ++ counted to))) (counted n' ++ (to_be_bytes w32 v' ++ (to_be_bytes w32 u' ++ counted to'))) whole in
-    let names = counted_same n n' (to_be_bytes w32 v ++ (to_be_bytes w32 u ++ counted to)) (to_be_bytes w32 v' ++ (to_be_bytes w32 u' ++ counted to')) fields.1 in
+    let whole = sym (four (77 ∷ counted n) (to_be_bytes w32 v) (to_be_bytes w32 u) (counted to)) ∙ same
+    ∙ four (77 ∷ counted n') (to_be_bytes w32 v') (to_be_bytes w32 u') (counted to') in
+    let fields = byte_same 77 77 (counted n ++ (to_be_bytes w32 v ++ (to_be_bytes w32 u ++ counted to)))
+    (counted n' ++ (to_be_bytes w32 v' ++ (to_be_bytes w32 u' ++ counted to'))) whole in
+    let names = counted_same n n' (to_be_bytes w32 v ++ (to_be_bytes w32 u ++ counted to))
+    (to_be_bytes w32 v' ++ (to_be_bytes w32 u' ++ counted to')) fields.1 in
     let validities = number_same v v' (to_be_bytes w32 u ++ counted to) (to_be_bytes w32 u' ++ counted to') kept.1.1 kept'.1.1 names.1 in
     let uids = number_same u u' (counted to) (counted to') kept.2.1 kept'.2.1 validities.1 in
     let boxes = counted_same to to' [] [] (ap ended uids.1) in
     λ i. intents.Shift (names.0 i) (validities.0 i) (uids.0 i) (boxes.0 i)
 intent_same (intents.Shift n v u to) b kept kept' same = let first = byte_same _ _ _ _ same in absurd (omega (arith, first.0))
 intent_same (intents.Put n v u) (intents.Put n' v' u') kept kept' same =
-    let whole = sym (three (80 ∷ counted n) (to_be_bytes w32 v) (to_be_bytes w32 u)) ∙ same ∙ three (80 ∷ counted n') (to_be_bytes w32 v') (to_be_bytes w32 u') in
+    let whole = sym (three (80 ∷ counted n) (to_be_bytes w32 v) (to_be_bytes w32 u)) ∙ same
+    ∙ three (80 ∷ counted n') (to_be_bytes w32 v') (to_be_bytes w32 u') in
     let fields = byte_same 80 80 (counted n ++ (to_be_bytes w32 v ++ to_be_bytes w32 u)) (counted n' ++ (to_be_bytes w32 v' ++ to_be_bytes w32 u')) whole in
     let names = counted_same n n' (to_be_bytes w32 v ++ to_be_bytes w32 u) (to_be_bytes w32 v' ++ to_be_bytes w32 u') fields.1 in
     let validities = number_same v v' (to_be_bytes w32 u) (to_be_bytes w32 u') kept.1.1 kept'.1.1 names.1 in
@@ -217,7 +233,8 @@ all_good (r ∷ rows) kept few = (record { kept = kept.0; few = few.0 }, all_goo
 row_same : (a b : ℕ × Row) (r s : List ℕ) → IsGoodRow a → IsGoodRow b → row_field a ++ r ≡ row_field b ++ s → (a ≡ b) × (r ≡ s)
 unfolding row_field
 row_same a b r s good good' same =
-    let uids = number_same a.0 b.0 (to_be_bytes w64 a.1.modseq ++ (flag_field a.1.flags ++ r)) (to_be_bytes w64 b.1.modseq ++ (flag_field b.1.flags ++ s)) good.kept.uid.1 good'.kept.uid.1 same in
+    let uids = number_same a.0 b.0 (to_be_bytes w64 a.1.modseq ++ (flag_field a.1.flags ++ r))
+    (to_be_bytes w64 b.1.modseq ++ (flag_field b.1.flags ++ s)) good.kept.uid.1 good'.kept.uid.1 same in
     let marks = long_same a.1.modseq b.1.modseq (flag_field a.1.flags ++ r) (flag_field b.1.flags ++ s) good.kept.modseq.1 good'.kept.modseq.1 uids.1 in
     let sets = flags_same a.1.flags b.1.flags r s good.few good'.few marks.1 in
     (λ i. (uids.0 i, record { flags = sets.0 i; modseq = marks.0 i }), sets.1)
@@ -225,13 +242,16 @@ row_same a b r s good good' same =
 ranges_same : (xs ys : List UidRange) (r s : List ℕ) → IsCanonical xs → IsCanonical ys → range_fields xs ++ r ≡ range_fields ys ++ s → (xs ≡ ys) × (r ≡ s)
 unfolding range_fields
 ranges_same xs ys r s set set' same =
-    let counts = number_same (length xs) (length ys) (flat_map range_field xs ++ r) (flat_map range_field ys ++ s) (few_ranges xs set) (few_ranges ys set') same in
+    let counts = number_same (length xs) (length ys) (flat_map range_field xs ++ r) (flat_map range_field ys ++ s) (few_ranges xs set)
+    (few_ranges ys set') same in
     many_same range_field IsFitting range_same xs ys r s counts.0 (all_fitting 0 xs set) (all_fitting 0 ys set') counts.1
 
-rows_same : (xs ys : List (ℕ × Row)) (r s : List ℕ) → length xs ≤ 200000 → length ys ≤ 200000 → AllByRecursion IsGoodRow xs → AllByRecursion IsGoodRow ys → row_fields xs ++ r ≡ row_fields ys ++ s → (xs ≡ ys) × (r ≡ s)
+rows_same : (xs ys : List (ℕ × Row)) (r s : List ℕ) → length xs ≤ 200000 → length ys ≤ 200000 → AllByRecursion IsGoodRow xs →
+    AllByRecursion IsGoodRow ys → row_fields xs ++ r ≡ row_fields ys ++ s → (xs ≡ ys) × (r ≡ s)
 unfolding row_fields
 rows_same xs ys r s few few' good good' same =
-    let counts = number_same (length xs) (length ys) (flat_map row_field xs ++ r) (flat_map row_field ys ++ s) (omega (arith, few)) (omega (arith, few')) same in
+    let counts = number_same (length xs) (length ys) (flat_map row_field xs ++ r) (flat_map row_field ys ++ s) (omega (arith, few))
+    (omega (arith, few')) same in
     many_same row_field IsGoodRow row_same xs ys r s counts.0 good good' counts.1
 
 record AreAlike (a b : Delta) : Type 0 where
@@ -245,32 +265,81 @@ record AreAlike (a b : Delta) : Type 0 where
 -- facts of a delta's rows are one each, so deltas that tell the same are the same
 delta_with : (w : Bool) (v h u : ℕ) (g other : List UidRange) → g ≡ other → (rows told : List (ℕ × Row)) → rows ≡ told
     → (r : Rises rows) (r' : Rises told) (p : AreApart g rows) (p' : AreApart other told)
-    → ◌≡◌ {A = Delta} (record { whole = w; validity = v; highest = h; uidnext = u; vanished = g; rows = rows; rising = r; apart = p }) (record { whole = w; validity = v; highest = h; uidnext = u; vanished = other; rows = told; rising = r'; apart = p' })
+    → ◌≡◌ {A = Delta} (record { whole = w; validity = v; highest = h; uidnext = u; vanished = g; rows = rows; rising = r; apart = p })
+    (record { whole = w; validity = v; highest = h; uidnext = u; vanished = other; rows = told; rising = r'; apart = p' })
 delta_with w v h u g other ranges =
     subst (λ (x : List UidRange). (rows told : List (ℕ × Row)) → rows ≡ told → (r : Rises rows) (r' : Rises told) (p : AreApart g rows) (p' : AreApart x told)
-    → ◌≡◌ {A = Delta} (record { whole = w; validity = v; highest = h; uidnext = u; vanished = g; rows = rows; rising = r; apart = p }) (record { whole = w; validity = v; highest = h; uidnext = u; vanished = x; rows = told; rising = r'; apart = p' })) ranges
+    → ◌≡◌ {A = Delta} (record { whole = w; validity = v; highest = h; uidnext = u; vanished = g; rows = rows; rising = r; apart = p })
+    (record { whole = w; validity = v; highest = h; uidnext = u; vanished = x; rows = told; rising = r'; apart = p' })) ranges
     (λ rows told same. subst (λ (y : List (ℕ × Row)). (r : Rises rows) (r' : Rises y) (p : AreApart g rows) (p' : AreApart g y)
-    → ◌≡◌ {A = Delta} (record { whole = w; validity = v; highest = h; uidnext = u; vanished = g; rows = rows; rising = r; apart = p }) (record { whole = w; validity = v; highest = h; uidnext = u; vanished = g; rows = y; rising = r'; apart = p' })) same
-    (λ r r' p p'. λ i. record { whole = w; validity = v; highest = h; uidnext = u; vanished = g; rows = rows; rising = Rises-prop rows r r' i; apart = AreApart-prop g rows p p' i }))
+    → ◌≡◌ {A = Delta} (record { whole = w; validity = v; highest = h; uidnext = u; vanished = g; rows = rows; rising = r; apart = p })
+    (record { whole = w; validity = v; highest = h; uidnext = u; vanished = g; rows = y; rising = r'; apart = p' })) same
+    (λ r r' p p'. λ i. record {
+      whole = w;
+      validity = v;
+      highest = h;
+      uidnext = u;
+      vanished = g;
+      rows = rows;
+      rising =
+          Rises-prop rows r r' i;
+      apart = AreApart-prop g rows p p' i;
+    }))
 
 delta_from : (a b : Delta) → AreAlike a b → a ≡ b
 delta_from a b alike =
-    let first : a ≡ record { whole = b.whole; validity = b.validity; highest = b.highest; uidnext = b.uidnext; vanished = a.vanished; rows = a.rows; rising = a.rising; apart = a.apart }
-    = λ i. record { whole = alike.whole i; validity = alike.validity i; highest = alike.highest i; uidnext = alike.uidnext i; vanished = a.vanished; rows = a.rows; rising = a.rising; apart = a.apart } in
+    let first : a ≡ record {
+      whole = b.whole;
+      validity = b.validity;
+      highest = b.highest;
+      uidnext = b.uidnext;
+      vanished =
+          a.vanished;
+      rows = a.rows;
+      rising = a.rising;
+      apart = a.apart;
+    }
+    = λ i. record {
+      whole = alike.whole i;
+      validity = alike.validity i;
+      highest = alike.highest i;
+      uidnext = alike.uidnext i;
+      vanished =
+          a.vanished;
+      rows = a.rows;
+      rising = a.rising;
+      apart = a.apart;
+    } in
     first ∙ delta_with b.whole b.validity b.highest b.uidnext a.vanished b.vanished alike.vanished a.rows b.rows alike.rows a.rising b.rising a.apart b.apart
 
-delta_same : (a b : Delta) → IsKeptDelta a → IsKeptDelta b → (length a.rows ≤ 200000) × HaveFewFlags a.rows → (length b.rows ≤ 200000) × HaveFewFlags b.rows → delta_fields a ≡ delta_fields b → a ≡ b
+delta_same : (a b : Delta) → IsKeptDelta a → IsKeptDelta b → (length a.rows ≤ 200000) × HaveFewFlags a.rows →
+    (length b.rows ≤ 200000) × HaveFewFlags b.rows → delta_fields a ≡ delta_fields b → a ≡ b
 unfolding delta_fields mark_fields
 delta_same a b kept kept' can can' same =
-    let fields = byte_same (bit a.whole) (bit b.whole) (mark_fields a ++ (range_fields a.vanished ++ row_fields a.rows)) (mark_fields b ++ (range_fields b.vanished ++ row_fields b.rows)) same in
-    let validities = number_same a.validity b.validity (to_be_bytes w64 a.highest ++ (to_be_bytes w32 a.uidnext ++ (range_fields a.vanished ++ row_fields a.rows))) (to_be_bytes w64 b.highest ++ (to_be_bytes w32 b.uidnext ++ (range_fields b.vanished ++ row_fields b.rows))) kept.validity.1 kept'.validity.1 fields.1 in
-    let marks = long_same a.highest b.highest (to_be_bytes w32 a.uidnext ++ (range_fields a.vanished ++ row_fields a.rows)) (to_be_bytes w32 b.uidnext ++ (range_fields b.vanished ++ row_fields b.rows)) kept.highest.1 kept'.highest.1 validities.1 in
-    let nexts = number_same a.uidnext b.uidnext (range_fields a.vanished ++ row_fields a.rows) (range_fields b.vanished ++ row_fields b.rows) kept.uidnext.1 kept'.uidnext.1 marks.1 in
+    let fields = byte_same (bit a.whole) (bit b.whole) (mark_fields a ++ (range_fields a.vanished ++ row_fields a.rows))
+    (mark_fields b ++ (range_fields b.vanished ++ row_fields b.rows)) same in
+    let validities = number_same a.validity b.validity (to_be_bytes w64 a.highest
+    ++ (to_be_bytes w32 a.uidnext ++ (range_fields a.vanished ++ row_fields a.rows)))
+    (to_be_bytes w64 b.highest ++ (to_be_bytes w32 b.uidnext ++ (range_fields b.vanished
+    ++ row_fields b.rows))) kept.validity.1 kept'.validity.1 fields.1 in
+    let marks = long_same a.highest b.highest (to_be_bytes w32 a.uidnext ++ (range_fields a.vanished ++ row_fields a.rows))
+    (to_be_bytes w32 b.uidnext ++ (range_fields b.vanished ++ row_fields b.rows)) kept.highest.1 kept'.highest.1 validities.1 in
+    let nexts = number_same a.uidnext b.uidnext (range_fields a.vanished ++ row_fields a.rows)
+    (range_fields b.vanished ++ row_fields b.rows) kept.uidnext.1 kept'.uidnext.1 marks.1 in
     let gone = ranges_same a.vanished b.vanished (row_fields a.rows) (row_fields b.rows) kept.vanished kept'.vanished nexts.1 in
     let told = rows_same a.rows b.rows [] [] can.0 can'.0 (all_good a.rows kept.rows can.1) (all_good b.rows kept'.rows can'.1) (ap ended gone.1) in
-    delta_from a b (record { whole = bit_same a.whole b.whole fields.0; validity = validities.0; highest = marks.0; uidnext = nexts.0; vanished = gone.0; rows = told.0 })
+    delta_from a b (record {
+      whole = bit_same a.whole b.whole fields.0;
+      validity = validities.0;
+      highest = marks.0;
+      uidnext =
+          nexts.0;
+      vanished = gone.0;
+      rows = told.0;
+    })
 
-event_same : (a b : Event) → IsKept a → IsKept b → IsWritable a → IsWritable b → length (body_of a) ≤ 1073741824 → length (body_of b) ≤ 1073741824 → body_of a ≡ body_of b → a ≡ b
+event_same : (a b : Event) → IsKept a → IsKept b → IsWritable a → IsWritable b → length (body_of a) ≤ 1073741824 →
+    length (body_of b) ≤ 1073741824 → body_of a ≡ body_of b → a ≡ b
 event_same (events.Begin names) (events.Begin names') kept kept' can can' fits fits' same =
     let fields = byte_same 66 66 (length names ∷ flat_map counted names) (length names' ∷ flat_map counted names') same in
     let counts = byte_same (length names) (length names') (flat_map counted names) (flat_map counted names') fields.1 in
@@ -304,4 +373,5 @@ event_same (events.Learn name delta) b kept kept' can can' fits fits' same = let
 -- no bytes are the bodies of two events' records
 pub one_event : OneEvent
 one_event body left right l r =
-    event_same left right l.kept r.kept l.writable r.writable (subst (λ (bytes : List ℕ). length bytes ≤ 1073741824) l.is l.fits) (subst (λ (bytes : List ℕ). length bytes ≤ 1073741824) r.is r.fits) (sym l.is ∙ r.is)
+    event_same left right l.kept r.kept l.writable r.writable (subst (λ (bytes : List ℕ). length bytes ≤ 1073741824) l.is l.fits)
+    (subst (λ (bytes : List ℕ). length bytes ≤ 1073741824) r.is r.fits) (sym l.is ∙ r.is)

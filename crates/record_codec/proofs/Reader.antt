@@ -24,7 +24,8 @@ onto_first xs x (Ok r) = ap (λ ys. Ok (ys, r.1)) (sym (append_assoc xs (x ∷ [
 onto_first xs x (Err left) = refl
 
 -- one more item
-pub many_more : {A S : Type 0} (item : S → List ℕ → Reading A) (next : S → A → S) (left : ℕ) (s : S) (bytes : List ℕ) (x : A × List ℕ) (xs : List A) → 0 < left → item s bytes ≡ Ok x
+pub many_more : {A S : Type 0} (item : S → List ℕ → Reading A) (next : S → A → S) (left : ℕ) (s : S) (bytes : List ℕ) (x : A × List ℕ)
+    (xs : List A) → 0 < left → item s bytes ≡ Ok x
     → onto xs (many_at item next left s bytes) ≡ onto (xs ++ x.0 ∷ []) (many_at item next (left - 1) (next s x.0) x.1)
 unfolding many_at
 many_more item next zero s bytes x xs some is = absurd (omega arith)
@@ -33,7 +34,8 @@ many_more item next (suc n) s bytes x xs some is =
     rw (is, fewer) (onto_first xs x.0 (many_at item next n (next s x.0) x.1))
 
 -- an item that doesn't fit
-pub many_fails : {A S : Type 0} (item : S → List ℕ → Reading A) (next : S → A → S) (left : ℕ) (s : S) (bytes : List ℕ) (n : ℕ) (xs : List A) → 0 < left → item s bytes ≡ Err n
+pub many_fails : {A S : Type 0} (item : S → List ℕ → Reading A) (next : S → A → S) (left : ℕ) (s : S) (bytes : List ℕ) (n : ℕ)
+    (xs : List A) → 0 < left → item s bytes ≡ Err n
     → onto xs (many_at item next left s bytes) ≡ Err n
 unfolding many_at
 many_fails item next zero s bytes n xs some is = absurd (omega arith)

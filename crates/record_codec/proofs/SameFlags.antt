@@ -14,7 +14,8 @@ pub read_again : (bytes text rest : List ℕ) (flags copy : List (List ℕ)) →
 read_again bytes text rest flags copy spell same behind is =
     let front : take (length text) bytes ≡ text = (bytes_eq-Decides (take (length text) bytes) text).0 same in
     let whole : bytes ≡ flag_field flags ++ rest =
-    sym (take-append-drop (length text) bytes) ∙ ap (λ (l : List ℕ). l ++ drop (length text) bytes) (front ∙ spell.spelled) ∙ ap (λ (l : List ℕ). flag_field flags ++ l) (sym behind) in
+    sym (take-append-drop (length text) bytes) ∙ ap (λ (l : List ℕ). l ++ drop (length text) bytes) (front ∙ spell.spelled)
+    ∙ ap (λ (l : List ℕ). flag_field flags ++ l) (sym behind) in
     rw (whole, is) (flags_read 0 flags rest (record { set = spell.set; some = omega arith; few = spell.few }))
 
 front_of : (front rest : List ℕ) → take (length (front ++ rest) - length rest) (front ++ rest) ≡ front

@@ -1,5 +1,6 @@
 -- Single fields: what is read is spelled so, and what is spelled is read.
-use Rattle.std.proofs.Common.{◌≡◌, ◌<◌, ◌⊎◌, inl, inr, ℕ, zero, suc, ◌^◌, Bool, true, false, ◌&&◌, ◌==◌, List, [], ◌∷◌, ◌++◌, length, take, drop, get_or, Result, Ok, Err, nat_le, nat_lt, refl, sym, ap, subst, ◌∙◌, arith, if◌then◌else◌}
+use Rattle.std.proofs.Common.{◌≡◌, ◌<◌, ◌⊎◌, inl, inr, ℕ, zero, suc, ◌^◌, Bool, true, false, ◌&&◌, ◌==◌, List, [], ◌∷◌, ◌++◌, length}
+use Rattle.std.proofs.Common.{take, drop, get_or, Result, Ok, Err, nat_le, nat_lt, refl, sym, ap, subst, ◌∙◌, arith, if◌then◌else◌}
 use Rattle.std.specs.Int.{w16, w32, w64, to_be_bytes, from_be_bytes}
 use Rattle.std.proofs.lemmas.Bool.{and_parts, leb-true, le-leb, ltb-true, lt-ltb}
 use Rattle.std.proofs.lemmas.List.{take-append-drop, length-take-le, length-append}
@@ -8,7 +9,8 @@ use Rattle.std.proofs.lemmas.Nat.{be_bytes_2, be_bytes_4, be_bytes_8, from_be_by
 use Rattle.mail_base.specs.BoxName.{IsBoxName}
 use Rattle.record_codec.specs.Fields.{counted, sign, bit}
 use Rattle.record_codec.specs.Spelling.{IsNumber, IsModSeq}
-use Rattle.record_codec.specs.Reading.{Reading, ◌>>=◌, passing, AreBytes, byte_at, number_at, nonzero_at, modseq_at, counted_at, is_name, name_at, octets_at, sign_at, bit_at}
+use Rattle.record_codec.specs.Reading.{Reading, ◌>>=◌, passing, AreBytes, byte_at, number_at, nonzero_at, modseq_at, counted_at, is_name}
+use Rattle.record_codec.specs.Reading.{name_at, octets_at, sign_at, bit_at}
 use Rattle.record_codec.proofs.NameForm.{is_name-Decides}
 use Rattle.record_codec.proofs.Ids.{and_true, same-true}
 
@@ -36,13 +38,15 @@ passed false bytes x y is = absurd (cc)
 pub passes : {A : Type 0} (test : Bool) (bytes : List ℕ) (x : A) → test ≡ true → passing test bytes x ≡ Ok x
 passes test bytes x is = rw is refl
 
-pub tested : {A : Type 0} (m : Reading A) (test : A → Bool) (bytes : List ℕ) (y : A × List ℕ) → (m >>= (λ x. passing (test x.0) bytes x)) ≡ Ok y → (m ≡ Ok y) × (test y.0 ≡ true)
+pub tested : {A : Type 0} (m : Reading A) (test : A → Bool) (bytes : List ℕ) (y : A × List ℕ) →
+    (m >>= (λ x. passing (test x.0) bytes x)) ≡ Ok y → (m ≡ Ok y) × (test y.0 ≡ true)
 tested (Ok x) test bytes y is =
     let told = passed (test x.0) bytes x y is in
     (ap Ok told.1, ap (λ z. test z.0) (sym told.1) ∙ told.0)
 tested (Err left) test bytes y is = absurd (cc)
 
-pub tests : {A : Type 0} (m : Reading A) (test : A → Bool) (bytes : List ℕ) (y : A × List ℕ) → m ≡ Ok y → test y.0 ≡ true → (m >>= (λ x. passing (test x.0) bytes x)) ≡ Ok y
+pub tests : {A : Type 0} (m : Reading A) (test : A → Bool) (bytes : List ℕ) (y : A × List ℕ) → m ≡ Ok y → test y.0 ≡ true →
+    (m >>= (λ x. passing (test x.0) bytes x)) ≡ Ok y
 tests m test bytes y is holds = then_by m y (λ x. passing (test x.0) bytes x) (Ok y) is (passes (test y.0) bytes y holds)
 
 choose : {A : Type 0} (test : Bool) (x z : Result A ℕ) (y : A) → (if test then x else z) ≡ Ok y → ((test ≡ true) × (x ≡ Ok y)) ⊎ (z ≡ Ok y)
@@ -65,7 +69,8 @@ pub record Sound (front bytes rest : List ℕ) (K : Type 0) : Type 0 where
 abbrev pub Reads : {A : Type 0} → (A → List ℕ) → (A → Type 0) → List ℕ → (A × List ℕ) → Type 0
 Reads f K bytes y = Sound (f y.0) bytes y.1 (K y.0)
 
-pub reads_same : {A : Type 0} (f : A → List ℕ) (K : A → Type 0) (bytes : List ℕ) (x y : A × List ℕ) → ◌≡◌ {A = Result (A × List ℕ) ℕ} (Ok x) (Ok y) → Reads f K bytes x → Reads f K bytes y
+pub reads_same : {A : Type 0} (f : A → List ℕ) (K : A → Type 0) (bytes : List ℕ) (x y : A × List ℕ) →
+    ◌≡◌ {A = Result (A × List ℕ) ℕ} (Ok x) (Ok y) → Reads f K bytes x → Reads f K bytes y
 reads_same f K bytes x y same reads = subst (λ z. Reads f K bytes z) (ok_same x y same) reads
 
 clean_rest : (front rest : List ℕ) → AreBytes (front ++ rest) → AreBytes rest
@@ -160,7 +165,8 @@ unfolding modseq_at
 modseq_reads bytes y all is =
     let told = tested (number_at w64 bytes) (λ n. nat_lt 0 n && nat_lt n (2 ^ 63)) bytes y is in
     let both = and_parts (nat_lt 0 y.0) (nat_lt y.0 (2 ^ 63)) told.1 in
-    knowing (to_be_bytes w64 y.0) bytes y.1 (Fits64 y.0) (IsModSeq y.0) (long_reads bytes y all told.0) (λ fits. (ltb-true 0 y.0 both.0, ltb-true y.0 (2 ^ 63) both.1))
+    knowing (to_be_bytes w64 y.0) bytes y.1 (Fits64 y.0) (IsModSeq y.0) (long_reads bytes y all told.0)
+    (λ fits. (ltb-true 0 y.0 both.0, ltb-true y.0 (2 ^ 63) both.1))
 
 abbrev pub IsShort : List ℕ → Type 0
 IsShort text = length text < 256
@@ -174,7 +180,8 @@ counted_reads (n ∷ more) y all is =
     let small : n < 256 = all 0 in
     subst (λ z. Reads counted IsShort (n ∷ more) z) told.1
     (sound_by (counted (take n more)) (n ∷ more) (drop n more) (IsShort (take n more)) all
-    (ap (λ (bytes : List ℕ). n ∷ bytes) (sym (take-append-drop n more)) ∙ ap (λ (k : ℕ). k ∷ (take n more ++ drop n more)) (sym size)) (omega (arith, size, small)))
+    (ap (λ (bytes : List ℕ). n ∷ bytes) (sym (take-append-drop n more)) ∙ ap (λ (k : ℕ). k ∷ (take n more ++ drop n more)) (sym size))
+    (omega (arith, size, small)))
 
 pub name_reads : (bytes : List ℕ) (y : List ℕ × List ℕ) → AreBytes bytes → name_at bytes ≡ Ok y → Reads counted IsBoxName bytes y
 unfolding name_at
@@ -185,12 +192,14 @@ name_reads bytes y all is =
 abbrev pub HasLength : ℕ → List ℕ → Type 0
 HasLength n text = length text ≡ n
 
-pub octets_reads : (n : ℕ) (bytes : List ℕ) (y : List ℕ × List ℕ) → AreBytes bytes → octets_at n bytes ≡ Ok y → Reads (λ (text : List ℕ). text) (HasLength n) bytes y
+pub octets_reads : (n : ℕ) (bytes : List ℕ) (y : List ℕ × List ℕ) → AreBytes bytes → octets_at n bytes ≡ Ok y →
+    Reads (λ (text : List ℕ). text) (HasLength n) bytes y
 unfolding octets_at
 octets_reads n bytes y all is =
     let told = passed (nat_le n (length bytes)) bytes (take n bytes, drop n bytes) y is in
     subst (λ z. Reads (λ (text : List ℕ). text) (HasLength n) bytes z) told.1
-    (sound_by (take n bytes) bytes (drop n bytes) (HasLength n (take n bytes)) all (sym (take-append-drop n bytes)) (length-take-le n bytes (leb-true n (length bytes) told.0)))
+    (sound_by (take n bytes) bytes (drop n bytes) (HasLength n (take n bytes)) all (sym (take-append-drop n bytes))
+    (length-take-le n bytes (leb-true n (length bytes) told.0)))
 
 abbrev pub Always : {A : Type 0} → A → Type 0
 Always x = Unit {0}
@@ -248,30 +257,37 @@ long_read n rest fits =
 
 pub nonzero_read : (n : ℕ) (rest : List ℕ) → IsNumber n → nonzero_at (to_be_bytes w32 n ++ rest) ≡ Ok (n, rest)
 unfolding nonzero_at
-nonzero_read n rest kept = tests (number_at w32 (to_be_bytes w32 n ++ rest)) (λ n. nat_lt 0 n) (to_be_bytes w32 n ++ rest) (n, rest) (number_read n rest kept.1) (lt-ltb 0 n kept.0)
+nonzero_read n rest kept = tests (number_at w32 (to_be_bytes w32 n ++ rest)) (λ n. nat_lt 0 n) (to_be_bytes w32 n ++ rest) (n, rest)
+    (number_read n rest kept.1) (lt-ltb 0 n kept.0)
 
 pub modseq_read : (n : ℕ) (rest : List ℕ) → IsModSeq n → modseq_at (to_be_bytes w64 n ++ rest) ≡ Ok (n, rest)
 unfolding modseq_at
 modseq_read n rest kept =
     let bound : n < 2 ^ 63 = kept.1 in
-    tests (number_at w64 (to_be_bytes w64 n ++ rest)) (λ n. nat_lt 0 n && nat_lt n (2 ^ 63)) (to_be_bytes w64 n ++ rest) (n, rest) (long_read n rest (omega (arith, bound)))
+    tests (number_at w64 (to_be_bytes w64 n ++ rest)) (λ n. nat_lt 0 n && nat_lt n (2 ^ 63)) (to_be_bytes w64 n ++ rest) (n, rest)
+    (long_read n rest (omega (arith, bound)))
     (and_true (nat_lt 0 n) (nat_lt n (2 ^ 63)) (lt-ltb 0 n kept.0) (lt-ltb n (2 ^ 63) kept.1))
 
 pub counted_read : (text rest : List ℕ) → counted_at (counted text ++ rest) ≡ Ok (text, rest)
 unfolding counted_at
 counted_read text rest =
-    passes (nat_le (length text) (length (text ++ rest))) (counted text ++ rest) (take (length text) (text ++ rest), drop (length text) (text ++ rest)) (le-leb (length text) (length (text ++ rest)) (omega (arith, length-append text rest)))
+    passes (nat_le (length text) (length (text ++ rest))) (counted text ++ rest)
+    (take (length text) (text ++ rest), drop (length text) (text ++ rest))
+    (le-leb (length text) (length (text ++ rest)) (omega (arith, length-append text rest)))
     ∙ ap (λ (front : List ℕ). Ok (front, drop (length text) (text ++ rest))) (take-append_seam text rest)
     ∙ ap (λ (back : List ℕ). Ok (text, back)) (drop-append_seam text rest)
 
 pub name_read : (name rest : List ℕ) → IsBoxName name → name_at (counted name ++ rest) ≡ Ok (name, rest)
 unfolding name_at
-name_read name rest kept = tests (counted_at (counted name ++ rest)) is_name (counted name ++ rest) (name, rest) (counted_read name rest) ((is_name-Decides name).1 kept)
+name_read name rest kept = tests (counted_at (counted name ++ rest)) is_name (counted name ++ rest) (name, rest) (counted_read name rest)
+    ((is_name-Decides name).1 kept)
 
 pub octets_read : (text rest : List ℕ) → octets_at (length text) (text ++ rest) ≡ Ok (text, rest)
 unfolding octets_at
 octets_read text rest =
-    passes (nat_le (length text) (length (text ++ rest))) (text ++ rest) (take (length text) (text ++ rest), drop (length text) (text ++ rest)) (le-leb (length text) (length (text ++ rest)) (omega (arith, length-append text rest)))
+    passes (nat_le (length text) (length (text ++ rest))) (text ++ rest)
+    (take (length text) (text ++ rest), drop (length text) (text ++ rest))
+    (le-leb (length text) (length (text ++ rest)) (omega (arith, length-append text rest)))
     ∙ ap (λ (front : List ℕ). Ok (front, drop (length text) (text ++ rest))) (take-append_seam text rest)
     ∙ ap (λ (back : List ℕ). Ok (text, back)) (drop-append_seam text rest)
 

@@ -1,5 +1,6 @@
 -- What a whole body's reading says.
-use Rattle.std.proofs.Common.{◌≡◌, ◌<◌, ◌≤◌, ℕ, Bool, true, false, ◌&&◌, ◌==◌, List, [], ◌∷◌, length, Result, Ok, Err, nat_le, refl, ap, ◌∙◌, arith, if◌then◌else◌}
+use Rattle.std.proofs.Common.{◌≡◌, ◌<◌, ◌≤◌, ℕ, Bool, true, false, ◌&&◌, ◌==◌, List, [], ◌∷◌, length, Result, Ok, Err, nat_le, refl, ap}
+use Rattle.std.proofs.Common.{◌∙◌, arith, if◌then◌else◌}
 use Rattle.std.proofs.lemmas.Bool.{le-leb, false_from_ne_true, leb-true}
 use Rattle.record_codec.specs.Reading.{Plain, plain, plain_at, place_of, all_of, body_at}
 use Rattle.record_codec.specs.Refusing.{SpellsNone}
@@ -21,15 +22,19 @@ pub too_many : (body : List ℕ) (p : Plain) (rest : List ℕ) → plain_at body
 unfolding body_at
 too_many body p [] is some = absurd (omega arith)
 too_many body p (b ∷ rest) is some =
-    let there : (length (b ∷ rest) == 0) ≡ false = false_from_ne_true (length (b ∷ rest) == 0) (λ t. let none = same-true (length (b ∷ rest)) 0 t in absurd (omega (arith, none))) in
+    let there : (length (b ∷ rest) == 0) ≡ false = false_from_ne_true (length (b ∷ rest) == 0)
+    (λ t. let none = same-true (length (b ∷ rest)) 0 t in absurd (omega (arith, none))) in
     ap (all_of body) is
-    ∙ picks ((length (b ∷ rest) == 0) && nat_le (length body) 1073741824) p (place_of body (length (b ∷ rest))) (and_first (length (b ∷ rest) == 0) (nat_le (length body) 1073741824) there)
+    ∙ picks ((length (b ∷ rest) == 0) && nat_le (length body) 1073741824) p (place_of body (length (b ∷ rest)))
+    (and_first (length (b ∷ rest) == 0) (nat_le (length body) 1073741824) there)
 
 -- the body is too long
-pub too_long : (body : List ℕ) (p : Plain) (rest : List ℕ) → plain_at body ≡ Ok (p, rest) → length rest ≤ 0 → 1073741824 < length body → body_at body ≡ Err (place_of body 0)
+pub too_long : (body : List ℕ) (p : Plain) (rest : List ℕ) → plain_at body ≡ Ok (p, rest) → length rest ≤ 0 → 1073741824 < length body →
+    body_at body ≡ Err (place_of body 0)
 unfolding body_at
 too_long body p [] is none long =
-    let over : nat_le (length body) 1073741824 ≡ false = false_from_ne_true (nat_le (length body) 1073741824) (λ t. let few : length body ≤ 1073741824 = leb-true (length body) 1073741824 t in absurd (omega arith)) in
+    let over : nat_le (length body) 1073741824 ≡ false = false_from_ne_true (nat_le (length body) 1073741824)
+    (λ t. let few : length body ≤ 1073741824 = leb-true (length body) 1073741824 t in absurd (omega arith)) in
     ap (all_of body) is ∙ picks (nat_le (length body) 1073741824) p (place_of body 0) over
 too_long body p (b ∷ rest) is none long = absurd (omega arith)
 

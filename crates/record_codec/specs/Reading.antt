@@ -1,5 +1,7 @@
 -- How a record's body is read from the left: its event, or where the first field stands that doesn't fit (this client's journal).
-use Rattle.std.specs.Prelude.{ℕ, zero, suc, ◌+◌, ◌-◌, ◌^◌, ◌<◌, min, Bool, true, false, not, ◌&&◌, ◌||◌, ◌==◌, nat_le, nat_lt, List, [], ◌∷◌, ◌++◌, length, take, drop, slice_index, map, Option, Some, None, Result, Ok, Err, is_none, codes, if◌then◌else◌}
+use Rattle.std.specs.Prelude.{ℕ, zero, suc, ◌+◌, ◌-◌, ◌^◌, ◌<◌, min, Bool, true, false, not, ◌&&◌, ◌||◌, ◌==◌, nat_le, nat_lt, List, []}
+use Rattle.std.specs.Prelude.{◌∷◌, ◌++◌, length, take, drop, slice_index, map, Option, Some, None, Result, Ok, Err, is_none, codes}
+use Rattle.std.specs.Prelude.{if◌then◌else◌}
 use Rattle.std.specs.Int.{Width, w16, w32, w64, byte_len, from_be_bytes}
 use Rattle.std.specs.Char.{to_ascii_lowercase}
 use Rattle.std.specs.List.{list_all, list_any}
@@ -417,7 +419,15 @@ pub data Plain : Type 0 where
   Learn : List ℕ → Told → Plain
 
 abbrev pub told_of : Delta → Told
-told_of delta = record { whole = delta.whole; validity = delta.validity; highest = delta.highest; uidnext = delta.uidnext; vanished = delta.vanished; rows = delta.rows }
+told_of delta = record {
+  whole = delta.whole;
+  validity = delta.validity;
+  highest = delta.highest;
+  uidnext = delta.uidnext;
+  vanished =
+      delta.vanished;
+  rows = delta.rows;
+}
 
 abbrev pub plain : Event → Plain
 plain (events.Begin names) = Begin names

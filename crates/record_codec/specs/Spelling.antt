@@ -55,11 +55,18 @@ IsKeptPlace (Some place) = IsNumber place.validity × IsNumber place.uid
 
 -- a kind as its type keeps it
 abbrev pub IsKeptKind : Kind → Type 0
+IsKeptKind kinds.MessageGone = ⊤
+IsKeptKind kinds.AlreadySo = ⊤
 IsKeptKind (kinds.FlagsChanged m) = IsModSeq m
+IsKeptKind kinds.RefusedNo = ⊤
+IsKeptKind kinds.RefusedBad = ⊤
+IsKeptKind kinds.NotPermanent = ⊤
 IsKeptKind (kinds.TargetUnknown k) = IsNumber k
+IsKeptKind kinds.FoundSo = ⊤
 IsKeptKind (kinds.StoreUnsure m f) = IsModSeq m × IsModSeq f
+IsKeptKind kinds.SourceGone = ⊤
+IsKeptKind kinds.GoneAfterLoss = ⊤
 IsKeptKind (kinds.Ambiguous u v) = IsNumber u × IsNumber v
-IsKeptKind _ = ⊤
 
 -- an outcome as its type keeps it
 abbrev pub IsKeptOutcome : Outcome → Type 0

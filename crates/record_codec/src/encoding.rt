@@ -5,7 +5,7 @@ ghost use Rattle.std.specs.Int.{w32, to_be_bytes};
 ghost use Rattle.std.specs.List.{flat_map, AllByRecursion};
 ghost use Rattle.mail_base.specs.BoxName.{IsBoxName};
 ghost use Rattle.uid_sets.specs.UidSet.{IsCanonical};
-ghost use Rattle.journal_core.specs.Records.{IsBody, frame_of};
+ghost use Rattle.mail_base.specs.Bodies.{IsBody, frame_of};
 ghost use Rattle.action_queue.specs.Events.{AreNames};
 ghost use Rattle.action_queue.specs.Writable.{IsWritable, IsWritableAction, HaveFewFlags};
 ghost use Rattle.action_queue.specs.declared.event.Event.TheVariants as events;
@@ -14,7 +14,7 @@ ghost use Rattle.record_codec.specs.Bodies.{body_of, action_fields, intent_field
 ghost use Rattle.record_codec.specs.Spelling.{IsNumber, IsModSeq, IsKeptAction, IsKeptIntent, IsKeptRow, IsKeptDelta, IsKept, Spelled};
 
 use crate::fields::{
-    put_flags, put_name, put_names, put_ranges, put_rows, put_target, put_u32, put_u64,
+    CLOSED, put_flags, put_name, put_names, put_ranges, put_rows, put_target, put_u32, put_u64,
 };
 use crate::outcome::outcome_bytes;
 use crate::sizes::size;
@@ -23,9 +23,6 @@ use mail_base::{BoxName, Bytes};
 use mailbox_cache::{Delta, Row};
 use std::alloc::{AllocError, Global};
 use uid_sets::{Uid, UidSet};
-
-// The byte of a closed gate.
-const CLOSED: u8 = 0;
 
 /// The frame of an event's record: the body behind its length, and the next gate, closed. It takes memory once. Fails
 /// for want of memory alone.

@@ -16,6 +16,9 @@ use mailbox_cache::Row;
 use std::alloc::AllocError;
 use uid_sets::{Uid, UidRange};
 
+/// The byte of a closed gate.
+pub(crate) const CLOSED: u8 = 0;
+
 /// A number of two bytes.
 pub(crate) fn put_u16(out: &mut Vec<u8>, number: u16) -> Result<(), AllocError>
     ensures { OnOk result (out.new.items ≡ out.old.items ++ to_be_bytes w16 number) }

@@ -10,8 +10,6 @@ mod misfit;
 mod outcome;
 mod reading;
 mod sizes;
-#[cfg(test)]
-mod tests;
 
 pub use decoding::decode;
 pub use encoding::encode;

@@ -2,17 +2,15 @@
 
 ghost use Rattle.std.specs.Prelude.{◌≡◌, ◌≤◌, ◌∷◌, ◌++◌, [], length};
 ghost use Rattle.std.specs.Int.{w32, w64, to_be_bytes};
-ghost use Rattle.journal_core.specs.Records.{IsBody, frame_of};
+ghost use Rattle.mail_base.specs.Bodies.{IsBody, frame_of};
 ghost use Rattle.action_queue.specs.declared.event.Event.TheVariants as events;
 ghost use Rattle.record_codec.specs.Bodies.{body_of, outcome_fields, kind_fields, place_fields};
 ghost use Rattle.record_codec.specs.Spelling.{IsKeptPlace, IsKeptKind, IsKeptOutcome, Spelled};
 
+use crate::fields::CLOSED;
 use action_queue::{Kind, Outcome, Place};
 use arrayvec::ArrayVec;
 use mail_base::ActionId;
-
-// The byte of a closed gate.
-const CLOSED: u8 = 0;
 
 /// The frame of the record that an action ended so: the body behind its length, and the next gate, closed. It takes
 /// no memory.

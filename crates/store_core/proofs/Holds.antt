@@ -1,9 +1,10 @@
 -- No step of a store's calls loses an action, or an outcome, that every image holds.
 use Rattle.std.proofs.Common.{◌≡◌, ◌⊎◌, inl, inr, ⊎_elim, ℕ, zero, suc, ◌≤◌, List, [], ◌∷◌, ◌++◌, Option, Some, None, refl, sym, ◌∙◌, ap, subst, arith}
 use Rattle.std.specs.Prelude.{slice_get}
-use Rattle.world_traits.specs.Files.{Files}
+use Rattle.world_traits.specs.Files.{Files, file_of}
+use Rattle.journal_core.proofs.Choice.{open_head}
 use Rattle.world_traits.specs.Moments.{Moment, Images, Occurs, AtPhase, GoesOn, Within}
-use Rattle.journal_core.specs.Creating.{IsFree}
+use Rattle.journal_core.specs.Creating.{IsUnbegun}
 use Rattle.action_queue.specs.declared.action.Action.{Action}
 use Rattle.action_queue.specs.declared.outcome.Outcome.{Outcome}
 use Rattle.action_queue.specs.declared.queued.Queued.{Queued}
@@ -11,9 +12,11 @@ use Rattle.action_queue.specs.declared.event.Event.{Event}
 use Rattle.action_queue.specs.declared.event.Event.TheVariants as events
 use Rattle.action_queue.specs.Queues.{accepted, settled, change_first, change_queued}
 use Rattle.action_queue.specs.Book.{Meaning, after}
+use Rattle.store_core.specs.Mail.{mail}
 use Rattle.store_core.specs.Books.{HasBook}
 use Rattle.store_core.specs.Held.{IsNamed, HasAction, HoldsAction, IsHeld, KeepsActions}
 use Rattle.store_core.proofs.Folding.{one_held}
+use Rattle.store_core.proofs.MailBook.{one_mail_event}
 
 -- an action stays at its place while another one comes behind
 more : (queue : List Queued) (x q : Queued) (place : ℕ) → slice_get queue place ≡ Some q → slice_get (queue ++ x ∷ []) place ≡ Some q
@@ -28,7 +31,8 @@ record Stays (queue : List Queued) (place : ℕ) (q : Queued) (named : Option Ou
   asked : now.action ≡ q.action
   ended : IsNamed named now.outcome
 
-stays_as : (queue : List Queued) (place : ℕ) (q : Queued) (named : Option Outcome) → slice_get queue place ≡ Some q → IsNamed named q.outcome → Stays queue place q named
+stays_as : (queue : List Queued) (place : ℕ) (q : Queued) (named : Option Outcome) → slice_get queue place ≡ Some q →
+    IsNamed named q.outcome → Stays queue place q named
 stays_as queue place q named there is = record { now = q; there = there; asked = refl; ended = is }
 
 -- an outcome that isn't there isn't named
@@ -39,14 +43,23 @@ unnamed (Some o) q new none is = let other : Some o ≡ None = sym is ∙ none i
 one_some : (x q : Queued) → Some x ≡ Some q → x ≡ q
 one_some x q same = cc
 
-settles : (o : Outcome) (queue : List Queued) (place : ℕ) (q : Queued) (named : Option Outcome) → slice_get queue place ≡ Some q → IsNamed named q.outcome → Stays (change_first (settled o) queue) place q named
+settles : (o : Outcome) (queue : List Queued) (place : ℕ) (q : Queued) (named : Option Outcome) → slice_get queue place ≡ Some q →
+    IsNamed named q.outcome → Stays (change_first (settled o) queue) place q named
 settles o [] place q named there is = absurd cc
 settles o (x ∷ xs) place q named there is = by_outcome x.outcome refl place (λ i here. settles o xs i q named here is) there
   where
-    by_outcome : (out : Option Outcome) → x.outcome ≡ out → (i : ℕ) → ((i : ℕ) → slice_get xs i ≡ Some q → Stays (change_first (settled o) xs) i q named) → slice_get (x ∷ xs) i ≡ Some q → Stays (change_queued (settled o) x xs (change_first (settled o) xs) out) i q named
+    by_outcome : (out : Option Outcome) → x.outcome ≡ out → (i : ℕ) →
+        ((i : ℕ) → slice_get xs i ≡ Some q → Stays (change_first (settled o) xs) i q named) → slice_get (x ∷ xs) i ≡ Some q →
+        Stays (change_queued (settled o) x xs (change_first (settled o) xs) out) i q named
     by_outcome None none zero later here =
         let same : x ≡ q = one_some x q here in
-        record { now = settled o x; there = refl; asked = ap (λ (y : Queued). y.action) same; ended = unnamed named q (Some o) (ap (λ (y : Queued). y.outcome) (sym same) ∙ none) is }
+        record {
+          now = settled o x;
+          there = refl;
+          asked = ap (λ (y : Queued). y.action) same;
+          ended =
+              unnamed named q (Some o) (ap (λ (y : Queued). y.outcome) (sym same) ∙ none) is;
+        }
     by_outcome None none (suc i) later here = stays_as (settled o x ∷ xs) (suc i) q named here is
     by_outcome (Some old) some zero later here = stays_as (x ∷ change_first (settled o) xs) zero q named here is
     by_outcome (Some old) some (suc i) later here =
@@ -62,20 +75,22 @@ module _ (place : ℕ) (action : Action) (named : Option Outcome) where
   has_later b (events.Begin names) h = h
   has_later b (events.Accept id a) h = record { queued = h.queued; there = more b.queue (accepted a) h.queued place h.there; asked = h.asked; ended = h.ended }
   has_later b (events.Intend id intent) h = record { queued = h.queued; there = h.there; asked = h.asked; ended = h.ended }
-  has_later b (events.Settle id outcome) h = has_as (after b (events.Settle id outcome)) h.queued h.asked (settles outcome b.queue place h.queued named h.there h.ended)
+  has_later b (events.Settle id outcome) h = has_as (after b (events.Settle id outcome)) h.queued h.asked
+      (settles outcome b.queue place h.queued named h.there h.ended)
   has_later b (events.Learn name delta) h = record { queued = h.queued; there = h.there; asked = h.asked; ended = h.ended }
 
   -- what is held stands in the book of an image
-  has_in : (b : Meaning) (m : Moment) → Occurs (HasBook b) m → IsHeld place action named m → HasAction place action named b
+  has_in : (b : Meaning) (m : Moment) → Occurs (HasBook mail b) m → IsHeld place action named m → HasAction place action named b
   has_in b m occurs held =
       let h = held.each occurs.files occurs.leaves in
-      subst (HasAction place action named) (sym (one_held occurs.files b h.book occurs.has h.holds)) h.has
+      subst (HasAction place action named) (sym (one_held mail one_mail_event occurs.files b h.book occurs.has h.holds)) h.has
 
-  holds_as : (b : Meaning) (files : Files) → HasAction place action named b → HasBook b files → HoldsAction place action named files
+  holds_as : (b : Meaning) (files : Files) → HasAction place action named b → HasBook mail b files → HoldsAction place action named files
   holds_as b files has holds = record { book = b; holds = holds; has = has }
 
 -- what each image of both kinds of files has, by phases
-module _ (B A P : Files → Type 0) (m n : Moment) (from_b : Occurs B m → (files : Files) → B files ⊎ A files → P files) (from_a : Occurs A m → (files : Files) → A files → P files) where
+module _ (B A P : Files → Type 0) (m n : Moment) (from_b : Occurs B m → (files : Files) → B files ⊎ A files → P files)
+    (from_a : Occurs A m → (files : Files) → A files → P files) where
   by_phases : (from to : ℕ) → from ≤ to → AtPhase B A from m → AtPhase B A to n → Images P n
   by_phases zero zero le p q = record { each = λ files h. from_b p.some files (inl (q.each.each files h)) }
   by_phases zero (suc zero) le p q = record { each = λ files h. from_b p.some files (q.each.each files h) }
@@ -88,30 +103,32 @@ module _ (B A P : Files → Type 0) (m n : Moment) (from_b : Occurs B m → (fil
   by_phases (suc (suc from)) (suc (suc to)) le p q = record { each = λ files h. from_a p.some files (q.each.each files h) }
 
 -- a step of an event
-pub takes_keeps : (b : Meaning) (e : Event) (m n : Moment) → GoesOn (HasBook b) (HasBook (after b e)) m n → KeepsActions m n
+pub takes_keeps : (b : Meaning) (e : Event) (m n : Moment) → GoesOn (HasBook mail b) (HasBook mail (after b e)) m n → KeepsActions m n
 takes_keeps b e m n s = record {
   held = λ place action named held.
-      by_phases (HasBook b) (HasBook (after b e)) (HoldsAction place action named) m n
+      by_phases (HasBook mail b) (HasBook mail (after b e)) (HoldsAction place action named) m n
       (λ occurs files either.
       let has = has_in place action named b m occurs held in
-      ⊎_elim (λ (old : HasBook b files). holds_as place action named b files has old) (λ (new : HasBook (after b e) files). holds_as place action named (after b e) files (has_later place action named b e has) new) either)
+      ⊎_elim (λ (old : HasBook mail b files). holds_as place action named b files has old)
+      (λ (new : HasBook mail (after b e) files). holds_as place action named (after b e) files
+      (has_later place action named b e has) new) either)
       (λ occurs files new. holds_as place action named (after b e) files (has_in place action named (after b e) m occurs held) new)
       s.from s.to s.forward s.at_from s.at_to;
   outside = s.outside;
 }
 
--- where no side is set up no action is held
-none_held : (place : ℕ) (action : Action) (named : Option Outcome) (m : Moment) → Occurs IsFree m → IsHeld place action named m → ⊥
+-- where no side was begun no action is held
+none_held : (place : ℕ) (action : Action) (named : Option Outcome) (m : Moment) → Occurs IsUnbegun m → IsHeld place action named m → ⊥
 none_held place action named m occurs held =
     let h = held.each occurs.files occurs.leaves in
     let held_there = h.holds.holds in
-    occurs.has held_there.side h.holds.version held_there.generation held_there.present.set_up
+    occurs.has held_there.side (open_head h.holds.version held_there.generation (file_of held_there.side occurs.files) held_there.present.set_up)
 
 -- a step of a creation
-pub begins_keeps : (b : Meaning) (m n : Moment) → GoesOn IsFree (HasBook b) m n → KeepsActions m n
+pub begins_keeps : (b : Meaning) (m n : Moment) → GoesOn IsUnbegun (HasBook mail b) m n → KeepsActions m n
 begins_keeps b m n s = record {
   held = λ place action named held.
-      by_phases IsFree (HasBook b) (HoldsAction place action named) m n
+      by_phases IsUnbegun (HasBook mail b) (HoldsAction place action named) m n
       (λ occurs files either. absurd (none_held place action named m occurs held))
       (λ occurs files new. holds_as place action named b files (has_in place action named b m occurs held) new)
       s.from s.to s.forward s.at_from s.at_to;

@@ -6,3 +6,6 @@ pub mod Folding
 pub mod Holds
 pub mod Phases
 pub mod Wholeness
+pub mod Opens
+pub mod AtRest
+pub mod MailBook

@@ -1,133 +1,67 @@
 -- Files that hold a book aren't broken.
-use Rattle.std.proofs.Common.{◌≡◌, ◌≢◌, ℕ, List, [], ◌∷◌, ◌++◌, length, drop, slice_index, Option, Some, None, refl, sym, ◌∙◌, ap, subst, arith, append_assoc, get_or-drop}
-use Rattle.std.specs.List.{AllByRecursion}
-use Rattle.std.proofs.lemmas.List.{append-nil, drop-drop, drop_at}
-use Rattle.world_traits.specs.Files.{Files, file_of}
-use Rattle.world_traits.specs.declared.disk.Side.{Side}
-use Rattle.world_traits.specs.declared.disk.Side.TheVariants.{Left, Right}
+use Rattle.std.proofs.Common.{◌≡◌, ℕ, List, [], ◌∷◌, ◌++◌, Option, Some, None, refl, sym, ◌∙◌, subst}
+use Rattle.world_traits.specs.Files.{Files}
 use Rattle.journal_core.specs.declared.version.Version.{Version}
 use Rattle.journal_core.specs.declared.fault.Place9.{Place9}
 use Rattle.journal_core.specs.declared.fault.Place9.TheVariants as places
-use Rattle.journal_core.specs.Records.{IsBody, AreBodies, From, open_record, records}
-use Rattle.journal_core.specs.Holds.{IsPresent}
-use Rattle.journal_core.specs.Reading.{StandsAt, SameGenerations}
-use Rattle.journal_core.proofs.Choice.{one_generation, open_head}
-use Rattle.journal_core.proofs.Nexting.{one_body, one_rest}
-use Rattle.action_queue.specs.declared.event.Event.{Event}
-use Rattle.action_queue.specs.Book.{Meaning}
-use Rattle.action_queue.specs.Events.{MayCome, next_book, Folds}
-use Rattle.record_codec.specs.Spelling.{Spelled}
-use Rattle.store_core.specs.Books.{AreSpelled, Make, HasBook}
-use Rattle.store_core.specs.Broken.{StandUpTo, IsNotDue, torn, other, missing, IsBroken}
-use Rattle.store_core.proofs.Folding.{one_make}
-
--- records up to a place are the first of all records
-record Rest (all before : List (List ℕ)) (gate : ℕ) (behind rest : List ℕ) : Type 0 where
-  later : List (List ℕ)
-  are : all ≡ before ++ later
-  is : rest ≡ records later ++ gate ∷ behind
-
-rest_of : (all before : List (List ℕ)) (gate : ℕ) (behind rest : List ℕ) → AreBodies all → AreBodies before → gate ≢ 1 → records all ++ gate ∷ behind ≡ records before ++ rest → Rest all before gate behind rest
-rest_of all [] gate behind rest sa sb closed same = record { later = all; are = refl; is = sym same }
-rest_of [] (b ∷ bs) gate behind rest sa sb closed same = absurd (closed cc)
-rest_of (x ∷ xs) (b ∷ bs) gate behind rest sa sb closed same =
-    let whole = sym (append_assoc (open_record x) (records xs) (gate ∷ behind)) ∙ same ∙ append_assoc (open_record b) (records bs) rest in
-    let first = one_body x b (records xs ++ gate ∷ behind) (records bs ++ rest) sa.0 sb.0 whole in
-    let r = rest_of xs bs gate behind rest sa.1 sb.1 closed (one_rest x b (records xs ++ gate ∷ behind) (records bs ++ rest) sa.0 sb.0 whole) in
-    record { later = r.later; are = ap (λ (y : List ℕ). y ∷ xs) first ∙ ap (λ (l : List (List ℕ)). b ∷ l) r.are; is = r.is }
-
-all_at : (P : List ℕ → Type 0) (before : List (List ℕ)) (b : List ℕ) (later : List (List ℕ)) → AllByRecursion P (before ++ b ∷ later) → P b
-all_at P [] b later all = all.0
-all_at P (x ∷ xs) b later all = all_at P xs b later all.1
+use Rattle.journal_core.proofs.Unique.{one_presence}
+use Rattle.journal_core.proofs.Wholeness.{whole, is_journal}
+use Rattle.store_core.specs.Keeping.{Keeping}
+use Rattle.store_core.specs.Books.{AreSpelled, Folds, Make, HasBook}
+use Rattle.store_core.specs.Broken.{IsUndue, BrokenAt, IsBroken}
+use Rattle.store_core.proofs.Folding.{OneEvent, one_make}
 
 -- the events before a body, and its own
-record Cut (start : Option Meaning) (before : List (List ℕ)) (body : List ℕ) : Type 0 where
-  events : List Event
-  book : Option Meaning
-  spelled : AreSpelled before events
-  folds : Folds start events book
-  event : Event
-  spells : Spelled body event
-  may : MayCome book event
+record Cut (K : Keeping) (v : Version) (start : Option K.Book) (before : List (List ℕ)) (body : List ℕ) : Type 0 where
+  events : List K.Event
+  book : Option K.Book
+  spelled : AreSpelled K before events
+  folds : Folds K v start events book
+  event : K.Event
+  spells : K.Spelled body event
+  may : K.MayCome v book event
 
-cut_at : (before : List (List ℕ)) (body : List ℕ) (later : List (List ℕ)) (events : List Event) (b c : Option Meaning) → AreSpelled (before ++ body ∷ later) events → Folds b events c → Cut b before body
-cut_at [] body later [] b c are folds = absurd are
-cut_at [] body later (e ∷ es) b c are folds = record { events = []; book = b; spelled = tt; folds = refl; event = e; spells = are.0; may = folds.0 }
-cut_at (x ∷ xs) body later [] b c are folds = absurd are
-cut_at (x ∷ xs) body later (e ∷ es) b c are folds =
-    let r = cut_at xs body later es (Some (next_book b e)) c are.1 folds.1 in
-    record { events = e ∷ r.events; book = r.book; spelled = (are.0, r.spelled); folds = (folds.0, r.folds); event = r.event; spells = r.spells; may = r.may }
+module _ (K : Keeping) (v : Version) where
+  cut_at : (before : List (List ℕ)) (body : List ℕ) (later : List (List ℕ)) (events : List K.Event) (b c : Option K.Book) →
+      AreSpelled K (before ++ body ∷ later) events → Folds K v b events c → Cut K v b before body
+  cut_at [] body later [] b c are folds = absurd are
+  cut_at [] body later (e ∷ es) b c are folds = record { events = []; book = b; spelled = tt; folds = refl; event = e; spells = are.0; may = folds.0 }
+  cut_at (x ∷ xs) body later [] b c are folds = absurd are
+  cut_at (x ∷ xs) body later (e ∷ es) b c are folds =
+      let r = cut_at xs body later es (Some (K.next_book b e)) c are.1 folds.1 in
+      record { events = e ∷ r.events; book = r.book; spelled = (are.0, r.spelled); folds = (folds.0, r.folds); event = r.event; spells = r.spells; may = r.may }
 
--- behind a record a gate stands
-record Gate (bytes : List ℕ) : Type 0 where
-  gate : ℕ
-  rest : List ℕ
-  is : bytes ≡ gate ∷ rest
+module _ (K : Keeping) (one_event : OneEvent K) (v : Version) (all : List (List ℕ)) (end : K.Book) (makes : Make K v all (Some end))
+    (before : List (List ℕ)) (book : Option K.Book) (make : Make K v before book) where
+  -- each body behind these may come
+  comes : (b : List ℕ) (later : List (List ℕ)) → all ≡ before ++ b ∷ later → IsUndue K v book b → ⊥
+  comes b later are undue =
+      let all' = subst (λ (l : List (List ℕ)). Make K v l (Some end)) are makes in
+      let k = cut_at K v before b later all'.events None (Some end) all'.spelled all'.folds in
+      let here : k.book ≡ book = one_make K one_event v before k.book book (record { events = k.events; spelled = k.spelled; folds = k.folds }) make in
+      undue k.event k.spells (subst (λ (x : Option K.Book). K.MayCome v x k.event) here k.may)
 
-gate_of : (later : List (List ℕ)) (gate : ℕ) (behind : List ℕ) → Gate (records later ++ gate ∷ behind)
-gate_of [] gate behind = record { gate = gate; rest = behind; is = refl }
-gate_of (b ∷ bs) gate behind = record { gate = 1; rest = _; is = refl }
+  -- and at the end a book has begun
+  has_begun : all ≡ before → book ≡ None → ⊥
+  has_begun are none =
+      let never : Some end ≡ None = one_make K one_event v before (Some end) book
+      (subst (λ (l : List (List ℕ)). Make K v l (Some end)) are makes) make ∙ none in absurd cc
 
-module _ (place : ℕ) (bytes : List ℕ) (before : List (List ℕ)) (book : Option Meaning) (make : Make before book) where
-  gate_at : (g : ℕ) (r : List ℕ) → drop place bytes ≡ g ∷ r → slice_index bytes place ≡ g
-  gate_at g r is = ap (λ (n : ℕ). slice_index bytes n) (omega arith) ∙ sym (get_or-drop place bytes 0 0) ∙ ap (λ (l : List ℕ). slice_index l 0) is
+module _ (K : Keeping) (one_event : OneEvent K) (book : K.Book) (files : Files) (holds : HasBook K book files) where
+  not_broken : (at : ℕ) → BrokenAt K at files → ⊥
+  not_broken at b =
+      let h = holds.holds in
+      let same : b.version ≡ holds.version =
+      one_presence b.broken.side h.side b.version holds.version b.broken.generation h.generation files b.broken.present h.present in
+      let make = subst (λ (w : Version). Make K w b.before b.book) same b.make in
+      whole holds.bodies b.before (IsUndue K b.version b.book) (b.book ≡ None)
+      (subst (λ (w : Version). (body : List ℕ) (later : List (List ℕ)) → holds.bodies ≡ b.before ++ body ∷ later → IsUndue K w b.book body → ⊥) (sym same)
+      (comes K one_event holds.version holds.bodies book holds.make b.before b.book make))
+      (has_begun K one_event holds.version holds.bodies book holds.make b.before b.book make)
+      holds.version b.version at files h b.broken
 
-  -- at the end of all records
-  at_end : (whole : Meaning) → Make before (Some whole) → (gate : ℕ) (behind : List ℕ) → gate ≢ 1 → drop place bytes ≡ gate ∷ behind → IsNotDue book place bytes → ⊥
-  at_end whole all gate behind closed is (torn t) = closed (sym (gate_at gate behind is) ∙ t.open_gate)
-  at_end whole all gate behind closed is (other body s bad) = closed (sym (gate_at gate behind is) ∙ gate_at 1 _ s.is)
-  at_end whole all gate behind closed is (missing none shut) = let never : Some whole ≡ None = sym (one_make before book (Some whole) make all) ∙ none in absurd cc
-
-  -- and at one of them
-  at_record : (b : List ℕ) (later : List (List ℕ)) (whole : Option Meaning) → Make (before ++ b ∷ later) whole → (gate : ℕ) (behind : List ℕ) → IsBody b → drop place bytes ≡ records (b ∷ later) ++ gate ∷ behind → IsNotDue book place bytes → ⊥
-  at_record b later whole all gate behind size is bad =
-      let at = is ∙ append_assoc (open_record b) (records later) (gate ∷ behind) in
-      let g = gate_of later gate behind in
-      let stands : StandsAt place b bytes = record { size = size; gate = g.gate; rest = g.rest; is = at ∙ ap (λ (l : List ℕ). open_record b ++ l) g.is } in
-      let k = cut_at before b later all.events None whole all.spelled all.folds in
-      let here : k.book ≡ book = one_make before k.book book (record { events = k.events; spelled = k.spelled; folds = k.folds }) make in
-      refused stands k.event k.spells (subst (λ (x : Option Meaning). MayCome x k.event) here k.may) bad
-    where
-      refused : StandsAt place b bytes → (event : Event) → Spelled b event → MayCome book event → IsNotDue book place bytes → ⊥
-      refused stands event spells may (torn t) = t.broken b stands
-      refused stands event spells may (other body s wrong) =
-          let same : body ≡ b = one_body body b (s.gate ∷ s.rest) (stands.gate ∷ stands.rest) s.size stands.size (sym s.is ∙ stands.is) in
-          wrong event (subst (λ (x : List ℕ). Spelled x event) (sym same) spells) may
-      refused stands event spells may (missing none shut) = shut (gate_at 1 _ stands.is)
-
--- no record is broken in a file whose bodies make a book
-none_broken : (bytes : List ℕ) (all : List (List ℕ)) (whole : Meaning) → Make all (Some whole) → From 13 all bytes → (before : List (List ℕ)) (book : Option Meaning) → Make before book → (place : ℕ) → StandUpTo place before bytes → IsNotDue book place bytes → ⊥
-none_broken bytes all whole makes from before book make place up bad =
-    let r = rest_of all before from.gate from.rest up.rest from.sizes up.sizes from.closed (sym from.is ∙ up.is) in
-    let here = ap (λ (n : ℕ). drop n bytes) up.there ∙ ap (λ (n : ℕ). drop n bytes) (omega arith) ∙ sym (drop-drop (length (records before)) 13 bytes) ∙ ap (drop (length (records before))) up.is ∙ drop_at (records before) up.rest (length (records before)) refl in
-    by_later r.later r.are r.is here
-  where
-    by_later : (later : List (List ℕ)) → all ≡ before ++ later → up.rest ≡ records later ++ from.gate ∷ from.rest → drop place bytes ≡ up.rest → ⊥
-    by_later [] are is here =
-        at_end place bytes before book make whole (subst (λ (l : List (List ℕ)). Make l (Some whole)) (are ∙ append-nil before) makes) from.gate from.rest from.closed (here ∙ is) bad
-    by_later (b ∷ later) are is here =
-        at_record place bytes before book make b later (Some whole) (subst (λ (l : List (List ℕ)). Make l (Some whole)) are makes) from.gate from.rest (all_at IsBody before b later (subst AreBodies are from.sizes)) (here ∙ is) bad
-
-by_side : (s t : Side) (v w : Version) (g h : ℕ) (all : List (List ℕ)) (whole : Meaning) (before : List (List ℕ)) (book : Option Meaning) (place : ℕ) (files : Files) → IsPresent s v g files → IsPresent t w h files → Make all (Some whole) → From 13 all (file_of s files) → Make before book → StandUpTo place before (file_of t files) → IsNotDue book place (file_of t files) → ⊥
-by_side Left Left v w g h all whole before book place files p q makes from make up bad = none_broken files.left all whole makes from before book make place up bad
-by_side Right Right v w g h all whole before book place files p q makes from make up bad = none_broken files.right all whole makes from before book make place up bad
-by_side Left Right v w g h all whole before book place files p q makes from make up bad = let x = p.newer w h q.set_up in let y = q.newer v g p.set_up in omega (arith, x, y)
-by_side Right Left v w g h all whole before book place files p q makes from make up bad = let x = p.newer w h q.set_up in let y = q.newer v g p.set_up in omega (arith, x, y)
-
-one_newer : (s : Side) (v : Version) (g : ℕ) (files : Files) → IsPresent s v g files → SameGenerations files → ⊥
-one_newer Left v g files p same =
-    let x = p.newer same.right_version same.generation same.right in
-    omega (arith, x, one_generation v same.left_version g same.generation files.left p.set_up same.left)
-one_newer Right v g files p same =
-    let x = p.newer same.left_version same.generation same.left in
-    omega (arith, x, one_generation v same.right_version g same.generation files.right p.set_up same.right)
-
-pub never_both : (book : Meaning) (files : Files) (why : Place9) → HasBook book files → IsBroken why files → ⊥
-never_both book files places.Absent holds broken =
-    let h = holds.holds in broken h.side (open_head holds.version h.generation (file_of h.side files) h.present.set_up)
-never_both book files places.Header holds broken = holds.holds.present.right broken.side broken.wrong
-never_both book files places.Generations holds broken = one_newer holds.holds.side holds.version holds.holds.generation files holds.holds.present broken
-never_both book files (places.Record at) holds broken =
-    let h = holds.holds in
-    let b = broken.broken in
-    by_side h.side b.side holds.version b.version h.generation b.generation holds.bodies book broken.before broken.book at files h.present b.present holds.make h.records broken.make b.up_to b.bad
+  pub never_both : (why : Place9) → IsBroken K why files → ⊥
+  never_both places.Absent broken = is_journal holds.version holds.bodies files places.Absent holds.holds broken
+  never_both places.Header broken = is_journal holds.version holds.bodies files places.Header holds.holds broken
+  never_both places.Generations broken = is_journal holds.version holds.bodies files places.Generations holds.holds broken
+  never_both (places.Record at) broken = not_broken at broken

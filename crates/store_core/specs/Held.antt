@@ -6,6 +6,7 @@ use Rattle.action_queue.specs.declared.action.Action.{Action}
 use Rattle.action_queue.specs.declared.outcome.Outcome.{Outcome}
 use Rattle.action_queue.specs.declared.queued.Queued.{Queued}
 use Rattle.action_queue.specs.Book.{Meaning}
+use Rattle.store_core.specs.Mail.{mail}
 use Rattle.store_core.specs.Books.{HasBook}
 
 -- the outcome is this one, where one is named
@@ -23,7 +24,7 @@ pub record HasAction (place : ℕ) (action : Action) (named : Option Outcome) (b
 -- the files hold a book that has it
 pub record HoldsAction (place : ℕ) (action : Action) (named : Option Outcome) (files : Files) : Type 0 where
   pub book : Meaning
-  pub holds : HasBook book files
+  pub holds : HasBook mail book files
   pub has : HasAction place action named book
 
 -- each image of the moment does

@@ -3,17 +3,17 @@ use Rattle.std.specs.Prelude.{◌≡◌, ℕ, true, List, Some}
 use Rattle.world_traits.specs.Files.{Files}
 use Rattle.world_traits.specs.Moments.{Moment}
 use Rattle.journal_core.specs.Standing.{Standing, IsStill}
-use Rattle.action_queue.specs.Book.{Meaning}
+use Rattle.store_core.specs.Keeping.{Keeping}
 use Rattle.store_core.specs.Books.{Make}
 
 -- its journal, behind whose last record it stands, and its book
-pub record Holding : Type 0 where
+pub record Holding (K : Keeping) : Type 0 where
   pub journal : Standing
-  pub book : Meaning
+  pub book : K.Book
 
 -- The disk stands as the store's last call left it: so does its journal, all was read, and the bodies there make its book.
-pub record IsAsLeft (store : Holding) (m : Moment) (seen : Files) : Type 0 where
+pub record IsAsLeft (K : Keeping) (store : Holding K) (m : Moment) (seen : Files) : Type 0 where
   pub bodies : List (List ℕ)
-  pub make : Make bodies (Some store.book)
+  pub make : Make K store.journal.version bodies (Some store.book)
   pub still : IsStill store.journal bodies m seen
   pub all_read : store.journal.all_read ≡ true

@@ -1,5 +1,8 @@
+pub mod Keeping
+pub mod Mail
 pub mod Books
 pub mod Holding
+pub mod Steps
 pub mod Taking
 pub mod Held
 pub mod Room

@@ -1,10 +1,11 @@
 -- How far a journal may grow (this client's profile): room is left to play what was accepted.
 use Rattle.std.specs.Prelude.{ℕ, length}
-use Rattle.journal_core.specs.Records.{frame_of}
+use Rattle.mail_base.specs.Bodies.{frame_of}
 use Rattle.journal_core.specs.Appending.{end_with}
 use Rattle.action_queue.specs.declared.event.Event.{Event}
 use Rattle.action_queue.specs.declared.event.Event.TheVariants as events
 use Rattle.record_codec.specs.Bodies.{body_of}
+use Rattle.store_core.specs.Mail.{mail}
 use Rattle.store_core.specs.Holding.{Holding}
 
 -- the place that the journal may not end behind with an event's record: 2^29 for an action that is accepted, and 2^30
@@ -16,5 +17,5 @@ limit_of (events.Settle id outcome) = 1073741824
 limit_of (events.Learn name delta) = 1073741824
 
 -- the place behind the last gate of a store's journal, with the event's record behind the others
-abbrev pub end_after : Event → Holding → ℕ
+abbrev pub end_after : Event → Holding mail → ℕ
 end_after event store = end_with (length (frame_of (body_of event))) store.journal

@@ -2,12 +2,12 @@
 
 ghost use Rattle.std.specs.Prelude.{◌≡◌, ◌≤◌, ◌<◌, ◌+◌, ℕ, Some, IsTrue, IsErr, IsErrOf, OnOk, false, true, length};
 ghost use Rattle.world_traits.specs.Calls.{Rose};
-ghost use Rattle.world_traits.specs.Moments.{Since};
+ghost use Rattle.world_traits.specs.Moments.{Since, OneSideAtRest};
 ghost use Rattle.journal_core.specs.Appending.{end_with, told_end};
-ghost use Rattle.journal_core.specs.Records.{frame_of};
+ghost use Rattle.mail_base.specs.Bodies.{frame_of};
 ghost use Rattle.record_codec.specs.Bodies.{body_of};
 ghost use Rattle.action_queue.specs.Book.{after};
-ghost use Rattle.action_queue.specs.Events.{IsLawful};
+ghost use Rattle.store_core.specs.Mail.{mail, MayCome};
 ghost use Rattle.action_queue.specs.Writable.{IsWritable};
 ghost use Rattle.action_queue.specs.declared.event.Event.TheVariants as events;
 ghost use Rattle.store_core.specs.Holding.{IsAsLeft};
@@ -18,7 +18,7 @@ ghost use Rattle.store_core.specs.declared.fault.CommitFault.TheVariants as faul
 
 use crate::{CommitFault, Store};
 use action_queue::{Event, Outcome};
-use journal_core::Journal;
+use journal_core::{Journal, MAX_SIDE};
 use mail_base::ActionId;
 use record_codec::{encode, encode_outcome, size};
 use std::alloc::Global;
@@ -27,8 +27,8 @@ use world_traits::{Clocked, Disk};
 /// The place that an accepted action's record may not end behind, in bytes: room is left to play what was accepted.
 pub const MAX_ACCEPTED: u64 = 536_870_912;
 
-/// The place that no other record may end behind, in bytes.
-pub const MAX_OTHER: u64 = 1_073_741_824;
+/// The place that no other record may end behind, in bytes: that of the journal.
+pub const MAX_OTHER: u64 = MAX_SIDE;
 
 impl Store {
     /// Records an event, and enters it into the book.
@@ -41,22 +41,22 @@ impl Store {
         disk: &mut D,
         event: Event,
     ) -> Result<(), CommitFault>
-        requires lawful { IsLawful self.old.book event }
+        requires lawful { MayCome self.old.journal.version (Some self.old.book) event }
         requires writable { IsWritable event }
         requires sound { IsTrue self.old.journal.failed → ⊥ }
-        requires still { D.tells_files → IsAsLeft self.old (D.clock disk.old).now (D.seen disk.old) }
+        requires still { D.tells_files → IsAsLeft mail self.old (D.clock disk.old).now (D.seen disk.old) }
 
         // At every moment a stop leaves the book before or the one after; the books stay from one moment to the next, or
         // the event is begun, or made firm; and no action that all images hold is lost.
-        ensures told { D.tells_files → Takes (Some self.old.book) event (D.clock disk.old) (D.clock disk.new) }
-        ensures steps { D.tells_files → Since (IsTaking (Some self.old.book) event) (TakesStep event)
-            (D.clock disk.old) (D.clock disk.new) }
-        ensures held { D.tells_files → Since (IsTaking (Some self.old.book) event) KeepsActions
+        ensures told { D.tells_files → Takes mail (Some self.old.book) event (D.clock disk.old) (D.clock disk.new) }
+        ensures steps { D.tells_files → Since (IsTaking mail (Some self.old.book) event)
+            (TakesStep self.old.journal.version event) (D.clock disk.old) (D.clock disk.new) }
+        ensures held { D.tells_files → Since (IsTaking mail (Some self.old.book) event) KeepsActions
             (D.clock disk.old) (D.clock disk.new) }
 
         // After Ok the book is the one after the event, and the files hold it.
         ensures value { OnOk result (self.new.book ≡ after self.old.book event) }
-        ensures done { D.tells_files → OnOk result (IsAsLeft self.new (D.clock disk.new).now (D.seen disk.new)) }
+        ensures done { D.tells_files → OnOk result (IsAsLeft mail self.new (D.clock disk.new).now (D.seen disk.new)) }
         ensures sound_still { OnOk result (self.new.journal.failed ≡ false) }
         ensures moved { OnOk result (self.new.journal ≡ record self.old.journal {
           place = self.old.journal.place + length (frame_of (body_of event));
@@ -70,6 +70,7 @@ impl Store {
         ensures stopped { IsErrOf result faults.Disk → (self.new.book ≡ self.old.book) × (self.new.journal.failed ≡ true) }
         ensures kept { IsErr result → (IsErrOf result faults.Disk → ⊥) →
             (self.new ≡ self.old) × (disk.new ≡ disk.old) }
+        ensures one_side { D.tells_files → OneSideAtRest (D.clock disk.new).now }
         ensures link { D.link disk.new ≡ D.link disk.old }
         ensures count { D.disk_faults disk.old ≤ D.disk_faults disk.new }
         ensures cause { IsErrOf result faults.Disk → Rose (D.disk_faults disk.old) (D.disk_faults disk.new) }
@@ -77,7 +78,7 @@ impl Store {
         let limit = limit_of(&event);
         room_for(&self.journal, size(&event), limit)?;
         let frame = encode(alloc, &event)?;
-        let ready = self.book.prepare(alloc, event)?;
+        let ready = self.book.prepare(event)?;
         self.journal.append(disk, &frame, limit)?;
         self.book.enter(ready);
         Ok(())
@@ -93,18 +94,18 @@ impl Store {
         id: ActionId,
         outcome: Outcome,
     ) -> Result<(), CommitFault>
-        requires lawful { IsLawful self.old.book (events.Settle id outcome) }
+        requires lawful { MayCome self.old.journal.version (Some self.old.book) (events.Settle id outcome) }
         requires sound { IsTrue self.old.journal.failed → ⊥ }
-        requires still { D.tells_files → IsAsLeft self.old (D.clock disk.old).now (D.seen disk.old) }
+        requires still { D.tells_files → IsAsLeft mail self.old (D.clock disk.old).now (D.seen disk.old) }
 
         // As `commit` says it of this event.
-        ensures told { D.tells_files → Takes (Some self.old.book) (events.Settle id outcome) (D.clock disk.old) (D.clock disk.new) }
-        ensures steps { D.tells_files → Since (IsTaking (Some self.old.book) (events.Settle id outcome))
-            (TakesStep (events.Settle id outcome)) (D.clock disk.old) (D.clock disk.new) }
-        ensures held { D.tells_files → Since (IsTaking (Some self.old.book) (events.Settle id outcome)) KeepsActions
+        ensures told { D.tells_files → Takes mail (Some self.old.book) (events.Settle id outcome) (D.clock disk.old) (D.clock disk.new) }
+        ensures steps { D.tells_files → Since (IsTaking mail (Some self.old.book) (events.Settle id outcome))
+            (TakesStep self.old.journal.version (events.Settle id outcome)) (D.clock disk.old) (D.clock disk.new) }
+        ensures held { D.tells_files → Since (IsTaking mail (Some self.old.book) (events.Settle id outcome)) KeepsActions
             (D.clock disk.old) (D.clock disk.new) }
         ensures value { OnOk result (self.new.book ≡ after self.old.book (events.Settle id outcome)) }
-        ensures done { D.tells_files → OnOk result (IsAsLeft self.new (D.clock disk.new).now (D.seen disk.new)) }
+        ensures done { D.tells_files → OnOk result (IsAsLeft mail self.new (D.clock disk.new).now (D.seen disk.new)) }
         ensures sound_still { OnOk result (self.new.journal.failed ≡ false) }
         ensures moved { OnOk result (self.new.journal ≡ record self.old.journal {
           place = self.old.journal.place + length (frame_of (body_of (events.Settle id outcome)));
@@ -118,6 +119,7 @@ impl Store {
         ensures stopped { IsErrOf result faults.Disk → (self.new.book ≡ self.old.book) × (self.new.journal.failed ≡ true) }
         ensures kept { IsErr result → (IsErrOf result faults.Disk → ⊥) →
             (self.new ≡ self.old) × (disk.new ≡ disk.old) }
+        ensures one_side { D.tells_files → OneSideAtRest (D.clock disk.new).now }
         ensures link { D.link disk.new ≡ D.link disk.old }
         ensures count { D.disk_faults disk.old ≤ D.disk_faults disk.new }
         ensures cause { IsErrOf result faults.Disk → Rose (D.disk_faults disk.old) (D.disk_faults disk.new) }

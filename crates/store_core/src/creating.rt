@@ -4,18 +4,21 @@ ghost use Rattle.std.specs.Prelude.{◌≡◌, ◌≤◌, ℕ, List, IfOk, IsErr
 ghost use Rattle.std.specs.List.{AllByRecursion};
 ghost use Rattle.world_traits.specs.Calls.{Rose};
 ghost use Rattle.mail_base.specs.BoxName.{IsBoxName};
-ghost use Rattle.world_traits.specs.Moments.{Since, Narrows};
+ghost use Rattle.world_traits.specs.Moments.{Since, Narrows, OneSideAtRest};
 ghost use Rattle.journal_core.specs.Creating.{IsTaken, IsUnbegun};
 ghost use Rattle.journal_core.specs.Reading.{AnyWrong};
-ghost use Rattle.journal_core.specs.Records.{frame_of};
+ghost use Rattle.mail_base.specs.Bodies.{frame_of};
 ghost use Rattle.journal_core.specs.Appending.{IsFrame};
+ghost use Rattle.journal_core.specs.declared.version.Version.TheVariants.{First};
 ghost use Rattle.journal_core.specs.declared.fault.Place9.{Place9};
 ghost use Rattle.journal_core.specs.declared.fault.Place9.TheVariants as places;
 ghost use Rattle.action_queue.specs.Book.{meaning, begun};
 ghost use Rattle.action_queue.specs.Events.{AreNames, IsFirst, first_book};
 ghost use Rattle.record_codec.specs.Spelling.{IsKept, Spelled};
+ghost use Rattle.store_core.specs.Mail.{mail};
 ghost use Rattle.store_core.specs.Holding.{IsAsLeft};
-ghost use Rattle.store_core.specs.Taking.{Creates, IsCreating, BeginsStep};
+ghost use Rattle.store_core.specs.Steps.{Books};
+ghost use Rattle.store_core.specs.Taking.{HasBooks, Creates, IsCreating, BeginsStep, BeginsBehind};
 ghost use Rattle.store_core.specs.Held.{KeepsActions};
 ghost use Rattle.store_core.specs.declared.fault.StoreFault.TheVariants as faults;
 
@@ -41,7 +44,7 @@ impl Store {
         ensures value { IfOk result (λ store. store.book ≡ begun names) }
         ensures sound { IfOk result (λ store. store.journal.failed ≡ false) }
         ensures still { D.tells_files → IfOk result (λ store.
-            IsAsLeft store (D.clock disk.new).now (D.seen disk.new)) }
+            IsAsLeft mail store (D.clock disk.new).now (D.seen disk.new)) }
 
         // Each refusal has its cause in the files as read. A Begin has room.
         ensures unbegun { D.tells_files → OnOk result (IsUnbegun (D.seen disk.old)) }
@@ -50,11 +53,18 @@ impl Store {
         ensures already { D.tells_files → IsErrOf result faults.Already → IsTaken (D.seen disk.old) }
         ensures not_full { (end wanted : ℕ) → IsErrOf result (faults.Full end wanted) → ⊥ }
 
-        // At every moment a stop leaves no book, or that of the names. After the first syncs there is none from one moment to
-        // the next, or the Begin is begun, or made firm; and no action that all images hold is lost.
+        // At every moment a stop leaves no book, or that of the names, and no action that all images hold is lost. Where one
+        // side was at rest the first syncs leave the books or choose one; behind them there is none from one moment to the
+        // next, or the Begin is begun, or made firm; and one side stays at rest.
         ensures told { D.tells_files → Creates names (D.clock disk.old) (D.clock disk.new) }
-        ensures steps { D.tells_files → Since (IsCreating names (D.clock disk.old).now) (BeginsStep names)
+        ensures begins { D.tells_files → OneSideAtRest (D.clock disk.old).now →
+            (books : Books) → HasBooks books (D.clock disk.old).now →
+            BeginsBehind names (D.clock disk.old) (D.clock disk.new) }
+        ensures steps { D.tells_files → OneSideAtRest (D.clock disk.old).now →
+            (books : Books) → HasBooks books (D.clock disk.old).now →
+            Since (IsCreating names (D.clock disk.old).now) (BeginsStep First names)
             (D.clock disk.old) (D.clock disk.new) }
+        ensures one_side { D.tells_files → OneSideAtRest (D.clock disk.old).now → OneSideAtRest (D.clock disk.new).now }
         ensures held { D.tells_files → Since (IsCreating names (D.clock disk.old).now) KeepsActions
             (D.clock disk.old) (D.clock disk.new) }
 

@@ -5,6 +5,7 @@ mod committing;
 mod creating;
 mod fault;
 mod opening;
+mod rules;
 mod store;
 #[cfg(test)]
 mod tests;

@@ -3,25 +3,29 @@
 ghost use Rattle.std.specs.Prelude.{◌≡◌, ◌≤◌, ◌<◌, ◌+◌, ◌++◌, ℕ, List, [], Some, None, IfOk, OnOk, IsErrOf, IsTrue, length, true, false};
 ghost use Rattle.world_traits.specs.Calls.{Rose};
 ghost use Rattle.world_traits.specs.Files.{Files};
-ghost use Rattle.world_traits.specs.Moments.{Since, Within, Narrows};
+ghost use Rattle.world_traits.specs.Moments.{Since, Within, Narrows, OneSideAtRest};
+ghost use Rattle.world_traits.specs.Links.{Any};
 ghost use Rattle.journal_core.specs.Records.{records};
 ghost use Rattle.journal_core.specs.Reading.{OnlyLooks};
 ghost use Rattle.journal_core.specs.Standing.{IsStill};
+ghost use Rattle.journal_core.specs.declared.version.Version.{Version};
 ghost use Rattle.journal_core.specs.declared.fault.Place9.{Place9};
 ghost use Rattle.journal_core.specs.declared.fault.Place9.TheVariants as places;
 ghost use Rattle.action_queue.specs.Book.{Meaning, meaning};
+ghost use Rattle.store_core.specs.Mail.{mail};
 ghost use Rattle.store_core.specs.Books.{HasBook};
 ghost use Rattle.store_core.specs.Broken.{IsBroken, IsUndue};
 ghost use Rattle.store_core.specs.Reading.{Enters, EntersAll, ReadsBook, UndueAt};
-ghost use Rattle.action_queue.specs.Steps.{Books, Firm};
+ghost use Rattle.store_core.specs.Steps.{Books, Firm};
 ghost use Rattle.store_core.specs.Holding.{IsAsLeft};
-ghost use Rattle.store_core.specs.Taking.{HasBooks, IsOneOf};
+ghost use Rattle.store_core.specs.Taking.{HasBooks, IsOneOf, ChoosesStep};
 ghost use Rattle.store_core.specs.Held.{KeepsActions};
 ghost use Rattle.store_core.specs.declared.fault.StoreFault.TheVariants as faults;
 
+use crate::rules::rules_of;
 use crate::{Store, StoreFault};
-use action_queue::{Book, Event, Version};
-use journal_core::{Bodies, Journal, Place9};
+use action_queue::{Book, Event};
+use journal_core::{Bodies, Journal, Place9, Version};
 use record_codec::{RecordFault, decode};
 use std::alloc::Global;
 use world_traits::{Clocked, Disk};
@@ -34,19 +38,24 @@ impl Store {
     /// at the place of its first gate, since a Begin is missing there.
     pub fn open<D: Disk>(alloc: Global, disk: &mut D) -> Result<Store, StoreFault>
         // The book is the fold of what the files hold.
-        ensures value { D.tells_files → IfOk result (λ store. HasBook store.book (D.seen disk.old)) }
+        ensures value { D.tells_files → IfOk result (λ store. HasBook mail store.book (D.seen disk.old)) }
         ensures still { D.tells_files → IfOk result (λ store.
-            IsAsLeft store (D.clock disk.new).now (D.seen disk.new)) }
+            IsAsLeft mail store (D.clock disk.new).now (D.seen disk.new)) }
         ensures sound { IfOk result (λ store. store.journal.failed ≡ false) }
 
         // It is one of those that a stop could have left, and from now on each stop leaves it.
         ensures chosen { D.tells_files → (books : Books) → HasBooks books (D.clock disk.old).now →
             IfOk result (λ store. IsOneOf (Some store.book) books × HasBooks (Firm (Some store.book)) (D.clock disk.new).now) }
 
+        // From moment to moment the books stay, or one is chosen.
+        ensures chooses { D.tells_files → OneSideAtRest (D.clock disk.old).now →
+            (books : Books) → HasBooks books (D.clock disk.old).now →
+            Since Any ChoosesStep (D.clock disk.old) (D.clock disk.new) }
+
         // It is refused only where the files hold no book; where they hold one it isn't.
         ensures broken { D.tells_files → (why : Place9) → IsErrOf result (faults.NotAJournal why) →
-            IsBroken why (D.seen disk.old) }
-        ensures whole { D.tells_files → (book : Meaning) → HasBook book (D.seen disk.old) →
+            IsBroken mail why (D.seen disk.old) }
+        ensures whole { D.tells_files → (book : Meaning) → HasBook mail book (D.seen disk.old) →
             (why : Place9) → IsErrOf result (faults.NotAJournal why) → ⊥ }
         ensures only { (IsErrOf result faults.Already → ⊥) × ((end wanted : ℕ) → IsErrOf result (faults.Full end wanted) → ⊥) }
 
@@ -56,6 +65,7 @@ impl Store {
         ensures told { D.tells_files → Narrows (D.clock disk.old) (D.clock disk.new) }
         ensures held { D.tells_files → Since (Within (D.clock disk.old).now) KeepsActions
             (D.clock disk.old) (D.clock disk.new) }
+        ensures one_side { D.tells_files → OneSideAtRest (D.clock disk.old).now → OneSideAtRest (D.clock disk.new).now }
         ensures link { D.link disk.new ≡ D.link disk.old }
         ensures count { D.disk_faults disk.old ≤ D.disk_faults disk.new }
         ensures cause { IsErrOf result faults.Disk → Rose (D.disk_faults disk.old) (D.disk_faults disk.new) }
@@ -74,11 +84,12 @@ fn read_begin<D: Disk>(
     journal: &mut Journal,
 ) -> Result<Book, StoreFault>
     ensures value { D.tells_files → IsStill journal.old [] (D.clock disk.old).now (D.seen disk.old) →
-        IfOk result (λ book. ReadsBook (meaning book) journal.new (D.clock disk.new).now (D.seen disk.new)) }
+        IfOk result (λ book. ReadsBook mail (meaning book) journal.new (D.clock disk.new).now (D.seen disk.new)) }
     ensures advances { OnOk result (journal.old.place < journal.new.place) }
     ensures sound { journal.new.failed ≡ journal.old.failed }
+    ensures version { journal.new.version ≡ journal.old.version }
     ensures broken { D.tells_files → IsStill journal.old [] (D.clock disk.old).now (D.seen disk.old) →
-        (why : Place9) → IsErrOf result (faults.NotAJournal why) → IsBroken why (D.seen disk.old) }
+        (why : Place9) → IsErrOf result (faults.NotAJournal why) → IsBroken mail why (D.seen disk.old) }
     ensures only { (IsErrOf result faults.Already → ⊥) × ((end wanted : ℕ) → IsErrOf result (faults.Full end wanted) → ⊥) }
     ensures told { D.tells_files → OnlyLooks (D.clock disk.old) (D.clock disk.new) (D.seen disk.old) (D.seen disk.new) }
     ensures link { D.link disk.new ≡ D.link disk.old }
@@ -94,9 +105,9 @@ fn read_begin<D: Disk>(
 
 // The book that a body begins, whose record is at this place.
 fn begun_by(alloc: Global, body: &[u8], at: u64) -> Result<Book, StoreFault>
-    ensures value { IfOk result (λ book. Enters None body.now (meaning book)) }
+    ensures value { (version : Version) → IfOk result (λ book. Enters mail version None body.now (meaning book)) }
     ensures broken { (why : Place9) → IsErrOf result (faults.NotAJournal why) →
-        (why ≡ places.Record at) × IsUndue None body.now }
+        (why ≡ places.Record at) × ((version : Version) → IsUndue mail version None body.now) }
     ensures only { (IsErrOf result faults.Already → ⊥) × (IsErrOf result faults.Disk → ⊥)
         × ((end wanted : ℕ) → IsErrOf result (faults.Full end wanted) → ⊥) }
 {
@@ -118,12 +129,13 @@ fn read_later<D: Disk>(
     journal: &mut Journal,
     book: &mut Book,
 ) -> Result<(), StoreFault>
-    ensures value { D.tells_files → ReadsBook (meaning book.old) journal.old (D.clock disk.old).now (D.seen disk.old) →
-        OnOk result (ReadsBook (meaning book.new) journal.new (D.clock disk.new).now (D.seen disk.new)) }
+    ensures value { D.tells_files → ReadsBook mail (meaning book.old) journal.old (D.clock disk.old).now (D.seen disk.old) →
+        OnOk result (ReadsBook mail (meaning book.new) journal.new (D.clock disk.new).now (D.seen disk.new)) }
     ensures all_read { OnOk result (journal.new.all_read ≡ true) }
     ensures sound { journal.new.failed ≡ journal.old.failed }
-    ensures broken { D.tells_files → ReadsBook (meaning book.old) journal.old (D.clock disk.old).now (D.seen disk.old) →
-        (why : Place9) → IsErrOf result (faults.NotAJournal why) → IsBroken why (D.seen disk.old) }
+    ensures version { journal.new.version ≡ journal.old.version }
+    ensures broken { D.tells_files → ReadsBook mail (meaning book.old) journal.old (D.clock disk.old).now (D.seen disk.old) →
+        (why : Place9) → IsErrOf result (faults.NotAJournal why) → IsBroken mail why (D.seen disk.old) }
     ensures only { (IsErrOf result faults.Already → ⊥) × ((end wanted : ℕ) → IsErrOf result (faults.Full end wanted) → ⊥) }
     ensures told { D.tells_files → OnlyLooks (D.clock disk.old) (D.clock disk.new) (D.seen disk.old) (D.seen disk.new) }
     ensures link { D.link disk.new ≡ D.link disk.old }
@@ -148,13 +160,14 @@ fn read_few<D: Disk>(
     journal: &mut Journal,
     book: &mut Book,
 ) -> Result<bool, StoreFault>
-    ensures value { D.tells_files → ReadsBook (meaning book.old) journal.old (D.clock disk.old).now (D.seen disk.old) →
-        OnOk result (ReadsBook (meaning book.new) journal.new (D.clock disk.new).now (D.seen disk.new)) }
+    ensures value { D.tells_files → ReadsBook mail (meaning book.old) journal.old (D.clock disk.old).now (D.seen disk.old) →
+        OnOk result (ReadsBook mail (meaning book.new) journal.new (D.clock disk.new).now (D.seen disk.new)) }
     ensures advances { IfOk result (λ more. IsTrue more → journal.old.place < journal.new.place) }
     ensures ended { IfOk result (λ more. (IsTrue more → ⊥) → journal.new.all_read ≡ true) }
     ensures sound { journal.new.failed ≡ journal.old.failed }
-    ensures broken { D.tells_files → ReadsBook (meaning book.old) journal.old (D.clock disk.old).now (D.seen disk.old) →
-        (why : Place9) → IsErrOf result (faults.NotAJournal why) → IsBroken why (D.seen disk.old) }
+    ensures version { journal.new.version ≡ journal.old.version }
+    ensures broken { D.tells_files → ReadsBook mail (meaning book.old) journal.old (D.clock disk.old).now (D.seen disk.old) →
+        (why : Place9) → IsErrOf result (faults.NotAJournal why) → IsBroken mail why (D.seen disk.old) }
     ensures only { (IsErrOf result faults.Already → ⊥) × ((end wanted : ℕ) → IsErrOf result (faults.Full end wanted) → ⊥) }
     ensures told { D.tells_files → OnlyLooks (D.clock disk.old) (D.clock disk.new) (D.seen disk.old) (D.seen disk.new) }
     ensures link { D.link disk.new ≡ D.link disk.old }
@@ -162,37 +175,50 @@ fn read_few<D: Disk>(
     ensures cause { IsErrOf result faults.Disk → Rose (D.disk_faults disk.old) (D.disk_faults disk.new) }
 {
     let at = journal.place();
+    let version = journal.version();
     let Some(few) = journal.next_few(alloc, disk)? else {
         return Ok(false);
     };
     // Each of their places is below the new one, which is a u64.
     let _end = journal.place();
-    enter_few(alloc, book, &few, at)?;
+    enter_few(alloc, book, &few, at, version)?;
     Ok(true)
 }
 
-// Enters the events of some bodies, whose first record is at this place.
-fn enter_few(alloc: Global, book: &mut Book, few: &Bodies, at: u64) -> Result<(), StoreFault>
-    ensures value { OnOk result (EntersAll (meaning book.old) few.now (meaning book.new)) }
+// Enters the events of some bodies of a journal of this version, whose first record is at this place.
+fn enter_few(
+    alloc: Global,
+    book: &mut Book,
+    few: &Bodies,
+    at: u64,
+    version: Version,
+) -> Result<(), StoreFault>
+    ensures value { OnOk result (EntersAll mail version (meaning book.old) few.now (meaning book.new)) }
     ensures broken { (why : Place9) → IsErrOf result (faults.NotAJournal why) →
-        UndueAt (meaning book.old) at why few.now }
+        UndueAt mail version (meaning book.old) at why few.now }
     ensures only { (IsErrOf result faults.Already → ⊥) × (IsErrOf result faults.Disk → ⊥)
         × ((end wanted : ℕ) → IsErrOf result (faults.Full end wanted) → ⊥) }
 {
     let mut place = at;
     for index in 0..few.len() {
         let body = few.body(index);
-        enter_body(alloc, book, body, place)?;
+        enter_body(alloc, book, body, place, version)?;
         place = place.saturating_add(5).saturating_add(body.len() as u64);
     }
     Ok(())
 }
 
-// Enters the event of a body, whose record is at this place.
-fn enter_body(alloc: Global, book: &mut Book, body: &[u8], at: u64) -> Result<(), StoreFault>
-    ensures value { OnOk result (Enters (Some (meaning book.old)) body.now (meaning book.new)) }
+// Enters the event of a body of a journal of this version, whose record is at this place.
+fn enter_body(
+    alloc: Global,
+    book: &mut Book,
+    body: &[u8],
+    at: u64,
+    version: Version,
+) -> Result<(), StoreFault>
+    ensures value { OnOk result (Enters mail version (Some (meaning book.old)) body.now (meaning book.new)) }
     ensures broken { (why : Place9) → IsErrOf result (faults.NotAJournal why) →
-        (why ≡ places.Record at) × IsUndue (Some (meaning book.old)) body.now }
+        (why ≡ places.Record at) × IsUndue mail version (Some (meaning book.old)) body.now }
     ensures only { (IsErrOf result faults.Already → ⊥) × (IsErrOf result faults.Disk → ⊥)
         × ((end wanted : ℕ) → IsErrOf result (faults.Full end wanted) → ⊥) }
 {
@@ -201,10 +227,10 @@ fn enter_body(alloc: Global, book: &mut Book, body: &[u8], at: u64) -> Result<()
         Err(RecordFault::Memory) => return Err(StoreFault::Memory),
         Err(RecordFault::BadForm { .. }) => return Err(broken_at(at)),
     };
-    if book.allows(&event, Version::First).is_some() {
+    if book.allows(&event, rules_of(version)).is_some() {
         return Err(broken_at(at));
     }
-    book.follow(alloc, event)?;
+    book.follow(event)?;
     Ok(())
 }
 

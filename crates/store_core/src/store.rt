@@ -2,8 +2,11 @@
 
 ghost use Rattle.std.specs.Prelude.{◌≡◌};
 ghost use Rattle.action_queue.specs.Book.{meaning};
+ghost use Rattle.action_queue.specs.Rules.{first_broken};
+ghost use Rattle.store_core.specs.Mail.{rules_of};
 
-use action_queue::Book;
+use crate::rules::rules_of;
+use action_queue::{Book, Event, Rule};
 use journal_core::Journal;
 use std::marker::Model;
 
@@ -17,9 +20,10 @@ pub struct Store {
 impl Model for Store {
     ghost use Rattle.std.specs.Prelude.{◌≡◌, true};
     ghost use Rattle.action_queue.specs.Book.{meaning};
+    ghost use Rattle.store_core.specs.Mail.{mail};
     ghost use Rattle.store_core.specs.Holding.{Holding};
 
-    ghost Value = { Holding };
+    ghost Value = { Holding mail };
 
     ghost view = { λ store. record { journal = store.journal; book = meaning store.book } };
 
@@ -32,5 +36,12 @@ impl Store {
         ensures { meaning result.now ≡ self.now.book }
     {
         &self.book
+    }
+
+    /// The first rule that the event breaks in this journal's version. `None` exactly where it may come next.
+    pub fn allows(&self, event: &Event) -> Option<Rule>
+        ensures { result ≡ first_broken (rules_of self.now.journal.version) self.now.book event.now }
+    {
+        self.book.allows(event, rules_of(self.journal.version()))
     }
 }

@@ -4,13 +4,14 @@ ghost use Rattle.std.specs.Prelude.{◌≡◌, ◌≤◌, Some, IfOk, OnOk, IsTr
 ghost use Rattle.action_queue.specs.Book.{meaning};
 ghost use Rattle.action_queue.specs.Events.{AreNames};
 ghost use Rattle.action_queue.specs.Writable.{IsWritable};
+ghost use Rattle.store_core.specs.Mail.{mail};
 ghost use Rattle.store_core.specs.Holding.{IsAsLeft};
 
 mod refusals;
 mod stops;
 
 use super::*;
-use action_queue::{Action, Book, Event, Intent, Kind, Outcome, Place, Target, Version};
+use action_queue::{Action, Book, Event, Intent, Kind, Outcome, Place, Target};
 use flag_set::{FlagKey, FlagSet};
 use journal_core::Place9;
 use mail_base::{ActionId, BoxName, Bytes, List, ModSeq, Validity};
@@ -176,11 +177,11 @@ fn put<D: Disk>(
 ) -> Result<(), CommitFault>
     requires writable { IsWritable event }
     requires sound { store.old.journal.failed ≡ false }
-    requires still { D.tells_files → IsAsLeft store.old (D.clock disk.old).now (D.seen disk.old) }
+    requires still { D.tells_files → IsAsLeft mail store.old (D.clock disk.old).now (D.seen disk.old) }
     ensures sound { OnOk result (store.new.journal.failed ≡ false) }
-    ensures still { D.tells_files → OnOk result (IsAsLeft store.new (D.clock disk.new).now (D.seen disk.new)) }
+    ensures still { D.tells_files → OnOk result (IsAsLeft mail store.new (D.clock disk.new).now (D.seen disk.new)) }
 {
-    if store.book().allows(&event, Version::First).is_some() {
+    if store.allows(&event).is_some() {
         return Err(CommitFault::Full { end: 0, wanted: 0 });
     }
     store.commit(alloc, disk, event)

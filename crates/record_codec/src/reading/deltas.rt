@@ -10,6 +10,7 @@ ghost use Rattle.record_codec.specs.Giving.{Gives};
 use super::Fields;
 use super::keys::LastFlags;
 use crate::misfit::Misfit;
+use action_queue::MAX_ROWS;
 use mail_base::List;
 use mailbox_cache::{Delta, Row};
 use std::alloc::Global;
@@ -123,7 +124,7 @@ impl Fields<'_> {
 }
 
 impl<'a> Fields<'a> {
-    // At most 200,000 rows, none of which is vanished.
+    // At most `MAX_ROWS` rows, none of which is vanished.
     #[tactic(auto, unfolding(crate::specs::Reading::row_list_at))]
     fn row_list(&mut self, alloc: Global, vanished: &UidSet) -> Result<List<(Uid, Row)>, Misfit>
         ensures read { Gives (λ x. x) result self.new.rest.now (row_list_at vanished.now self.old.rest.now) }
@@ -132,7 +133,7 @@ impl<'a> Fields<'a> {
     {
         let left = self.rest.len();
         let count = self.u32()?;
-        if count > 200_000 {
+        if count as usize > MAX_ROWS {
             return Err(Misfit::Left(left));
         }
         let rows = self.rows(alloc, vanished, count)?;

@@ -11,7 +11,7 @@ ghost use Rattle.record_codec.specs.Giving.{Gives};
 
 use super::Fields;
 use crate::misfit::Misfit;
-use flag_set::{FlagFault, FlagKey, FlagSet};
+use flag_set::{FlagFault, FlagKey, FlagSet, MAX_FLAGS};
 use std::alloc::Global;
 use std::cmp::Ordering;
 
@@ -60,7 +60,7 @@ impl<'a> Fields<'a> {
 }
 
 impl Fields<'_> {
-    /// At least so many flags, and at most 1,024.
+    /// At least so many flags, and at most `MAX_FLAGS`.
     #[tactic(auto, unfolding(crate::specs::Reading::flags_at))]
     pub(crate) fn flags(&mut self, alloc: Global, least: u16) -> Result<FlagSet, Misfit>
         ensures { Gives (λ x. x) result self.new.rest.now (flags_at least self.old.rest.now) }
@@ -70,7 +70,7 @@ impl Fields<'_> {
         if count < least {
             return Err(Misfit::Left(left));
         }
-        if count > 1024 {
+        if count as usize > MAX_FLAGS {
             return Err(Misfit::Left(left));
         }
         self.keys(alloc, count)

@@ -11,8 +11,11 @@ use crate::misfit::Misfit;
 use mail_base::{BoxName, List};
 use std::alloc::Global;
 
+// The most names with which a journal begins.
+const MAX_NAMES: u8 = 32;
+
 impl Fields<'_> {
-    /// 1 to 32 names, no two of which are the same.
+    /// 1 to `MAX_NAMES` names, no two of which are the same.
     #[tactic(auto, unfolding(crate::specs::Reading::name_list_at))]
     pub(crate) fn name_list(&mut self, alloc: Global) -> Result<List<BoxName>, Misfit>
         ensures { Gives (λ x. x) result self.new.rest.now (name_list_at self.old.rest.now) }
@@ -22,7 +25,7 @@ impl Fields<'_> {
         if count < 1 {
             return Err(Misfit::Left(left));
         }
-        if count > 32 {
+        if count > MAX_NAMES {
             return Err(Misfit::Left(left));
         }
         let names = self.names(alloc, count)?;

@@ -2,6 +2,7 @@
 
 ghost use Rattle.std.specs.Prelude.{◌≡◌, IfOk, false};
 ghost use Rattle.action_queue.specs.Writable.{IsWritable};
+ghost use Rattle.store_core.specs.Mail.{mail};
 ghost use Rattle.store_core.specs.Holding.{IsAsLeft};
 
 use super::*;
@@ -199,14 +200,14 @@ fn event_at(alloc: Global, index: u8) -> Result<Event, Fail>
 // Settles action 1.
 fn end<D: Disk>(disk: &mut D, store: &mut Store) -> Result<Result<(), CommitFault>, Fail>
     requires sound { store.old.journal.failed ≡ false }
-    requires still { D.tells_files → IsAsLeft store.old (D.clock disk.old).now (D.seen disk.old) }
+    requires still { D.tells_files → IsAsLeft mail store.old (D.clock disk.old).now (D.seen disk.old) }
 {
     let outcome = done()?;
     let event = Event::Settle {
         id: id(1)?,
         outcome,
     };
-    if store.book().allows(&event, Version::First).is_some() {
+    if store.allows(&event).is_some() {
         return Err(Missing)?;
     }
     Ok(store.settle(disk, id(1)?, outcome))
@@ -236,7 +237,7 @@ fn history(alloc: Global, count: u8) -> Result<Vec<u8>, Fail> {
     Ok(file)
 }
 
-// What a left file's book has. None where no side is set up.
+// What a left file's book has. None where no side was begun.
 fn opened(alloc: Global, file: &[u8]) -> Result<Option<Plain>, Fail> {
     let mut disk = disk_of(alloc, file, &[])?;
     match Store::open(alloc, &mut disk) {

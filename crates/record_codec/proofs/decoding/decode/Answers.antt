@@ -16,7 +16,8 @@ pub returns-then-left-gt0-clause-found : goal.returns-then-left-gt0-clause-found
 returns-then-left-gt0-clause-found c =
     let read : plain_at c.args.body.now ≡ Ok (plain c.in-Ok.event, c.event.new.self.rest.now) = ap plain_at (sym c.of-fields.ensures) ∙ c.in-Ok.ensures in
     let some : 0 < length c.event.new.self.rest.now = omega arith in
-    λ event spelled. absurd (none_spelled c.args.body.now (place_of c.args.body.now (length c.event.new.self.rest.now)) (too_many c.args.body.now (plain c.in-Ok.event) c.event.new.self.rest.now read some) event spelled)
+    λ event spelled. absurd (none_spelled c.args.body.now (place_of c.args.body.now (length c.event.new.self.rest.now))
+    (too_many c.args.body.now (plain c.in-Ok.event) c.event.new.self.rest.now read some) event spelled)
 
 pub returns-then-left-gt0-clause-refused : goal.returns-then-left-gt0-clause-refused
 returns-then-left-gt0-clause-refused c =
@@ -39,13 +40,15 @@ returns-else-body-gt-MAX_BODY-clause-value c =
     let read : plain_at c.args.body.now ≡ Ok (plain c.in-Ok.event, c.event.new.self.rest.now) = ap plain_at (sym c.of-fields.ensures) ∙ c.in-Ok.ensures in
     let none : length c.event.new.self.rest.now ≤ 0 = omega arith in
     let clean : AreBytes c.args.body.now = λ i. omega (arith, c.type_inv.body i) in
-    read_spelled c.args.body.now c.in-Ok.event clean (all_read c.args.body.now (plain c.in-Ok.event) c.event.new.self.rest.now read none c.if-body-gt-MAX_BODY.false)
+    read_spelled c.args.body.now c.in-Ok.event clean (all_read c.args.body.now
+    (plain c.in-Ok.event) c.event.new.self.rest.now read none c.if-body-gt-MAX_BODY.false)
 
 pub returns-in-Err-Left-clause-found : goal.returns-in-Err-Left-clause-found
 returns-in-Err-Left-clause-found c =
     let fails = subst (λ (m : Misfit). Fails m (plain_at c.of-fields.result.rest.now)) c.in-Err-Left.field-0-is c.in-Err-Left.ensures in
     let misfit : plain_at c.args.body.now ≡ Err c.in-Err-Left.left = ap plain_at (sym c.of-fields.ensures) ∙ fails in
-    λ event spelled. absurd (none_spelled c.args.body.now (place_of c.args.body.now c.in-Err-Left.left) (not_read c.args.body.now c.in-Err-Left.left misfit) event spelled)
+    λ event spelled. absurd (none_spelled c.args.body.now (place_of c.args.body.now c.in-Err-Left.left)
+    (not_read c.args.body.now c.in-Err-Left.left misfit) event spelled)
 
 pub returns-in-Err-Left-clause-refused : goal.returns-in-Err-Left-clause-refused
 returns-in-Err-Left-clause-refused c =

@@ -10,5 +10,6 @@ put_row-requires c = few_at c.args.rows.now c.loop-uid.uid-index c.loop-uid-item
 pub loop-uid-preserved : goal.loop-uid-preserved
 loop-uid-preserved c = record {
   wrote = grind (arith, common_steps);
-  kept = rw add-one (all_more IsKeptRow c.args.rows.now c.loop-uid.uid-index c.loop-uid-item.result c.loop-uid-test.true c.loop-uid-item.is c.loop-uid.invariant.kept c.in_ok-put_row.ensures.kept);
+  kept = rw add-one (all_more IsKeptRow c.args.rows.now c.loop-uid.uid-index c.loop-uid-item.result c.loop-uid-test.true c.loop-uid-item.is
+      c.loop-uid.invariant.kept c.in_ok-put_row.ensures.kept);
 }

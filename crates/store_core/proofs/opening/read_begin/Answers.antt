@@ -2,6 +2,7 @@ use Rattle.std.proofs.Common.{◌≡◌, ℕ, List, [], None, IfOk, refl, rules,
 use Rattle.world_traits.specs.Files.{file_of}
 use Rattle.action_queue.specs.Book.{meaning}
 use Rattle.journal_core.specs.declared.fault.Place9.TheVariants as places
+use Rattle.store_core.specs.Mail.{mail}
 use Rattle.store_core.specs.Broken.{IsUndue}
 use Rattle.store_core.specs.Reading.{Enters}
 use Rattle.store_core.proofs.Folding.{make_none}
@@ -10,18 +11,25 @@ use Rattle.store_core.proofs.opening.read_begin.Goals as goal
 
 pub returns-in_err-body-clause-broken : goal.returns-in_err-body-clause-broken
 returns-in_err-body-clause-broken g c tells still why is =
-    torn_behind None [] make_none c.args.journal.now _ _ still c.next.new.self _ why (search rules) (c.in_err-body.ensures.value tells)
+    torn_behind mail None [] c.args.journal.now (make_none mail c.args.journal.now.version) _ _ still c.next.new.self _ why (search rules)
+    (c.in_err-body.ensures.value tells)
 
 pub returns-in_default-clause-broken : goal.returns-in_default-clause-broken
 returns-in_default-clause-broken g c tells still why is =
     let record_is : why ≡ places.Record c.place-at.result = cc in
-    missing_here None [] make_none c.args.journal.now _ _ still refl (gate_closed c.args.journal.now c.next.new.self (file_of c.args.journal.now.side (g.D.Disk.seen c.args.disk.now)) _ c.in_default.is (c.in_ok-body.ensures.value tells)) c.place-at.result why c.place-at.ensures record_is
+    missing_here mail None [] c.args.journal.now (make_none mail c.args.journal.now.version) _ _ still refl
+    (gate_closed c.args.journal.now c.next.new.self (file_of c.args.journal.now.side (g.D.Disk.seen c.args.disk.now)) _ c.in_default.is
+    (c.in_ok-body.ensures.value tells)) c.place-at.result why c.place-at.ensures record_is
 
 pub returns-clause-broken : goal.returns-clause-broken
 returns-clause-broken g c tells still why is =
     let b = c.begun_by.ensures.broken why is in
-    undue_behind None [] make_none c.args.journal.now _ _ still c.in-Some.body c.place-at.result why c.place-at.ensures b.0 (body_stands _ _ _ _ c.in-Some.body c.in-Some.is (c.in_ok-body.ensures.value tells)) (subst (IsUndue None) c.as_slice.ensures b.1)
+    undue_behind mail None [] c.args.journal.now (make_none mail c.args.journal.now.version) _ _ still c.in-Some.body c.place-at.result why
+    c.place-at.ensures b.0 (body_stands _ _ _ _ c.in-Some.body c.in-Some.is (c.in_ok-body.ensures.value tells))
+    (subst (IsUndue mail c.args.journal.now.version None) c.as_slice.ensures (b.1 c.args.journal.now.version))
 
 pub returns-clause-value : goal.returns-clause-value
 returns-clause-value g c tells still =
-    if_reads_first _ c.in-Some.body _ _ _ (rw c.in-Some.is at c.in_ok-body.ensures.still tells [] still) (subst (λ (b : List ℕ). IfOk c.begun_by.result (λ book. Enters None b (meaning book))) c.as_slice.ensures c.begun_by.ensures.value)
+    if_reads_first c.args.journal.now.version _ c.in-Some.body _ _ _ (rw c.in-Some.is at c.in_ok-body.ensures.still tells [] still) c.next.ensures.version
+    (subst (λ (b : List ℕ). IfOk c.begun_by.result (λ book. Enters mail c.args.journal.now.version None b (meaning book)))
+    c.as_slice.ensures (c.begun_by.ensures.value c.args.journal.now.version))

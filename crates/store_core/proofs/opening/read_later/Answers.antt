@@ -1,11 +1,13 @@
 use Rattle.std.proofs.Common.{◌∙◌, arith, refl, rules, subst}
 use Rattle.journal_core.proofs.Looking.{looks_none, looks_then}
+use Rattle.store_core.specs.Mail.{mail}
 use Rattle.store_core.specs.Broken.{IsBroken}
 use Rattle.store_core.proofs.opening.read_later.Goals as goal
 
 pub loop-more-init : goal.loop-more-init
 loop-more-init g c = record {
   sound = refl;
+  version = refl;
   link = refl;
   faults = omega arith;
   looks = λ tells. looks_none _ _;
@@ -14,7 +16,8 @@ loop-more-init g c = record {
 
 pub returns-in_err-more-clause-broken : goal.returns-in_err-more-clause-broken
 returns-in_err-more-clause-broken g c tells r why is =
-    subst (IsBroken why) (c.loop-more.invariant.looks tells).seen_same (c.read_few.ensures.broken tells (c.loop-more.invariant.reads tells r) why (search rules))
+    subst (IsBroken mail why) (c.loop-more.invariant.looks tells).seen_same
+    (c.read_few.ensures.broken tells (c.loop-more.invariant.reads tells r) why (search rules))
 
 pub returns-in_err-more-clause-told : goal.returns-in_err-more-clause-told
 returns-in_err-more-clause-told g c tells = looks_then _ _ _ _ _ _ (c.loop-more.invariant.looks tells) (c.read_few.ensures.told tells)
@@ -28,6 +31,7 @@ returns-then-not-more-clause-told g c tells = looks_then _ _ _ _ _ _ (c.loop-mor
 pub loop-more-preserved : goal.loop-more-preserved
 loop-more-preserved g c = record {
   sound = c.read_few.ensures.sound ∙ c.loop-more.invariant.sound;
+  version = c.read_few.ensures.version ∙ c.loop-more.invariant.version;
   link = c.read_few.ensures.link ∙ c.loop-more.invariant.link;
   faults = omega (arith, c.read_few.ensures.count, c.loop-more.invariant.faults);
   looks = λ tells. looks_then _ _ _ _ _ _ (c.loop-more.invariant.looks tells) (c.read_few.ensures.told tells);

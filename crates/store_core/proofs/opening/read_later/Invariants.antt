@@ -1,6 +1,7 @@
 use Rattle.std.proofs.Common.{◌≡◌, ◌≤◌, ◌-◌, ◌^◌}
 use Rattle.journal_core.specs.Reading.{OnlyLooks}
 use Rattle.action_queue.specs.Book.{meaning}
+use Rattle.store_core.specs.Mail.{mail}
 use Rattle.store_core.specs.Reading.{ReadsBook}
 use Rattle.store_core.proofs.opening.read_later.Given as goal
 
@@ -10,10 +11,12 @@ invariant-loop-more g l =
     let seen = g.D.Disk.seen in
     record {
       sound : l.journal.failed ≡ l.fn.journal.failed;
+      version : l.journal.version ≡ l.fn.journal.version;
       link : g.D.Clocked.link l.disk ≡ g.D.Clocked.link l.fn.disk;
       faults : g.D.Clocked.disk_faults l.fn.disk ≤ g.D.Clocked.disk_faults l.disk;
       looks : g.D.Clocked.tells_files → OnlyLooks (clock l.fn.disk) (clock l.disk) (seen l.fn.disk) (seen l.disk);
-      reads : g.D.Clocked.tells_files → ReadsBook (meaning l.fn.book) l.fn.journal (clock l.fn.disk).now (seen l.fn.disk) → ReadsBook (meaning l.book) l.journal (clock l.disk).now (seen l.disk);
+      reads : g.D.Clocked.tells_files → ReadsBook mail (meaning l.fn.book) l.fn.journal (clock l.fn.disk).now (seen l.fn.disk) →
+          ReadsBook mail (meaning l.book) l.journal (clock l.disk).now (seen l.disk);
     }
 
 abbrev pub decreases-loop-more : goal.decreases-loop-more

@@ -6,7 +6,8 @@ use Rattle.record_codec.proofs.reading.Fields.rows.Given as goal
 
 abbrev pub invariant-loop-left : goal.invariant-loop-left
 invariant-loop-left l = record {
-  read : many_at (row_at l.vanished) row_uid l.count 0 l.fn.self.rest.now ≡ onto l.rows.items (many_at (row_at l.vanished) row_uid l.left l.floor l.self.rest.now);
+  read : many_at (row_at l.vanished) row_uid l.count 0 l.fn.self.rest.now
+      ≡ onto l.rows.items (many_at (row_at l.vanished) row_uid l.left l.floor l.self.rest.now);
   last : SpellFlags l.last.text.now l.last.flags;
 }
 

@@ -4,4 +4,5 @@ use Rattle.mailbox_cache.proofs.Members.{has_uid-Decides}
 use Rattle.record_codec.proofs.reading.deltas.has_uid.Goals as goal
 
 pub returns : goal.returns
-returns c = same_from_decides c.contains.result (has_uid c.args.set.now c.args.uid) (c.contains.ensures.0, c.contains.ensures.1) (has_uid-Decides c.args.set.now c.args.uid)
+returns c = same_from_decides c.contains.result (has_uid c.args.set.now c.args.uid) (c.contains.ensures.0, c.contains.ensures.1)
+    (has_uid-Decides c.args.set.now c.args.uid)
