@@ -1,5 +1,6 @@
 -- The names of a Begin body: what the texts write, and what stands at the front of the bytes.
-use Rattle.std.proofs.Common.{◌≡◌, ◌≢◌, ℕ, zero, suc, ◌-◌, ◌<◌, ◌≤◌, Bool, true, false, List, [], ◌∷◌, ◌++◌, length, take, drop, get_or, map, refl, sym, ◌∙◌, ap, subst, arith, cond, not}
+use Rattle.std.proofs.Common.{◌≡◌, ◌≢◌, ℕ, zero, suc, ◌-◌, ◌<◌, ◌≤◌, Bool, true, false, List, [], ◌∷◌, ◌++◌, length, take, drop, get_or}
+use Rattle.std.proofs.Common.{map, refl, sym, ◌∙◌, ap, subst, arith, cond, not}
 use Rattle.std.specs.Prelude.{String, string_bytes, All, codes, bytes_eq, flat_map, ◌↔◌, IsTrue, ◌==◌}
 use Rattle.std.specs.declared.alloc.Global.{Global}
 use Rattle.std.proofs.lemmas.List.{take_at, drop_at, take_all, length-map}
@@ -20,10 +21,24 @@ kept_name text name kept = by_test (bytes_eq (map to_ascii_lowercase text) (code
     by_test false is = kept.other (λ same. absurd (cc ((bytes_eq-Decides _ _).1 same, is)))
 
 capital : (b : ℕ) → 65 ≤ b → b ≤ 90 → IsNameByte b
-capital b low high = record { low = omega (arith, low); high = omega (arith, high); quote = λ e. omega (arith, low, e); percent = λ e. omega (arith, low, e); ampersand = λ e. omega (arith, low, e); star = λ e. omega (arith, low, e); backslash = λ e. omega (arith, high, e) }
+capital b low high = record {
+  low = omega (arith, low);
+  high = omega (arith, high);
+  quote = λ e. omega (arith, low, e);
+  percent =
+      λ e. omega (arith, low, e);
+  ampersand = λ e. omega (arith, low, e);
+  star = λ e. omega (arith, low, e);
+  backslash =
+      λ e. omega (arith, high, e);
+}
 
 letters : All IsNameByte (73 ∷ 78 ∷ 66 ∷ 79 ∷ 88 ∷ [])
-letters = All-cons IsNameByte 73 (78 ∷ 66 ∷ 79 ∷ 88 ∷ []) (capital 73 (omega arith) (omega arith)) (All-cons IsNameByte 78 (66 ∷ 79 ∷ 88 ∷ []) (capital 78 (omega arith) (omega arith)) (All-cons IsNameByte 66 (79 ∷ 88 ∷ []) (capital 66 (omega arith) (omega arith)) (All-cons IsNameByte 79 (88 ∷ []) (capital 79 (omega arith) (omega arith)) (All-cons IsNameByte 88 [] (capital 88 (omega arith) (omega arith)) (All-nil IsNameByte)))))
+letters = All-cons IsNameByte 73 (78 ∷ 66 ∷ 79 ∷ 88 ∷ []) (capital 73 (omega arith) (omega arith))
+    (All-cons IsNameByte 78 (66 ∷ 79 ∷ 88 ∷ []) (capital 78 (omega arith) (omega arith))
+    (All-cons IsNameByte 66 (79 ∷ 88 ∷ []) (capital 66 (omega arith) (omega arith))
+    (All-cons IsNameByte 79 (88 ∷ []) (capital 79 (omega arith) (omega arith))
+    (All-cons IsNameByte 88 [] (capital 88 (omega arith) (omega arith)) (All-nil IsNameByte)))))
 
 inbox_name : IsBoxName (codes "INBOX")
 inbox_name = record { text = record { some = omega arith; few = omega arith; bytes = letters }; capitals = λ same. refl }
@@ -45,8 +60,10 @@ names_kept (text ∷ rest) all = (name_kept text all.0, names_kept rest all.1)
 pub one_front : (a b r s : List ℕ) → counted a ++ r ≡ counted b ++ s → (a ≡ b) × (r ≡ s)
 one_front a b r s same =
     let long : length a ≡ length b = ap (λ (l : List ℕ). get_or l 0 0) same in
-    let behind : a ++ r ≡ b ++ s = ap (drop 1) same in
-    (sym (take_at a r (length a) refl) ∙ ap (take (length a)) behind ∙ take_at b s (length a) (sym long), sym (drop_at a r (length a) refl) ∙ ap (drop (length a)) behind ∙ drop_at b s (length a) (sym long))
+    let behind : a ++ r ≡ b ++ s = ap (drop 1) same in (
+      sym (take_at a r (length a) refl) ∙ ap (take (length a)) behind ∙ take_at b s (length a) (sym long),
+      sym (drop_at a r (length a) refl) ∙ ap (drop (length a)) behind ∙ drop_at b s (length a) (sym long),
+    )
 
 -- where the first text fits, the texts fit exactly where the rest does
 pub others_then : (P : List ℕ → Type 0) (texts : List (String Global)) (first : String Global) (r : Bool) → 1 ≤ length texts → first ≡ get_or texts 0 first
@@ -55,7 +72,8 @@ pub others_then : (P : List ℕ → Type 0) (texts : List (String Global)) (firs
     → IsTrue r ↔ AllByRecursion P (map name_of (map string_bytes texts))
 others_then P [] first r least is fits step = absurd (omega (arith, least))
 others_then P (x ∷ xs) first r least is fits step =
-    let later = subst (λ (l : List (String Global)). IsTrue r ↔ AllByRecursion P (map name_of (map string_bytes l))) (take_all (length (x ∷ xs) - 1) xs (omega arith)) step in
+    let later = subst (λ (l : List (String Global)). IsTrue r ↔ AllByRecursion P (map name_of (map string_bytes l)))
+    (take_all (length (x ∷ xs) - 1) xs (omega arith)) step in
     (λ yes. (subst (λ (t : String Global). P (name_of (string_bytes t))) is fits, later.0 yes), λ all. later.1 all.1)
 
 -- what a test of two lists for a difference tells
@@ -76,15 +94,27 @@ not_none zero is = let other : true ≡ false = is in absurd (cc other)
 not_none (suc n) is = omega arith
 
 -- 1 to 32 texts write names exactly where each does and no two write the same
-pub names_of_apart : (texts : List (String Global)) (r : Bool) → 1 ≤ length texts → length texts ≤ 32 → (IsTrue r ↔ AreApart (map string_bytes texts)) → IsTrue r ↔ WriteNames (map string_bytes texts)
+pub names_of_apart : (texts : List (String Global)) (r : Bool) → 1 ≤ length texts → length texts ≤ 32 →
+    (IsTrue r ↔ AreApart (map string_bytes texts)) → IsTrue r ↔ WriteNames (map string_bytes texts)
 names_of_apart texts r some few step =
     let long = length-map (map string_bytes texts) name_of ∙ length-map texts string_bytes in (
-      λ told. let apart = step.0 told in record { each = apart.each; names = record { some = omega (arith, long, some); few = omega (arith, long, few); each = names_kept (map string_bytes texts) apart.each; distinct = apart.distinct } },
+      λ told. let apart = step.0 told in record {
+        each = apart.each;
+        names =
+            record {
+              some = omega (arith, long, some);
+              few = omega (arith, long, few);
+              each =
+                  names_kept (map string_bytes texts) apart.each;
+              distinct = apart.distinct;
+            };
+      },
       λ all. step.1 (record { each = all.each; distinct = all.names.distinct }),
     )
 
 -- each of the texts writes a name
-pub text_at : (texts : List (String Global)) (i : ℕ) (text : String Global) → AllByRecursion IsBoxText (map string_bytes texts) → i < length texts → text ≡ get_or texts i text → IsBoxText (string_bytes text)
+pub text_at : (texts : List (String Global)) (i : ℕ) (text : String Global) → AllByRecursion IsBoxText (map string_bytes texts) →
+    i < length texts → text ≡ get_or texts i text → IsBoxText (string_bytes text)
 text_at [] i text all below is = absurd (omega (arith, below))
 text_at (x ∷ xs) zero text all below is = subst (λ (t : String Global). IsBoxText (string_bytes t)) (sym is) all.0
 text_at (x ∷ xs) (suc i) text all below is = text_at xs i text all.1 (omega (arith, below)) is
@@ -108,7 +138,8 @@ module _ (bytes name rest : List ℕ) (left : ℕ) (some : left ≢ 0) (is : byt
       subst (λ (l : List (List ℕ)). IsTrue r ↔ AllByRecursion (λ other. one ≢ other) l) (sym b.1) (λ yes. (differs, later.0 yes), λ each. later.1 each.1)
 
   -- where the first name is the one, it isn't absent
-  pub present : (one : List ℕ) → one ≡ name → (names : List (List ℕ)) → length names ≡ left → bytes ≡ flat_map counted names → AllByRecursion (λ other. one ≢ other) names → ⊥
+  pub present : (one : List ℕ) → one ≡ name → (names : List (List ℕ)) → length names ≡ left → bytes ≡ flat_map counted names →
+      AllByRecursion (λ other. one ≢ other) names → ⊥
   present one same names long all each =
       let b = behind names long all in
       (subst (λ (l : List (List ℕ)). AllByRecursion (λ other. one ≢ other) l) b.1 each).0 same
@@ -126,13 +157,21 @@ module _ (bytes name rest : List ℕ) (left : ℕ) (some : left ≢ 0) (is : byt
       → ((names : List (List ℕ)) → length names ≡ left - 1 → rest ≡ flat_map counted names → IsTrue r ↔ AllByRecursion (λ other. name ≢ other) names)
       → IsTrue r ↔ HoldNames left bytes
   hold_then r named h step = (
-    λ yes. record { names = name ∷ h.names; many = omega (arith, h.many, some); each = (named, h.each); distinct = ((step h.names h.many h.is).0 yes, h.distinct); is = is ∙ ap (λ (l : List ℕ). counted name ++ l) h.is },
+    λ yes. record {
+      names = name ∷ h.names;
+      many = omega (arith, h.many, some);
+      each = (named, h.each);
+      distinct =
+          ((step h.names h.many h.is).0 yes, h.distinct);
+      is = is ∙ ap (λ (l : List ℕ). counted name ++ l) h.is;
+    },
     λ whole.
         let b = behind whole.names whole.many whole.is in
         (step b.0 b.2 b.3).1 (subst Distinct b.1 whole.distinct).0,
   )
 
 -- where nothing stands behind its length at the front, the bytes are no names
-pub none_hold : (bytes : List ℕ) (left : ℕ) → left ≢ 0 → ((name rest : List ℕ) → bytes ≡ counted name ++ rest → ⊥) → (names : List (List ℕ)) → length names ≡ left → bytes ≡ flat_map counted names → ⊥
+pub none_hold : (bytes : List ℕ) (left : ℕ) → left ≢ 0 → ((name rest : List ℕ) → bytes ≡ counted name ++ rest → ⊥) →
+    (names : List (List ℕ)) → length names ≡ left → bytes ≡ flat_map counted names → ⊥
 none_hold bytes left some none [] long is = some (sym long)
 none_hold bytes left some none (n ∷ ns) long is = none n (flat_map counted ns) is

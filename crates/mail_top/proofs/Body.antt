@@ -35,7 +35,8 @@ module _ (body : List ℕ) (size : ℕ) (size_is : size ≡ slice_index body 1) 
   at_place : (i j : ℕ) → i ≡ 2 + size + j → slice_index body i ≡ slice_index tail j
   at_place i j same = ap (λ (k : ℕ). slice_index body k) same ∙ at_tail j
 
-  pub uid_is : IsLawful a → from_be_bytes w32 (slice_index body (2 + size) ∷ slice_index body (2 + size + 1) ∷ slice_index body (2 + size + 2) ∷ slice_index body (2 + size + 3) ∷ []) ≡ a.uid
+  pub uid_is : IsLawful a → from_be_bytes w32 (slice_index body (2 + size) ∷ slice_index body (2 + size + 1) ∷ slice_index body
+      (2 + size + 2) ∷ slice_index body (2 + size + 3) ∷ []) ≡ a.uid
   uid_is lawful =
       let b0 = at_place (2 + size) 0 (omega arith) in
       let b1 = at_place (2 + size + 1) 1 refl in
@@ -54,8 +55,10 @@ module _ (body : List ℕ) (size : ℕ) (size_is : size ≡ slice_index body 1) 
   key_is =
       let many : slice_index body (7 + size) ≡ length (key_of a.flag) = at_place (7 + size) 5 (omega arith) in
       let place : 8 + size ≡ 2 + size + 6 = omega arith in
-      let key : drop (8 + size) body ≡ key_of a.flag = ap (λ (n : ℕ). drop n body) place ∙ ap (λ (n : ℕ). drop n body) (omega arith) ∙ sym (drop-drop 6 (2 + size) body) ∙ ap (drop 6) tail_is in
-      ap (λ (n : ℕ). take n (drop (8 + size) body)) many ∙ ap (take (length (key_of a.flag))) key ∙ take_all (length (key_of a.flag)) (key_of a.flag) (omega arith)
+      let key : drop (8 + size) body ≡ key_of a.flag = ap (λ (n : ℕ). drop n body) place ∙ ap (λ (n : ℕ). drop n body) (omega arith)
+      ∙ sym (drop-drop 6 (2 + size) body) ∙ ap (drop 6) tail_is in
+      ap (λ (n : ℕ). take n (drop (8 + size) body)) many ∙ ap (take (length (key_of a.flag))) key
+      ∙ take_all (length (key_of a.flag)) (key_of a.flag) (omega arith)
 
 -- the sign tells an addition
 pub plus_is : (add : Bool) → (sign_of add == 43) ≡ add

@@ -9,7 +9,7 @@ use Rattle.world_traits.proofs.Passing.{since_start, since_weaker}
 use Rattle.journal_core.specs.declared.version.Version.TheVariants.{First}
 use Rattle.journal_core.specs.Records.{open_record, records}
 use Rattle.journal_core.specs.Holds.{Holds}
-use Rattle.journal_core.specs.Creating.{IsFree, CreatesThrough, created, end_of}
+use Rattle.journal_core.specs.Creating.{IsUnbegun, CreatesThrough, created, end_of}
 use Rattle.journal_core.specs.Standing.{Standing, IsStill}
 use Rattle.journal_core.specs.Held.{KeepsHeld}
 use Rattle.journal_core.proofs.Held.{creates_held, within_held, still_images, narrowed}
@@ -26,12 +26,13 @@ module _ (body : List ℕ) where
   -- the moments of a creation
   pub creates_every : (k l : Clock) (bodies : List (List ℕ)) → bodies ≡ body ∷ [] → CreatesThrough bodies k l → Since (IsCreating body k.now) KeepsHeld k l
   creates_every k l bodies is through =
-      since_weaker (λ m. Within k.now m ⊎ Images (λ files. IsFree files ⊎ Holds First (body ∷ []) files) m) (IsCreating body k.now)
-      (λ m n. Within m n ⊎ GoesOn IsFree (Holds First (body ∷ [])) m n) KeepsHeld
+      since_weaker (λ m. Within k.now m ⊎ Images (λ files. IsUnbegun files ⊎ Holds First (body ∷ []) files) m) (IsCreating body k.now)
+      (λ m n. Within m n ⊎ GoesOn IsUnbegun (Holds First (body ∷ [])) m n) KeepsHeld
       (λ m p. p) (λ m n s. ⊎_elim (λ w. within_held m n w) (λ g. creates_held First (body ∷ []) m n g) s) k l
       (subst (λ (b : List (List ℕ)). CreatesThrough b k l) is through)
 
-  pub created_images : (j : Standing) (m : Moment) (f : Files) (bodies : List (List ℕ)) → bodies ≡ body ∷ [] → j ≡ created bodies → IsStill j bodies m f → Images (Holds First (body ∷ [])) m
+  pub created_images : (j : Standing) (m : Moment) (f : Files) (bodies : List (List ℕ)) → bodies ≡ body ∷ [] → j ≡ created bodies →
+      IsStill j bodies m f → Images (Holds First (body ∷ [])) m
   created_images j m f bodies is made still =
       subst (λ (b : List (List ℕ)). Images (Holds First b) m) is
       (still_images (created bodies) bodies m f (subst (λ (x : Standing). IsStill x bodies m f) made still) refl)

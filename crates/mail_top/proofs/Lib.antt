@@ -5,5 +5,6 @@ pub mod Body
 pub mod Creations
 pub mod Endings
 pub mod OneByOne
+pub mod Repeated
 pub mod Wholeness
 pub mod Wording

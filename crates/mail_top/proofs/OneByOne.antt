@@ -1,5 +1,6 @@
 -- How a journal's records are read, one after the other.
-use Rattle.std.proofs.Common.{◌≡◌, ℕ, ◌+◌, Bool, true, false, IsTrue, List, [], ◌∷◌, ◌++◌, length, drop, slice_index, refl, sym, ◌∙◌, ap, subst, arith, append_assoc, length-append, get_or-drop, Ok, Err, Option, Some, None}
+use Rattle.std.proofs.Common.{◌≡◌, ℕ, ◌+◌, Bool, true, false, IsTrue, List, [], ◌∷◌, ◌++◌, length, drop, slice_index, refl, sym, ◌∙◌, ap}
+use Rattle.std.proofs.Common.{subst, arith, append_assoc, length-append, get_or-drop, Ok, Err, Option, Some, None}
 use Rattle.std.specs.List.{AllByRecursion}
 use Rattle.std.proofs.lemmas.List.{append-nil, drop_at}
 use Rattle.world_traits.specs.Files.{Files, file_of}
@@ -28,8 +29,10 @@ pub up_to_here : (bodies : List (List ℕ)) (j : Standing) (m : Moment) (f : Fil
 up_to_here bodies j m f still = record {
   sizes = still.sizes;
   rest = still.gate ∷ still.rest;
-  is = ap (drop 13) (still.is ∙ append_assoc (head_of j.version j.generation) (records bodies) (still.gate ∷ still.rest)) ∙ drop_at (head_of j.version j.generation) (records bodies ++ still.gate ∷ still.rest) 13 (head_long j.version j.generation);
-  there = still.next ∙ length-append (head_of j.version j.generation) (records bodies) ∙ ap (λ (n : ℕ). n + length (records bodies)) (head_long j.version j.generation);
+  is = ap (drop 13) (still.is ∙ append_assoc (head_of j.version j.generation) (records bodies) (still.gate ∷ still.rest))
+      ∙ drop_at (head_of j.version j.generation) (records bodies ++ still.gate ∷ still.rest) 13 (head_long j.version j.generation);
+  there = still.next ∙ length-append (head_of j.version j.generation) (records bodies)
+      ∙ ap (λ (n : ℕ). n + length (records bodies)) (head_long j.version j.generation);
 }
 
 module _ (kind : Due) (bodies : List (List ℕ)) (j : Standing) (m : Moment) (f : Files) where
@@ -41,10 +44,19 @@ module _ (kind : Due) (bodies : List (List ℕ)) (j : Standing) (m : Moment) (f 
   one_false b is reads = subst (ReadsOne kind bodies j m f) is reads
 
   broken_here : IsStill j bodies m f → IsNotDue kind j.place (file_of j.side f) → BrokenBehind kind bodies j.place f
-  broken_here still bad = record { side = j.side; version = j.version; generation = j.generation; present = still.present; up_to = up_to_here bodies j m f still; bad = bad }
+  broken_here still bad = record {
+    side = j.side;
+    version = j.version;
+    generation = j.generation;
+    present = still.present;
+    up_to =
+        up_to_here bodies j m f still;
+    bad = bad;
+  }
 
   -- a torn record
-  pub torn_behind : (after : Standing) (fault : OpenFault) (why : Place9) → IsStill j bodies m f → fault ≡ faults.NotAJournal why → NextIs j (file_of j.side f) after (Err fault) → BrokenRecord kind bodies why f
+  pub torn_behind : (after : Standing) (fault : OpenFault) (why : Place9) → IsStill j bodies m f → fault ≡ faults.NotAJournal why →
+      NextIs j (file_of j.side f) after (Err fault) → BrokenRecord kind bodies why f
   torn_behind after (faults.NotAJournal (places.Record at)) (places.Record place) still is next =
       let same : place ≡ j.place = cc in
       subst (λ (n : ℕ). BrokenBehind kind bodies n f) (sym same) (broken_here still (torn next.1))
@@ -58,31 +70,36 @@ module _ (kind : Due) (bodies : List (List ℕ)) (j : Standing) (m : Moment) (f 
   torn_behind after faults.Memory why still is next = absurd cc
 
   -- another body
-  pub other_behind : (body : List ℕ) (at : ℕ) (why : Place9) → IsStill j bodies m f → at ≡ j.place → why ≡ places.Record at → StandsAt j.place body (file_of j.side f) → (IsDue kind body → ⊥) → BrokenRecord kind bodies why f
+  pub other_behind : (body : List ℕ) (at : ℕ) (why : Place9) → IsStill j bodies m f → at ≡ j.place → why ≡ places.Record at →
+      StandsAt j.place body (file_of j.side f) → (IsDue kind body → ⊥) → BrokenRecord kind bodies why f
   other_behind body at why still same is stands bad =
       subst (λ (w : Place9). BrokenRecord kind bodies w f) (sym (is ∙ ap (λ (n : ℕ). places.Record n) same)) (broken_here still (other body stands bad))
 
 -- the body that was read stands at the journal's place
-pub body_stands : (j after : Standing) (file : List ℕ) (found : Option (List ℕ)) (body : List ℕ) → found ≡ Some body → NextIs j file after (Ok found) → StandsAt j.place body file
+pub body_stands : (j after : Standing) (file : List ℕ) (found : Option (List ℕ)) (body : List ℕ) → found ≡ Some body →
+    NextIs j file after (Ok found) → StandsAt j.place body file
 body_stands j after file (Some b) body is next = let same : b ≡ body = cc in subst (λ (x : List ℕ). StandsAt j.place x file) same next.0
 body_stands j after file None body is next = absurd cc
 
 -- where no body was read the gate is closed
-closed_gate : (j : Standing) (bodies : List (List ℕ)) (m : Moment) (f : Files) → IsStill j bodies m f → IsTrue j.all_read → HasClosedGate j.place (file_of j.side f)
+closed_gate : (j : Standing) (bodies : List (List ℕ)) (m : Moment) (f : Files) → IsStill j bodies m f → IsTrue j.all_read →
+    HasClosedGate j.place (file_of j.side f)
 closed_gate j bodies m f still read = λ is. still.closed read (sym gate ∙ is)
   where
     there : drop j.place (file_of j.side f) ≡ still.gate ∷ still.rest
     there = ap (drop j.place) still.is ∙ drop_at (head_of j.version j.generation ++ records bodies) (still.gate ∷ still.rest) j.place (sym still.next)
 
     gate : slice_index (file_of j.side f) j.place ≡ still.gate
-    gate = ap (λ (n : ℕ). slice_index (file_of j.side f) n) (omega arith) ∙ sym (get_or-drop j.place (file_of j.side f) 0 0) ∙ ap (λ (l : List ℕ). slice_index l 0) there
+    gate = ap (λ (n : ℕ). slice_index (file_of j.side f) n) (omega arith) ∙ sym (get_or-drop j.place (file_of j.side f) 0 0)
+        ∙ ap (λ (l : List ℕ). slice_index l 0) there
 
 -- before its first record a journal stands at 13
 first_place : (j : Standing) (m : Moment) (f : Files) → IsStill j [] m f → j.place ≡ 13
 first_place j m f still = still.next ∙ ap length (append-nil (head_of j.version j.generation)) ∙ head_long j.version j.generation
 
 -- and a Begin is missing
-pub missing_behind : (j k : Standing) (at : ℕ) (why : Place9) (m n : Moment) (f g : Files) → IsStill j [] m f → IsStill k [] n g → g ≡ f → IsTrue k.all_read → at ≡ j.place → why ≡ places.Record at → BrokenRecord due.Begin [] why f
+pub missing_behind : (j k : Standing) (at : ℕ) (why : Place9) (m n : Moment) (f g : Files) → IsStill j [] m f → IsStill k [] n g → g ≡ f →
+    IsTrue k.all_read → at ≡ j.place → why ≡ places.Record at → BrokenRecord due.Begin [] why f
 missing_behind j k at why m n f g still later same read there is =
     let place : at ≡ k.place = there ∙ first_place j m f still ∙ sym (first_place k n g later) in
     subst (BrokenRecord due.Begin [] why) same
@@ -90,7 +107,13 @@ missing_behind j k at why m n f g still later same read there is =
     (broken_here due.Begin [] k n g later (missing refl (closed_gate k [] n g later read))))
 
 pub reads_none : (bodies : List (List ℕ)) (j : Standing) (m : Moment) (f : Files) → IsStill j bodies m f → ReadsActions bodies j m f 1
-reads_none bodies j m f still = record { actions = []; are = tt; many = refl; still = subst (λ (b : List (List ℕ)). IsStill j b m f) (sym (append-nil bodies)) still }
+reads_none bodies j m f still = record {
+  actions = [];
+  are = tt;
+  many = refl;
+  still =
+      subst (λ (b : List (List ℕ)). IsStill j b m f) (sym (append-nil bodies)) still;
+}
 
 -- what is no journal holds no Begin and actions
 pub no_journal_broken : (why : Place9) (f : Files) → IsNoJournal why f → IsBroken why f
@@ -107,7 +130,12 @@ begin_broken places.Generations f g same b = absurd b
 
 module _ (first : List ℕ) (is : IsBegin first) where
   pub later_broken : (why : Place9) (f g : Files) → f ≡ g → BrokenLater (first ∷ []) why f → IsBroken why g
-  later_broken (places.Record at) f g same b = record { before = first ∷ b.actions; are = (is, b.are); broken = subst (BrokenBehind due.Action (first ∷ b.actions) at) same b.broken }
+  later_broken (places.Record at) f g same b = record {
+    before = first ∷ b.actions;
+    are = (is, b.are);
+    broken =
+        subst (BrokenBehind due.Action (first ∷ b.actions) at) same b.broken;
+  }
   later_broken places.Absent f g same b = absurd b.broken
   later_broken places.Header f g same b = absurd b.broken
   later_broken places.Generations f g same b = absurd b.broken

@@ -12,7 +12,8 @@ decimal_number text n fits is =
     subst (λ (t : List ℕ). IsNumberUpTo 4294967295 t n) (sym is) (record { digits = both.0; value = both.1; fits = omega arith })
 
 -- five words are these five
-pub five_words : (words : List (String Global)) (a b c d e : String Global) → 5 ≤ length words → length words < 6 → a ≡ get_or words 0 a → b ≡ get_or words 1 b → c ≡ get_or words 2 c → d ≡ get_or words 3 d → e ≡ get_or words 4 e
+pub five_words : (words : List (String Global)) (a b c d e : String Global) → 5 ≤ length words → length words < 6 → a ≡ get_or words 0 a →
+    b ≡ get_or words 1 b → c ≡ get_or words 2 c → d ≡ get_or words 3 d → e ≡ get_or words 4 e
     → map string_bytes words ≡ string_bytes a ∷ string_bytes b ∷ string_bytes c ∷ string_bytes d ∷ string_bytes e ∷ []
 five_words (v ∷ w ∷ x ∷ y ∷ z ∷ []) a b c d e least most ia ib ic id ie = cc
 five_words [] a b c d e least most ia ib ic id ie = absurd (omega arith)

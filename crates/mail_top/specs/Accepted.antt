@@ -4,10 +4,11 @@ use Rattle.world_traits.specs.Files.{Files}
 use Rattle.world_traits.specs.Moments.{Moment, Images, Within}
 use Rattle.journal_core.specs.declared.version.Version.{Version}
 use Rattle.journal_core.specs.declared.version.Version.TheVariants.{First}
-use Rattle.journal_core.specs.Records.{records, frame_of}
+use Rattle.mail_base.specs.Bodies.{frame_of}
+use Rattle.journal_core.specs.Records.{records}
 use Rattle.journal_core.specs.Holds.{Holds}
 use Rattle.journal_core.specs.Appending.{told_end}
-use Rattle.journal_core.specs.Creating.{IsFree}
+use Rattle.journal_core.specs.Creating.{IsUnbegun}
 use Rattle.journal_core.specs.Held.{HasHeld}
 use Rattle.mail_top.specs.Begin.{name_of, begin_of}
 use Rattle.mail_top.specs.Book.{HoldsBook}
@@ -47,13 +48,13 @@ pub record HoldsOrAdds (body : List ℕ) (seen files : Files) : Type 0 where
 abbrev pub IsAdding : List ℕ → Files → Moment → Moment → Type 0
 IsAdding body seen entry m = Within entry m ⊎ Images (HoldsOrAdds body seen) m
 
--- no side is set up, or the files hold this one body
-abbrev pub IsFreeOrHolds : List ℕ → Files → Type 0
-IsFreeOrHolds body files = IsFree files ⊎ Holds First (body ∷ []) files
+-- no side is begun, or the files hold this one body
+abbrev pub IsUnbegunOrHolds : List ℕ → Files → Type 0
+IsUnbegunOrHolds body files = IsUnbegun files ⊎ Holds First (body ∷ []) files
 
 -- while a journal is set up with a body a stop leaves what one at entry could have left, no journal, or that body
 abbrev pub IsCreating : List ℕ → Moment → Moment → Type 0
-IsCreating body entry m = Within entry m ⊎ Images (IsFreeOrHolds body) m
+IsCreating body entry m = Within entry m ⊎ Images (IsUnbegunOrHolds body) m
 
 -- the Begin body of the names that texts write
 abbrev pub begin_of_texts : List (List ℕ) → List ℕ

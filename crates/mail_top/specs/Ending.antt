@@ -15,7 +15,7 @@ use Rattle.journal_core.specs.declared.creating.CreateFault.TheVariants as creat
 use Rattle.journal_core.specs.Creating.{IsTaken, IsUnbegun}
 use Rattle.journal_core.specs.Holds.{Holds}
 use Rattle.journal_core.specs.Reading.{AnyWrong}
-use Rattle.mail_top.specs.Accepted.{IsAccepted, IsOverfull, HoldsOrAdds, IsFreeOrHolds, begin_of_texts, end_with_action}
+use Rattle.mail_top.specs.Accepted.{IsAccepted, IsOverfull, HoldsOrAdds, IsUnbegunOrHolds, begin_of_texts, end_with_action}
 use Rattle.mail_top.specs.Book.{IsBroken}
 use Rattle.mail_top.specs.FlagAction.{body_of}
 use Rattle.mail_top.specs.Words.{Asks, AsksInit}
@@ -78,7 +78,7 @@ pub record Keeps (entry m : Moment) (seen seen_after : Files) : Type 0 where
 pub data OnTheWay (words : List (List ℕ)) (entry : Moment) (seen : Files) (m : Moment) : Type 0 where
   kept : Within entry m → OnTheWay words entry seen m
   adding : (action : FlagAction) → Asks words action → Images (HoldsOrAdds (body_of action) seen) m → OnTheWay words entry seen m
-  creating : (texts : List (List ℕ)) → AsksInit words texts → Images (IsFreeOrHolds (begin_of_texts texts)) m → OnTheWay words entry seen m
+  creating : (texts : List (List ℕ)) → AsksInit words texts → Images (IsUnbegunOrHolds (begin_of_texts texts)) m → OnTheWay words entry seen m
 
 -- what each status says; the others don't come
 abbrev pub Ends : List (List ℕ) → Moment → Moment → Files → Files → Status → List ℕ → Type 0
@@ -89,7 +89,14 @@ Ends words entry now seen seen_after status.Disk line = OnTheWay words entry see
 Ends words entry now seen seen_after status.Journal line = Keeps entry now seen seen_after × (SaysBroken words seen line ⊎ SaysTaken words seen line)
 Ends words entry now seen seen_after status.Memory line = Keeps entry now seen seen_after × (line ≡ error_memory)
 Ends words entry now seen seen_after status.Limit line = Keeps entry now seen seen_after × SaysFull words seen line
-Ends words entry now seen seen_after _ line = ⊥
+Ends words entry now seen seen_after status.Conflicts line = ⊥
+Ends words entry now seen seen_after status.Link line = ⊥
+Ends words entry now seen seen_after status.Refused line = ⊥
+Ends words entry now seen seen_after status.Reply line = ⊥
+Ends words entry now seen seen_after status.Lacking line = ⊥
+Ends words entry now seen seen_after status.Validity line = ⊥
+Ends words entry now seen seen_after status.Reason line = ⊥
+Ends words entry now seen seen_after status.Input line = ⊥
 
 -- the statuses that come
 abbrev pub Comes : Status → Type 0
@@ -100,7 +107,14 @@ Comes status.Disk = Unit {0}
 Comes status.Journal = Unit {0}
 Comes status.Memory = Unit {0}
 Comes status.Limit = Unit {0}
-Comes _ = ⊥
+Comes status.Conflicts = ⊥
+Comes status.Link = ⊥
+Comes status.Refused = ⊥
+Comes status.Reply = ⊥
+Comes status.Lacking = ⊥
+Comes status.Validity = ⊥
+Comes status.Reason = ⊥
+Comes status.Input = ⊥
 
 -- the line was written; or the sink failed, and a front of it was
 abbrev pub Writes : List ℕ → List ℕ → List ℕ → ℕ → ℕ → Type 0
@@ -111,7 +125,19 @@ Writes line old new faults faults_after = (new ≡ old ++ line) ⊎ (Rose faults
 abbrev pub Prints : Status → List ℕ → List ℕ → List ℕ → ℕ → ℕ → Type 0
 Prints status.Done line old new faults faults_after = new ≡ old ++ line
 Prints status.Output line old new faults faults_after = Rose faults faults_after × ((n : ℕ) × (new ≡ old ++ take n line))
-Prints _ line old new faults faults_after = Writes line old new faults faults_after
+Prints status.Words line old new faults faults_after = Writes line old new faults faults_after
+Prints status.Disk line old new faults faults_after = Writes line old new faults faults_after
+Prints status.Journal line old new faults faults_after = Writes line old new faults faults_after
+Prints status.Memory line old new faults faults_after = Writes line old new faults faults_after
+Prints status.Limit line old new faults faults_after = Writes line old new faults faults_after
+Prints status.Conflicts line old new faults faults_after = Writes line old new faults faults_after
+Prints status.Link line old new faults faults_after = Writes line old new faults faults_after
+Prints status.Refused line old new faults faults_after = Writes line old new faults faults_after
+Prints status.Reply line old new faults faults_after = Writes line old new faults faults_after
+Prints status.Lacking line old new faults faults_after = Writes line old new faults faults_after
+Prints status.Validity line old new faults faults_after = Writes line old new faults faults_after
+Prints status.Reason line old new faults faults_after = Writes line old new faults faults_after
+Prints status.Input line old new faults faults_after = Writes line old new faults faults_after
 
 -- each action that the words ask for has room behind these bodies
 abbrev pub HasRoom : List (List ℕ) → List (List ℕ) → Type 0

@@ -5,4 +5,5 @@ pub mod Ending
 pub mod Faults
 pub mod FlagAction
 pub mod Reading
+pub mod Runs
 pub mod Words

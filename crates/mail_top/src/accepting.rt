@@ -2,7 +2,7 @@
 
 ghost use Rattle.std.specs.Prelude.{◌≡◌, ◌≤◌, ◌^◌, ℕ, IfOk, IfErr, IsErrOf};
 ghost use Rattle.world_traits.specs.Calls.{Rose};
-ghost use Rattle.world_traits.specs.Moments.{Since, Within};
+ghost use Rattle.world_traits.specs.Moments.{OneSideAtRest, Since, Within};
 ghost use Rattle.journal_core.specs.Held.{KeepsHeld};
 ghost use Rattle.journal_core.specs.declared.fault.Place9.{Place9};
 ghost use Rattle.mail_top.specs.Accepted.{IsAccepted, IsOverfull, IsAdding};
@@ -90,6 +90,10 @@ pub fn accept<D: Disk>(
     // At every moment a stop leaves those bodies, or those and the action's; and no step loses what all images hold.
     ensures every { D.tells_files → Since (IsAdding (body_of action.now) (D.seen disk.old) (D.clock disk.old).now) KeepsHeld
         (D.clock disk.old) (D.clock disk.new) }
+
+    // Where one side was at rest, one is.
+    ensures one_side { D.tells_files → OneSideAtRest (D.clock disk.old).now →
+        OneSideAtRest (D.clock disk.new).now }
 
     ensures link { D.link disk.new ≡ D.link disk.old }
     ensures count { D.disk_faults disk.old ≤ D.disk_faults disk.new }

@@ -3,7 +3,7 @@
 ghost use Rattle.std.specs.Prelude.{◌≡◌, ◌<◌, ◌+◌, ◌^◌, ◌↔◌, [], ◌∷◌, IsTrue, IsNone, IfSome, take, drop, slice_index};
 ghost use Rattle.std.specs.Int.{w32, from_be_bytes};
 ghost use Rattle.mail_base.specs.BoxName.{IsBoxName};
-ghost use Rattle.journal_core.specs.Records.{IsBody, frame_of};
+ghost use Rattle.mail_base.specs.Bodies.{IsBody, frame_of};
 ghost use Rattle.mail_top.specs.FlagAction.{body_of, key_of, IsLawful};
 
 use crate::{FlagAction, SystemFlag};

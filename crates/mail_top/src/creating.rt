@@ -2,7 +2,7 @@
 
 ghost use Rattle.std.specs.Prelude.{◌≡◌, ◌≤◌, [], ◌∷◌, ℕ, IsErr, IsErrOf, OnOk, map, string_bytes};
 ghost use Rattle.world_traits.specs.Calls.{Rose};
-ghost use Rattle.world_traits.specs.Moments.{Images, Since, Within};
+ghost use Rattle.world_traits.specs.Moments.{Images, OneSideAtRest, Since, Within};
 ghost use Rattle.journal_core.specs.Creating.{IsTaken, IsUnbegun};
 ghost use Rattle.journal_core.specs.Held.{KeepsHeld};
 ghost use Rattle.journal_core.specs.Holds.{Holds};
@@ -42,6 +42,10 @@ pub fn init<D: Disk>(alloc: Global, disk: &mut D, texts: &[String]) -> Result<()
     // At every moment a stop leaves no journal or the Begin; and no step loses what all images hold.
     ensures every { D.tells_files → Since (IsCreating (begin_of_texts (map string_bytes texts.now)) (D.clock disk.old).now)
         KeepsHeld (D.clock disk.old) (D.clock disk.new) }
+
+    // Where one side was at rest, one is.
+    ensures one_side { D.tells_files → OneSideAtRest (D.clock disk.old).now →
+        OneSideAtRest (D.clock disk.new).now }
 
     ensures link { D.link disk.new ≡ D.link disk.old }
     ensures count { D.disk_faults disk.old ≤ D.disk_faults disk.new }

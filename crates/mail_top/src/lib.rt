@@ -3,17 +3,21 @@
 
 mod accepting;
 mod action_body;
+mod arguments;
 mod begin;
 mod creating;
 mod ending;
 mod flag_action;
 mod reading;
 mod running;
+mod runs;
 #[cfg(test)]
 mod tests;
 mod words;
 
 pub use accepting::{AcceptFault, MAX_JOURNAL};
+pub use arguments::{box_of, uid_of};
 pub use begin::{MAX_NAMES, are_names, begin_body, is_begin};
 pub use flag_action::{FlagAction, SystemFlag};
 pub use running::run;
+pub use runs::runs_one_behind_another;

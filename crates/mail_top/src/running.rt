@@ -2,14 +2,12 @@
 
 ghost use Rattle.std.specs.Prelude.{◌≡◌, ◌≢◌, ◌⊎◌, ◌≤◌, ◌++◌, ◌↔◌, ℕ, List, take, map, string_bytes};
 ghost use Rattle.world_traits.specs.Calls.{Rose};
-ghost use Rattle.world_traits.specs.Files.{file_of};
-ghost use Rattle.world_traits.specs.Moments.{Since};
-ghost use Rattle.world_traits.specs.declared.disk.Side.{Side};
-ghost use Rattle.journal_core.specs.Creating.{IsFree};
+ghost use Rattle.world_traits.specs.Moments.{OneSideAtRest, Since};
+ghost use Rattle.journal_core.specs.Creating.{IsUnbegun};
 ghost use Rattle.journal_core.specs.Held.{HeldGrows, KeepsHeld};
-ghost use Rattle.journal_core.specs.Sides.{HasWrongHeader};
 ghost use Rattle.mail_top.specs.Book.{HoldsBook};
 ghost use Rattle.mail_top.specs.Ending.{Ends, OnTheWay, Comes, Prints, HasRoom};
+ghost use Rattle.mail_top.specs.Runs.{RunsOn};
 ghost use Rattle.mail_top.specs.Words.{Asks, AsksInit, AsksNothing};
 
 use crate::accepting::{MAX_JOURNAL, accept};
@@ -30,6 +28,8 @@ fn carry_out<D: Disk>(alloc: Global, words: &[String], disk: &mut D) -> Ending
     ensures disk { result.status ≡ Status.Disk → Rose (D.disk_faults disk.old) (D.disk_faults disk.new) }
     ensures every { D.tells_files → Since (OnTheWay (map string_bytes words.now) (D.clock disk.old).now (D.seen disk.old))
         KeepsHeld (D.clock disk.old) (D.clock disk.new) }
+    ensures one_side { D.tells_files → OneSideAtRest (D.clock disk.old).now →
+        OneSideAtRest (D.clock disk.new).now }
     ensures link { D.link disk.new ≡ D.link disk.old }
     ensures count { D.disk_faults disk.old ≤ D.disk_faults disk.new }
 {
@@ -96,17 +96,22 @@ pub fn run<W: World, I: Source, S: Sink>(
         (Rose (W.disk_faults world.old) (W.disk_faults world.new) → ⊥) → (Rose (S.sink_faults out.old) (S.sink_faults out.new) → ⊥) →
         (result ≡ Status.Done) ⊎ (result ≡ Status.Memory) }
 
-    // Lawful names, no side set up, none with a wrong header, and no fault: the journal is set up, or memory is wanting.
+    // Lawful names, no side begun, and no fault: the journal is set up, or memory is wanting.
     ensures complete_init { W.tells_files → (texts : List (List ℕ)) → AsksInit (map string_bytes words.now) texts →
-        IsFree (W.seen world.old) → ((side : Side) → HasWrongHeader (file_of side (W.seen world.old)) → ⊥) →
+        IsUnbegun (W.seen world.old) →
         (Rose (W.disk_faults world.old) (W.disk_faults world.new) → ⊥) → (Rose (S.sink_faults out.old) (S.sink_faults out.new) → ⊥) →
         (result ≡ Status.Done) ⊎ (result ≡ Status.Memory) }
 
     // At every moment a stop leaves what was accepted, and nothing but what the words ask for; no step from one moment to
-    // the next loses a body that all images hold, and so what they hold at entry they hold at the end.
-    ensures every { W.tells_files → Since (OnTheWay (map string_bytes words.now) (W.clock world.old).now (W.seen world.old))
-        HeldGrows (W.clock world.old) (W.clock world.new) }
+    // the next loses a body that all images hold, and so what they hold at entry they hold at the end. Nor does one change
+    // what isn't on the disk.
+    ensures every { W.tells_files → RunsOn (map string_bytes words.now) (W.seen world.old) (W.clock world.old).now
+        (W.clock world.old) (W.clock world.new) }
     ensures held { W.tells_files → HeldGrows (W.clock world.old).now (W.clock world.new).now }
+
+    // Where one side was at rest, one is: so a later run's syncs come to what it reads.
+    ensures one_side { W.tells_files → OneSideAtRest (W.clock world.old).now →
+        OneSideAtRest (W.clock world.new).now }
 
     // No more of the outside is touched: nothing but the files, neither the link nor the input.
     ensures outside { W.tells_files → (W.clock world.new).now.outside ≡ (W.clock world.old).now.outside }

@@ -1,12 +1,10 @@
 //! The words of a command.
 
-ghost use Rattle.std.specs.Prelude.{◌≡◌, ◌<◌, ◌^◌, ℕ, List, [], ◌∷◌, ◌↔◌, IsTrue, IsNone, IfSome, decimal, string_bytes, map};
+ghost use Rattle.std.specs.Prelude.{◌≡◌, ℕ, List, [], ◌∷◌, IsNone, IfSome, string_bytes, map};
 ghost use Rattle.mail_top.specs.FlagAction.{sign_of};
 ghost use Rattle.mail_top.specs.Words.{Asks, AsksInit};
 
-use crate::{FlagAction, SystemFlag, are_names};
-use itoa::Buffer;
-use mail_base::{BoxName, read_u32};
+use crate::{FlagAction, SystemFlag, are_names, box_of, uid_of};
 
 /// The texts of the names that the words `init BOX ..` give: 1 to 32 names of mailboxes, no two of them the same. `None`
 /// exactly where the words aren't of this form.
@@ -50,7 +48,7 @@ fn asked_of(command: &str, name: &str, id: &str, sign: &str, flag: &str) -> Opti
     if command != "flag" {
         return None;
     }
-    let name = BoxName::new(name.as_bytes()).ok()?;
+    let name = box_of(name)?;
     let uid = uid_of(id)?;
     let add = addition_of(sign)?;
     let flag = SystemFlag::named(flag.as_bytes())?;
@@ -60,32 +58,6 @@ fn asked_of(command: &str, name: &str, id: &str, sign: &str, flag: &str) -> Opti
         add,
         flag,
     })
-}
-
-// The UID that a word writes, without leading zeros.
-fn uid_of(text: &str) -> Option<u32>
-    ensures some { IfSome result (λ uid. (text.now ≡ decimal uid) × (0 < uid) × (uid < 2 ^ 32)) }
-    ensures none { IsNone result → (uid : _) → 0 < uid → uid < 2 ^ 32 → text.now ≡ decimal uid → ⊥ }
-{
-    let Ok(uid) = read_u32(text.as_bytes()) else {
-        return None;
-    };
-    if uid == 0 {
-        return None;
-    }
-    if is_decimal(text, uid) {
-        Some(uid)
-    } else {
-        None
-    }
-}
-
-// Whether the text is this number, without leading zeros.
-fn is_decimal(text: &str, number: u32) -> bool
-    ensures { IsTrue result ↔ (text.now ≡ decimal number) }
-{
-    let mut buffer = Buffer::new();
-    buffer.format(number) == text
 }
 
 // Whether the sign asks for an addition.

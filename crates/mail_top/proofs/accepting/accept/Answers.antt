@@ -2,7 +2,8 @@ use Rattle.std.proofs.Common.{◌≡◌, ◌<◌, ◌≤◌, ◌∙◌, ℕ, Lis
 use Rattle.journal_core.specs.Appending.{end_with, told_end}
 use Rattle.mail_top.specs.FlagAction.{body_of}
 use Rattle.journal_core.proofs.Held.{narrowed}
-use Rattle.mail_top.proofs.Additions.{narrows_adding, then_adding, is_accepted, is_overfull, book_of, broken_by, disk_by, not_full, kept_by, not_broken, full_by, kept_by_full, stays_within}
+use Rattle.mail_top.proofs.Additions.{append_one, narrows_adding, then_adding, is_accepted, is_overfull, book_of, broken_by, disk_by}
+use Rattle.mail_top.proofs.Additions.{not_full, kept_by, not_broken, full_by, kept_by_full, stays_within}
 use Rattle.mail_top.proofs.accepting.accept.Goals as goal
 
 pub returns-in_err-book-clause-broken : goal.returns-in_err-book-clause-broken
@@ -47,14 +48,16 @@ pub returns-in_err-append-clause-kept : goal.returns-in_err-append-clause-kept
 returns-in_err-append-clause-kept g c tells =
     kept_by_full _ _ _ c.in_err-append.was c.from_residual-in_err-append.ensures.1 _ (λ at end is.
     let kept = c.append.ensures.kept at end is in
-    stays_within _ _ _ _ _ _ (c.read_book.ensures.told tells) (ap g.D.Clocked.clock kept.1) (c.in_ok-book.ensures.seen tells (λ e. cc e)) (ap g.D.Disk.seen kept.1))
+    stays_within _ _ _ _ _ _ (c.read_book.ensures.told tells) (ap g.D.Clocked.clock kept.1) (c.in_ok-book.ensures.seen tells (λ e. cc e))
+    (ap g.D.Disk.seen kept.1))
 
 pub returns-in_err-append-clause-every : goal.returns-in_err-append-clause-every
 returns-in_err-append-clause-every g c tells =
     let r = c.in_ok-book.ensures.value tells in
     let book = book_of _ _ _ _ _ r (c.in_ok-book.ensures.seen tells (λ e. cc e)) c.in_ok-book.ensures.all_read in
     let frame = c.deref.ensures.0 ∙ c.frame_bytes-frame.ensures.frame in
-    then_adding _ _ _ _ _ _ r.bodies (c.read_book.ensures.told tells) book.holds ((c.append.ensures.told tells).passing r.bodies (body_of c.args.action.now) r.still c.frame_bytes-frame.ensures.size frame)
+    then_adding _ _ _ _ _ _ r.bodies (c.read_book.ensures.told tells) book.holds
+    ((c.append.ensures.told tells).passing r.bodies (body_of c.args.action.now) r.still c.frame_bytes-frame.ensures.size frame)
 
 pub returns-clause-accepted : goal.returns-clause-accepted
 returns-clause-accepted g c tells =
@@ -70,4 +73,13 @@ returns-clause-every g c tells =
     let r = c.in_ok-book.ensures.value tells in
     let book = book_of _ _ _ _ _ r (c.in_ok-book.ensures.seen tells (λ e. cc e)) c.in_ok-book.ensures.all_read in
     let frame = c.deref.ensures.0 ∙ c.frame_bytes-frame.ensures.frame in
-    then_adding _ _ _ _ _ _ r.bodies (c.read_book.ensures.told tells) book.holds ((c.append.ensures.told tells).passing r.bodies (body_of c.args.action.now) r.still c.frame_bytes-frame.ensures.size frame)
+    then_adding _ _ _ _ _ _ r.bodies (c.read_book.ensures.told tells) book.holds
+    ((c.append.ensures.told tells).passing r.bodies (body_of c.args.action.now) r.still c.frame_bytes-frame.ensures.size frame)
+
+pub returns-in_err-append-clause-one_side : goal.returns-in_err-append-clause-one_side
+returns-in_err-append-clause-one_side g c tells one =
+    let r = c.in_ok-book.ensures.value tells in append_one _ _ _ _ _ r.still (c.append.ensures.beside tells)
+
+pub returns-clause-one_side : goal.returns-clause-one_side
+returns-clause-one_side g c tells one =
+    let r = c.in_ok-book.ensures.value tells in append_one _ _ _ _ _ r.still (c.append.ensures.beside tells)

@@ -5,7 +5,9 @@ use Rattle.mail_top.proofs.begin.+are_counted.Goals as goal
 
 pub returns-then-are_counted : goal.returns-then-are_counted
 returns-then-are_counted t c = elim c.if-is_name.branch [
-  | then-is_name w ↦ hold_then c.args.bytes.now c.in-Some.name.now c.in-Some.rest.now c.args.left c.if-left-eq0.false c.in-Some.ensures.some c.is_absent.result (c.is_name.ensures.0 w.if-is_name.true) (w.are_counted.ensures.0 (sym w.value-is ∙ c.if-are_counted.true)) c.is_absent.ensures
+  | then-is_name w ↦ hold_then c.args.bytes.now c.in-Some.name.now c.in-Some.rest.now c.args.left c.if-left-eq0.false
+      c.in-Some.ensures.some c.is_absent.result (c.is_name.ensures.0 w.if-is_name.true)
+      (w.are_counted.ensures.0 (sym w.value-is ∙ c.if-are_counted.true)) c.is_absent.ensures
   | else-is_name w ↦ absurd (cc w.if-is_name.false)
 ]
 
@@ -21,4 +23,8 @@ returns-else-are_counted t c = (
 )
 
 pub returns-in-None : goal.returns-in-None
-returns-in-None t c = (λ yes. absurd (cc yes), λ whole. absurd (none_hold c.args.bytes.now c.args.left c.if-left-eq0.false (c.in-None.ensures.none refl) whole.names whole.many whole.is))
+returns-in-None t c = (
+  λ yes. absurd (cc yes),
+  λ whole. absurd
+      (none_hold c.args.bytes.now c.args.left c.if-left-eq0.false (c.in-None.ensures.none refl) whole.names whole.many whole.is),
+)

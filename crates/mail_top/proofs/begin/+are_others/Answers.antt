@@ -7,5 +7,7 @@ use Rattle.mail_top.proofs.begin.+are_others.Goals as goal
 pub returns-then-ne : goal.returns-then-ne
 returns-then-ne t c =
     let first = c.name_bytes-in-len1-up.ensures ∙ ap name_of c.as_str.ensures.value in
-    let other : name_of c.args.text.now ≢ name_of (string_bytes c.first-item.result) = λ same. differ _ _ _ c.ne.ensures c.if-ne.true (c.name_bytes.ensures ∙ same ∙ sym first) in
-    others_then (λ other. name_of c.args.text.now ≢ other) c.args.others.now c.first-item.result c.are_others.result c.in-len1-up.len_at_least c.first-item.is other c.are_others.ensures
+    let other : name_of c.args.text.now ≢ name_of (string_bytes c.first-item.result) =
+    λ same. differ _ _ _ c.ne.ensures c.if-ne.true (c.name_bytes.ensures ∙ same ∙ sym first) in
+    others_then (λ other. name_of c.args.text.now ≢ other) c.args.others.now c.first-item.result c.are_others.result
+    c.in-len1-up.len_at_least c.first-item.is other c.are_others.ensures

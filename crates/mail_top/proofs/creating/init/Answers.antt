@@ -17,7 +17,8 @@ pub returns-in_err-_journal-clause-every : goal.returns-in_err-_journal-clause-e
 returns-in_err-_journal-clause-every g c tells = creates_every _ _ _ _ (ap (λ (b : List ℕ). b ∷ []) c.in-Ok.ensures) (c.create.ensures.told tells)
 
 pub returns-clause-ready : goal.returns-clause-ready
-returns-clause-ready g c tells = created_images _ _ _ _ _ (ap (λ (b : List ℕ). b ∷ []) c.in-Ok.ensures) c.in_ok-_journal.ensures.value (c.in_ok-_journal.ensures.still tells)
+returns-clause-ready g c tells = created_images _ _ _ _ _ (ap (λ (b : List ℕ). b ∷ []) c.in-Ok.ensures) c.in_ok-_journal.ensures.value
+    (c.in_ok-_journal.ensures.still tells)
 
 pub returns-clause-every : goal.returns-clause-every
 returns-clause-every g c tells = creates_every _ _ _ _ (ap (λ (b : List ℕ). b ∷ []) c.in-Ok.ensures) (c.create.ensures.told tells)

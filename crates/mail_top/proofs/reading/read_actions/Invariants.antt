@@ -14,7 +14,8 @@ invariant-loop-many g l =
       link : g.D.Clocked.link l.disk ≡ g.D.Clocked.link l.fn.disk;
       faults : g.D.Clocked.disk_faults l.fn.disk ≤ g.D.Clocked.disk_faults l.disk;
       looks : g.D.Clocked.tells_files → OnlyLooks (clock l.fn.disk) (clock l.disk) (seen l.fn.disk) (seen l.disk);
-      reads : g.D.Clocked.tells_files → (bodies : List (List ℕ)) → IsStill l.fn.journal bodies (clock l.fn.disk).now (seen l.fn.disk) → ReadsActions bodies l.journal (clock l.disk).now (seen l.disk) (l.count + 1);
+      reads : g.D.Clocked.tells_files → (bodies : List (List ℕ)) → IsStill l.fn.journal bodies (clock l.fn.disk).now (seen l.fn.disk) →
+          ReadsActions bodies l.journal (clock l.disk).now (seen l.disk) (l.count + 1);
     }
 
 abbrev pub decreases-loop-many : goal.decreases-loop-many

@@ -5,7 +5,8 @@ use Rattle.mail_top.proofs.OneByOne.{torn_behind, other_behind, body_stands}
 use Rattle.mail_top.proofs.reading.read_one.Goals as goal
 
 pub returns-in_err-body-clause-broken : goal.returns-in_err-body-clause-broken
-returns-in_err-body-clause-broken g c tells bodies still why is = torn_behind _ _ _ _ _ c.next.new.self _ why still (search rules) (c.in_err-body.ensures.value tells)
+returns-in_err-body-clause-broken g c tells bodies still why is =
+    torn_behind _ _ _ _ _ c.next.new.self _ why still (search rules) (c.in_err-body.ensures.value tells)
 
 pub returns-clause-broken : goal.returns-clause-broken
 returns-clause-broken g c tells bodies still why is =

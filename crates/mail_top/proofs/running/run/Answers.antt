@@ -1,5 +1,4 @@
 use Rattle.journal_core.proofs.Held.{held_later, outside_later}
-use Rattle.world_traits.proofs.Passing.{since_weaker}
 use Rattle.mail_top.proofs.Endings.{said_ends, said_words, said_disk, completes_flag, completes_init}
 use Rattle.mail_top.proofs.running.run.Goals as goal
 
@@ -17,17 +16,17 @@ returns-clause-complete_flag g c tells action asks bodies book room no_disk no_s
     (λ is. no_disk (begun.disk (said_disk _ _ said.status is))) (λ is. no_sink (said.output is)) action asks bodies book room
 
 pub returns-clause-complete_init : goal.returns-clause-complete_init
-returns-clause-complete_init g c tells texts asks free right no_disk no_sink =
+returns-clause-complete_init g c tells texts asks unbegun no_disk no_sink =
     let begun = c.carry_out-ending.ensures in
     let said = c.say.ensures in
     completes_init _ _ _ _ _ _ _ (said_ends _ _ _ _ _ _ _ _ said.status (begun.ends tells)) (said_words _ _ _ said.status begun.words).0
-    (λ is. no_disk (begun.disk (said_disk _ _ said.status is))) (λ is. no_sink (said.output is)) texts asks free right
+    (λ is. no_disk (begun.disk (said_disk _ _ said.status is))) (λ is. no_sink (said.output is)) texts asks unbegun
 
 pub returns-clause-held : goal.returns-clause-held
 returns-clause-held g c tells = held_later _ _ _ (c.carry_out-ending.ensures.every tells)
 
 pub returns-clause-every : goal.returns-clause-every
-returns-clause-every g c tells = since_weaker _ _ _ _ (λ m on. on) (λ m n step. step.held) _ _ (c.carry_out-ending.ensures.every tells)
+returns-clause-every g c tells = c.carry_out-ending.ensures.every tells
 
 pub returns-clause-outside : goal.returns-clause-outside
 returns-clause-outside g c tells = outside_later _ _ _ (c.carry_out-ending.ensures.every tells)

@@ -6,7 +6,8 @@ use Rattle.mail_top.proofs.flag_action.FlagAction.candidate.Goals as goal
 pub returns-in_err-flag-clause-none : goal.returns-in_err-flag-clause-none
 returns-in_err-flag-clause-none c none action lawful is =
     let key = key_is c.args.body.now _ c.byte_at-size.ensures action is in
-    c.in_err-flag.ensures.none refl action.flag (c.part-2.ensures ∙ ap (λ (n : ℕ). take n (drop (8 + c.byte_at-size.result) c.args.body.now)) c.byte_at.ensures ∙ key)
+    c.in_err-flag.ensures.none refl action.flag (c.part-2.ensures
+    ∙ ap (λ (n : ℕ). take n (drop (8 + c.byte_at-size.result) c.args.body.now)) c.byte_at.ensures ∙ key)
 
 pub returns-then-uid-eq0-clause-none : goal.returns-then-uid-eq0-clause-none
 returns-then-uid-eq0-clause-none c none action lawful is =

@@ -1,7 +1,7 @@
 use Rattle.std.proofs.Common.{◌≡◌, ◌∙◌, ap, sym, arith}
 use Rattle.std.specs.Prelude.{decimal}
 use Rattle.mail_top.proofs.Wording.{decimal_number}
-use Rattle.mail_top.proofs.words.uid_of.Goals as goal
+use Rattle.mail_top.proofs.arguments.uid_of.Goals as goal
 
 pub returns-in_default-clause-none : goal.returns-in_default-clause-none
 returns-in_default-clause-none c none uid nonzero fits is =
