@@ -12,8 +12,9 @@ use world_traits::{Clocked, Disk, DiskFailed, Link, LinkFailed, NoLink, Side, Wo
 #[cfg(test)]
 mod tests;
 
-/// The folder with the journal's two files. A file is opened, or made, at the first call that needs it; a failure there is
-/// a fault of that call. Each call of the link fails.
+/// The folder with the journal's two files. A file is opened, or made, at the first call that needs it, and the journal is
+/// locked by the first call of all, up to the end of this value; a failure there is a fault of that call. Each call of the
+/// link fails.
 #[derive(Drop)]
 pub struct MailFolder<'a, R: Files<File = File> + AllocGlobal> {
     rt: &'a R,
@@ -39,6 +40,13 @@ impl<'a, R: Files<File = File> + AllocGlobal> MailFolder<'a, R> {
             faults: 0,
             link: NoLink::new(),
         }
+    }
+
+    /// Whether another run used the journal when this one wanted to. That was a fault of the disk, and nothing was written.
+    pub fn is_in_use(&self) -> bool
+        ensures { result ≡ self.now.files.in_use }
+    {
+        self.files.is_in_use()
     }
 
     // Counts a fault, up to the last value of the count.

@@ -1,31 +1,42 @@
-//! The program `mowerbean`: arguments, environment, files and streams go to the top call, and its status to the caller.
+//! The program `mowerbean`: arguments, environment, files and streams go to the top call that the first word picks, and
+//! its status to the caller.
 #![tactic(auto)]
 
 mod mail_folder;
 mod notices;
 mod open_files;
 mod settings;
+mod standard_numbers;
 mod streams;
+mod top_calls;
 
 use mail_base::{Line, Status};
 use mail_folder::MailFolder;
 use mail_top::run;
-use notices::notice_for;
+use notices::{IN_USE, NO_NULL, notice_for};
 use settings::WordsFault;
+use standard_numbers::StandardNumbers;
 use std::alloc::AllocError;
 use std::fs::{File, Files};
 use std::io;
+use std::io::Eprint;
 use std::process::ExitCode;
 use std::rt::Env;
 use streams::{InputSource, OutputSink};
+use top_calls::{TopCall, top_call};
 use world_traits::Sink;
 
 fn main(rt: HostRuntime) -> ExitCode {
+    // Before any file is opened, so that none gets the number of a closed stream. They are held up to the end.
+    let Ok(_numbers) = StandardNumbers::take(&rt) else {
+        let _ = rt.eprint(NO_NULL);
+        return ExitCode::from(Status::Output.code());
+    };
     ExitCode::from(answer(&rt).code())
 }
 
 // The status of what the arguments ask for.
-fn answer<R: Files<File = File> + Env + Input + Print + AllocGlobal>(rt: &R) -> Status {
+fn answer<R: Files<File = File> + Env + Input + Print + Eprint + AllocGlobal>(rt: &R) -> Status {
     let words = match settings::words(rt) {
         Ok(words) => words,
         Err(WordsFault::NotText) => return refused(rt, Status::Words, &Line::error_words()),
@@ -34,15 +45,19 @@ fn answer<R: Files<File = File> + Env + Input + Print + AllocGlobal>(rt: &R) -> 
     if let Some(notice) = notice_for(&words) {
         return told(rt, notice);
     }
-    match carried_out(rt, &words) {
+    let Some(call) = top_call(&words) else {
+        return refused(rt, Status::Words, &Line::error_words());
+    };
+    match carried_out(rt, call, &words) {
         Ok(status) => status,
         Err(AllocError) => refused(rt, Status::Memory, &Line::error_memory()),
     }
 }
 
-// Hands the words to the top call, with the user's settings.
-fn carried_out<R: Files<File = File> + Env + Input + Print + AllocGlobal>(
+// Hands the words to a top call, with the user's settings.
+fn carried_out<R: Files<File = File> + Env + Input + Print + Eprint + AllocGlobal>(
     rt: &R,
+    call: TopCall,
     words: &[String],
 ) -> Result<Status, AllocError> {
     let account = settings::account(rt)?;
@@ -51,17 +66,17 @@ fn carried_out<R: Files<File = File> + Env + Input + Print + AllocGlobal>(
         Some(path) => Some(path.as_str()),
         None => None,
     };
+    let alloc = rt.alloc();
     let mut input = InputSource::new(rt.reader());
     let mut world = MailFolder::new(rt, path);
     let mut out = OutputSink::new(io::writer(rt));
-    Ok(run(
-        rt.alloc(),
-        words,
-        &account,
-        &mut input,
-        &mut world,
-        &mut out,
-    ))
+    let status = match call {
+        TopCall::Run => run(alloc, words, &account, &mut input, &mut world, &mut out),
+    };
+    if world.is_in_use() {
+        let _ = rt.eprint(IN_USE);
+    }
+    Ok(status)
 }
 
 // Prints the line of a refusal that comes before the top call.

@@ -1,4 +1,5 @@
-//! What `--help` and `--version` print. They are no commands: the top call doesn't know them.
+//! What `--help` and `--version` print, which are no commands (no top call knows them), and the notices on standard
+//! error.
 
 /// The text of `--help`.
 pub const HELP: &str = "\
@@ -13,6 +14,12 @@ journal.0 and journal.1 of the folder MAIL_DIR (default: the present one).
 
 /// The text of `--version`.
 pub const VERSION: &str = "mowerbean 0.1.0\n";
+
+/// What is told on standard error beside `error disk` where another run uses the journal.
+pub const IN_USE: &str = "mowerbean: another run uses the journal\n";
+
+/// What is told on standard error where the program can't begin.
+pub const NO_NULL: &str = "mowerbean: /dev/null can't be opened; nothing was done\n";
 
 /// The text that the words ask for, where they are one of the two alone.
 pub fn notice_for(words: &[String]) -> Option<&'static str> {

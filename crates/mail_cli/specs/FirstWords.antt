@@ -1,0 +1,13 @@
+-- Which top call a first word picks.
+use Rattle.std.specs.Prelude.{◌≡◌, ◌⊎◌, ℕ, List, [], ◌∷◌, codes}
+use Rattle.mail_cli.specs.declared.top_calls.TopCall.{TopCall}
+use Rattle.mail_cli.specs.declared.top_calls.TopCall.TheVariants.{Run}
+
+-- the words that pick a top call
+abbrev pub IsWordOf : TopCall → List ℕ → Type 0
+IsWordOf Run word = (word ≡ codes "init") ⊎ (word ≡ codes "flag")
+
+-- the first of the words picks this top call
+abbrev pub Picks : List (List ℕ) → TopCall → Type 0
+Picks [] call = ⊥
+Picks (word ∷ words) call = IsWordOf call word
