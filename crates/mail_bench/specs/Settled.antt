@@ -3,6 +3,7 @@ use Rattle.std.specs.Prelude.{◌≡◌, ℕ, List, []}
 use Rattle.world_traits.specs.Files.{Files}
 use Rattle.action_queue.specs.Book.{Meaning}
 use Rattle.action_queue.specs.Queues.{due}
+use Rattle.store_core.specs.Mail.{mail}
 use Rattle.store_core.specs.Books.{HasBook}
 
 -- the files of which the left one has these bytes, and the right one none
@@ -12,5 +13,5 @@ left_alone bytes = record { left = bytes; right = [] }
 -- so many actions of the book in the left file are settled
 pub record HasSettled (bytes : List ℕ) (count : ℕ) : Type 0 where
   pub book : Meaning
-  pub holds : HasBook book (left_alone bytes)
+  pub holds : HasBook mail book (left_alone bytes)
   pub settled : count ≡ due book.queue

@@ -1,8 +1,9 @@
 //! What the words of the program ask for: which stream, and how long (RFC 9051, sections 2.2 and 4.3); what is done with a
-//! record, and how often; or with a journal, and how long it is.
+//! record, and how often; or with a journal, and how long it is; or what a resynchronisation tells, and how often.
 
 ghost use Rattle.std.specs.Prelude.{◌≡◌, ◌<◌, ◌≤◌, length, IfOk};
 
+use crate::commits::Told;
 use crate::records::Direction;
 use crate::stores::Part;
 use mail_base::read_u32;
@@ -69,10 +70,12 @@ pub enum Task {
     Record(Direction, u32),
     /// A journal of so many times 1,000,000 bytes is made, and perhaps opened.
     Store(Part, u32),
+    /// A resynchronisation is committed so often.
+    Commit(Told, u32),
 }
 
-/// What `feed CASE NUMBER`, `read CASE NUMBER`, `record DIRECTION NUMBER` or `store PART NUMBER` asks for. A number counts
-/// 1,000,000 bytes each, or 1,000 for the case `bytes`; that of a record says how often.
+/// What `feed CASE NUMBER`, `read CASE NUMBER`, `record DIRECTION NUMBER`, `store PART NUMBER` or `commit TOLD NUMBER` asks for.
+/// A number counts 1,000,000 bytes each, or 1,000 for the case `bytes`; that of a record or a commit says how often.
 pub fn task_of(words: &[String]) -> Option<Task> {
     let [what, case, number] = words else {
         return None;
@@ -91,6 +94,10 @@ pub fn task_of(words: &[String]) -> Option<Task> {
     if what.as_str() == "store" {
         let part = part_of(case.as_str())?;
         return Some(Task::Store(part, number));
+    }
+    if what.as_str() == "commit" {
+        let told = told_of(case.as_str())?;
+        return Some(Task::Commit(told, number));
     }
     None
 }
@@ -118,6 +125,15 @@ fn part_of(word: &str) -> Option<Part> {
     match word {
         "make" => Some(Part::Make),
         "open" => Some(Part::Open),
+        _ => None,
+    }
+}
+
+// What is told, by the word that names it.
+fn told_of(word: &str) -> Option<Told> {
+    match word {
+        "nothing" => Some(Told::Nothing),
+        "all" => Some(Told::All),
         _ => None,
     }
 }

@@ -1,9 +1,10 @@
 //! The program `mail_bench`: pushes a long stream through a feed, reads its frames where that is asked for, and tells how many
-//! frames and bytes came; writes or reads a large record again and again; or makes a long journal and opens it. It is there to
-//! be timed.
+//! frames and bytes came; writes or reads a large record again and again; makes a long journal and opens it; or commits a
+//! resynchronisation again and again. It is there to be timed.
 #![tactic(auto)]
 
 mod block;
+mod commits;
 mod fault;
 mod load;
 mod meter;
@@ -11,13 +12,14 @@ mod records;
 mod stores;
 
 use block::Block;
+use commits::{Told, commit_often};
 use fault::MeterFault;
 use imap_response::ResponseFault;
 use load::{Load, Task, task_of, text_of};
 use mail_base::{FeedFault, Status};
 use meter::{Meter, measure};
 use record_codec::RecordFault;
-use records::{Direction, learned, repeat};
+use records::{Direction, ROWS, learned, repeat};
 use std::env;
 use std::process::ExitCode;
 use std::rt::Env;
@@ -44,12 +46,13 @@ fn answer<R: Env + Print + AllocGlobal>(rt: &R) -> Status {
         Some(Task::Feed(load)) => feed(rt, load),
         Some(Task::Record(direction, times)) => record(rt, direction, times),
         Some(Task::Store(part, megabytes)) => store(rt, part, megabytes),
+        Some(Task::Commit(told, times)) => commit(rt, told, times),
     }
 }
 
 // Writes or reads a record so often, and tells its size.
 fn record<R: Print + AllocGlobal>(rt: &R, direction: Direction, times: u32) -> Status {
-    let Ok(body) = learned(rt.alloc()) else {
+    let Ok(body) = learned(rt.alloc(), 1, ROWS) else {
         return told(rt, "error memory", Status::Memory);
     };
     match repeat(rt.alloc(), direction, &body, times) {
@@ -88,6 +91,29 @@ fn store<R: Print + AllocGlobal>(rt: &R, part: Part, megabytes: u32) -> Status {
         }
         Err(StoreFault::Memory | StoreFault::Disk) => told(rt, "error memory", Status::Memory),
         Err(_) => told(rt, "error journal", Status::Journal),
+    }
+}
+
+// Commits a resynchronisation so often.
+fn commit<R: Print + AllocGlobal>(rt: &R, told: Told, times: u32) -> Status {
+    match commit_often(rt.alloc(), told, times) {
+        Ok(()) => {
+            let name = told.name();
+            match println!(rt; "{name} {times} commits") {
+                Ok(()) => Status::Done,
+                Err(_) => Status::Output,
+            }
+        }
+        Err(status) => reported(rt, status),
+    }
+}
+
+// Prints why it isn't done.
+fn reported<R: Print>(rt: &R, status: Status) -> Status {
+    match status {
+        Status::Memory => told(rt, "error memory", status),
+        Status::Reply => told(rt, "error reply", status),
+        _ => told(rt, "error journal", status),
     }
 }
 

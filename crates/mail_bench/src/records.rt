@@ -1,6 +1,6 @@
 //! The record of a mailbox with many messages, which is encoded or decoded again and again.
 
-ghost use Rattle.std.specs.Prelude.{◌≡◌, ◌≤◌, length, IfOk, IfErr};
+ghost use Rattle.std.specs.Prelude.{◌≡◌, ◌≤◌, ◌+◌, ◌*◌, length, IfOk, IfErr};
 ghost use Rattle.action_queue.specs.Writable.{IsWritable};
 ghost use Rattle.record_codec.specs.Bodies.{body_of};
 ghost use Rattle.record_codec.specs.Refusing.{WhyRefused};
@@ -31,17 +31,19 @@ impl Direction {
     }
 }
 
-/// The body of the record of a mailbox with `ROWS` messages, each of which has the flag `\Seen`.
-pub fn learned(alloc: Global) -> Result<Vec<u8>, AllocError>
-    ensures { IfOk result (λ body. length body.items ≡ 4000034) }
+/// The body of a record that tells of so many messages of a mailbox, each of which has the flag `\Seen`; `whole` is 1 where
+/// these are all of them, and else 0.
+pub fn learned(alloc: Global, whole: u8, rows: u32) -> Result<Vec<u8>, AllocError>
+    requires { rows ≤ 200000 }
+    ensures { IfOk result (λ body. length body.items ≡ 34 + 20 * rows) }
 {
     let mut body = Vec::new(alloc);
-    body.extend_from_slice(
-        b"L\x07Archive\x01\x00\x00\x00\x09\x00\x00\x00\x00\x00\x00\x01\x2c\x00\x03\x0d\x41",
-    )?;
+    body.extend_from_slice(b"L\x07Archive")?;
+    body.push(whole)?;
+    body.extend_from_slice(b"\x00\x00\x00\x09\x00\x00\x00\x00\x00\x00\x01\x2c\x00\x03\x0d\x41")?;
     body.extend_from_slice(&0u32.to_be_bytes())?;
-    body.extend_from_slice(&ROWS.to_be_bytes())?;
-    for before in 0..ROWS {
+    body.extend_from_slice(&rows.to_be_bytes())?;
+    for before in 0..rows {
         let uid = before + 1;
         body.extend_from_slice(&uid.to_be_bytes())?;
         body.extend_from_slice(b"\x00\x00\x00\x00\x00\x00\x00\x01\x00\x01\x05\\seen")?;

@@ -3,6 +3,7 @@
 
 ghost use Rattle.std.specs.Prelude.{◌≡◌, ◌≤◌, ◌+◌, ◌*◌, length, IfOk, OnOk, IsErrOf};
 ghost use Rattle.journal_core.specs.declared.fault.Place9.{Place9};
+ghost use Rattle.store_core.specs.Mail.{mail};
 ghost use Rattle.store_core.specs.Broken.{IsBroken};
 ghost use Rattle.store_core.specs.declared.fault.StoreFault.TheVariants as faults;
 ghost use Rattle.mail_bench.specs.Settled.{HasSettled, left_alone};
@@ -102,7 +103,7 @@ fn push_action(file: &mut Vec<u8>, id: u32) -> Result<(), AllocError>
 /// Opens the journal of a file in memory, and counts its settled actions. Its disk fails only for want of memory.
 pub fn settled_in(alloc: Global, file: Vec<u8>) -> Result<usize, StoreFault>
     ensures value { IfOk result (HasSettled file.items) }
-    ensures broken { (why : Place9) → IsErrOf result (faults.NotAJournal why) → IsBroken why (left_alone file.items) }
+    ensures broken { (why : Place9) → IsErrOf result (faults.NotAJournal why) → IsBroken mail why (left_alone file.items) }
 {
     let mut disk = MemDisk::new(file, Vec::new(alloc));
     let store = Store::open(alloc, &mut disk)?;
