@@ -1,0 +1,118 @@
+//! Calls of `mailbox_cache`: the cache of a mailbox after one delta or more.
+
+ghost use Rattle.std.specs.Prelude.{◌≡◌, ◌≤◌, true, false, IfOk};
+
+use crate::answer::Answer;
+use crate::deltas::{delta, put_row};
+use crate::fault::CaseFault;
+use crate::input::Input;
+use crate::numbers::known;
+use crate::values::{put_modseq, put_uid, put_validity};
+use mailbox_cache::{Cache, Delta};
+use std::alloc::Global;
+
+/// Answers a call of this module, or tells that it is none.
+pub fn answers(call: &str, input: &mut Input, answer: &mut Answer) -> Result<bool, CaseFault> {
+    let done = match call {
+        "cache" => put_cache(input, answer),
+        "rows exceed" => put_exceeds(input, answer),
+        _ => return Ok(false),
+    };
+    known(done)
+}
+
+// Whether the cache of the first step would have more rows than a limit after the second one.
+fn put_exceeds(input: &mut Input, answer: &mut Answer) -> Result<(), CaseFault> {
+    let limit = input.short()? as usize;
+    let cache = first(input)?;
+    let delta = delta(input)?;
+    answer.yes(cache.would_exceed(limit, &delta))
+}
+
+// The cache of the first step.
+fn first(input: &mut Input) -> Result<Cache, CaseFault> {
+    let delta = delta(input)?;
+    input.end_step()?;
+    if !delta.whole {
+        return Err(CaseFault::WrongInput);
+    }
+    Ok(Cache::first(input.alloc, &delta)?)
+}
+
+// The cache of each step, whose deltas are copied, and that of the last step, where they are given up.
+fn put_cache(input: &mut Input, answer: &mut Answer) -> Result<(), CaseFault> {
+    let mut cache = first_both(input)?;
+    for _ in 0..input.len() {
+        if input.is_done() {
+            break;
+        }
+        let delta = delta(input)?;
+        input.end_step()?;
+        cache = cache.after(input.alloc, delta)?;
+    }
+    let (kept, moved) = (
+        shown(input.alloc, &cache.kept)?,
+        shown(input.alloc, &cache.moved)?,
+    );
+    answer.word(kept.as_str())?;
+    if moved.as_str() != kept.as_str() {
+        answer.word("but where rows are moved")?;
+        answer.word(moved.as_str())?;
+    }
+    Ok(())
+}
+
+// A cache whose deltas are kept, and one whose deltas are given up.
+#[derive(Drop)]
+struct Both {
+    kept: Cache,
+    moved: Cache,
+}
+
+fn first_both(input: &mut Input) -> Result<Both, CaseFault> {
+    let delta = delta(input)?;
+    input.end_step()?;
+    if !delta.whole {
+        return Err(CaseFault::WrongInput);
+    }
+    let kept = Cache::first(input.alloc, &delta)?;
+    let moved = Cache::of(delta);
+    Ok(Both { kept, moved })
+}
+
+impl Both {
+    // Both after a delta that may be applied.
+    fn after(self, alloc: Global, delta: Delta) -> Result<Both, CaseFault> {
+        let kept = applied(alloc, &self.kept, &delta)?;
+        let moved = moved_on(self.moved, delta)?;
+        Ok(Both {
+            kept: kept.copy()?,
+            moved,
+        })
+    }
+}
+
+fn applied(alloc: Global, cache: &Cache, delta: &Delta) -> Result<Cache, CaseFault> {
+    if delta.whole || delta.validity != cache.validity || delta.highest < cache.highest {
+        return Err(CaseFault::WrongInput);
+    }
+    Ok(cache.apply(alloc, delta)?)
+}
+
+fn moved_on(cache: Cache, delta: Delta) -> Result<Cache, CaseFault> {
+    if delta.whole || delta.validity != cache.validity || delta.highest < cache.highest {
+        return Err(CaseFault::WrongInput);
+    }
+    Ok(cache.after(delta)?)
+}
+
+fn shown(alloc: Global, cache: &Cache) -> Result<Answer, CaseFault> {
+    let mut answer = Answer::new(alloc);
+    put_validity(&mut answer, cache.validity)?;
+    put_modseq(&mut answer, cache.highest)?;
+    put_uid(&mut answer, cache.uidnext)?;
+    for (uid, row) in cache.rows.as_slice() {
+        put_row(&mut answer, *uid, row)?;
+    }
+    Ok(answer)
+}

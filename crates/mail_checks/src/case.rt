@@ -1,0 +1,62 @@
+//! A line of data: what is called, with what, and what is due.
+
+use crate::answer::Answer;
+use crate::calls::put_answer;
+use crate::fault::CaseFault;
+use crate::input::Input;
+use crate::word::Word;
+use crate::words::words_of;
+use std::alloc::Global;
+
+/// What came of a case.
+#[derive(Drop)]
+pub enum Verdict {
+    /// The answer is the one that is due.
+    Passed,
+    /// Another answer came.
+    Failed { came: String },
+}
+
+/// Checks a line `call | input | answer`.
+pub fn check(alloc: Global, line: &str) -> Result<Verdict, CaseFault> {
+    let Some((call, rest)) = line.split_once(" | ") else {
+        return failed(alloc, CaseFault::Unreadable.text());
+    };
+    let Some((input, due)) = rest.split_once(" | ") else {
+        return failed(alloc, CaseFault::Unreadable.text());
+    };
+    match judged(alloc, call.trim(), input, due) {
+        Ok(verdict) => Ok(verdict),
+        Err(CaseFault::Memory) => Err(CaseFault::Memory),
+        Err(fault) => failed(alloc, fault.text()),
+    }
+}
+
+fn failed(alloc: Global, came: &str) -> Result<Verdict, CaseFault> {
+    let came = String::from_str(alloc, came)?;
+    Ok(Verdict::Failed { came })
+}
+
+// Calls, and compares the printed answer with the one that is due.
+fn judged(alloc: Global, call: &str, input: &str, due: &str) -> Result<Verdict, CaseFault> {
+    let due = words_of(alloc, due)?;
+    let due = Answer::of(alloc, &due)?;
+    let input = words_of(alloc, input)?;
+    let came = answered(alloc, call, &input)?;
+    if came.as_str() == due.as_str() {
+        return Ok(Verdict::Passed);
+    }
+    failed(alloc, came.as_str())
+}
+
+// What a call answers of these words.
+fn answered(alloc: Global, call: &str, words: &[Word]) -> Result<Answer, CaseFault> {
+    let mut left = Input::new(alloc, words);
+    let mut came = Answer::new(alloc);
+    put_answer(call, &mut left, &mut came)?;
+    if left.is_done() {
+        Ok(came)
+    } else {
+        Err(CaseFault::WrongInput)
+    }
+}

@@ -1,0 +1,179 @@
+//! Calls of `imap_command` and `command_texts`: the texts of commands, as they are written and as they are heard.
+
+use crate::answer::Answer;
+use crate::command::{command, put_command};
+use crate::fault::CaseFault;
+use crate::input::Input;
+use crate::numbers::known;
+use crate::values::{put_tag, tag};
+use command_texts::{Heard, heard};
+use imap_command::{Parts, astring, write};
+use imap_model::Command;
+use mail_base::{BoxName, Bytes, List, Tag};
+use std::alloc::Global;
+
+/// Answers a call of this module, or tells that it is none.
+pub fn answers(call: &str, input: &mut Input, answer: &mut Answer) -> Result<bool, CaseFault> {
+    let done = match call {
+        "written" => put_written(input, answer),
+        "is mutating" => put_mutating(input, answer),
+        "argument" => put_argument(input, answer),
+        "heard" => put_parts_heard(input, answer),
+        "spoken" => put_spoken(input, answer),
+        "spoken alike" => put_alike(input, answer),
+        _ => return Ok(false),
+    };
+    known(done)
+}
+
+fn put_mutating(input: &mut Input, answer: &mut Answer) -> Result<(), CaseFault> {
+    let command = command(input)?;
+    answer.yes(command.is_mutating())
+}
+
+fn put_parts_heard(input: &mut Input, answer: &mut Answer) -> Result<(), CaseFault> {
+    let parts = parts(input)?;
+    put_heard(input.alloc, parts.as_slice(), answer)
+}
+
+fn put_alike(input: &mut Input, answer: &mut Answer) -> Result<(), CaseFault> {
+    let tag = tag(input)?;
+    let command = command(input)?;
+    let is = is_spoken_alike(input.alloc, tag, &command)?;
+    answer.yes(is)
+}
+
+// The parts of the text of a command's copy under a tag.
+fn put_written(input: &mut Input, answer: &mut Answer) -> Result<(), CaseFault> {
+    let tag = tag(input)?;
+    let command = command(input)?.copy()?;
+    let Some(parts) = written(input.alloc, tag, &command)? else {
+        return answer.word("not writable");
+    };
+    put_parts(answer, parts.as_slice())
+}
+
+fn put_parts(answer: &mut Answer, parts: &[Bytes]) -> Result<(), CaseFault> {
+    for part in parts {
+        answer.text(part.as_slice())?;
+    }
+    Ok(())
+}
+
+// A text as an argument.
+fn put_argument(input: &mut Input, answer: &mut Answer) -> Result<(), CaseFault> {
+    let text = input.text()?;
+    if text.contains(&0) {
+        return answer.word("has a nul");
+    }
+    answer.text(&astring(input.alloc, text)?)
+}
+
+// All texts that are left.
+fn parts(input: &mut Input) -> Result<List<Bytes>, CaseFault> {
+    let mut parts = List::new(input.alloc);
+    for _ in 0..input.len() {
+        let text = input.text()?;
+        parts.push(Bytes::of(text.to_vec(input.alloc)?))?;
+    }
+    Ok(parts)
+}
+
+// What the parts of a text are.
+fn put_heard(alloc: Global, parts: &[Bytes], answer: &mut Answer) -> Result<(), CaseFault> {
+    if parts.is_empty() {
+        return Err(CaseFault::WrongInput);
+    }
+    match heard(alloc, parts)? {
+        Heard::Nothing => answer.word("nothing"),
+        Heard::Front { tag, append } => put_front(answer, tag, &append),
+        Heard::Command { tag, command } => put_whole(answer, tag, &command),
+    }
+}
+
+fn put_front(answer: &mut Answer, tag: Tag, append: &Option<BoxName>) -> Result<(), CaseFault> {
+    answer.word("front")?;
+    put_tag(answer, tag)?;
+    match append {
+        Some(name) => answer.text(name.as_bytes()),
+        None => Ok(()),
+    }
+}
+
+fn put_whole(answer: &mut Answer, tag: Tag, command: &Command) -> Result<(), CaseFault> {
+    answer.word("whole")?;
+    put_tag(answer, tag)?;
+    put_command(answer, command)
+}
+
+// A command is written, and then each front of its text and the whole text are heard.
+fn put_spoken(input: &mut Input, answer: &mut Answer) -> Result<(), CaseFault> {
+    let tag = tag(input)?;
+    let command = command(input)?;
+    let Some(parts) = written(input.alloc, tag, &command)? else {
+        return answer.word("not writable");
+    };
+    put_fronts(input.alloc, parts.as_slice(), answer)
+}
+
+// What each front of the parts is, and all of them.
+fn put_fronts(alloc: Global, parts: &[Bytes], answer: &mut Answer) -> Result<(), CaseFault> {
+    for size in 1..=parts.len() {
+        if let Some((front, _)) = parts.split_at_checked(size) {
+            put_heard(alloc, front, answer)?;
+        }
+    }
+    Ok(())
+}
+
+// Whether a command is written, and what is heard of that is written alike.
+fn is_spoken_alike(alloc: Global, tag: Tag, command: &Command) -> Result<bool, CaseFault> {
+    match written(alloc, tag, command)? {
+        Some(parts) => is_heard_alike(alloc, parts.as_slice()),
+        None => Ok(false),
+    }
+}
+
+// Whether parts are a text, and the command that is heard is written in the same parts.
+fn is_heard_alike(alloc: Global, parts: &[Bytes]) -> Result<bool, CaseFault> {
+    if parts.is_empty() {
+        return Ok(false);
+    }
+    match heard(alloc, parts)? {
+        Heard::Command { tag, command } => is_written_so(alloc, tag, &command, parts),
+        Heard::Front { .. } | Heard::Nothing => Ok(false),
+    }
+}
+
+// Whether a command is written in these parts.
+fn is_written_so(
+    alloc: Global,
+    tag: Tag,
+    command: &Command,
+    parts: &[Bytes],
+) -> Result<bool, CaseFault> {
+    match written(alloc, tag, command)? {
+        Some(again) => Ok(are_same(parts, again.as_slice())),
+        None => Ok(false),
+    }
+}
+
+// The parts of a command's text, where it can be written.
+fn written(alloc: Global, tag: Tag, command: &Command) -> Result<Option<Parts>, CaseFault> {
+    if !command.is_writable(tag) {
+        return Ok(None);
+    }
+    Ok(Some(write(alloc, tag, command)?))
+}
+
+fn are_same(left: &[Bytes], right: &[Bytes]) -> bool {
+    if left.len() != right.len() {
+        return false;
+    }
+    for (part, other) in left.iter().zip(right) {
+        if part.as_slice() != other.as_slice() {
+            return false;
+        }
+    }
+    true
+}

@@ -1,0 +1,193 @@
+//! Calls of `literal_feed`: the frames of a stream, however it comes.
+
+use crate::answer::Answer;
+use crate::fault::CaseFault;
+use crate::input::Input;
+use crate::numbers::{known, put_spans};
+use literal_feed::Feed;
+use mail_base::{FeedFault, Frame, List};
+use std::alloc::Global;
+
+// The bytes of the longest frame that is told whole.
+const SHORT: usize = 1000;
+
+/// Answers a call of this module, or tells that it is none.
+pub fn answers(call: &str, input: &mut Input, answer: &mut Answer) -> Result<bool, CaseFault> {
+    let done = match call {
+        "feed" => put_feed(input, answer),
+        "pieces" => put_pieces(input, answer),
+        _ => return Ok(false),
+    };
+    known(done)
+}
+
+fn put_feed(input: &mut Input, answer: &mut Answer) -> Result<(), CaseFault> {
+    let stream = input.text()?;
+    put_however_cut(input.alloc, stream, answer)
+}
+
+// What came of a stream: its frames, the fault that the last push told, and whether a push of nothing then tells it again.
+#[derive(Drop)]
+struct Came {
+    frames: List<Frame>,
+    told: Result<(), FeedFault>,
+    steady: bool,
+}
+
+// The frames of a stream, which are the same wherever it is cut in two, and where it comes byte by byte.
+fn put_however_cut(alloc: Global, stream: &[u8], answer: &mut Answer) -> Result<(), CaseFault> {
+    let whole = cut_at(alloc, stream, stream.len())?;
+    put_came(answer, &whole)?;
+    for cut in 0..stream.len() {
+        let came = cut_at(alloc, stream, cut)?;
+        if !is_same(&whole, &came) {
+            answer.at("but cut at", cut)?;
+            return put_came(answer, &came);
+        }
+    }
+    let came = byte_by_byte(alloc, stream)?;
+    if !is_same(&whole, &came) {
+        answer.word("but byte by byte")?;
+        return put_came(answer, &came);
+    }
+    Ok(())
+}
+
+fn put_came(answer: &mut Answer, came: &Came) -> Result<(), CaseFault> {
+    for frame in came.frames.as_slice() {
+        put_frame(answer, frame)?;
+    }
+    if !came.steady {
+        answer.word("unsteady")?;
+    }
+    if came.frames.len() == 0 && came.told.is_ok() {
+        return answer.word("nothing");
+    }
+    put_told(answer, came.told)
+}
+
+fn is_same(left: &Came, right: &Came) -> bool {
+    if left.frames.len() != right.frames.len() {
+        return false;
+    }
+    for (frame, other) in left.frames.as_slice().iter().zip(right.frames.as_slice()) {
+        if !is_same_frame(frame, other) {
+            return false;
+        }
+    }
+    left.told == right.told && left.steady == right.steady
+}
+
+fn is_same_frame(left: &Frame, right: &Frame) -> bool {
+    left.at == right.at
+        && left.bytes.as_slice() == right.bytes.as_slice()
+        && left.literals.as_slice() == right.literals.as_slice()
+}
+
+// What comes of a stream in two pieces.
+fn cut_at(alloc: Global, stream: &[u8], cut: usize) -> Result<Came, CaseFault> {
+    let Some((first, second)) = stream.split_at_checked(cut) else {
+        return Err(CaseFault::WrongInput);
+    };
+    let mut feed = Feed::new(alloc);
+    let mut told = feed.push(first);
+    if told.is_ok() {
+        told = feed.push(second);
+    }
+    let frames = taken(alloc, &mut feed, stream.len())?;
+    let steady = feed.push(b"") == told;
+    Ok(Came {
+        frames,
+        told,
+        steady,
+    })
+}
+
+// What comes of a stream byte by byte, where each frame comes with its last byte.
+fn byte_by_byte(alloc: Global, stream: &[u8]) -> Result<Came, CaseFault> {
+    let mut frames = List::new(alloc);
+    let mut feed = Feed::new(alloc);
+    let mut told = Ok(());
+    let mut steady = true;
+    let mut pushed = 0u64;
+    for byte in stream {
+        told = feed.push(&[*byte]);
+        pushed = pushed.saturating_add(1);
+        if let Some(frame) = feed.take()? {
+            steady = steady && end_of(&frame) == pushed;
+            frames.push(frame)?;
+        }
+    }
+    Ok(Came {
+        frames,
+        told,
+        steady,
+    })
+}
+
+// Where a frame's line ends, behind its CRLF.
+fn end_of(frame: &Frame) -> u64 {
+    let size = frame.bytes.as_slice().len() as u64;
+    frame.at.saturating_add(size).saturating_add(2)
+}
+
+// All whole frames, of which there aren't more than so many.
+fn taken(alloc: Global, feed: &mut Feed, most: usize) -> Result<List<Frame>, CaseFault> {
+    let mut frames = List::new(alloc);
+    for _ in 0..most {
+        let Some(frame) = feed.take()? else {
+            break;
+        };
+        frames.push(frame)?;
+    }
+    Ok(frames)
+}
+
+// Pushes each piece, and takes the frames that then stand.
+fn put_pieces(input: &mut Input, answer: &mut Answer) -> Result<(), CaseFault> {
+    let mut feed = Feed::new(input.alloc);
+    for _ in 0..input.len() {
+        let piece = input.text()?;
+        let told = feed.push(piece);
+        answer.word(if told.is_ok() { "ok" } else { "refused:" })?;
+        put_told(answer, told)?;
+        for frame in taken(input.alloc, &mut feed, piece.len())?.as_slice() {
+            put_frame(answer, frame)?;
+        }
+    }
+    Ok(())
+}
+
+// A frame's place, its bytes or how many they are, and its literals.
+fn put_frame(answer: &mut Answer, frame: &Frame) -> Result<(), CaseFault> {
+    answer.word("frame")?;
+    answer.number(frame.at)?;
+    let bytes = frame.bytes.as_slice();
+    if bytes.len() <= SHORT {
+        answer.text(bytes)?;
+    } else {
+        answer.at("size", bytes.len())?;
+    }
+    put_spans(answer, frame.literals.as_slice())
+}
+
+// The fault, if there is one.
+fn put_told(answer: &mut Answer, told: Result<(), FeedFault>) -> Result<(), CaseFault> {
+    match told {
+        Ok(()) => Ok(()),
+        Err(FeedFault::BareLf { at }) => {
+            answer.word("bare lf at")?;
+            answer.number(at)
+        }
+        Err(FeedFault::LiteralTooLarge { at, asked }) => {
+            answer.word("literal too large at")?;
+            answer.number(at)?;
+            answer.number(asked)
+        }
+        Err(FeedFault::LineTooLong { at }) => {
+            answer.word("line too long at")?;
+            answer.number(at)
+        }
+        Err(FeedFault::Memory) => Err(CaseFault::Memory),
+    }
+}

@@ -1,0 +1,67 @@
+//! Calls of `record_codec`: the records of events, read and written again.
+
+ghost use Rattle.std.specs.Prelude.{◌≡◌, ◌≤◌, length};
+ghost use Rattle.action_queue.specs.Writable.{IsWritable};
+ghost use Rattle.record_codec.specs.Spelling.{Spelled};
+
+use crate::answer::Answer;
+use crate::events::put_event;
+use crate::fault::CaseFault;
+use crate::input::Input;
+use action_queue::Event;
+use record_codec::{RecordFault, action_size, decode, encode, encode_outcome, size};
+use std::alloc::Global;
+
+/// Answers a call of this module, or tells that it is none.
+pub fn answers(call: &str, input: &mut Input, answer: &mut Answer) -> Result<bool, CaseFault> {
+    if call != "record" {
+        return Ok(false);
+    }
+    put_record(input.alloc, input.text()?, answer)?;
+    Ok(true)
+}
+
+// The event whose record has a body, which is the body of what is written of that event.
+fn put_record(alloc: Global, body: &[u8], answer: &mut Answer) -> Result<(), CaseFault> {
+    match decode(alloc, body) {
+        Ok(event) => {
+            put_event(answer, &event)?;
+            if !is_frame(&encode(alloc, &event)?, body) {
+                answer.word("but written otherwise")?;
+            }
+            put_size(answer, &event, body)
+        }
+        Err(RecordFault::BadForm { at }) => answer.at("bad form at", at),
+        Err(RecordFault::Memory) => Err(CaseFault::Memory),
+    }
+}
+
+// Tells where the size of an event, or of an action alone, isn't that of its body, or an outcome is written otherwise.
+fn put_size(answer: &mut Answer, event: &Event, body: &[u8]) -> Result<(), CaseFault>
+    requires { IsWritable event.now }
+{
+    if size(event) != body.len() as u64 {
+        answer.word("but of another size")?;
+    }
+    match event {
+        Event::Accept { action, .. }
+            if action_size(action).saturating_add(5) != body.len() as u64 => {
+            answer.word("but an action of another size")
+        }
+        Event::Settle { id, outcome } if !is_frame(&encode_outcome(*id, outcome), body) => {
+            answer.word("but an outcome that is written otherwise")
+        }
+        _ => Ok(()),
+    }
+}
+
+// Whether bytes are the frame of this body.
+fn is_frame(frame: &[u8], body: &[u8]) -> bool {
+    let Some((front, behind)) = frame.split_first_chunk::<4>() else {
+        return false;
+    };
+    let Some((gate, told)) = behind.split_last() else {
+        return false;
+    };
+    u32::from_be_bytes(*front) as usize == body.len() && told == body && *gate == 0
+}

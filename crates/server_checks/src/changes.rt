@@ -1,0 +1,68 @@
+//! The changes that other clients make.
+
+use crate::fault::Fault;
+use crate::texts::{flags_of, name_of, split, uid_of, unquoted};
+use imap_model::Change;
+use mail_base::{BoxName, Bytes};
+use std::alloc::Global;
+
+/// A change by another client in the mailbox of a name.
+#[derive(Drop)]
+pub struct Foreign {
+    pub name: BoxName,
+    pub change: Change,
+}
+
+// `42`
+fn drop_of(text: &str) -> Result<Change, Fault> {
+    let uid = uid_of(text)?;
+    Ok(Change::Drop { uid })
+}
+
+// `42 (\Seen)`
+fn flagging_of(alloc: Global, text: &str) -> Result<Change, Fault> {
+    let (uid, rest) = split(text, " (")?;
+    let (flags, _) = split(rest, ")")?;
+    let uid = uid_of(uid)?;
+    let flags = flags_of(alloc, flags)?;
+    Ok(Change::SetFlags { uid, flags })
+}
+
+// `50 flags () text "a\r\n"`
+fn adding_of(alloc: Global, text: &str) -> Result<Change, Fault> {
+    let (uid, rest) = split(text, " flags (")?;
+    let (flags, text) = split(rest, ") text ")?;
+    let uid = uid_of(uid)?;
+    let flags = flags_of(alloc, flags)?;
+    let text = Bytes::of(unquoted(alloc, text)?);
+    Ok(Change::Add { flags, text, uid })
+}
+
+// `42 to Archive as 7`
+fn moving_of(text: &str) -> Result<Change, Fault> {
+    let (uid, rest) = split(text, " to ")?;
+    let (to, new) = split(rest, " as ")?;
+    let uid = uid_of(uid)?;
+    let new = uid_of(new)?;
+    let to = name_of(to)?;
+    Ok(Change::Shift { uid, to, new })
+}
+
+/// `INBOX expunge 42`, or `flags`, `append` or `move` in its place.
+pub fn foreign_of(alloc: Global, text: &str) -> Result<Foreign, Fault> {
+    let (name, rest) = split(text, " ")?;
+    let (verb, rest) = split(rest, " ")?;
+    let change = if verb == "expunge" {
+        drop_of(rest)?
+    } else if verb == "flags" {
+        flagging_of(alloc, rest)?
+    } else if verb == "append" {
+        adding_of(alloc, rest)?
+    } else if verb == "move" {
+        moving_of(rest)?
+    } else {
+        return Err(Fault::Form);
+    };
+    let name = name_of(name)?;
+    Ok(Foreign { name, change })
+}

@@ -1,0 +1,86 @@
+//! An exchange over a world that is cut in one call and made again in full.
+
+use crate::counts::appended;
+use crate::fault::{Fault, Stop, differs, same_number};
+use crate::line::{Line, Word};
+use crate::plans::{losing, loss_of, no_plan};
+use crate::texts::{number, said, split};
+use crate::world_calls::{closes, connects, receives, restarted, sends};
+use crate::worlds::world_of;
+use std::alloc::Global;
+use world_mem::MemWorld;
+
+// Receives once.
+fn answers(world: &mut MemWorld) -> bool {
+    let mut into = [0; 1024];
+    receives(world, &mut into).is_some()
+}
+
+// Makes the call of a line. The first of the server's lines behind another line is a call; the next ones come in it.
+fn calls(
+    alloc: Global,
+    world: &mut MemWorld,
+    line: Line<'_>,
+    answered: bool,
+) -> Result<bool, Fault> {
+    match line.word {
+        Word::Connect => Ok(connects(world)),
+        Word::Client | Word::ClientBytes => Ok(sends(world, &said(alloc, line)?)),
+        Word::Server | Word::ServerBytes => Ok(answered || answers(world)),
+        Word::Close => {
+            closes(world);
+            Ok(true)
+        }
+        _ => Ok(true),
+    }
+}
+
+// Whether each call of the lines is made.
+fn exchange(alloc: Global, world: &mut MemWorld, lines: &[Line<'_>]) -> Result<bool, Fault> {
+    let mut answered = false;
+    for line in lines {
+        if !calls(alloc, world, *line, answered)? {
+            return Ok(false);
+        }
+        answered = line.word == Word::Server || line.word == Word::ServerBytes;
+    }
+    Ok(true)
+}
+
+// Makes the exchange again in full.
+fn again(alloc: Global, world: MemWorld, lines: &[Line<'_>], there: u64) -> Result<(), Fault> {
+    let mut world = restarted(world, 0, no_plan(alloc))?;
+    if !exchange(alloc, &mut world, lines)? {
+        return Err(differs(alloc, b"an exchange", b"a failure"));
+    }
+    same_number(alloc, there, appended(world.server()))
+}
+
+// `15 waits carried gives 2`: how many messages came where the connection is lost so in this call.
+fn cut(alloc: Global, head: &[Line<'_>], lines: &[Line<'_>], text: &str) -> Result<(), Fault> {
+    let (call, rest) = split(text, " ")?;
+    let (loss, there) = split(rest, " gives ")?;
+    let there = number(there)?;
+    let plan = losing(alloc, number(call)?, loss_of(loss)?)?;
+    let mut world = world_of(alloc, head, lines, plan)?;
+    if exchange(alloc, &mut world, lines)? {
+        return Err(differs(alloc, b"a failure", b"an exchange"));
+    }
+    again(alloc, world, lines, there)
+}
+
+/// Cuts the exchange wherever its lines say so, and says how often.
+pub fn play_cuts(alloc: Global, head: &[Line<'_>], lines: &[Line<'_>]) -> Result<usize, Stop> {
+    let mut count = 0usize;
+    for line in lines {
+        if line.word != Word::Cut {
+            continue;
+        }
+        if let Err(fault) = cut(alloc, head, lines, line.rest) {
+            let number = line.number;
+            return Err(Stop { number, fault });
+        }
+        count = count.saturating_add(1);
+    }
+    Ok(count)
+}

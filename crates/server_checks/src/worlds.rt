@@ -1,0 +1,36 @@
+//! The world that a case begins with.
+
+use crate::boxes::listener_of;
+use crate::fault::Fault;
+use crate::line::{Line, Word};
+use crate::texts::unquoted;
+use crate::world_calls::new_world;
+use mail_base::Bytes;
+use std::alloc::Global;
+use world_mem::{Files, MemWorld, Plan};
+
+// The bytes of the file that the lines with this word tell.
+fn file_of(alloc: Global, lines: &[Line<'_>], word: Word) -> Result<Bytes, Fault> {
+    let mut bytes = Bytes::new(alloc);
+    for line in lines {
+        if line.word == word {
+            bytes.extend(&unquoted(alloc, line.rest)?)?;
+        }
+    }
+    Ok(bytes)
+}
+
+/// The world of the lines' server and files, with a plan.
+pub fn world_of(
+    alloc: Global,
+    head: &[Line<'_>],
+    lines: &[Line<'_>],
+    plan: Plan,
+) -> Result<MemWorld, Fault> {
+    let listener = listener_of(alloc, head, lines)?;
+    let left = file_of(alloc, lines, Word::Left)?;
+    let right = file_of(alloc, lines, Word::Right)?;
+    let files = Files { left, right };
+    let world = new_world(alloc, listener.into_server(), files, plan)?;
+    Ok(world)
+}
