@@ -15,7 +15,7 @@ use Rattle.journal_core.specs.Standing.{Standing, IsStill}
 use Rattle.journal_core.specs.Fronts.{IsWhole, FrontIs}
 use Rattle.journal_core.specs.declared.reading.Front.{Front}
 use Rattle.journal_core.specs.declared.reading.Front.TheVariants.{Torn, Whole}
-use Rattle.journal_core.specs.Reading.{HasClosedGate, StandsAt, IsTorn, TakesFirst, OnlyLooks, behind}
+use Rattle.journal_core.specs.Reading.{HasClosedGate, StandsAt, HasRecord, IsTorn, TakesFirst, OnlyLooks, behind}
 use Rattle.journal_core.proofs.Lists.{records-push, are_more}
 use Rattle.journal_core.proofs.Looking.{rests_look}
 
@@ -202,6 +202,15 @@ whole_next journal now f f1 front size body later view same is whole given moved
     let s = stands_at journal.place (file_of journal.side f) size w body (given' (omega (arith, w.long, length-drop journal.place (file_of journal.side f)))) in
     let there : later ≡ behind (length body) journal = moved ∙ ap (λ (n : ℕ). record journal { place = n }) (omega (arith, s.1)) in
     subst (λ (j : Standing). StandsAt j.place body (file_of j.side f) × (later ≡ behind (length body) j)) view (s.0, there)
+
+-- one stands there, whether it was read or not
+pub record_there : (journal now : Standing) (f : Files) (first : Front) (size : ℕ) → journal ≡ now → first ≡ Whole size →
+    FrontIs first (drop journal.place (file_of journal.side f)) → HasRecord now.place (file_of now.side f)
+record_there journal now f first size view is whole =
+    let w : IsWhole size (drop journal.place (file_of journal.side f)) =
+    subst (λ (x : Front). FrontIs x (drop journal.place (file_of journal.side f))) is whole in
+    let s = stands_at journal.place (file_of journal.side f) size w (take size (drop (journal.place + 5) (file_of journal.side f))) refl in
+    subst (λ (j : Standing). HasRecord j.place (file_of j.side f)) view (record { body = _; stands = s.0 })
 
 pub torn_next : (journal now : Standing) (f : Files) (first : Front) → journal ≡ now → first ≡ Torn →
     FrontIs first (drop journal.place (file_of journal.side f)) → (journal.place ≡ now.place) × IsTorn now.place (file_of now.side f)

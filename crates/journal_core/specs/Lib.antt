@@ -9,7 +9,9 @@ pub mod Heads
 pub mod Fronts
 pub mod Creating
 pub mod Taken
-pub mod Held
+pub mod HeldBodies
 pub mod Several
 pub mod Settling
+pub mod OneSide
+pub mod Limits
 pub mod Broken

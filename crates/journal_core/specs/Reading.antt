@@ -64,6 +64,19 @@ pub record StandsAt (place : ℕ) (body bytes : List ℕ) : Type 0 where
   pub rest : List ℕ
   pub is : drop place bytes ≡ open_record body ++ gate ∷ rest
 
+-- a record stands whole at the place
+pub record HasRecord (place : ℕ) (bytes : List ℕ) : Type 0 where
+  pub body : List ℕ
+  pub stands : StandsAt place body bytes
+
+-- the files are a journal, and its first record stands whole
+pub record HasFirstRecord (files : Files) : Type 0 where
+  pub side : Side
+  pub version : Version
+  pub generation : ℕ
+  pub present : IsPresent side version generation files
+  pub first : HasRecord 13 (file_of side files)
+
 -- the gate at the place is open, and no record stands whole there
 pub record IsTorn (place : ℕ) (bytes : List ℕ) : Type 0 where
   pub open_gate : HasOpenGate place bytes

@@ -1,7 +1,11 @@
 -- What reading several records by one call answers.
-use Rattle.std.specs.Prelude.{◌≡◌, ℕ, ◌+◌, ◌<◌, List, [], ◌∷◌, ◌++◌, length, take, drop, Option, Some, None, Result, Ok, Err}
+use Rattle.std.specs.Prelude.{◌≡◌, ℕ, ◌+◌, ◌<◌, ◌≤◌, List, [], ◌∷◌, ◌++◌, length, take, drop, Option, Some, None, Result, Ok, Err}
+use Rattle.std.specs.Prelude.{IfNone, IfOk, IfSome, IsErrOf, IsTrue, OnErr}
+use Rattle.world_traits.specs.Calls.{Rose}
+use Rattle.world_traits.specs.LinkState.{LinkState}
 use Rattle.journal_core.specs.declared.bodies.Part.{Part}
 use Rattle.journal_core.specs.declared.fault.OpenFault.{OpenFault}
+use Rattle.journal_core.specs.declared.fault.OpenFault.TheVariants as faults
 use Rattle.journal_core.specs.Records.{AreBodies, From, records}
 use Rattle.journal_core.specs.Standing.{Standing}
 use Rattle.journal_core.specs.Reading.{NextIs}
@@ -45,3 +49,19 @@ pub record TakesSome (bodies few : List (List ℕ)) (bytes : List ℕ) (after : 
 abbrev pub TakesFew : List (List ℕ) → List ℕ → Standing → Option (List (List ℕ)) → Type 0
 TakesFew bodies bytes after None = bodies ≡ []
 TakesFew bodies bytes after (Some few) = TakesSome bodies few bytes after
+
+-- Whatever the disk tells: after a fault the journal is as it was; where bodies are given there is one at least, and each
+-- takes the journal on; where there is none, all were read. Its version and whether the disk failed stay.
+abbrev pub GoesFew : Standing → Standing → Result (Option (List (List ℕ))) OpenFault → Type 0
+GoesFew journal after next =
+    OnErr next (after ≡ journal)
+    × IfOk next (λ few. IfSome few (λ bodies. 0 < length bodies))
+    × IfOk next (λ few. IfSome few (λ bodies. journal.place + length bodies ≤ after.place))
+    × IfOk next (λ few. IfNone few (IsTrue after.all_read))
+    × (after.failed ≡ journal.failed)
+    × (after.version ≡ journal.version)
+
+-- the link stays, and a fault of the disk is told only where its count rose
+abbrev pub CountsFaults : {T : Type 0} → LinkState → LinkState → ℕ → ℕ → Result T OpenFault → Type 0
+CountsFaults link link_after count count_after result =
+    (link_after ≡ link) × (count ≤ count_after) × (IsErrOf result faults.Disk → Rose count count_after)

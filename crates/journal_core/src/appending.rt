@@ -26,6 +26,7 @@ impl Journal {
     ghost use Rattle.world_traits.specs.Calls.{Rose};
     ghost use Rattle.journal_core.specs.declared.appending.AppendFault.TheVariants as faults;
     ghost use Rattle.journal_core.specs.Appending.{IsFrame, Appends, end_with, told_end};
+    ghost use Rattle.journal_core.specs.OneSide.{EachOneSide, SideAtRest};
 
     /// Adds a record, given as the frame of its body: the length in four bytes, high byte first,
     /// the body, and a closed gate. It takes no memory.
@@ -57,6 +58,11 @@ impl Journal {
         ensures broken { IsErrOf result faults.Disk → self.new ≡ record self.old { failed = true } }
         ensures beside { D.tells_files → stored (other self.old.side) (D.clock disk.new).now
             ≡ stored (other self.old.side) (D.clock disk.old).now }
+
+        // Where the other side was at rest, each moment has one side at rest.
+        ensures each_one_side { D.tells_files →
+            SideAtRest (other self.old.side) (D.clock disk.old).now →
+            EachOneSide (D.clock disk.old) (D.clock disk.new) }
         ensures link { D.link disk.new ≡ D.link disk.old }
         ensures count { D.disk_faults disk.old ≤ D.disk_faults disk.new }
         ensures cause { IsErrOf result faults.Disk →

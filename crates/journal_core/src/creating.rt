@@ -9,6 +9,7 @@ ghost use Rattle.journal_core.specs.Appending.{told_end};
 ghost use Rattle.journal_core.specs.Creating.{NoneEmpty, IsTaken, IsUnbegun, CreatesThrough, CreatesBehind};
 ghost use Rattle.journal_core.specs.Creating.{set_up_bytes, end_of, created};
 ghost use Rattle.journal_core.specs.Heads.{HeadIs};
+ghost use Rattle.journal_core.specs.OneSide.{EachOneSide};
 ghost use Rattle.journal_core.specs.Reading.{AnyWrong};
 ghost use Rattle.journal_core.specs.Records.{AreBodies, records, open_record};
 ghost use Rattle.journal_core.specs.Standing.{IsStill};
@@ -80,11 +81,14 @@ impl Journal {
         ensures told { D.tells_files →
             CreatesThrough bodies.now (D.clock disk.old) (D.clock disk.new) }
 
-        // Where one side was at rest the syncs come to what is read, and one side stays at rest.
+        // Where one side was at rest the syncs come to what is read, and one side is at rest at
+        // each moment.
         ensures exact { D.tells_files → OneSideAtRest (D.clock disk.old).now →
             CreatesBehind bodies.now (D.clock disk.old) (D.clock disk.new) (D.seen disk.old) }
         ensures one_side { D.tells_files → OneSideAtRest (D.clock disk.old).now →
             OneSideAtRest (D.clock disk.new).now }
+        ensures each_one_side { D.tells_files → OneSideAtRest (D.clock disk.old).now →
+            EachOneSide (D.clock disk.old) (D.clock disk.new) }
 
         // But after a failure of the disk, an error leaves the files as they were.
         ensures kept { D.tells_files → IsErr result → (IsErrOf result faults.Disk → ⊥) →

@@ -5,6 +5,7 @@ ghost use Rattle.world_traits.specs.Calls.{Rose};
 ghost use Rattle.world_traits.specs.Files.{other};
 ghost use Rattle.world_traits.specs.Moments.{stored};
 ghost use Rattle.journal_core.specs.Gates.{OpensGate};
+ghost use Rattle.journal_core.specs.OneSide.{EachOneSide, SideAtRest};
 
 use world_traits::{Clocked, Disk, DiskFailed, Side};
 
@@ -28,6 +29,8 @@ pub fn write_gated<D: Disk>(
         (D.clock disk.new) (D.seen disk.old) (D.seen disk.new) result }
     ensures beside { D.tells_files → stored (other side) (D.clock disk.new).now
         ≡ stored (other side) (D.clock disk.old).now }
+    ensures each_one_side { D.tells_files → SideAtRest (other side) (D.clock disk.old).now →
+        EachOneSide (D.clock disk.old) (D.clock disk.new) }
     ensures link { D.link disk.new ≡ D.link disk.old }
     ensures count { D.disk_faults disk.old ≤ D.disk_faults disk.new }
     ensures cause { OnErr result (Rose (D.disk_faults disk.old) (D.disk_faults disk.new)) }

@@ -5,6 +5,7 @@ ghost use Rattle.world_traits.specs.Calls.{Rose};
 ghost use Rattle.world_traits.specs.Files.{Files};
 ghost use Rattle.world_traits.specs.Moments.{Narrows, OneSideAtRest, Rests};
 ghost use Rattle.journal_core.specs.Heads.{HeadIs};
+ghost use Rattle.journal_core.specs.OneSide.{EachOneSide};
 ghost use Rattle.journal_core.specs.Sides.{IsSetUp};
 ghost use Rattle.journal_core.specs.Standing.{IsStill};
 ghost use Rattle.journal_core.specs.Reading.{IsNoJournal, IsAtFirst, at_first};
@@ -40,6 +41,8 @@ impl Journal {
             Settles (D.clock disk.old) (D.clock disk.new) (D.seen disk.old) }
         ensures one_side { D.tells_files → OneSideAtRest (D.clock disk.old).now →
             OneSideAtRest (D.clock disk.new).now }
+        ensures each_one_side { D.tells_files → OneSideAtRest (D.clock disk.old).now →
+            EachOneSide (D.clock disk.old) (D.clock disk.new) }
         ensures link { D.link disk.new ≡ D.link disk.old }
         ensures count { D.disk_faults disk.old ≤ D.disk_faults disk.new }
         ensures cause { IsErrOf result faults.Disk →

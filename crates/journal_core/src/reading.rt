@@ -36,7 +36,7 @@ impl Journal {
     ghost use Rattle.std.specs.Prelude.{option_to_list};
     ghost use Rattle.journal_core.specs.Records.{From};
     ghost use Rattle.journal_core.specs.Standing.{IsStill};
-    ghost use Rattle.journal_core.specs.Reading.{NextIs, TakesFirst};
+    ghost use Rattle.journal_core.specs.Reading.{HasRecord, NextIs, TakesFirst};
 
     /// Gives the body of the next record, or `None` at the closed gate behind the last one.
     ///
@@ -55,6 +55,10 @@ impl Journal {
             IfOk result (λ next. IsStill self.new (bodies ++ option_to_list next)
             (D.clock disk.new).now (D.seen disk.new)) }
         ensures kept { OnErr result (self.new ≡ self.old) }
+
+        // Memory is taken only where a record stands whole.
+        ensures memory { D.tells_files → IsErrOf result faults.Memory →
+            HasRecord self.old.place (file_of self.old.side (D.seen disk.old)) }
 
         // Whatever the disk tells: a record takes the journal on, and at none all were read.
         ensures advances { IfOk result (λ next. OnSome next (self.old.place < self.new.place)) }

@@ -5,6 +5,7 @@ ghost use Rattle.world_traits.specs.Calls.{Rose};
 ghost use Rattle.world_traits.specs.Files.{other};
 ghost use Rattle.world_traits.specs.Moments.{stored};
 ghost use Rattle.journal_core.specs.Creating.{ClosesHead, SetsUp, set_up_bytes};
+ghost use Rattle.journal_core.specs.OneSide.{EachOneSide, SideAtRest};
 ghost use Rattle.journal_core.specs.declared.version.Version.{Version};
 
 use crate::gated::{CLOSED, OPEN, write_gated};
@@ -21,6 +22,8 @@ pub fn set_up<D: Disk>(disk: &mut D, side: Side, fresh: &[u8]) -> Result<(), Dis
         (D.seen disk.old) (D.seen disk.new) result }
     ensures beside { D.tells_files → stored (other side) (D.clock disk.new).now
         ≡ stored (other side) (D.clock disk.old).now }
+    ensures each_one_side { D.tells_files → SideAtRest (other side) (D.clock disk.old).now →
+        EachOneSide (D.clock disk.old) (D.clock disk.new) }
     ensures link { D.link disk.new ≡ D.link disk.old }
     ensures count { D.disk_faults disk.old ≤ D.disk_faults disk.new }
     ensures cause { OnErr result (Rose (D.disk_faults disk.old) (D.disk_faults disk.new)) }
@@ -35,6 +38,8 @@ fn close_head<D: Disk>(disk: &mut D, side: Side) -> Result<(), DiskFailed>
         (D.seen disk.old) (D.seen disk.new) result }
     ensures beside { D.tells_files → stored (other side) (D.clock disk.new).now
         ≡ stored (other side) (D.clock disk.old).now }
+    ensures each_one_side { D.tells_files → SideAtRest (other side) (D.clock disk.old).now →
+        EachOneSide (D.clock disk.old) (D.clock disk.new) }
     ensures link { D.link disk.new ≡ D.link disk.old }
     ensures count { D.disk_faults disk.old ≤ D.disk_faults disk.new }
     ensures cause { OnErr result (Rose (D.disk_faults disk.old) (D.disk_faults disk.new)) }

@@ -7,7 +7,7 @@ ghost use Rattle.world_traits.specs.Files.{file_of};
 ghost use Rattle.journal_core.specs.Records.{From};
 ghost use Rattle.journal_core.specs.Standing.{IsStill};
 ghost use Rattle.journal_core.specs.Reading.{OnlyLooks};
-ghost use Rattle.journal_core.specs.Several.{IsFrontOf, NextAre, TakesFew};
+ghost use Rattle.journal_core.specs.Several.{CountsFaults, GoesFew, IsFrontOf, NextAre, TakesFew};
 ghost use Rattle.journal_core.specs.declared.fault.Place9.{Place9};
 ghost use Rattle.journal_core.specs.declared.fault.OpenFault.TheVariants as faults;
 
@@ -81,19 +81,11 @@ impl Journal {
             IsStill self.old bodies (D.clock disk.old).now (D.seen disk.old) →
             IfOk result (λ next. IsStill self.new (bodies ++ unwrap_or next [])
             (D.clock disk.new).now (D.seen disk.new)) }
-        ensures kept { OnErr result (self.new ≡ self.old) }
-        ensures some { IfOk result (λ next. IfSome next (λ few. 0 < length few)) }
-        ensures advances { IfOk result (λ next. IfSome next (λ few.
-            self.old.place + length few ≤ self.new.place)) }
-        ensures ended { IfOk result (λ next. IfNone next (IsTrue self.new.all_read)) }
-        ensures sound { self.new.failed ≡ self.old.failed }
-        ensures version { self.new.version ≡ self.old.version }
+        ensures goes { GoesFew self.old self.new result }
         ensures told { D.tells_files → OnlyLooks (D.clock disk.old) (D.clock disk.new)
             (D.seen disk.old) (D.seen disk.new) }
-        ensures link { D.link disk.new ≡ D.link disk.old }
-        ensures count { D.disk_faults disk.old ≤ D.disk_faults disk.new }
-        ensures cause { IsErrOf result faults.Disk →
-            Rose (D.disk_faults disk.old) (D.disk_faults disk.new) }
+        ensures faults { CountsFaults (D.link disk.old) (D.link disk.new)
+            (D.disk_faults disk.old) (D.disk_faults disk.new) result }
     {
         let piece = read_piece(alloc, disk, self.side, self.place, size)?;
         if is_shut(piece.as_slice()) {
@@ -123,19 +115,11 @@ impl Journal {
             IsStill self.old bodies (D.clock disk.old).now (D.seen disk.old) →
             IfOk result (λ next. IsStill self.new (bodies ++ unwrap_or next [])
             (D.clock disk.new).now (D.seen disk.new)) }
-        ensures kept { OnErr result (self.new ≡ self.old) }
-        ensures some { IfOk result (λ next. IfSome next (λ few. 0 < length few)) }
-        ensures advances { IfOk result (λ next. IfSome next (λ few.
-            self.old.place + length few ≤ self.new.place)) }
-        ensures ended { IfOk result (λ next. IfNone next (IsTrue self.new.all_read)) }
-        ensures sound { self.new.failed ≡ self.old.failed }
-        ensures version { self.new.version ≡ self.old.version }
+        ensures goes { GoesFew self.old self.new result }
         ensures told { D.tells_files → OnlyLooks (D.clock disk.old) (D.clock disk.new)
             (D.seen disk.old) (D.seen disk.new) }
-        ensures link { D.link disk.new ≡ D.link disk.old }
-        ensures count { D.disk_faults disk.old ≤ D.disk_faults disk.new }
-        ensures cause { IsErrOf result faults.Disk →
-            Rose (D.disk_faults disk.old) (D.disk_faults disk.new) }
+        ensures faults { CountsFaults (D.link disk.old) (D.link disk.new)
+            (D.disk_faults disk.old) (D.disk_faults disk.new) result }
     {
         let room = Vec::with_capacity(alloc, 1)?;
         match self.next(alloc, disk)? {
@@ -159,10 +143,8 @@ fn read_piece<D: Disk>(
     ensures only { (why : Place9) → IsErrOf result (faults.NotAJournal why) → ⊥ }
     ensures told { D.tells_files → OnlyLooks (D.clock disk.old) (D.clock disk.new)
         (D.seen disk.old) (D.seen disk.new) }
-    ensures link { D.link disk.new ≡ D.link disk.old }
-    ensures count { D.disk_faults disk.old ≤ D.disk_faults disk.new }
-    ensures cause { IsErrOf result faults.Disk →
-        Rose (D.disk_faults disk.old) (D.disk_faults disk.new) }
+    ensures faults { CountsFaults (D.link disk.old) (D.link disk.new)
+        (D.disk_faults disk.old) (D.disk_faults disk.new) result }
 {
     let mut piece = read_up_to(alloc, disk, side, at, size)?;
     let missing = missing_in(piece.as_slice());

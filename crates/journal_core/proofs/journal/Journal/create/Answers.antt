@@ -1,7 +1,7 @@
 use Rattle.std.proofs.Common.{ap, ◌∙◌, arith, is_some}
-use Rattle.world_traits.specs.declared.disk.Side.TheVariants.{Left}
+use Rattle.world_traits.specs.declared.disk.Side.TheVariants.{Left, Right}
 use Rattle.world_traits.proofs.OneSide.{one_left}
-use Rattle.journal_core.proofs.AtRest.{settles_one}
+use Rattle.journal_core.proofs.AtRest.{settles_one, settles_each, each_then, rests_side}
 use Rattle.journal_core.proofs.Creation.{narrows_creates, settles_creates, sets_creates, sets_behind, still_created, are_bodies, created_at}
 use Rattle.journal_core.proofs.journal.Journal.create.Goals as goal
 use Rattle.journal_core.specs.declared.version.Version.TheVariants.{First}
@@ -91,3 +91,25 @@ returns-clause-exact g c tells one =
 
 pub returns-clause-one_side : goal.returns-clause-one_side
 returns-clause-one_side g c tells one = one_left Left _ _ _ (c.in-Ok.ensures.rests tells) (c.set_up.ensures.beside tells)
+
+pub returns-in-Err-clause-each_one_side : goal.returns-in-Err-clause-each_one_side
+returns-in-Err-clause-each_one_side g c tells one = settles_each _ _ _ one (c.read_sides.ensures.exact tells one)
+
+pub returns-in-Some-clause-each_one_side : goal.returns-in-Some-clause-each_one_side
+returns-in-Some-clause-each_one_side g c tells one = settles_each _ _ _ one (c.read_sides.ensures.exact tells one)
+
+pub returns-then-wanted-gt-MAX_SIDE-clause-each_one_side : goal.returns-then-wanted-gt-MAX_SIDE-clause-each_one_side
+returns-then-wanted-gt-MAX_SIDE-clause-each_one_side g c tells one = settles_each _ _ _ one (c.read_sides.ensures.exact tells one)
+
+pub returns-in_default-side_bytes-clause-each_one_side : goal.returns-in_default-side_bytes-clause-each_one_side
+returns-in_default-side_bytes-clause-each_one_side g c tells one = settles_each _ _ _ one (c.read_sides.ensures.exact tells one)
+
+pub returns-in-Err-set_up-clause-each_one_side : goal.returns-in-Err-set_up-clause-each_one_side
+returns-in-Err-set_up-clause-each_one_side g c tells one =
+    each_then _ _ _ (settles_each _ _ _ one (c.read_sides.ensures.exact tells one))
+    (c.set_up.ensures.each_one_side tells (rests_side Right _ _ (c.in-Ok.ensures.rests tells)))
+
+pub returns-clause-each_one_side : goal.returns-clause-each_one_side
+returns-clause-each_one_side g c tells one =
+    each_then _ _ _ (settles_each _ _ _ one (c.read_sides.ensures.exact tells one))
+    (c.set_up.ensures.each_one_side tells (rests_side Right _ _ (c.in-Ok.ensures.rests tells)))

@@ -1,11 +1,15 @@
 use Rattle.std.proofs.Common.{refl, ap}
 use Rattle.journal_core.specs.Standing.{Standing}
-use Rattle.journal_core.proofs.Nexting.{whole_next, torn_next, first_some, still_some}
+use Rattle.journal_core.proofs.Nexting.{whole_next, torn_next, record_there, first_some, still_some}
 use Rattle.journal_core.proofs.Looking.{looks_then}
 use Rattle.journal_core.proofs.journal.Journal.next.Goals as goal
 
 pub returns-in_err-body-in-Ok-Whole-clause-told : goal.returns-in_err-body-in-Ok-Whole-clause-told
 returns-in_err-body-in-Ok-Whole-clause-told g c tells = looks_then _ _ _ _ _ _ (c.read_front.ensures.told tells) (c.read_up_to.ensures.told tells)
+
+pub returns-in_err-body-in-Ok-Whole-clause-memory : goal.returns-in_err-body-in-Ok-Whole-clause-memory
+returns-in_err-body-in-Ok-Whole-clause-memory g c tells is =
+    record_there _ _ _ _ _ c.self.view_is c.in-Ok-Whole.field-0-is (c.in-Ok-Whole.ensures.value tells)
 
 pub returns-in-Ok-Torn-clause-value : goal.returns-in-Ok-Torn-clause-value
 returns-in-Ok-Torn-clause-value g c tells = torn_next _ _ _ _ c.self.view_is c.in-Ok-Torn.field-0-is (c.in-Ok-Torn.ensures.value tells)

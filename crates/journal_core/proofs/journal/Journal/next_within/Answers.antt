@@ -28,5 +28,12 @@ returns-clause-still g c tells bodies still =
     let s = few_stand _ _ _ _ _ c.self.view_is (c.in_ok-piece.ensures.value tells).is _ _ _ c.in_ok-few.ensures.stand c.in_ok-few.ensures.size refl in
     still_few _ bodies _ _ _ _ _ _ still (c.in_ok-piece.ensures.told tells) s.0 s.1
 
-pub returns-clause-advances : goal.returns-clause-advances
-returns-clause-advances g c = advances _ _ _ _ c.self.view_is c.in_ok-few.ensures.size
+pub returns-clause-goes : goal.returns-clause-goes
+returns-clause-goes g c = (
+  tt,
+  omega arith,
+  advances _ _ _ _ c.self.view_is c.in_ok-few.ensures.size,
+  tt,
+  ap (λ (j : Standing). j.failed) c.self.view_is,
+  ap (λ (j : Standing). j.version) c.self.view_is,
+)

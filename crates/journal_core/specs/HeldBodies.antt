@@ -17,10 +17,10 @@ abbrev pub HasHeld : ℕ → List ℕ → Moment → Type 0
 HasHeld place body m = Images (HoldsAt place body) m
 
 -- what is held stays held, at its place
-pub record HeldGrows (m n : Moment) : Type 0 where
+pub record StaysHeld (m n : Moment) : Type 0 where
   pub stays : (place : ℕ) (body : List ℕ) → HasHeld place body m → HasHeld place body n
 
 -- A step of the disk: what is held stays held, and what isn't on the disk stays.
-pub record KeepsHeld (m n : Moment) : Type 0 where
-  pub held : HeldGrows m n
+pub record DiskKeepsHeld (m n : Moment) : Type 0 where
+  pub held : StaysHeld m n
   pub outside : n.outside ≡ m.outside

@@ -10,7 +10,7 @@ use Rattle.journal_core.specs.declared.version.Version.{Version}
 use Rattle.journal_core.specs.Holds.{Holds}
 use Rattle.journal_core.specs.Standing.{Standing, IsStill}
 use Rattle.journal_core.specs.Creating.{IsUnbegun}
-use Rattle.journal_core.specs.Held.{HasHeld, HeldGrows, KeepsHeld}
+use Rattle.journal_core.specs.HeldBodies.{HasHeld, StaysHeld, DiskKeepsHeld}
 use Rattle.journal_core.proofs.Unique.{one_book}
 use Rattle.journal_core.proofs.Presence.{from_behind}
 use Rattle.journal_core.proofs.Choice.{open_head}
@@ -59,7 +59,7 @@ module _ (v : Version) (b : List (List ℕ)) (x : List ℕ) (m n : Moment) where
   adds_phases (suc (suc from)) (suc (suc to)) i a le p q held = all_hold v (b ++ x ∷ []) i a n (there_in v (b ++ x ∷ []) i a m p.some held) q.each
 
   -- a step of an append
-  pub adds_held : GoesOn (Holds v b) (Holds v (b ++ x ∷ [])) m n → KeepsHeld m n
+  pub adds_held : GoesOn (Holds v b) (Holds v (b ++ x ∷ [])) m n → DiskKeepsHeld m n
   adds_held s = record { held = record { stays = λ i a held. adds_phases s.from s.to i a s.forward s.at_from s.at_to held }; outside = s.outside }
 
 -- where no side was begun nothing is held
@@ -78,26 +78,26 @@ module _ (v : Version) (b : List (List ℕ)) (m n : Moment) where
   creates_phases (suc (suc from)) (suc (suc to)) i a le p q held = all_hold v b i a n (there_in v b i a m p.some held) q.each
 
   -- a step of a creation
-  pub creates_held : GoesOn IsUnbegun (Holds v b) m n → KeepsHeld m n
+  pub creates_held : GoesOn IsUnbegun (Holds v b) m n → DiskKeepsHeld m n
   creates_held s = record { held = record { stays = λ i a held. creates_phases s.from s.to i a s.forward s.at_from s.at_to held }; outside = s.outside }
 
 -- fewer images hold no less
-pub within_held : (m n : Moment) → Within m n → KeepsHeld m n
+pub within_held : (m n : Moment) → Within m n → DiskKeepsHeld m n
 within_held m n w = record { held = record { stays = λ i a held. record { each = λ files h. held.each files (w.each files h) } }; outside = w.outside }
 
-pub held_self : (m : Moment) → HeldGrows m m
+pub held_self : (m : Moment) → StaysHeld m m
 held_self m = record { stays = λ i a h. h }
 
-pub held_then : (l m n : Moment) → HeldGrows l m → HeldGrows m n → HeldGrows l n
+pub held_then : (l m n : Moment) → StaysHeld l m → StaysHeld m n → StaysHeld l n
 held_then l m n p q = record { stays = λ i a h. q.stays i a (p.stays i a h) }
 
 -- what is held at a moment is held at each later one
-pub held_later : (P : Moment → Type 0) (k l : Clock) → Since P KeepsHeld k l → HeldGrows k.now l.now
-held_later P k l s = since_now P (λ m. HeldGrows k.now m) KeepsHeld (λ m n p step so_far. held_then k.now m n so_far step.held) k (held_self k.now) l s
+pub held_later : (P : Moment → Type 0) (k l : Clock) → Since P DiskKeepsHeld k l → StaysHeld k.now l.now
+held_later P k l s = since_now P (λ m. StaysHeld k.now m) DiskKeepsHeld (λ m n p step so_far. held_then k.now m n so_far step.held) k (held_self k.now) l s
 
 -- and what isn't on the disk is as it was
-pub outside_later : (P : Moment → Type 0) (k l : Clock) → Since P KeepsHeld k l → l.now.outside ≡ k.now.outside
-outside_later P k l s = since_now P (λ m. m.outside ≡ k.now.outside) KeepsHeld (λ m n p step so_far. step.outside ∙ so_far) k refl l s
+pub outside_later : (P : Moment → Type 0) (k l : Clock) → Since P DiskKeepsHeld k l → l.now.outside ≡ k.now.outside
+outside_later P k l s = since_now P (λ m. m.outside ≡ k.now.outside) DiskKeepsHeld (λ m n p step so_far. step.outside ∙ so_far) k refl l s
 
 -- moments that narrow are all within the first
 pub narrowed : (k l : Clock) → Narrows k l → Within k.now l.now
