@@ -32,7 +32,7 @@ use Rattle.store_core.specs.Mail.{mail}
 use Rattle.store_core.specs.Books.{Make, HoldsBook}
 use Rattle.store_core.specs.Holding.{IsAsLeft}
 use Rattle.store_core.specs.Taking.{HasBooks, IsTaking, Takes, ChoosesStep, IsCreating, Creates, BeginsStep, BeginsBehind}
-use Rattle.store_core.specs.Held.{KeepsActions}
+use Rattle.store_core.specs.HeldActions.{KeepsActions}
 use Rattle.store_core.proofs.Opens.{settles_chooses}
 use Rattle.store_core.proofs.Phases.{step_of}
 use Rattle.store_core.proofs.Holds.{begins_keeps, within_keeps_actions}

@@ -4,7 +4,7 @@ use Rattle.world_traits.specs.Files.{Files, file_of}
 use Rattle.journal_core.proofs.Choice.{open_head}
 use Rattle.world_traits.specs.Moments.{Moment, MayLeave, Only}
 use Rattle.world_traits.proofs.Choosing.{rests_only}
-use Rattle.journal_core.proofs.Held.{still_holds}
+use Rattle.journal_core.proofs.HeldBodies.{still_holds}
 use Rattle.action_queue.specs.Book.{Meaning}
 use Rattle.store_core.specs.Steps.{Books, Firm, Begun}
 use Rattle.store_core.specs.Keeping.{Keeping}

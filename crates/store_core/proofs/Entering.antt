@@ -21,7 +21,7 @@ use Rattle.journal_core.specs.Reading.{HasClosedGate, StandsAt, NextIs, IsNoJour
 use Rattle.journal_core.specs.Several.{StandFrom, behind_all}
 use Rattle.journal_core.proofs.Few.{longer, stand_split, still_here}
 use Rattle.journal_core.proofs.Presence.{head_long}
-use Rattle.journal_core.proofs.Held.{still_holds}
+use Rattle.journal_core.proofs.HeldBodies.{still_holds}
 use Rattle.action_queue.specs.declared.event.Event.{Event}
 use Rattle.action_queue.specs.declared.book.Book.{Book}
 use Rattle.action_queue.specs.Book.{Meaning, meaning}
@@ -32,7 +32,7 @@ use Rattle.store_core.specs.Keeping.{Keeping}
 use Rattle.store_core.specs.Mail.{mail, rules_of, MayCome}
 use Rattle.store_core.specs.Books.{Make, HasBook}
 use Rattle.store_core.specs.Holding.{IsAsLeft}
-use Rattle.store_core.specs.Held.{KeepsActions}
+use Rattle.store_core.specs.HeldActions.{KeepsActions}
 use Rattle.store_core.specs.Broken.{IsUndue, IsBroken}
 use Rattle.store_core.specs.Reading.{Enters, EntersAll, ReadsBook, UndueAt}
 use Rattle.store_core.proofs.Folding.{make_none, make_more}

@@ -14,7 +14,7 @@ use Rattle.action_queue.specs.Queues.{accepted, settled, change_first, change_qu
 use Rattle.action_queue.specs.Book.{Meaning, after}
 use Rattle.store_core.specs.Mail.{mail}
 use Rattle.store_core.specs.Books.{HasBook}
-use Rattle.store_core.specs.Held.{IsNamed, HasAction, HoldsAction, IsHeld, KeepsActions}
+use Rattle.store_core.specs.HeldActions.{IsNamed, HasAction, HoldsAction, IsHeld, KeepsActions}
 use Rattle.store_core.proofs.Folding.{one_held}
 use Rattle.store_core.proofs.MailBook.{one_mail_event}
 

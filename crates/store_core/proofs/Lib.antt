@@ -9,3 +9,4 @@ pub mod Wholeness
 pub mod Opens
 pub mod AtRest
 pub mod MailBook
+pub mod FirstRecord

@@ -19,7 +19,7 @@ use Rattle.store_core.specs.Mail.{mail, MayCome}
 use Rattle.store_core.specs.Books.{Make, HoldsBook}
 use Rattle.store_core.specs.Holding.{Holding, IsAsLeft}
 use Rattle.store_core.specs.Taking.{TakesStep, IsTaking, Takes}
-use Rattle.store_core.specs.Held.{KeepsActions}
+use Rattle.store_core.specs.HeldActions.{KeepsActions}
 use Rattle.store_core.proofs.Folding.{make_more}
 use Rattle.store_core.proofs.Holds.{takes_keeps}
 

@@ -4,7 +4,7 @@ pub mod Books
 pub mod Holding
 pub mod Steps
 pub mod Taking
-pub mod Held
+pub mod HeldActions
 pub mod Room
 pub mod Broken
 pub mod Reading

@@ -4,6 +4,8 @@ ghost use Rattle.std.specs.Prelude.{◌≡◌, ◌≤◌, ◌<◌, ◌+◌, ℕ,
 ghost use Rattle.world_traits.specs.Calls.{Rose};
 ghost use Rattle.world_traits.specs.Moments.{Since, OneSideAtRest};
 ghost use Rattle.journal_core.specs.Appending.{end_with, told_end};
+ghost use Rattle.journal_core.specs.Limits.{max_side};
+ghost use Rattle.journal_core.specs.OneSide.{EachOneSide};
 ghost use Rattle.mail_base.specs.Bodies.{frame_of};
 ghost use Rattle.record_codec.specs.Bodies.{body_of};
 ghost use Rattle.action_queue.specs.Book.{after};
@@ -12,7 +14,7 @@ ghost use Rattle.action_queue.specs.Writable.{IsWritable};
 ghost use Rattle.action_queue.specs.declared.event.Event.TheVariants as events;
 ghost use Rattle.store_core.specs.Holding.{IsAsLeft};
 ghost use Rattle.store_core.specs.Taking.{IsTaking, Takes, TakesStep};
-ghost use Rattle.store_core.specs.Held.{KeepsActions};
+ghost use Rattle.store_core.specs.HeldActions.{KeepsActions};
 ghost use Rattle.store_core.specs.Room.{limit_of, end_after};
 ghost use Rattle.store_core.specs.declared.fault.CommitFault.TheVariants as faults;
 
@@ -71,6 +73,7 @@ impl Store {
         ensures kept { IsErr result → (IsErrOf result faults.Disk → ⊥) →
             (self.new ≡ self.old) × (disk.new ≡ disk.old) }
         ensures one_side { D.tells_files → OneSideAtRest (D.clock disk.new).now }
+        ensures each_one_side { D.tells_files → EachOneSide (D.clock disk.old) (D.clock disk.new) }
         ensures link { D.link disk.new ≡ D.link disk.old }
         ensures count { D.disk_faults disk.old ≤ D.disk_faults disk.new }
         ensures cause { IsErrOf result faults.Disk → Rose (D.disk_faults disk.old) (D.disk_faults disk.new) }
@@ -111,15 +114,16 @@ impl Store {
           place = self.old.journal.place + length (frame_of (body_of (events.Settle id outcome)));
         }) }
 
-        ensures over { 1073741824 < end_after (events.Settle id outcome) self.old → IsErrOf result
+        ensures over { max_side < end_after (events.Settle id outcome) self.old → IsErrOf result
             (faults.Full (told_end (end_with 0 self.old.journal)) (told_end (end_after (events.Settle id outcome) self.old))) }
         ensures full { (end wanted : ℕ) → IsErrOf result (faults.Full end wanted) →
-            1073741824 < end_after (events.Settle id outcome) self.old }
+            max_side < end_after (events.Settle id outcome) self.old }
         ensures no_memory { IsErrOf result faults.Memory → ⊥ }
         ensures stopped { IsErrOf result faults.Disk → (self.new.book ≡ self.old.book) × (self.new.journal.failed ≡ true) }
         ensures kept { IsErr result → (IsErrOf result faults.Disk → ⊥) →
             (self.new ≡ self.old) × (disk.new ≡ disk.old) }
         ensures one_side { D.tells_files → OneSideAtRest (D.clock disk.new).now }
+        ensures each_one_side { D.tells_files → EachOneSide (D.clock disk.old) (D.clock disk.new) }
         ensures link { D.link disk.new ≡ D.link disk.old }
         ensures count { D.disk_faults disk.old ≤ D.disk_faults disk.new }
         ensures cause { IsErrOf result faults.Disk → Rose (D.disk_faults disk.old) (D.disk_faults disk.new) }
@@ -145,7 +149,7 @@ fn limit_of(event: &Event) -> u64
 
 // Whether a journal with a body of so many bytes more ends within the limit.
 fn room_for(journal: &Journal, size: u64, limit: u64) -> Result<(), CommitFault>
-    requires { limit ≤ 1073741824 }
+    requires { limit ≤ max_side }
     ensures within { OnOk result (end_with (size + 5) journal.now ≤ limit) }
     ensures over { limit < end_with (size + 5) journal.now → IsErrOf result
         (faults.Full (told_end (end_with 0 journal.now)) (told_end (end_with (size + 5) journal.now))) }

@@ -6,6 +6,7 @@ ghost use Rattle.world_traits.specs.Calls.{Rose};
 ghost use Rattle.mail_base.specs.BoxName.{IsBoxName};
 ghost use Rattle.world_traits.specs.Moments.{Since, Narrows, OneSideAtRest};
 ghost use Rattle.journal_core.specs.Creating.{IsTaken, IsUnbegun};
+ghost use Rattle.journal_core.specs.OneSide.{EachOneSide};
 ghost use Rattle.journal_core.specs.Reading.{AnyWrong};
 ghost use Rattle.mail_base.specs.Bodies.{frame_of};
 ghost use Rattle.journal_core.specs.Appending.{IsFrame};
@@ -19,7 +20,7 @@ ghost use Rattle.store_core.specs.Mail.{mail};
 ghost use Rattle.store_core.specs.Holding.{IsAsLeft};
 ghost use Rattle.store_core.specs.Steps.{Books};
 ghost use Rattle.store_core.specs.Taking.{HasBooks, Creates, IsCreating, BeginsStep, BeginsBehind};
-ghost use Rattle.store_core.specs.Held.{KeepsActions};
+ghost use Rattle.store_core.specs.HeldActions.{KeepsActions};
 ghost use Rattle.store_core.specs.declared.fault.StoreFault.TheVariants as faults;
 
 use crate::{Store, StoreFault};
@@ -55,7 +56,7 @@ impl Store {
 
         // At every moment a stop leaves no book, or that of the names, and no action that all images hold is lost. Where one
         // side was at rest the first syncs leave the books or choose one; behind them there is none from one moment to the
-        // next, or the Begin is begun, or made firm; and one side stays at rest.
+        // next, or the Begin is begun, or made firm; and one side is at rest at each moment.
         ensures told { D.tells_files → Creates names (D.clock disk.old) (D.clock disk.new) }
         ensures begins { D.tells_files → OneSideAtRest (D.clock disk.old).now →
             (books : Books) → HasBooks books (D.clock disk.old).now →
@@ -65,6 +66,8 @@ impl Store {
             Since (IsCreating names (D.clock disk.old).now) (BeginsStep First names)
             (D.clock disk.old) (D.clock disk.new) }
         ensures one_side { D.tells_files → OneSideAtRest (D.clock disk.old).now → OneSideAtRest (D.clock disk.new).now }
+        ensures each_one_side { D.tells_files → OneSideAtRest (D.clock disk.old).now →
+            EachOneSide (D.clock disk.old) (D.clock disk.new) }
         ensures held { D.tells_files → Since (IsCreating names (D.clock disk.old).now) KeepsActions
             (D.clock disk.old) (D.clock disk.new) }
 

@@ -1,17 +1,23 @@
 //! A store is opened: the events of the journal's records are entered one behind the other.
 
-ghost use Rattle.std.specs.Prelude.{◌≡◌, ◌≤◌, ◌<◌, ◌+◌, ◌++◌, ℕ, List, [], Some, None, IfOk, OnOk, IsErrOf, IsTrue, length, true, false};
+ghost use Rattle.std.specs.Prelude.{◌≡◌, ◌↔◌, ◌≤◌, ◌<◌, ◌+◌, ◌++◌, ℕ, List, [], Some, None, IfOk, OnOk, IsErrOf, IsTrue};
+ghost use Rattle.std.specs.Prelude.{get_or, length, true, false};
 ghost use Rattle.world_traits.specs.Calls.{Rose};
-ghost use Rattle.world_traits.specs.Files.{Files};
+ghost use Rattle.world_traits.specs.Files.{Files, file_of};
 ghost use Rattle.world_traits.specs.Moments.{Since, Within, Narrows, OneSideAtRest};
 ghost use Rattle.world_traits.specs.Links.{Any};
 ghost use Rattle.journal_core.specs.Records.{records};
-ghost use Rattle.journal_core.specs.Reading.{OnlyLooks};
+ghost use Rattle.journal_core.specs.OneSide.{EachOneSide};
+ghost use Rattle.journal_core.specs.Reading.{HasFirstRecord, HasRecord, OnlyLooks};
 ghost use Rattle.journal_core.specs.Standing.{IsStill};
 ghost use Rattle.journal_core.specs.declared.version.Version.{Version};
 ghost use Rattle.journal_core.specs.declared.fault.Place9.{Place9};
 ghost use Rattle.journal_core.specs.declared.fault.Place9.TheVariants as places;
 ghost use Rattle.action_queue.specs.Book.{Meaning, meaning};
+ghost use Rattle.action_queue.specs.Events.{IsFirst, first_book};
+ghost use Rattle.action_queue.specs.Writable.{IsWritable};
+ghost use Rattle.action_queue.specs.declared.event.Event.{Event};
+ghost use Rattle.record_codec.specs.Spelling.{Spelled};
 ghost use Rattle.store_core.specs.Mail.{mail};
 ghost use Rattle.store_core.specs.Books.{HasBook};
 ghost use Rattle.store_core.specs.Broken.{IsBroken, IsUndue};
@@ -19,7 +25,7 @@ ghost use Rattle.store_core.specs.Reading.{Enters, EntersAll, ReadsBook, UndueAt
 ghost use Rattle.store_core.specs.Steps.{Books, Firm};
 ghost use Rattle.store_core.specs.Holding.{IsAsLeft};
 ghost use Rattle.store_core.specs.Taking.{HasBooks, IsOneOf, ChoosesStep};
-ghost use Rattle.store_core.specs.Held.{KeepsActions};
+ghost use Rattle.store_core.specs.HeldActions.{KeepsActions};
 ghost use Rattle.store_core.specs.declared.fault.StoreFault.TheVariants as faults;
 
 use crate::rules::rules_of;
@@ -59,6 +65,9 @@ impl Store {
             (why : Place9) → IsErrOf result (faults.NotAJournal why) → ⊥ }
         ensures only { (IsErrOf result faults.Already → ⊥) × ((end wanted : ℕ) → IsErrOf result (faults.Full end wanted) → ⊥) }
 
+        // Memory may be wanting only where a journal is there, and its first record stands whole.
+        ensures memory { D.tells_files → IsErrOf result faults.Memory → HasFirstRecord (D.seen disk.old) }
+
         // Unless the disk failed the files read as before. No moment has another image than before, and no action that
         // all images hold is lost.
         ensures seen { D.tells_files → (IsErrOf result faults.Disk → ⊥) → D.seen disk.new ≡ D.seen disk.old }
@@ -66,6 +75,8 @@ impl Store {
         ensures held { D.tells_files → Since (Within (D.clock disk.old).now) KeepsActions
             (D.clock disk.old) (D.clock disk.new) }
         ensures one_side { D.tells_files → OneSideAtRest (D.clock disk.old).now → OneSideAtRest (D.clock disk.new).now }
+        ensures each_one_side { D.tells_files → OneSideAtRest (D.clock disk.old).now →
+            EachOneSide (D.clock disk.old) (D.clock disk.new) }
         ensures link { D.link disk.new ≡ D.link disk.old }
         ensures count { D.disk_faults disk.old ≤ D.disk_faults disk.new }
         ensures cause { IsErrOf result faults.Disk → Rose (D.disk_faults disk.old) (D.disk_faults disk.new) }
@@ -91,6 +102,9 @@ fn read_begin<D: Disk>(
     ensures broken { D.tells_files → IsStill journal.old [] (D.clock disk.old).now (D.seen disk.old) →
         (why : Place9) → IsErrOf result (faults.NotAJournal why) → IsBroken mail why (D.seen disk.old) }
     ensures only { (IsErrOf result faults.Already → ⊥) × ((end wanted : ℕ) → IsErrOf result (faults.Full end wanted) → ⊥) }
+    ensures stands { D.tells_files → OnOk result (HasRecord journal.old.place (file_of journal.old.side (D.seen disk.old))) }
+    ensures memory { D.tells_files → IsErrOf result faults.Memory →
+        HasRecord journal.old.place (file_of journal.old.side (D.seen disk.old)) }
     ensures told { D.tells_files → OnlyLooks (D.clock disk.old) (D.clock disk.new) (D.seen disk.old) (D.seen disk.new) }
     ensures link { D.link disk.new ≡ D.link disk.old }
     ensures count { D.disk_faults disk.old ≤ D.disk_faults disk.new }
@@ -103,23 +117,47 @@ fn read_begin<D: Disk>(
     begun_by(alloc, body.as_slice(), at)
 }
 
-// The book that a body begins, whose record is at this place.
+// The book that a body begins, whose record is at this place. No memory is taken for another event's.
 fn begun_by(alloc: Global, body: &[u8], at: u64) -> Result<Book, StoreFault>
     ensures value { (version : Version) → IfOk result (λ book. Enters mail version None body.now (meaning book)) }
     ensures broken { (why : Place9) → IsErrOf result (faults.NotAJournal why) →
         (why ≡ places.Record at) × ((version : Version) → IsUndue mail version None body.now) }
+    ensures memory { IsErrOf result faults.Memory → (event : Event) → Spelled body.now event → IsFirst event }
     ensures only { (IsErrOf result faults.Already → ⊥) × (IsErrOf result faults.Disk → ⊥)
         × ((end wanted : ℕ) → IsErrOf result (faults.Full end wanted) → ⊥) }
 {
+    if !is_lettered(body) {
+        return Err(broken_at(at));
+    }
     match decode(alloc, body) {
         Err(RecordFault::Memory) => Err(StoreFault::Memory),
         Err(RecordFault::BadForm { .. }) => Err(broken_at(at)),
-        Ok(Event::Begin { names }) => {
-            let book = Book::new(alloc, names)?;
-            Ok(book)
-        }
-        Ok(_) => Err(broken_at(at)),
+        Ok(event) => begun_with(alloc, event, at),
     }
+}
+
+// Whether a body's first byte is that of a Begin's.
+fn is_lettered(body: &[u8]) -> bool
+    ensures { IsTrue result ↔ (get_or body.now 0 0 ≡ 66) }
+{
+    body.len() > 0 && body[0] == b'B'
+}
+
+// The book that an event begins, whose record is at this place.
+fn begun_with(alloc: Global, event: Event, at: u64) -> Result<Book, StoreFault>
+    requires { IsWritable event }
+    ensures value { IfOk result (λ book. IsFirst event × (meaning book ≡ first_book event)) }
+    ensures broken { (why : Place9) → IsErrOf result (faults.NotAJournal why) →
+        (why ≡ places.Record at) × (IsFirst event → ⊥) }
+    ensures memory { IsErrOf result faults.Memory → IsFirst event }
+    ensures only { (IsErrOf result faults.Already → ⊥) × (IsErrOf result faults.Disk → ⊥)
+        × ((end wanted : ℕ) → IsErrOf result (faults.Full end wanted) → ⊥) }
+{
+    let Event::Begin { names } = event else {
+        return Err(broken_at(at));
+    };
+    let book = Book::new(alloc, names)?;
+    Ok(book)
 }
 
 // Reads the records behind the first one, and enters their events.

@@ -63,6 +63,17 @@ fn a_journal_without_its_begin(rt: HostRuntime) -> Result<(), Fail> {
 }
 
 #[test]
+fn a_first_record_that_is_no_begin(rt: HostRuntime) -> Result<(), Fail> {
+    let alloc = rt.alloc();
+    let mut file = FILE[..13].to_vec(alloc)?;
+    file.extend_from_slice(
+        b"\x01\x00\x00\x00\x1dA\x00\x00\x00\x01MR\x05INBOX\x00\x00\x00\x05\x00\x00\x00\x2a\x07Archive\x00",
+    )?;
+    assert_eq!(rt; why(alloc, &file)?, Some(Place9::Record { at: 13 }));
+    Ok(())
+}
+
+#[test]
 fn a_record_that_may_not_come(rt: HostRuntime) -> Result<(), Fail> {
     let alloc = rt.alloc();
     let second = Some(Place9::Record { at: 34 });

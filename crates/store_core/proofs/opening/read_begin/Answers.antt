@@ -2,11 +2,13 @@ use Rattle.std.proofs.Common.{◌≡◌, ℕ, List, [], None, IfOk, refl, rules,
 use Rattle.world_traits.specs.Files.{file_of}
 use Rattle.action_queue.specs.Book.{meaning}
 use Rattle.journal_core.specs.declared.fault.Place9.TheVariants as places
+use Rattle.journal_core.specs.Reading.{HasRecord}
 use Rattle.store_core.specs.Mail.{mail}
 use Rattle.store_core.specs.Broken.{IsUndue}
 use Rattle.store_core.specs.Reading.{Enters}
 use Rattle.store_core.proofs.Folding.{make_none}
 use Rattle.store_core.proofs.Entering.{torn_behind, missing_here, undue_behind, body_stands, gate_closed, if_reads_first}
+use Rattle.store_core.proofs.FirstRecord.{on_any}
 use Rattle.store_core.proofs.opening.read_begin.Goals as goal
 
 pub returns-in_err-body-clause-broken : goal.returns-in_err-body-clause-broken
@@ -33,3 +35,20 @@ returns-clause-value g c tells still =
     if_reads_first c.args.journal.now.version _ c.in-Some.body _ _ _ (rw c.in-Some.is at c.in_ok-body.ensures.still tells [] still) c.next.ensures.version
     (subst (λ (b : List ℕ). IfOk c.begun_by.result (λ book. Enters mail c.args.journal.now.version None b (meaning book)))
     c.as_slice.ensures (c.begun_by.ensures.value c.args.journal.now.version))
+
+pub returns-in_err-body-clause-memory : goal.returns-in_err-body-clause-memory
+returns-in_err-body-clause-memory g c tells is = c.next.ensures.memory tells (search rules)
+
+pub returns-clause-stands : goal.returns-clause-stands
+returns-clause-stands g c tells =
+    let there : HasRecord c.args.journal.now.place (file_of c.args.journal.now.side (g.D.Disk.seen c.args.disk.now)) = record {
+      body = c.in-Some.body;
+      stands = body_stands _ _ _ _ c.in-Some.body c.in-Some.is (c.in_ok-body.ensures.value tells);
+    } in
+    on_any c.begun_by.result _ there
+
+pub returns-clause-memory : goal.returns-clause-memory
+returns-clause-memory g c tells is = record {
+  body = c.in-Some.body;
+  stands = body_stands _ _ _ _ c.in-Some.body c.in-Some.is (c.in_ok-body.ensures.value tells);
+}

@@ -1,5 +1,7 @@
 use Rattle.std.proofs.Common.{rules, ◌≡◌, ◌∙◌, ap, Err}
+use Rattle.world_traits.specs.Files.{other}
 use Rattle.journal_core.specs.Standing.{Standing}
+use Rattle.journal_core.proofs.AtRest.{each_none, rests_side}
 use Rattle.action_queue.specs.Book.{meaning, after}
 use Rattle.store_core.specs.Faults.{of_adding}
 use Rattle.store_core.proofs.Unless.{unless_disk}
@@ -78,3 +80,20 @@ returns-in_err-append-clause-one_side g c tells = append_one mail _ c.self.insid
 
 pub returns-clause-one_side : goal.returns-clause-one_side
 returns-clause-one_side g c tells = append_one mail _ c.self.inside.journal.side _ _ _ (c.requires.still tells) (c.append.ensures.beside tells)
+
+pub returns-in_err-room_for-clause-each_one_side : goal.returns-in_err-room_for-clause-each_one_side
+returns-in_err-room_for-clause-each_one_side g c tells = each_none (g.D.Clocked.clock c.args.disk.now)
+
+pub returns-in_err-frame-clause-each_one_side : goal.returns-in_err-frame-clause-each_one_side
+returns-in_err-frame-clause-each_one_side g c tells = each_none (g.D.Clocked.clock c.args.disk.now)
+
+pub returns-in_err-ready-clause-each_one_side : goal.returns-in_err-ready-clause-each_one_side
+returns-in_err-ready-clause-each_one_side g c tells = each_none (g.D.Clocked.clock c.args.disk.now)
+
+pub returns-in_err-append-clause-each_one_side : goal.returns-in_err-append-clause-each_one_side
+returns-in_err-append-clause-each_one_side g c tells =
+    c.append.ensures.each_one_side tells (rests_side (other c.self.inside.journal.side) _ _ (c.requires.still tells).still.rests)
+
+pub returns-clause-each_one_side : goal.returns-clause-each_one_side
+returns-clause-each_one_side g c tells =
+    c.append.ensures.each_one_side tells (rests_side (other c.self.inside.journal.side) _ _ (c.requires.still tells).still.rests)

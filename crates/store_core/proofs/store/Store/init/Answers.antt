@@ -1,5 +1,6 @@
 use Rattle.std.proofs.Common.{◌≡◌, rules, refl, ap, arith, Err}
 use Rattle.journal_core.specs.Standing.{Standing}
+use Rattle.journal_core.proofs.AtRest.{each_none}
 use Rattle.store_core.specs.Faults.{of_creating}
 use Rattle.store_core.proofs.Unless.{not_disk}
 use Rattle.store_core.proofs.Beginning.{some_begin, creates, creates_held, begins_behind, begins_none, begins_steps, left_begun, never_over}
@@ -63,3 +64,9 @@ pub returns-in_err-journal-clause-kept : goal.returns-in_err-journal-clause-kept
 returns-in_err-journal-clause-kept g c tells err no_disk =
     let was : c.from_residual-in_err-journal.result ≡ Err (of_creating c.in_err-journal.field-0.0) = search rules in
     c.create.ensures.kept tells (rw c.in_err-journal.was refl) (not_disk c.in_err-journal.field-0.0 c.create.result _ c.in_err-journal.was was no_disk)
+
+pub returns-in_err-body-clause-each_one_side : goal.returns-in_err-body-clause-each_one_side
+returns-in_err-body-clause-each_one_side g c tells one = each_none (g.D.Clocked.clock c.args.disk.now)
+
+pub returns-in_err-book-clause-each_one_side : goal.returns-in_err-book-clause-each_one_side
+returns-in_err-book-clause-each_one_side g c tells one = each_none (g.D.Clocked.clock c.args.disk.now)

@@ -1,13 +1,16 @@
 use Rattle.std.proofs.Common.{◌∙◌, rules, subst}
 use Rattle.journal_core.proofs.Looking.{looks_then, narrows_look, settles_look}
+use Rattle.journal_core.specs.Reading.{HasRecord}
+use Rattle.world_traits.specs.Files.{Files, file_of}
 use Rattle.store_core.specs.Mail.{mail}
 use Rattle.store_core.specs.Broken.{IsBroken}
 use Rattle.store_core.proofs.MailBook.{one_mail_event}
 use Rattle.store_core.proofs.Wholeness.{never_both}
-use Rattle.journal_core.proofs.AtRest.{settles_one}
+use Rattle.journal_core.proofs.AtRest.{settles_one, settles_each}
 use Rattle.store_core.proofs.Opens.{settles_chooses}
 use Rattle.store_core.proofs.Choosing.{one_of, only_left}
 use Rattle.store_core.proofs.Entering.{no_journal_broken, holds_all, left_as, narrows_held}
+use Rattle.store_core.proofs.FirstRecord.{first_record}
 use Rattle.store_core.proofs.store.Store.open.Goals as goal
 
 pub returns-in_err-journal-clause-broken : goal.returns-in_err-journal-clause-broken
@@ -123,3 +126,29 @@ pub returns-clause-one_side : goal.returns-clause-one_side
 returns-clause-one_side g c tells one = settles_one _ _ _ one
     (settles_look _ _ _ _ _ _ (c.open.ensures.exact tells one) (looks_then _ _ _ _ _ _ (c.read_begin.ensures.told tells)
     (c.read_later.ensures.told tells)))
+
+pub returns-in_err-book-clause-each_one_side : goal.returns-in_err-book-clause-each_one_side
+returns-in_err-book-clause-each_one_side g c tells one = settles_each _ _ _ one
+    (settles_look _ _ _ _ _ _ (c.open.ensures.exact tells one) (c.read_begin.ensures.told tells))
+
+pub returns-in_err-read_later-clause-each_one_side : goal.returns-in_err-read_later-clause-each_one_side
+returns-in_err-read_later-clause-each_one_side g c tells one = settles_each _ _ _ one
+    (settles_look _ _ _ _ _ _ (c.open.ensures.exact tells one) (looks_then _ _ _ _ _ _ (c.read_begin.ensures.told tells)
+    (c.read_later.ensures.told tells)))
+
+pub returns-clause-each_one_side : goal.returns-clause-each_one_side
+returns-clause-each_one_side g c tells one = settles_each _ _ _ one
+    (settles_look _ _ _ _ _ _ (c.open.ensures.exact tells one) (looks_then _ _ _ _ _ _ (c.read_begin.ensures.told tells)
+    (c.read_later.ensures.told tells)))
+
+pub returns-in_err-book-clause-memory : goal.returns-in_err-book-clause-memory
+returns-in_err-book-clause-memory g c tells is =
+    first_record _ _ (c.in_ok-journal.ensures.value tells)
+    (subst (λ (f : Files). HasRecord c.in_ok-journal.journal.place (file_of c.in_ok-journal.journal.side f))
+    (c.in_ok-journal.ensures.seen tells (λ e. cc e)) (c.read_begin.ensures.memory tells (search rules)))
+
+pub returns-in_err-read_later-clause-memory : goal.returns-in_err-read_later-clause-memory
+returns-in_err-read_later-clause-memory g c tells is =
+    first_record _ _ (c.in_ok-journal.ensures.value tells)
+    (subst (λ (f : Files). HasRecord c.in_ok-journal.journal.place (file_of c.in_ok-journal.journal.side f))
+    (c.in_ok-journal.ensures.seen tells (λ e. cc e)) (c.in_ok-book.ensures.stands tells))

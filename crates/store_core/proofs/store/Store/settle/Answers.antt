@@ -1,5 +1,7 @@
 use Rattle.std.proofs.Common.{rules, ◌≡◌, ◌∙◌, ap}
+use Rattle.world_traits.specs.Files.{other}
 use Rattle.journal_core.specs.Standing.{Standing}
+use Rattle.journal_core.proofs.AtRest.{rests_side}
 use Rattle.action_queue.specs.Book.{meaning, after}
 use Rattle.action_queue.specs.declared.event.Event.TheVariants as events
 use Rattle.store_core.specs.Mail.{mail}
@@ -62,3 +64,11 @@ returns-in_err-append-clause-one_side g c tells = append_one mail _ c.self.insid
 
 pub returns-clause-one_side : goal.returns-clause-one_side
 returns-clause-one_side g c tells = append_one mail _ c.self.inside.journal.side _ _ _ (c.requires.still tells) (c.append.ensures.beside tells)
+
+pub returns-in_err-append-clause-each_one_side : goal.returns-in_err-append-clause-each_one_side
+returns-in_err-append-clause-each_one_side g c tells =
+    c.append.ensures.each_one_side tells (rests_side (other c.self.inside.journal.side) _ _ (c.requires.still tells).still.rests)
+
+pub returns-clause-each_one_side : goal.returns-clause-each_one_side
+returns-clause-each_one_side g c tells =
+    c.append.ensures.each_one_side tells (rests_side (other c.self.inside.journal.side) _ _ (c.requires.still tells).still.rests)
