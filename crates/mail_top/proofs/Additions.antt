@@ -18,9 +18,9 @@ use Rattle.journal_core.specs.Holds.{Holds}
 use Rattle.journal_core.specs.Gates.{Passes}
 use Rattle.journal_core.specs.Standing.{Standing, IsStill}
 use Rattle.journal_core.specs.Appending.{end_with, told_end}
-use Rattle.journal_core.specs.Held.{KeepsHeld}
+use Rattle.journal_core.specs.HeldBodies.{DiskKeepsHeld}
 use Rattle.journal_core.specs.Reading.{OnlyLooks}
-use Rattle.journal_core.proofs.Held.{adds_held, within_held, narrowed, all_hold, last_there, still_holds, still_images}
+use Rattle.journal_core.proofs.HeldBodies.{adds_held, within_held, narrowed, all_hold, last_there, still_holds, still_images}
 use Rattle.mail_top.specs.Accepted.{IsAccepted, IsOverfull, IsAdding, end_with_action}
 use Rattle.mail_top.specs.Book.{HoldsBook}
 use Rattle.mail_top.specs.Faults.{of_reading, of_adding}
@@ -33,16 +33,16 @@ use Rattle.mail_top.proofs.OneByOne.{up_to_here}
 
 module _ (body : List ℕ) (entry : Clock) (seen : Files) where
   -- the moments of reading
-  pub narrows_adding : (l : Clock) → Narrows entry l → Since (IsAdding body seen entry.now) KeepsHeld entry l
-  narrows_adding l n = since_weaker (Within entry.now) (IsAdding body seen entry.now) Within KeepsHeld (λ m w. inl w) (λ m n w. within_held m n w) entry l n
+  pub narrows_adding : (l : Clock) → Narrows entry l → Since (IsAdding body seen entry.now) DiskKeepsHeld entry l
+  narrows_adding l n = since_weaker (Within entry.now) (IsAdding body seen entry.now) Within DiskKeepsHeld (λ m w. inl w) (λ m n w. within_held m n w) entry l n
 
   -- and those of an append
   pub then_adding : (k l : Clock) (v : Version) (bodies : List (List ℕ)) → Narrows entry k → Holds v bodies seen →
-      Passes (Holds v bodies) (Holds v (bodies ++ body ∷ [])) k l → Since (IsAdding body seen entry.now) KeepsHeld entry l
+      Passes (Holds v bodies) (Holds v (bodies ++ body ∷ [])) k l → Since (IsAdding body seen entry.now) DiskKeepsHeld entry l
   then_adding k l v bodies n h p =
-      since_then (IsAdding body seen entry.now) KeepsHeld entry k l (narrows_adding k n)
+      since_then (IsAdding body seen entry.now) DiskKeepsHeld entry k l (narrows_adding k n)
       (since_weaker (Images (λ files. Holds v bodies files ⊎ Holds v (bodies ++ body ∷ []) files)) (IsAdding body seen entry.now)
-      (GoesOn (Holds v bodies) (Holds v (bodies ++ body ∷ []))) KeepsHeld
+      (GoesOn (Holds v bodies) (Holds v (bodies ++ body ∷ []))) DiskKeepsHeld
       (λ m i. inr (record { each = λ files leaves. record { version = v; bodies = bodies; read = h; leaves = i.each files leaves } }))
       (λ m n s. adds_held v bodies body m n s) k l p)
 

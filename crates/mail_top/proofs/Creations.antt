@@ -11,8 +11,8 @@ use Rattle.journal_core.specs.Records.{open_record, records}
 use Rattle.journal_core.specs.Holds.{Holds}
 use Rattle.journal_core.specs.Creating.{IsUnbegun, CreatesThrough, created, end_of}
 use Rattle.journal_core.specs.Standing.{Standing, IsStill}
-use Rattle.journal_core.specs.Held.{KeepsHeld}
-use Rattle.journal_core.proofs.Held.{creates_held, within_held, still_images, narrowed}
+use Rattle.journal_core.specs.HeldBodies.{DiskKeepsHeld}
+use Rattle.journal_core.proofs.HeldBodies.{creates_held, within_held, still_images, narrowed}
 use Rattle.mail_base.specs.BoxName.{IsBoxName}
 use Rattle.mail_top.specs.Accepted.{IsCreating}
 use Rattle.mail_top.specs.Begin.{AreNames, begin_of}
@@ -20,14 +20,14 @@ use Rattle.mail_top.specs.FlagAction.{counted}
 
 module _ (body : List ℕ) where
   -- where nothing was done
-  pub creates_none : (k : Clock) → Since (IsCreating body k.now) KeepsHeld k k
-  creates_none k = since_start (IsCreating body k.now) KeepsHeld k
+  pub creates_none : (k : Clock) → Since (IsCreating body k.now) DiskKeepsHeld k k
+  creates_none k = since_start (IsCreating body k.now) DiskKeepsHeld k
 
   -- the moments of a creation
-  pub creates_every : (k l : Clock) (bodies : List (List ℕ)) → bodies ≡ body ∷ [] → CreatesThrough bodies k l → Since (IsCreating body k.now) KeepsHeld k l
+  pub creates_every : (k l : Clock) (bodies : List (List ℕ)) → bodies ≡ body ∷ [] → CreatesThrough bodies k l → Since (IsCreating body k.now) DiskKeepsHeld k l
   creates_every k l bodies is through =
       since_weaker (λ m. Within k.now m ⊎ Images (λ files. IsUnbegun files ⊎ Holds First (body ∷ []) files) m) (IsCreating body k.now)
-      (λ m n. Within m n ⊎ GoesOn IsUnbegun (Holds First (body ∷ [])) m n) KeepsHeld
+      (λ m n. Within m n ⊎ GoesOn IsUnbegun (Holds First (body ∷ [])) m n) DiskKeepsHeld
       (λ m p. p) (λ m n s. ⊎_elim (λ w. within_held m n w) (λ g. creates_held First (body ∷ []) m n g) s) k l
       (subst (λ (b : List (List ℕ)). CreatesThrough b k l) is through)
 

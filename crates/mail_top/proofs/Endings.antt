@@ -16,7 +16,8 @@ use Rattle.journal_core.specs.declared.creating.CreateFault.{CreateFault}
 use Rattle.journal_core.specs.declared.creating.CreateFault.TheVariants as creates
 use Rattle.journal_core.specs.Creating.{IsTaken, IsUnbegun}
 use Rattle.journal_core.specs.Holds.{Holds}
-use Rattle.journal_core.specs.Held.{KeepsHeld}
+use Rattle.journal_core.specs.HeldBodies.{DiskKeepsHeld}
+use Rattle.journal_core.specs.Limits.{max_accepted}
 use Rattle.journal_core.specs.Reading.{AnyWrong}
 use Rattle.journal_core.proofs.Choice.{open_head}
 use Rattle.journal_core.proofs.Unique.{one_book}
@@ -33,22 +34,23 @@ use Rattle.mail_top.proofs.Wholeness.{never_both}
 
 module _ (words : List (List ℕ)) (k l : Clock) (seen : Files) where
   -- the moments of an acceptance
-  pub adding_way : (a : FlagAction) → Asks words a → Since (IsAdding (body_of a) seen k.now) KeepsHeld k l → Since (OnTheWay words k.now seen) KeepsHeld k l
-  adding_way a asks s = since_weaker (IsAdding (body_of a) seen k.now) (OnTheWay words k.now seen) KeepsHeld KeepsHeld
+  pub adding_way : (a : FlagAction) → Asks words a → Since (IsAdding (body_of a) seen k.now) DiskKeepsHeld k l
+      → Since (OnTheWay words k.now seen) DiskKeepsHeld k l
+  adding_way a asks s = since_weaker (IsAdding (body_of a) seen k.now) (OnTheWay words k.now seen) DiskKeepsHeld DiskKeepsHeld
       (λ m p. ⊎_elim (λ w. kept w) (λ i. adding a asks i) p) (λ m n s. s) k l s
 
   -- and of a creation
-  pub creating_way : (texts : List (List ℕ)) → AsksInit words texts → Since (IsCreating (begin_of_texts texts) k.now) KeepsHeld k l →
-      Since (OnTheWay words k.now seen) KeepsHeld k l
-  creating_way texts asks s = since_weaker (IsCreating (begin_of_texts texts) k.now) (OnTheWay words k.now seen) KeepsHeld KeepsHeld
+  pub creating_way : (texts : List (List ℕ)) → AsksInit words texts → Since (IsCreating (begin_of_texts texts) k.now) DiskKeepsHeld k l →
+      Since (OnTheWay words k.now seen) DiskKeepsHeld k l
+  creating_way texts asks s = since_weaker (IsCreating (begin_of_texts texts) k.now) (OnTheWay words k.now seen) DiskKeepsHeld DiskKeepsHeld
       (λ m p. ⊎_elim (λ w. kept w) (λ i. creating texts asks i) p) (λ m n s. s) k l s
 
   -- what a stop leaves now
-  pub way_now : Since (OnTheWay words k.now seen) KeepsHeld k l → OnTheWay words k.now seen l.now
-  way_now s = since_now (OnTheWay words k.now seen) (OnTheWay words k.now seen) KeepsHeld (λ m n p step q. p) k (kept (within_self k.now)) l s
+  pub way_now : Since (OnTheWay words k.now seen) DiskKeepsHeld k l → OnTheWay words k.now seen l.now
+  way_now s = since_now (OnTheWay words k.now seen) (OnTheWay words k.now seen) DiskKeepsHeld (λ m n p step q. p) k (kept (within_self k.now)) l s
 
-pub no_way : (words : List (List ℕ)) (k : Clock) (seen : Files) → Since (OnTheWay words k.now seen) KeepsHeld k k
-no_way words k seen = since_start (OnTheWay words k.now seen) KeepsHeld k
+pub no_way : (words : List (List ℕ)) (k : Clock) (seen : Files) → Since (OnTheWay words k.now seen) DiskKeepsHeld k k
+no_way words k seen = since_start (OnTheWay words k.now seen) DiskKeepsHeld k
 
 -- the first byte of the first word
 abbrev first_byte : List (List ℕ) → ℕ
@@ -61,9 +63,9 @@ one_command words texts a flag init = let same : 102 ≡ 105 = ap first_byte (sy
 
 module _ (words : List (List ℕ)) (entry now : Moment) (seen seen_after : Files) where
   pub ends_of_flag : (a : FlagAction) → Asks words a → (r : Result ℕ AcceptFault)
-      → IfOk r (IsAccepted a 536870912 seen now)
+      → IfOk r (IsAccepted a max_accepted seen now)
       → ((why : Place9) → r ≡ Err (faults.NotAJournal why) → IsBroken why seen)
-      → ((end : ℕ) → r ≡ Err (faults.Full end) → IsOverfull a 536870912 seen end)
+      → ((end : ℕ) → r ≡ Err (faults.Full end) → IsOverfull a max_accepted seen end)
       → IfErr r (λ fault. (fault ≡ faults.Disk → ⊥) → Within entry now × (seen_after ≡ seen))
       → OnTheWay words entry seen now
       → Ends words entry now seen seen_after (status_of r) (line_of_flag r)

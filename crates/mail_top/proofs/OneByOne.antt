@@ -9,13 +9,14 @@ use Rattle.journal_core.specs.declared.fault.Place9.{Place9}
 use Rattle.journal_core.specs.declared.fault.Place9.TheVariants as places
 use Rattle.journal_core.specs.declared.fault.OpenFault.{OpenFault}
 use Rattle.journal_core.specs.declared.fault.OpenFault.TheVariants as faults
+use Rattle.journal_core.specs.Broken.{StandUpTo, IsNotDue, torn, other, missing}
 use Rattle.journal_core.specs.Records.{records}
 use Rattle.journal_core.specs.Sides.{head_of}
 use Rattle.journal_core.specs.Standing.{Standing, IsStill}
 use Rattle.journal_core.specs.Reading.{HasClosedGate, StandsAt, NextIs, IsNoJournal}
 use Rattle.journal_core.proofs.Presence.{head_long}
 use Rattle.mail_top.specs.Begin.{IsBegin}
-use Rattle.mail_top.specs.Book.{IsAction, IsBroken, IsDue, StandUpTo, IsNotDue, BrokenBehind, torn, other, missing}
+use Rattle.mail_top.specs.Book.{IsAction, IsBroken, IsUndue, BrokenBehind}
 use Rattle.mail_top.specs.Reading.{ReadsBody, ReadsOne, ReadsActions, BrokenRecord, BrokenLater, IsRead}
 use Rattle.mail_top.specs.declared.reading.Due.{Due}
 use Rattle.mail_top.specs.declared.reading.Due.TheVariants as due
@@ -43,15 +44,10 @@ module _ (kind : Due) (bodies : List (List ℕ)) (j : Standing) (m : Moment) (f 
   pub one_false : (b : Bool) → b ≡ false → ReadsOne kind bodies j m f b → IsStill j bodies m f
   one_false b is reads = subst (ReadsOne kind bodies j m f) is reads
 
-  broken_here : IsStill j bodies m f → IsNotDue kind j.place (file_of j.side f) → BrokenBehind kind bodies j.place f
+  broken_here : IsStill j bodies m f → IsNotDue (IsUndue kind) (kind ≡ due.Begin) j.place (file_of j.side f) → BrokenBehind kind bodies j.place f
   broken_here still bad = record {
-    side = j.side;
     version = j.version;
-    generation = j.generation;
-    present = still.present;
-    up_to =
-        up_to_here bodies j m f still;
-    bad = bad;
+    broken = record { side = j.side; generation = j.generation; present = still.present; up_to = up_to_here bodies j m f still; bad = bad };
   }
 
   -- a torn record
@@ -71,7 +67,7 @@ module _ (kind : Due) (bodies : List (List ℕ)) (j : Standing) (m : Moment) (f 
 
   -- another body
   pub other_behind : (body : List ℕ) (at : ℕ) (why : Place9) → IsStill j bodies m f → at ≡ j.place → why ≡ places.Record at →
-      StandsAt j.place body (file_of j.side f) → (IsDue kind body → ⊥) → BrokenRecord kind bodies why f
+      StandsAt j.place body (file_of j.side f) → IsUndue kind body → BrokenRecord kind bodies why f
   other_behind body at why still same is stands bad =
       subst (λ (w : Place9). BrokenRecord kind bodies w f) (sym (is ∙ ap (λ (n : ℕ). places.Record n) same)) (broken_here still (other body stands bad))
 

@@ -10,10 +10,10 @@ use Rattle.world_traits.proofs.Narrowing.{restart_within}
 use Rattle.journal_core.specs.declared.version.Version.{Version}
 use Rattle.journal_core.specs.declared.version.Version.TheVariants.{First}
 use Rattle.journal_core.specs.Creating.{IsUnbegun}
-use Rattle.journal_core.specs.Held.{HasHeld, HoldsAt, HeldGrows, KeepsHeld}
+use Rattle.journal_core.specs.HeldBodies.{HasHeld, HoldsAt, StaysHeld, DiskKeepsHeld}
 use Rattle.journal_core.specs.Holds.{Holds}
 use Rattle.journal_core.proofs.Choice.{open_head}
-use Rattle.journal_core.proofs.Held.{within_held, held_self, held_then}
+use Rattle.journal_core.proofs.HeldBodies.{within_held, held_self, held_then}
 use Rattle.journal_core.proofs.Unique.{one_book}
 use Rattle.mail_top.specs.Accepted.{IsAccepted, HoldsOrAdds, IsUnbegunOrHolds, begin_of_texts}
 use Rattle.mail_top.specs.Book.{IsAction, AreDue}
@@ -26,9 +26,10 @@ use Rattle.mail_top.proofs.Beginning.{kept_name, name_kept}
 use Rattle.mail_top.proofs.OneByOne.{all_more}
 
 -- a run, up to any of its moments
-run_held : (words : List (List ℕ)) (seen : Files) (entry : Moment) (k l : Clock) → RunsOn words seen entry k l → HeldGrows k.now l.now
+run_held : (words : List (List ℕ)) (seen : Files) (entry : Moment) (k l : Clock) → RunsOn words seen entry k l → StaysHeld k.now l.now
 run_held words seen entry k l s =
-    since_now (OnTheWay words entry seen) (λ m. HeldGrows k.now m) KeepsHeld (λ m n p step so_far. held_then k.now m n so_far step.held) k (held_self k.now) l s
+    since_now (OnTheWay words entry seen) (λ m. StaysHeld k.now m) DiskKeepsHeld (λ m n p step so_far. held_then k.now m n so_far step.held) k
+    (held_self k.now) l s
 
 -- moments with the same files have the same images
 same_leaves : (m n : Moment) → SameFiles m n → (files : Files) → MayLeave n files → MayLeave m files
@@ -37,10 +38,10 @@ same_leaves m n same files h = record {
   right = subst (λ (s : Stored). MayHold s files.right) same.right h.right;
 }
 
-same_held : (m n : Moment) → SameFiles m n → HeldGrows m n
+same_held : (m n : Moment) → SameFiles m n → StaysHeld m n
 same_held m n same = record { stays = λ place body held. record { each = λ files h. held.each files (same_leaves m n same files h) } }
 
-pub follows_held : (first last : Moment) → Follows first last → HeldGrows first last
+pub follows_held : (first last : Moment) → Follows first last → StaysHeld first last
 follows_held first last at_once = held_self first
 follows_held first last (by_run words seen old at new so_far reads cut) =
     held_then first old.now at.now (follows_held first old.now so_far) (run_held words seen old.now old at cut.before)
@@ -136,13 +137,13 @@ module _ (words : List (List ℕ)) (begin : List ℕ) (seen : Files) (entry : Mo
   book_way m first (creating texts asks images) =
       record { each = λ files h. book_created words texts begin files asks (first.each files h) (images.each files h) }
 
-  book_step : (m n : Moment) → OnTheWay words entry seen n → KeepsHeld m n → IsJournalOf begin m → IsJournalOf begin n
+  book_step : (m n : Moment) → OnTheWay words entry seen n → DiskKeepsHeld m n → IsJournalOf begin m → IsJournalOf begin n
   book_step m n way step at = let first = step.held.stays 0 begin at.first in record { books = book_way n first way; first = first }
 
 run_book : (words : List (List ℕ)) (begin : List ℕ) (seen : Files) (k l : Clock) → MayLeave k.now seen → IsJournalOf begin k.now
     → RunsOn words seen k.now k l → IsJournalOf begin l.now
 run_book words begin seen k l reads was s =
-    since_now (OnTheWay words k.now seen) (IsJournalOf begin) KeepsHeld (book_step words begin seen k.now reads was) k was l s
+    since_now (OnTheWay words k.now seen) (IsJournalOf begin) DiskKeepsHeld (book_step words begin seen k.now reads was) k was l s
 
 pub follows_book : (begin : List ℕ) (first last : Moment) → IsJournalOf begin first → Follows first last → IsJournalOf begin last
 follows_book begin first last was at_once = was
@@ -187,7 +188,7 @@ module _ (words : List (List ℕ)) (seen : Files) (entry : Moment) (reads : MayL
 run_ready : (words : List (List ℕ)) (seen : Files) (k l : Clock) → MayLeave k.now seen → Images AreUnbegunOrBook k.now
     → RunsOn words seen k.now k l → Images AreUnbegunOrBook l.now
 run_ready words seen k l reads was s =
-    since_now (OnTheWay words k.now seen) (Images AreUnbegunOrBook) KeepsHeld
+    since_now (OnTheWay words k.now seen) (Images AreUnbegunOrBook) DiskKeepsHeld
     (λ m n way step so_far. ready_way words seen k.now reads was n way) k was l s
 
 pub follows_ready : (first last : Moment) → Images AreUnbegunOrBook first → Follows first last → Images AreUnbegunOrBook last

@@ -1,14 +1,12 @@
 -- Files that hold a Begin and actions aren't broken.
 use Rattle.std.proofs.Common.{◌≡◌, ℕ, ◌<◌, List, [], ◌∷◌, ◌++◌, length, subst, arith}
 use Rattle.std.specs.List.{AllByRecursion}
-use Rattle.world_traits.specs.Files.{Files, file_of}
+use Rattle.world_traits.specs.Files.{Files}
 use Rattle.journal_core.specs.declared.fault.Place9.{Place9}
 use Rattle.journal_core.specs.declared.fault.Place9.TheVariants as places
-use Rattle.journal_core.specs.Broken as journal
 use Rattle.journal_core.proofs.Wholeness.{whole, is_journal}
-use Rattle.mail_top.specs.declared.reading.Due.{Due}
 use Rattle.mail_top.specs.declared.reading.Due.TheVariants as due
-use Rattle.mail_top.specs.Book.{IsAction, IsDue, due_behind, AreDue, HoldsBook, IsNotDue, torn, other, missing, BrokenBehind, IsBroken}
+use Rattle.mail_top.specs.Book.{IsAction, IsDue, IsUndue, due_behind, AreDue, HoldsBook, IsBroken}
 
 all_at : (P : List ℕ → Type 0) (before : List (List ℕ)) (b : List ℕ) (later : List (List ℕ)) → AllByRecursion P (before ++ b ∷ later) → P b
 all_at P [] b later all = all.0
@@ -23,29 +21,13 @@ begun : (bodies : List (List ℕ)) → 0 < length bodies → due_behind bodies �
 begun [] some is = omega (arith, some)
 begun (b ∷ bs) some is = cc
 
--- in the journal's words
-not_due : (kind : Due) (place : ℕ) (bytes : List ℕ) → IsNotDue kind place bytes → journal.IsNotDue (λ body. IsDue kind body → ⊥) (kind ≡ due.Begin) place bytes
-not_due kind place bytes (torn t) = journal.torn t
-not_due kind place bytes (other body s wrong) = journal.other body s wrong
-not_due kind place bytes (missing is shut) = journal.missing is shut
-
-broken_as : (kind : Due) (bodies : List (List ℕ)) (place : ℕ) (files : Files) (b : BrokenBehind kind bodies place files) →
-    journal.BrokenBehind b.version (λ body. IsDue kind body → ⊥) (kind ≡ due.Begin) bodies place files
-broken_as kind bodies place files b = record {
-  side = b.side;
-  generation = b.generation;
-  present = b.present;
-  up_to = record { sizes = b.up_to.sizes; rest = b.up_to.rest; is = b.up_to.is; there = b.up_to.there };
-  bad = not_due kind place (file_of b.side files) b.bad;
-}
-
 pub never_both : (bodies : List (List ℕ)) (files : Files) (why : Place9) → HoldsBook bodies files → IsBroken why files → ⊥
 never_both bodies files places.Absent book broken = is_journal book.version bodies files places.Absent book.holds broken
 never_both bodies files places.Header book broken = is_journal book.version bodies files places.Header book.holds broken
 never_both bodies files places.Generations book broken = is_journal book.version bodies files places.Generations book.holds broken
 never_both bodies files (places.Record at) book broken =
     let b = broken.broken in
-    whole bodies broken.before (λ body. IsDue (due_behind broken.before) body → ⊥) (due_behind broken.before ≡ due.Begin)
+    whole bodies broken.before (IsUndue (due_behind broken.before)) (due_behind broken.before ≡ due.Begin)
     (λ body later are undue. undue (due_at broken.before body later (subst AreDue are book.are)))
     (λ are is. begun broken.before (subst (λ (l : List (List ℕ)). 0 < length l) are book.begun) is)
-    book.version b.version at files book.holds (broken_as (due_behind broken.before) broken.before at files b)
+    book.version b.version at files book.holds b.broken

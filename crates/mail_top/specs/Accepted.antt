@@ -9,7 +9,7 @@ use Rattle.journal_core.specs.Records.{records}
 use Rattle.journal_core.specs.Holds.{Holds}
 use Rattle.journal_core.specs.Appending.{told_end}
 use Rattle.journal_core.specs.Creating.{IsUnbegun}
-use Rattle.journal_core.specs.Held.{HasHeld}
+use Rattle.journal_core.specs.HeldBodies.{HasHeld}
 use Rattle.mail_top.specs.Begin.{name_of, begin_of}
 use Rattle.mail_top.specs.Book.{HoldsBook}
 use Rattle.mail_top.specs.FlagAction.{body_of}

@@ -14,6 +14,7 @@ use Rattle.journal_core.specs.declared.creating.CreateFault.{CreateFault}
 use Rattle.journal_core.specs.declared.creating.CreateFault.TheVariants as creates
 use Rattle.journal_core.specs.Creating.{IsTaken, IsUnbegun}
 use Rattle.journal_core.specs.Holds.{Holds}
+use Rattle.journal_core.specs.Limits.{max_accepted}
 use Rattle.journal_core.specs.Reading.{AnyWrong}
 use Rattle.mail_top.specs.Accepted.{IsAccepted, IsOverfull, HoldsOrAdds, IsUnbegunOrHolds, begin_of_texts, end_with_action}
 use Rattle.mail_top.specs.Book.{IsBroken}
@@ -35,7 +36,7 @@ pub record SaysAccepted (words : List (List ℕ)) (seen : Files) (m : Moment) (l
   pub action : FlagAction
   pub asks : Asks words action
   pub number : ℕ
-  pub is : IsAccepted action 536870912 seen m number
+  pub is : IsAccepted action max_accepted seen m number
   pub line_is : line ≡ accepted number
 
 -- The words ask for a journal; there was none, and now each image holds the Begin of the names.
@@ -65,7 +66,7 @@ pub record SaysFull (words : List (List ℕ)) (seen : Files) (line : List ℕ) :
   pub action : FlagAction
   pub asks : Asks words action
   pub end : ℕ
-  pub full : IsOverfull action 536870912 seen end
+  pub full : IsOverfull action max_accepted seen end
   pub line_is : line ≡ limit_journal end
 
 -- a stop leaves what one at entry could have left, and the files read as before
@@ -141,7 +142,7 @@ Prints status.Input line old new faults faults_after = Writes line old new fault
 
 -- each action that the words ask for has room behind these bodies
 abbrev pub HasRoom : List (List ℕ) → List (List ℕ) → Type 0
-HasRoom words bodies = (action : FlagAction) → Asks words action → end_with_action action bodies ≤ 536870912
+HasRoom words bodies = (action : FlagAction) → Asks words action → end_with_action action bodies ≤ max_accepted
 
 -- the status of what became of an action
 abbrev pub status_of : Result ℕ AcceptFault → Status

@@ -3,7 +3,7 @@ use Rattle.std.specs.Prelude.{◌≡◌, ◌⊎◌, ℕ, List}
 use Rattle.world_traits.specs.Files.{Files}
 use Rattle.world_traits.specs.Moments.{Moment, MayLeave, Clock, Images, Since, Within, restarted}
 use Rattle.journal_core.specs.Creating.{IsUnbegun}
-use Rattle.journal_core.specs.Held.{HasHeld, KeepsHeld}
+use Rattle.journal_core.specs.HeldBodies.{HasHeld, DiskKeepsHeld}
 use Rattle.mail_top.specs.Accepted.{IsAccepted}
 use Rattle.mail_top.specs.Book.{HoldsBook}
 use Rattle.mail_top.specs.Ending.{OnTheWay}
@@ -12,7 +12,7 @@ use Rattle.mail_top.specs.declared.flag_action.FlagAction.{FlagAction}
 -- the moments of a run: at each a stop leaves what the words ask for; no step loses what all images hold, and what isn't on
 -- the disk stays
 abbrev pub RunsOn : List (List ℕ) → Files → Moment → Clock → Clock → Type 0
-RunsOn words seen entry old new = Since (OnTheWay words entry seen) KeepsHeld old new
+RunsOn words seen entry old new = Since (OnTheWay words entry seen) DiskKeepsHeld old new
 
 -- a run from one clock to another, and a clock on its way: its last, or one at which the run was cut off
 pub record CutOff (words : List (List ℕ)) (seen : Files) (old at new : Clock) : Type 0 where

@@ -3,7 +3,8 @@
 ghost use Rattle.std.specs.Prelude.{◌≡◌, ◌≤◌, ◌^◌, ℕ, IfOk, IfErr, IsErrOf};
 ghost use Rattle.world_traits.specs.Calls.{Rose};
 ghost use Rattle.world_traits.specs.Moments.{OneSideAtRest, Since, Within};
-ghost use Rattle.journal_core.specs.Held.{KeepsHeld};
+ghost use Rattle.journal_core.specs.HeldBodies.{DiskKeepsHeld};
+ghost use Rattle.journal_core.specs.OneSide.{EachOneSide};
 ghost use Rattle.journal_core.specs.declared.fault.Place9.{Place9};
 ghost use Rattle.mail_top.specs.Accepted.{IsAccepted, IsOverfull, IsAdding};
 ghost use Rattle.mail_top.specs.Book.{IsBroken};
@@ -88,12 +89,14 @@ pub fn accept<D: Disk>(
         Within (D.clock disk.old).now (D.clock disk.new).now × (D.seen disk.new ≡ D.seen disk.old)) }
 
     // At every moment a stop leaves those bodies, or those and the action's; and no step loses what all images hold.
-    ensures every { D.tells_files → Since (IsAdding (body_of action.now) (D.seen disk.old) (D.clock disk.old).now) KeepsHeld
+    ensures every { D.tells_files → Since (IsAdding (body_of action.now) (D.seen disk.old) (D.clock disk.old).now) DiskKeepsHeld
         (D.clock disk.old) (D.clock disk.new) }
 
-    // Where one side was at rest, one is.
+    // Where one side was at rest, one is, at the end and at each moment.
     ensures one_side { D.tells_files → OneSideAtRest (D.clock disk.old).now →
         OneSideAtRest (D.clock disk.new).now }
+    ensures each_one_side { D.tells_files → OneSideAtRest (D.clock disk.old).now →
+        EachOneSide (D.clock disk.old) (D.clock disk.new) }
 
     ensures link { D.link disk.new ≡ D.link disk.old }
     ensures count { D.disk_faults disk.old ≤ D.disk_faults disk.new }

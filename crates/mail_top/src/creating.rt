@@ -4,8 +4,9 @@ ghost use Rattle.std.specs.Prelude.{◌≡◌, ◌≤◌, [], ◌∷◌, ℕ, Is
 ghost use Rattle.world_traits.specs.Calls.{Rose};
 ghost use Rattle.world_traits.specs.Moments.{Images, OneSideAtRest, Since, Within};
 ghost use Rattle.journal_core.specs.Creating.{IsTaken, IsUnbegun};
-ghost use Rattle.journal_core.specs.Held.{KeepsHeld};
+ghost use Rattle.journal_core.specs.HeldBodies.{DiskKeepsHeld};
 ghost use Rattle.journal_core.specs.Holds.{Holds};
+ghost use Rattle.journal_core.specs.OneSide.{EachOneSide};
 ghost use Rattle.journal_core.specs.Reading.{AnyWrong};
 ghost use Rattle.journal_core.specs.declared.creating.CreateFault.TheVariants as faults;
 ghost use Rattle.journal_core.specs.declared.fault.Place9.{Place9};
@@ -41,11 +42,13 @@ pub fn init<D: Disk>(alloc: Global, disk: &mut D, texts: &[String]) -> Result<()
 
     // At every moment a stop leaves no journal or the Begin; and no step loses what all images hold.
     ensures every { D.tells_files → Since (IsCreating (begin_of_texts (map string_bytes texts.now)) (D.clock disk.old).now)
-        KeepsHeld (D.clock disk.old) (D.clock disk.new) }
+        DiskKeepsHeld (D.clock disk.old) (D.clock disk.new) }
 
-    // Where one side was at rest, one is.
+    // Where one side was at rest, one is, at the end and at each moment.
     ensures one_side { D.tells_files → OneSideAtRest (D.clock disk.old).now →
         OneSideAtRest (D.clock disk.new).now }
+    ensures each_one_side { D.tells_files → OneSideAtRest (D.clock disk.old).now →
+        EachOneSide (D.clock disk.old) (D.clock disk.new) }
 
     ensures link { D.link disk.new ≡ D.link disk.old }
     ensures count { D.disk_faults disk.old ≤ D.disk_faults disk.new }

@@ -5,6 +5,7 @@ ghost use Rattle.std.specs.Prelude.{◌+◌, IsNone, IfSome};
 ghost use Rattle.std.specs.List.{AllByRecursion};
 ghost use Rattle.world_traits.specs.Calls.{Rose};
 ghost use Rattle.world_traits.specs.Moments.{Narrows, OneSideAtRest};
+ghost use Rattle.journal_core.specs.OneSide.{EachOneSide};
 ghost use Rattle.journal_core.specs.Reading.{OnlyLooks};
 ghost use Rattle.journal_core.specs.Standing.{IsStill};
 ghost use Rattle.journal_core.specs.declared.fault.Place9.{Place9};
@@ -48,6 +49,8 @@ pub fn read_book<D: Disk>(alloc: Global, disk: &mut D) -> Result<Book, OpenFault
     ensures told { D.tells_files → Narrows (D.clock disk.old) (D.clock disk.new) }
     ensures one_side { D.tells_files → OneSideAtRest (D.clock disk.old).now →
         OneSideAtRest (D.clock disk.new).now }
+    ensures each_one_side { D.tells_files → OneSideAtRest (D.clock disk.old).now →
+        EachOneSide (D.clock disk.old) (D.clock disk.new) }
     ensures link { D.link disk.new ≡ D.link disk.old }
     ensures count { D.disk_faults disk.old ≤ D.disk_faults disk.new }
     ensures cause { IsErrOf result faults.Disk → Rose (D.disk_faults disk.old) (D.disk_faults disk.new) }

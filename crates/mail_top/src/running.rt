@@ -4,7 +4,8 @@ ghost use Rattle.std.specs.Prelude.{◌≡◌, ◌≢◌, ◌⊎◌, ◌≤◌, 
 ghost use Rattle.world_traits.specs.Calls.{Rose};
 ghost use Rattle.world_traits.specs.Moments.{OneSideAtRest, Since};
 ghost use Rattle.journal_core.specs.Creating.{IsUnbegun};
-ghost use Rattle.journal_core.specs.Held.{HeldGrows, KeepsHeld};
+ghost use Rattle.journal_core.specs.HeldBodies.{StaysHeld, DiskKeepsHeld};
+ghost use Rattle.journal_core.specs.OneSide.{EachOneSide};
 ghost use Rattle.mail_top.specs.Book.{HoldsBook};
 ghost use Rattle.mail_top.specs.Ending.{Ends, OnTheWay, Comes, Prints, HasRoom};
 ghost use Rattle.mail_top.specs.Runs.{RunsOn};
@@ -27,9 +28,11 @@ fn carry_out<D: Disk>(alloc: Global, words: &[String], disk: &mut D) -> Ending
     ensures words { (result.status ≡ Status.Words) ↔ AsksNothing (map string_bytes words.now) }
     ensures disk { result.status ≡ Status.Disk → Rose (D.disk_faults disk.old) (D.disk_faults disk.new) }
     ensures every { D.tells_files → Since (OnTheWay (map string_bytes words.now) (D.clock disk.old).now (D.seen disk.old))
-        KeepsHeld (D.clock disk.old) (D.clock disk.new) }
+        DiskKeepsHeld (D.clock disk.old) (D.clock disk.new) }
     ensures one_side { D.tells_files → OneSideAtRest (D.clock disk.old).now →
         OneSideAtRest (D.clock disk.new).now }
+    ensures each_one_side { D.tells_files → OneSideAtRest (D.clock disk.old).now →
+        EachOneSide (D.clock disk.old) (D.clock disk.new) }
     ensures link { D.link disk.new ≡ D.link disk.old }
     ensures count { D.disk_faults disk.old ≤ D.disk_faults disk.new }
 {
@@ -107,11 +110,14 @@ pub fn run<W: World, I: Source, S: Sink>(
     // what isn't on the disk.
     ensures every { W.tells_files → RunsOn (map string_bytes words.now) (W.seen world.old) (W.clock world.old).now
         (W.clock world.old) (W.clock world.new) }
-    ensures held { W.tells_files → HeldGrows (W.clock world.old).now (W.clock world.new).now }
+    ensures held { W.tells_files → StaysHeld (W.clock world.old).now (W.clock world.new).now }
 
-    // Where one side was at rest, one is: so a later run's syncs come to what it reads.
+    // Where one side was at rest, one is at the end and at each moment: so a later run's syncs come to what it reads, wherever
+    // this one is cut off.
     ensures one_side { W.tells_files → OneSideAtRest (W.clock world.old).now →
         OneSideAtRest (W.clock world.new).now }
+    ensures each_one_side { W.tells_files → OneSideAtRest (W.clock world.old).now →
+        EachOneSide (W.clock world.old) (W.clock world.new) }
 
     // No more of the outside is touched: nothing but the files, neither the link nor the input.
     ensures outside { W.tells_files → (W.clock world.new).now.outside ≡ (W.clock world.old).now.outside }

@@ -3,7 +3,7 @@
 ghost use Rattle.std.specs.Prelude.{◌<◌, ℕ, List};
 ghost use Rattle.world_traits.specs.Files.{Files};
 ghost use Rattle.world_traits.specs.Moments.{Moment, MayLeave, Images, restarted};
-ghost use Rattle.journal_core.specs.Held.{HasHeld, HeldGrows};
+ghost use Rattle.journal_core.specs.HeldBodies.{HasHeld, StaysHeld};
 ghost use Rattle.mail_top.specs.Accepted.{IsAccepted};
 ghost use Rattle.mail_top.specs.FlagAction.{body_of};
 ghost use Rattle.mail_top.specs.Runs.{Follows, BeginsWith, AcceptsAs, AreUnbegunOrBook, IsJournalOf};
@@ -17,7 +17,7 @@ pub fn runs_one_behind_another()
     ensures begins { (m : Moment) (files : Files) → MayLeave m files → BeginsWith files m (restarted files m) }
 
     // What each image holds at a place, each image of each later moment holds there.
-    ensures held { (first last : Moment) → Follows first last → HeldGrows first last }
+    ensures held { (first last : Moment) → Follows first last → StaysHeld first last }
 
     // So an accepted action stays in the journal at the place of its number, and a later one gets a higher number.
     ensures accepted { (action : FlagAction) (limit number : ℕ) (seen : Files) (first : Moment) → IsAccepted action limit seen first number →

@@ -1,7 +1,9 @@
 use Rattle.std.proofs.Common.{◌≡◌, ◌<◌, ◌≤◌, ◌∙◌, ℕ, List, length, subst, ap}
+use Rattle.world_traits.specs.Files.{other}
 use Rattle.journal_core.specs.Appending.{end_with, told_end}
 use Rattle.mail_top.specs.FlagAction.{body_of}
-use Rattle.journal_core.proofs.Held.{narrowed}
+use Rattle.journal_core.proofs.AtRest.{each_then, rests_side}
+use Rattle.journal_core.proofs.HeldBodies.{narrowed}
 use Rattle.mail_top.proofs.Additions.{append_one, narrows_adding, then_adding, is_accepted, is_overfull, book_of, broken_by, disk_by}
 use Rattle.mail_top.proofs.Additions.{not_full, kept_by, not_broken, full_by, kept_by_full, stays_within}
 use Rattle.mail_top.proofs.accepting.accept.Goals as goal
@@ -83,3 +85,15 @@ returns-in_err-append-clause-one_side g c tells one =
 pub returns-clause-one_side : goal.returns-clause-one_side
 returns-clause-one_side g c tells one =
     let r = c.in_ok-book.ensures.value tells in append_one _ _ _ _ _ r.still (c.append.ensures.beside tells)
+
+pub returns-in_err-append-clause-each_one_side : goal.returns-in_err-append-clause-each_one_side
+returns-in_err-append-clause-each_one_side g c tells one =
+    let r = c.in_ok-book.ensures.value tells in
+    each_then _ _ _ (c.read_book.ensures.each_one_side tells one)
+    (c.append.ensures.each_one_side tells (rests_side (other c.in_ok-book.book.journal.side) _ _ r.still.rests))
+
+pub returns-clause-each_one_side : goal.returns-clause-each_one_side
+returns-clause-each_one_side g c tells one =
+    let r = c.in_ok-book.ensures.value tells in
+    each_then _ _ _ (c.read_book.ensures.each_one_side tells one)
+    (c.append.ensures.each_one_side tells (rests_side (other c.in_ok-book.book.journal.side) _ _ r.still.rests))

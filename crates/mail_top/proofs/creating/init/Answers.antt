@@ -1,4 +1,5 @@
 use Rattle.std.proofs.Common.{[], ◌∷◌, ℕ, List, length, refl, rules, ap, arith}
+use Rattle.journal_core.proofs.AtRest.{each_none}
 use Rattle.mail_top.proofs.Creations.{creates_every, created_images, never_over, kept_narrows}
 use Rattle.mail_top.proofs.creating.init.Goals as goal
 
@@ -22,3 +23,6 @@ returns-clause-ready g c tells = created_images _ _ _ _ _ (ap (λ (b : List ℕ)
 
 pub returns-clause-every : goal.returns-clause-every
 returns-clause-every g c tells = creates_every _ _ _ _ (ap (λ (b : List ℕ). b ∷ []) c.in-Ok.ensures) (c.create.ensures.told tells)
+
+pub returns-in_default-clause-each_one_side : goal.returns-in_default-clause-each_one_side
+returns-in_default-clause-each_one_side g c tells one = each_none (g.D.Clocked.clock c.args.disk.now)

@@ -1,5 +1,6 @@
 use Rattle.std.proofs.Common.{◌∙◌, rules}
 use Rattle.journal_core.proofs.Looking.{looks_then, narrows_look}
+use Rattle.journal_core.proofs.AtRest.{each_then, looks_each}
 use Rattle.mail_top.proofs.OneByOne.{no_journal_broken, begin_broken, later_broken, is_read}
 use Rattle.mail_top.proofs.Additions.{looks_one}
 use Rattle.mail_top.proofs.reading.read_book.Goals as goal
@@ -44,3 +45,17 @@ returns-in_err-next_number-clause-one_side g c tells one =
 pub returns-clause-one_side : goal.returns-clause-one_side
 returns-clause-one_side g c tells one =
     looks_one _ _ _ _ (looks_one _ _ _ _ (c.open.ensures.one_side tells one) (c.read_begin.ensures.told tells)) (c.read_actions.ensures.told tells)
+
+pub returns-in_err-read_begin-clause-each_one_side : goal.returns-in_err-read_begin-clause-each_one_side
+returns-in_err-read_begin-clause-each_one_side g c tells one =
+    each_then _ _ _ (c.open.ensures.each_one_side tells one) (looks_each _ _ _ _ (c.open.ensures.one_side tells one) (c.read_begin.ensures.told tells))
+
+pub returns-in_err-next_number-clause-each_one_side : goal.returns-in_err-next_number-clause-each_one_side
+returns-in_err-next_number-clause-each_one_side g c tells one =
+    each_then _ _ _ (c.open.ensures.each_one_side tells one) (looks_each _ _ _ _ (c.open.ensures.one_side tells one)
+    (looks_then _ _ _ _ _ _ (c.read_begin.ensures.told tells) (c.read_actions.ensures.told tells)))
+
+pub returns-clause-each_one_side : goal.returns-clause-each_one_side
+returns-clause-each_one_side g c tells one =
+    each_then _ _ _ (c.open.ensures.each_one_side tells one) (looks_each _ _ _ _ (c.open.ensures.one_side tells one)
+    (looks_then _ _ _ _ _ _ (c.read_begin.ensures.told tells) (c.read_actions.ensures.told tells)))

@@ -1,4 +1,5 @@
 use Rattle.std.proofs.Common.{refl}
+use Rattle.journal_core.proofs.AtRest.{each_none}
 use Rattle.mail_top.proofs.Endings.{ends_of_flag, ends_of_init, adding_way, creating_way, way_now}
 use Rattle.mail_top.proofs.running.carry_out.Goals as goal
 
@@ -29,3 +30,6 @@ returns-in-Some-asked-clause-ends g c tells =
 
 pub returns-in-Some-asked-clause-every : goal.returns-in-Some-asked-clause-every
 returns-in-Some-asked-clause-every g c tells = adding_way _ _ _ _ _ c.in-Some-asked.ensures.some (c.accept.ensures.every tells)
+
+pub returns-in-None-clause-each_one_side : goal.returns-in-None-clause-each_one_side
+returns-in-None-clause-each_one_side g c tells one = each_none (g.D.Clocked.clock c.args.disk.now)

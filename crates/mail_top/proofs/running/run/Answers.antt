@@ -1,4 +1,4 @@
-use Rattle.journal_core.proofs.Held.{held_later, outside_later}
+use Rattle.journal_core.proofs.HeldBodies.{held_later, outside_later}
 use Rattle.mail_top.proofs.Endings.{said_ends, said_words, said_disk, completes_flag, completes_init}
 use Rattle.mail_top.proofs.running.run.Goals as goal
 
