@@ -8,6 +8,7 @@ pub mod LineNumbers
 pub mod LineOther
 pub mod LineRows
 pub mod LineSpelled
+pub mod LineTurns
 pub mod PlainLines
 pub mod TextChains
 pub mod TurnTells

@@ -1,11 +1,12 @@
 //! The line of the greeting (RFC 9051, section 7.1).
 
-ghost use Rattle.std.specs.Prelude.{◌≡◌, ◌∷◌, [], IfOk, OnOk};
+ghost use Rattle.std.specs.Prelude.{◌≡◌, ◌∷◌, ◌++◌, [], IfOk, OnOk};
 ghost use Rattle.std.specs.List.{AllByRecursion};
 ghost use Rattle.imap_model.specs.declared.ending.Ending.TheVariants as endings;
 ghost use Rattle.imap_model.specs.declared.response.Response.TheVariants as responses;
 ghost use Rattle.response_lines.specs.LineTexts.{greeting_code};
 ghost use Rattle.response_lines.specs.Tellable.{IsAtomic};
+ghost use Rattle.response_lines.specs.ToldText.{lines_of};
 ghost use Rattle.response_lines.specs.Written.{WritesLines};
 
 use crate::Spelling;
@@ -17,7 +18,8 @@ impl Spelling {
     /// Puts the greeting behind the bytes: an OK with the code CAPABILITY, if something is offered.
     pub fn put_greeting(&self, offers: &Words, out: &mut Vec<u8>) -> Result<(), AllocError>
         requires { AllByRecursion IsAtomic offers.now }
-        ensures { OnOk result (WritesLines (responses.Untagged endings.Ok (greeting_code offers.now) ∷ []) out.old.items out.new.items) }
+        ensures spelled { OnOk result (WritesLines (responses.Untagged endings.Ok (greeting_code offers.now) ∷ []) out.old.items out.new.items) }
+        ensures text { OnOk result (out.new.items ≡ out.old.items ++ lines_of self.now.older self.now.tag [] (responses.Untagged endings.Ok (greeting_code offers.now) ∷ [])) }
     {
         let code = greeting_code(self.alloc, offers)?;
         let told = [Response::Untagged {

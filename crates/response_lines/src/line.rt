@@ -1,13 +1,15 @@
 //! The line of each response (RFC 9051, section 7).
 #![tactic(auto, using(crate::proofs::TextChains::text_assoc, crate::proofs::TextChains::text_nil))]
 
-ghost use Rattle.std.specs.Prelude.{◌≡◌, ◌≢◌, ◌<◌, ◌≤◌, ◌+◌, [], OnOk, codes, true, false};
-ghost use Rattle.std.specs.List.{AllByRecursion};
+ghost use Rattle.std.specs.Prelude.{◌≡◌, ◌≢◌, ◌<◌, ◌≤◌, ◌+◌, ◌++◌, ◌==◌, [], Some, IfSome, OnOk, length, codes, true, false};
+ghost use Rattle.std.specs.List.{AllByRecursion, position};
 ghost use Rattle.imap_model.specs.Lines.{IsSpelled};
 ghost use Rattle.imap_model.specs.TagText.{IsCommandTag};
 ghost use Rattle.imap_model.specs.declared.response.Response.TheVariants as responses;
 ghost use Rattle.response_lines.specs.LineTexts.{◌⌢◌, line_end, line_of, capability_text, done_text, enabled_text, exists_text, fetch_text, found_text, other_text, preauth_text, untagged_text, vanished_text};
+ghost use Rattle.response_lines.specs.MessageNumbers.{number_at, place_from, place_of};
 ghost use Rattle.response_lines.specs.Tellable.{AreTellable, IsAtomic, IsTellable, IsTellableCode, IsTellableRow};
+ghost use Rattle.response_lines.specs.ToldText.{count_other, lines_of};
 ghost use Rattle.response_lines.specs.Written.{WritesLines};
 
 use crate::codes::{put_code, put_ending};
@@ -40,7 +42,8 @@ impl Spelling {
         out: &mut Vec<u8>,
     ) -> Result<(), AllocError>
         requires { AreTellable told.now }
-        ensures { OnOk result (WritesLines told.now out.old.items out.new.items) }
+        ensures spelled { OnOk result (WritesLines told.now out.old.items out.new.items) }
+        ensures text { OnOk result (out.new.items ≡ out.old.items ++ lines_of self.now.older self.now.tag messages.now told.now) }
     {
         let mut at = 0;
         let mut others = 0;
@@ -245,7 +248,9 @@ fn put_other(out: &mut Vec<u8>, before: usize) -> Result<(), AllocError>
 
 // How many lines without a meaning came up to this response.
 fn count_other(before: usize, response: &Response) -> usize
-    ensures { before ≤ result }
+    ensures value { before < 18446744073709551615 → result ≡ count_other before response.now }
+    ensures least { before ≤ result }
+    ensures one { result ≤ before + 1 }
 {
     match response {
         Response::Other => before.saturating_add(1),
@@ -255,7 +260,7 @@ fn count_other(before: usize, response: &Response) -> usize
 
 // The place of the message that a response tells of, looked for from a place on, which is the answer where there is none.
 fn place_of(messages: &[Message], at: usize, response: &Response) -> usize
-    ensures { at ≤ result }
+    ensures { result ≡ place_of messages.now at response.now }
 {
     match response {
         Response::Fetch(fetched) => match fetched.uid {
@@ -267,21 +272,29 @@ fn place_of(messages: &[Message], at: usize, response: &Response) -> usize
 }
 
 fn place_from(messages: &[Message], at: usize, uid: Uid) -> usize
-    ensures { at ≤ result }
+    ensures { result ≡ place_from messages.now at (Some uid) }
 {
     let Some(rest) = messages.get(at..) else {
         return at;
     };
-    match rest.iter().position(|message| message.uid == uid) {
+    match uid_place(rest, uid) {
         Some(further) => at + further,
         None => at,
     }
 }
 
+// The place of the first message with this UID.
+fn uid_place(messages: &[Message], uid: Uid) -> Option<usize>
+    ensures value { result ≡ position (λ message. message.uid == uid) messages.now }
+    ensures within { IfSome result (λ place. place < length messages.now) }
+{
+    messages.iter().position(|message| message.uid == uid)
+}
+
 // The number of the message at a place, counted from 1 (RFC 9051, section 2.3.1.2), as far as 32 bits tell it.
 fn number_of(at: usize) -> u32
     ensures nonzero { 0 < result }
-    ensures value { at < 4294967295 → result ≡ at + 1 }
+    ensures value { result ≡ number_at at }
 {
     match u32::try_from(at) {
         Ok(before) => before.saturating_add(1),

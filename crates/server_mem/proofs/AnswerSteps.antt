@@ -9,12 +9,13 @@ use Rattle.imap_model.specs.declared.response.Response.{Response}
 use Rattle.imap_model.specs.declared.server.Server.{Server}
 use Rattle.imap_model.specs.PlainServer.{Turn}
 use Rattle.mail_base.specs.declared.tag.Tag.{Tag}
-use Rattle.server_mem.specs.Answered.{AnswersParts, IsAnswer, IsAnswered, after_as, told_as}
+use Rattle.server_mem.specs.Answered.{AnswersParts, IsAnswer, IsAnswered, after_as, answered_text, told_as}
 use Rattle.command_texts.specs.Cutting.{IsPart}
 use Rattle.server_mem.specs.Falling.{Tells}
 use Rattle.command_texts.specs.HeardParts.{IsWhole}
 use Rattle.server_mem.specs.Hearing.{Answers, carries, goes_on, refuses, says_bad, Steps, stops, hears}
 use Rattle.server_mem.specs.States.{State, turn_at, after_turn}
+use Rattle.server_mem.specs.Texts.{answer_text, steps_text}
 use Rattle.response_lines.specs.Tellable.{AreTellable, IsAtomic}
 use Rattle.response_lines.specs.Written.{WritesLines}
 use Rattle.server_mem.specs.declared.outcome.Answer.{Answer}
@@ -56,27 +57,39 @@ after_from end s parts (answers.Asked tag) = refl
 after_from end s parts (answers.Refused tag) = refl
 after_from end s parts (answers.Bad tag) = refl
 
+text_from : (end : ℕ) (s : State) (parts : List (List ℕ)) (a : Answered) (may : IsAnswered (cut_at end s) parts a) →
+    answered_text (cut_at end s) parts a may ≡ answered_text s parts a (may_from end s parts a may)
+unfolding may_from
+text_from end s parts (answers.Carried tag command) may = refl
+text_from end s parts (answers.Asked tag) may = refl
+text_from end s parts (answers.Refused tag) may = refl
+text_from end s parts (answers.Bad tag) may = refl
+
 -- a part that was cut off is answered
 answer_cut : (end : ℕ) (s u : State) (part : List ℕ) (a : Answered) (lines : List ℕ) → part ≡ take end s.begun → IsPart s.parts (take end s.begun)
-    → IsAnswered (cut_at end s) (cut_at end s).parts a → u ≡ after_as (cut_at end s) (cut_at end s).parts a → AreLines (told_as (cut_at end s) a) lines
-    → (s.begun ≡ part ++ drop end s.begun) × IsPart s.parts part × IsAnswered s (s.parts ++ part ∷ []) a
+    → (may : IsAnswered (cut_at end s) (cut_at end s).parts a) → u ≡ after_as (cut_at end s) (cut_at end s).parts a
+    → AreLines (told_as (cut_at end s) a) lines → lines ≡ answered_text (cut_at end s) (cut_at end s).parts a may
+    → (s.begun ≡ part ++ drop end s.begun) × IsPart s.parts part × (may : IsAnswered s (s.parts ++ part ∷ []) a)
     × (u ≡ after_as (record s { begun = drop end s.begun }) (s.parts ++ part ∷ []) a) × AreLines (told_as s a) lines
-answer_cut end s u part a lines is cuts may after told =
+    × (lines ≡ answered_text s (s.parts ++ part ∷ []) a may)
+answer_cut end s u part a lines is cuts may after told text =
     let whole : List (List ℕ) = s.parts ++ take end s.begun ∷ [] in
-    subst (λ (p : List ℕ). (s.begun ≡ p ++ drop end s.begun) × IsPart s.parts p × IsAnswered s (s.parts ++ p ∷ []) a
-    × (u ≡ after_as (record s { begun = drop end s.begun }) (s.parts ++ p ∷ []) a) × AreLines (told_as s a) lines) (sym is) (
+    subst (λ (p : List ℕ). (s.begun ≡ p ++ drop end s.begun) × IsPart s.parts p × (may : IsAnswered s (s.parts ++ p ∷ []) a)
+    × (u ≡ after_as (record s { begun = drop end s.begun }) (s.parts ++ p ∷ []) a) × AreLines (told_as s a) lines
+    × (lines ≡ answered_text s (s.parts ++ p ∷ []) a may)) (sym is) (
       sym (take-append-drop end s.begun),
       cuts,
       may_from end s whole a may,
       after ∙ after_from end s whole a,
       subst (λ (l : List Response). AreLines l lines) (told_from end s a) told,
+      text ∙ text_from end s whole a may,
     )
 
 pub is_answer : (end : ℕ) (s u : State) (answer : Answer) → answer.part ≡ take end s.begun → IsPart s.parts (take end s.begun) →
     AnswersParts (cut_at end s) answer u → IsAnswer s answer u
 is_answer end s u answer is cuts of =
-    let all = answer_cut end s u answer.part answer.answered answer.lines.items is cuts of.may of.after of.lines in
-    record { rest = drop end s.begun; cut = all.0; part = all.1; may = all.2; after = all.3; lines = all.4 }
+    let all = answer_cut end s u answer.part answer.answered answer.lines.items is cuts of.may of.after of.lines of.text in
+    record { rest = drop end s.begun; cut = all.0; part = all.1; may = all.2; after = all.3; lines = all.4; text = all.5 }
 
 -- it is one of the server's answers
 answers_so : (s : State) (parts : List (List ℕ)) (a : Answered) → IsAnswered s parts a → Answers s parts (told_as s a) (after_as s parts a)
@@ -97,22 +110,33 @@ told_at rest s (answers.Asked tag) = refl
 told_at rest s (answers.Refused tag) = refl
 told_at rest s (answers.Bad tag) = refl
 
+text_at : (rest : List ℕ) (s : State) (parts : List (List ℕ)) (a : Answered) (may : IsAnswered s parts a) → answered_text s parts a may
+    ≡ answer_text (record s { begun = rest }) parts (told_as (record s { begun = rest }) a) (after_as (record s { begun = rest }) parts a)
+    (answers_so (record s { begun = rest }) parts a (may_at rest s parts a may))
+unfolding answers_so may_at
+text_at rest s parts (answers.Carried tag command) may = refl
+text_at rest s parts (answers.Asked tag) may = refl
+text_at rest s parts (answers.Refused tag) may = refl
+text_at rest s parts (answers.Bad tag) may = refl
+
 -- and a step of hearing
 pub answer_told : (s u : State) (answer : Answer) → IsAnswer s answer u → Tells s answer.lines.items u
 answer_told s u answer is =
+    let a : Answered = answer.answered in
+    let bytes : List ℕ = answer.lines.items in
     let parts : List (List ℕ) = s.parts ++ answer.part ∷ [] in
     let held : State = record s { begun = is.rest } in
-    let told : List Response = told_as s answer.answered in
-    let answered : Answers held parts told u =
-    subst (λ (t : State). Answers held parts told t) (sym is.after)
-    (subst (λ (l : List Response). Answers held parts l (after_as held parts answer.answered)) (told_at is.rest s answer.answered)
-    (answers_so held parts answer.answered (may_at is.rest s parts answer.answered is.may))) in
-    record {
-      told = told;
-      steps = subst (λ (l : List Response). Steps s l u) (append-nil told)
-          (hears answer.part is.rest is.cut is.part answered stops);
-      lines = is.lines;
-    }
+    let told : List Response = told_as s a in
+    let one : (x : Answers held parts told u) × (bytes ≡ answer_text held parts told u x) =
+    subst (λ (t : State). (x : Answers held parts told t) × (bytes ≡ answer_text held parts told t x)) (sym is.after)
+    (subst (λ (l : List Response). (x : Answers held parts l (after_as held parts a)) × (bytes ≡ answer_text held parts l (after_as held parts a) x))
+    (told_at is.rest s a) (answers_so held parts a (may_at is.rest s parts a is.may), is.text ∙ text_at is.rest s parts a is.may)) in
+    let all : (x : Steps s told u) × (bytes ≡ steps_text s told u x) =
+    subst (λ (l : List Response). (x : Steps s l u) × (bytes ≡ steps_text s l u x)) (append-nil told) (
+      hears answer.part is.rest is.cut is.part one.0 stops,
+      one.1 ∙ sym (append-nil (answer_text held parts told u one.0)),
+    ) in
+    record { told = told; steps = all.0; lines = is.lines; text = all.1 }
 
 -- what is left behind it
 begun_as : (s : State) (parts : List (List ℕ)) (a : Answered) → (after_as s parts a).begun ≡ s.begun

@@ -11,7 +11,8 @@ use Rattle.imap_model.specs.declared.ending.Ending.TheVariants as endings
 use Rattle.imap_model.specs.declared.response.Response.TheVariants as responses
 use Rattle.server_mem.specs.Answered.{bad_of}
 use Rattle.command_texts.specs.FirstWord.{IsTagged}
-use Rattle.server_mem.specs.Hearing.{IsBad}
+use Rattle.server_mem.specs.Hearing.{IsBad, tagged, untagged}
+use Rattle.server_mem.specs.Texts.{bad_text}
 use Rattle.response_lines.specs.LineTexts.{◌⌢◌}
 use Rattle.response_lines.proofs.LineCodes.{code_part}
 use Rattle.response_lines.proofs.LineSpelled.{untagged_spelled}
@@ -59,7 +60,7 @@ bad_line word line tag is names text = (
 
 -- with the tag of a text, and with none
 pub says_tagged : (parts : List (List ℕ)) (word : List ℕ) (tag : Tag) → IsTagged parts word → NamesTag word tag → IsBad parts (bad_of (Some tag))
-says_tagged parts word tag is names = (word, is, names, refl, refl)
+says_tagged parts word tag is names = tagged word tag is names
 
 pub tells_tagged : (parts : List (List ℕ)) (word line : List ℕ) (tag : Tag) → IsTagged parts word → NamesTag word tag →
     line ≡ word ⌢ codes " BAD done\r\n" → AreLines (bad_of (Some tag) ∷ []) line
@@ -70,8 +71,19 @@ unfolding ◌⌢◌
 bare_spelled = untagged_spelled endings.Bad codings.None tt
 
 pub says_bare : (parts : List (List ℕ)) → ((word : List ℕ) → IsTagged parts word → ⊥) → IsBad parts (bad_of None)
-says_bare parts none = (none, refl, refl)
+says_bare parts none = untagged none
 
 pub tells_bare : (line : List ℕ) → line ≡ codes "*" ⌢ codes " BAD done\r\n" → AreLines (bad_of None ∷ []) line
 unfolding ◌⌢◌
 tells_bare line text = (codes "* BAD done", [], bare_spelled, text, refl)
+
+-- with the bytes that are told
+pub bad_tagged : (parts : List (List ℕ)) (word line : List ℕ) (tag : Tag) → IsTagged parts word → NamesTag word tag →
+    line ≡ word ⌢ codes " BAD done\r\n" → (is : IsBad parts (bad_of (Some tag))) × (line ≡ bad_text parts (bad_of (Some tag)) is)
+unfolding ◌⌢◌
+bad_tagged parts word line tag is names text = (tagged word tag is names, text)
+
+pub bad_bare : (parts : List (List ℕ)) (line : List ℕ) → ((word : List ℕ) → IsTagged parts word → ⊥) → line ≡ codes "*" ⌢ codes " BAD done\r\n"
+    → (is : IsBad parts (bad_of None)) × (line ≡ bad_text parts (bad_of None) is)
+unfolding ◌⌢◌
+bad_bare parts line none text = (untagged none, text)

@@ -5,7 +5,9 @@ use Rattle.imap_model.specs.declared.response.Response.{Response}
 use Rattle.server_mem.specs.Hearing.{stops, Breaks, with_bytes}
 use Rattle.server_mem.specs.States.{State}
 use Rattle.server_mem.specs.Falling.{broken, Tells, Falls}
+use Rattle.server_mem.specs.Texts.{steps_text}
 use Rattle.server_mem.proofs.Pieces.{steps_then}
+use Rattle.server_mem.proofs.StepTexts.{steps_joined}
 
 -- one line behind others
 pub lines_then : (told later : List Response) (front back : List ℕ) → AreLines told front → AreLines later back → AreLines (told ++ later) (front ++ back)
@@ -20,15 +22,19 @@ lines_then (response ∷ told) later front back lines after = (
 
 -- nothing was heard yet
 pub nothing_told : (s : State) → Tells s [] s
-nothing_told s = record { told = []; steps = stops; lines = refl }
+nothing_told s = record { told = []; steps = stops; lines = refl; text = refl }
 
 -- another step
 pub more_told : (s : State) (front : List ℕ) (t : State) (back : List ℕ) (u : State) → Tells s front t → Tells t back u → Tells s (front ++ back) u
-more_told s front t back u one two = record {
-  told = one.told ++ two.told;
-  steps = steps_then s one.told t two.told u one.steps two.steps;
-  lines = lines_then one.told two.told front back one.lines two.lines;
-}
+more_told s front t back u one two =
+    let joined = steps_joined s one.told t two.told u one.steps two.steps in
+    record {
+      told = one.told ++ two.told;
+      steps = joined.0;
+      lines = lines_then one.told two.told front back one.lines two.lines;
+      text = ap (λ (bytes : List ℕ). bytes ++ back) one.text
+          ∙ ap (λ (bytes : List ℕ). steps_text s one.told t one.steps ++ bytes) two.text ∙ sym joined.1;
+    }
 
 -- it falls in the midst of a part
 pub fall_here : (s u : State) → broken u ≡ broken s → Falls s u

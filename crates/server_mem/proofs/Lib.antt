@@ -15,6 +15,7 @@ pub mod Pieces
 pub mod Placing
 pub mod Ruling
 pub mod Setting
+pub mod StepTexts
 pub mod TurnWell
 pub mod Vanishing
 pub mod WellChecked

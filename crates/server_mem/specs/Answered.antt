@@ -13,6 +13,7 @@ use Rattle.command_texts.specs.Cutting.{IsPart}
 use Rattle.command_texts.specs.HeardParts.{IsWhole, IsFront, append_of, IsNoText}
 use Rattle.server_mem.specs.Hearing.{IsBad}
 use Rattle.server_mem.specs.States.{State, turn_at, after_turn}
+use Rattle.server_mem.specs.Texts.{bad_text, command_text, denial_text, go_text}
 use Rattle.server_mem.specs.declared.outcome.Answer.{Answer}
 use Rattle.server_mem.specs.declared.outcome.Answered.{Answered}
 use Rattle.server_mem.specs.declared.outcome.Answered.TheVariants as answers
@@ -45,11 +46,19 @@ after_as s parts (answers.Asked tag) = record s { parts = parts }
 after_as s parts (answers.Refused tag) = record s { parts = [] }
 after_as s parts (answers.Bad tag) = record s { parts = [] }
 
+-- the bytes that tell it
+abbrev pub answered_text : (s : State) (parts : List (List ℕ)) (a : Answered) → IsAnswered s parts a → List ℕ
+answered_text s parts (answers.Carried tag command) may = command_text s tag command
+answered_text s parts (answers.Asked tag) may = go_text s tag
+answered_text s parts (answers.Refused tag) may = denial_text s tag
+answered_text s parts (answers.Bad tag) may = bad_text parts (bad_of tag) may.1
+
 -- the parts that have come are answered, and these lines tell it
 pub record AnswersParts (s : State) (answer : Answer) (u : State) : Type 0 where
   pub may : IsAnswered s s.parts answer.answered
   pub after : u ≡ after_as s s.parts answer.answered
   pub lines : AreLines (told_as s answer.answered) answer.lines.items
+  pub text : answer.lines.items ≡ answered_text s s.parts answer.answered may
 
 -- a part was cut off the front of what has come, and the text was answered that it belongs to
 pub record IsAnswer (s : State) (answer : Answer) (u : State) : Type 0 where
@@ -59,3 +68,4 @@ pub record IsAnswer (s : State) (answer : Answer) (u : State) : Type 0 where
   pub may : IsAnswered s (s.parts ++ answer.part ∷ []) answer.answered
   pub after : u ≡ after_as (record s { begun = rest }) (s.parts ++ answer.part ∷ []) answer.answered
   pub lines : AreLines (told_as s answer.answered) answer.lines.items
+  pub text : answer.lines.items ≡ answered_text s (s.parts ++ answer.part ∷ []) answer.answered may

@@ -15,10 +15,9 @@ use Rattle.command_texts.specs.HeardParts.{IsWhole, IsFront, IsNoText, append_of
 use Rattle.server_mem.specs.States.{State, turn_at, after_turn}
 
 -- BAD, with the tag of the text where it has one (RFC 9051, section 7.1.3)
-abbrev pub IsBad : List (List ℕ) → Response → Type 0
-IsBad parts (responses.Done tag ending code) = (word : List ℕ) × IsTagged parts word × NamesTag word tag × (ending ≡ endings.Bad) × (code ≡ codings.None)
-IsBad parts (responses.Untagged ending code) = ((word : List ℕ) → IsTagged parts word → ⊥) × (ending ≡ endings.Bad) × (code ≡ codings.None)
-IsBad parts response = ⊥
+pub data IsBad (parts : List (List ℕ)) : Response → Type 0 where
+  tagged : (word : List ℕ) (tag : Tag) → IsTagged parts word → NamesTag word tag → IsBad parts (responses.Done tag endings.Bad codings.None)
+  untagged : ((word : List ℕ) → IsTagged parts word → ⊥) → IsBad parts (responses.Untagged endings.Bad codings.None)
 
 -- What one more part brings, the parts up to it being these: a command that is carried out, the request for the next part,
 -- a NO in place of it for an APPEND to the closed mailbox, or BAD.

@@ -9,6 +9,7 @@ pub mod Offers
 pub mod Places
 pub mod SelectedMessages
 pub mod States
+pub mod Texts
 pub mod Turns
 pub mod TwoPieces
 pub mod Well

@@ -1,28 +1,31 @@
 //! A lawful server in memory (RFC 9051; RFC 7162): it carries out commands as one plain program does.
 #![tactic(auto)]
 
-mod answering;
-mod carrying;
-mod changing;
-mod checking;
+mod append;
+mod bad;
+mod capabilities;
+mod carry;
+mod changes;
+mod commands;
 mod headers;
 mod laws;
 mod lookups;
 mod mem_server;
-mod offering;
 mod outcome;
+mod parts;
 mod questions;
-mod refusing;
-mod replying;
+mod replies;
 mod rows;
 mod rules;
-mod selecting;
+mod select;
 mod sets;
+mod shift;
+mod store;
 mod told_lines;
 mod turn;
-mod turning;
+mod well_formed;
 
-pub use checking::is_well_formed;
 pub use laws::{denies_exactly, two_pieces};
 pub use mem_server::{ForeignFault, MemServer};
 pub use outcome::{Answer, Answered};
+pub use well_formed::is_well_formed;

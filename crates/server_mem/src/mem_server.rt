@@ -12,8 +12,8 @@ ghost use Rattle.imap_model.specs.WellFormed.{IsWellFormed};
 ghost use Rattle.server_mem.specs.Well.{Well, Well-prop};
 ghost use Rattle.imap_model.specs.declared.deed.Author.TheVariants.{Other};
 
+use crate::capabilities::atoms;
 use crate::lookups::box_of;
-use crate::offering::atoms;
 use crate::rules::broken_rule;
 use crate::turn::Made;
 use flag_set::FlagSet;

@@ -12,7 +12,10 @@ ghost use Rattle.imap_model.specs.declared.response.Response.TheVariants as resp
 ghost use Rattle.server_mem.specs.Greeting.{greeting};
 ghost use Rattle.server_mem.specs.SelectedMessages.{messages_of};
 ghost use Rattle.server_mem.specs.States.{disconnected};
+ghost use Rattle.server_mem.specs.Texts.{is_older};
+ghost use Rattle.mail_base.specs.declared.tag.Tag.TheVariants as tags;
 ghost use Rattle.response_lines.specs.Tellable.{AreTellable, IsAtomic};
+ghost use Rattle.response_lines.specs.ToldText.{lines_of};
 
 use crate::MemServer;
 use crate::lookups::box_of;
@@ -38,6 +41,7 @@ impl MemServer {
     // How lines are spelled that answer the command of this tag.
     fn spelling(&self, tag: Tag) -> Spelling
         ensures tag { result.tag ≡ tag }
+        ensures older { result.older ≡ is_older self.now.choices }
         ensures offers { AllByRecursion IsAtomic self.now.choices.offers }
     {
         Spelling {
@@ -55,7 +59,8 @@ impl MemServer {
         told: &[Response],
     ) -> Result<Vec<u8>, AllocError>
         requires { AllByRecursion IsAtomic self.now.choices.offers → AreTellable told.now }
-        ensures { IfOk result (λ lines. AreLines told.now lines.items) }
+        ensures spelled { IfOk result (λ lines. AreLines told.now lines.items) }
+        ensures text { IfOk result (λ lines. lines.items ≡ lines_of (is_older self.now.choices) tag messages.now told.now) }
     {
         let mut lines = Vec::new(self.alloc);
         self.spelling(tag).put_lines(messages, told, &mut lines)?;
@@ -64,7 +69,8 @@ impl MemServer {
 
     /// The line that asks for the next part of a text (RFC 9051, section 7.6).
     pub(crate) fn go_on(&self, tag: Tag) -> Result<Vec<u8>, AllocError>
-        ensures { IfOk result (λ line. AreLines (responses.Go ∷ []) line.items) }
+        ensures spelled { IfOk result (λ line. AreLines (responses.Go ∷ []) line.items) }
+        ensures text { IfOk result (λ line. line.items ≡ lines_of (is_older self.now.choices) tag [] (responses.Go ∷ [])) }
     {
         let told = [Response::Go];
         self.lines(&[], tag, &told)
@@ -73,7 +79,8 @@ impl MemServer {
     /// The line of a NO to the command of this tag.
     pub(crate) fn denial(&self, tag: Tag) -> Result<Vec<u8>, AllocError>
         requires { IsCommandTag tag }
-        ensures { IfOk result (λ line. AreLines (told_in tag (plain.denied codings.Other)) line.items) }
+        ensures spelled { IfOk result (λ line. AreLines (told_in tag (plain.denied codings.Other)) line.items) }
+        ensures text { IfOk result (λ line. line.items ≡ lines_of (is_older self.now.choices) tag [] (told_in tag (plain.denied codings.Other))) }
     {
         let told = [Response::Done {
             tag,
@@ -85,7 +92,8 @@ impl MemServer {
 
     // The line of the greeting.
     fn greeting(&self) -> Result<Vec<u8>, AllocError>
-        ensures { IfOk result (λ line. AreLines (greeting self.now.choices.offers ∷ []) line.items) }
+        ensures spelled { IfOk result (λ line. AreLines (greeting self.now.choices.offers ∷ []) line.items) }
+        ensures text { IfOk result (λ line. line.items ≡ lines_of (is_older self.now.choices) tags.Strange [] (greeting self.now.choices.offers ∷ [])) }
     {
         let mut line = Vec::new(self.alloc);
         self.spelling(Tag::Strange)
@@ -100,6 +108,7 @@ impl MemServer {
     pub fn greet(&mut self) -> Result<Vec<u8>, AllocError>
         ensures begun { OnOk result (self.new ≡ disconnected self.old) }
         ensures told { IfOk result (λ line. AreLines (greeting self.old.choices.offers ∷ []) line.items) }
+        ensures text { IfOk result (λ line. line.items ≡ lines_of (is_older self.old.choices) tags.Strange [] (greeting self.old.choices.offers ∷ [])) }
         ensures kept { OnErr result (self.new ≡ self.old) }
     {
         let line = self.greeting()?;

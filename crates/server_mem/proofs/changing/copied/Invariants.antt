@@ -1,5 +1,0 @@
-use Rattle.std.proofs.Common.{◌≡◌, take}
-use Rattle.server_mem.proofs.changing.copied.Given as goal
-
-abbrev pub invariant-loop-mailbox : goal.invariant-loop-mailbox
-invariant-loop-mailbox l = l.copies ≡ take l.mailbox-index l.boxes
