@@ -12,3 +12,4 @@ pub mod Parts
 pub mod Restarting
 pub mod Settling
 pub mod Sending
+pub mod Stepping

@@ -1,5 +1,5 @@
 -- The connection of a world in memory.
-use Rattle.std.proofs.Common.{◌≡◌, ◌+◌, ℕ, Bool, true, false, List, ◌++◌, take, drop, Option, Some, None, IfSome, Result, Ok, Err, OnOk}
+use Rattle.std.proofs.Common.{◌≡◌, ◌⊎◌, ⊎_elim, ◌+◌, ℕ, Bool, true, false, List, ◌++◌, take, drop, Option, Some, None, IfSome, Result, Ok, Err, OnOk}
 use Rattle.std.proofs.Common.{OnErr, refl, sym, ◌∙◌, ap, subst}
 use Rattle.std.proofs.Math.Seq.{take-add}
 use Rattle.std.proofs.lemmas.Option.{same_Some}
@@ -77,3 +77,24 @@ no_connection old mid same off = sym (ap told_line same) ∙ ap (λ (b : Bool). 
 -- the world had not stopped
 pub runs_on : (s t : Planned) → t ≡ s → (IsStopped t → ⊥) → IsStopped s → ⊥
 runs_on s t same runs stopped = runs (subst IsStopped (sym same) stopped)
+
+-- a call that has begun: the world had not stopped
+pub begun_runs : {T E : Type 0} (x : T) (s t : Planned) (before after : ℕ) → t ≡ s → FailsExactly {T = T} {E = E} (IsStopped s) (Ok x) before after →
+    IsStopped t → ⊥
+begun_runs x s t before after same exact stopped =
+    let failed = exact.planned (subst IsStopped same stopped) in
+    cc
+
+-- there is a connection in it
+pub is_there : (old mid : Line) → mid ≡ old → is_on mid.phase ≡ true → told_line old ≡ None → ⊥
+is_there old mid same on none =
+    let found : connection_in true mid.lines mid.received ≡ None =
+    sym (ap (λ (b : Bool). connection_in b mid.lines mid.received) on) ∙ ap told_line same ∙ none in
+    cc
+
+-- so it isn't one in which nothing is sent
+pub is_sent : {A T E : Type 0} (x : T) (s t : Planned) (before after : ℕ) (old mid : Line) → t ≡ s →
+    FailsExactly {T = T} {E = E} (IsStopped s) (Ok x) before after → mid ≡ old → is_on mid.phase ≡ true →
+    IsStopped t ⊎ (told_line old ≡ None) → A
+is_sent x s t before after old mid same exact still on none =
+    ⊎_elim (λ stopped. absurd (begun_runs x s t before after same exact stopped)) (λ off. absurd (is_there old mid still on off)) none

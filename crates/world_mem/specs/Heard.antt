@@ -34,7 +34,9 @@ pub record HearsOnly {T E : Type 0} (part : List ℕ) (server : State) (old new 
 -- a command was carried out
 abbrev pub is_carried : Answered → Bool
 is_carried (answers.Carried tag command) = true
-is_carried _ = false
+is_carried (answers.Asked tag) = false
+is_carried (answers.Refused tag) = false
+is_carried (answers.Bad tag) = false
 
 -- no command is carried out: no part has come, or one that doesn't end a text
 pub record AnswersElse (server : State) : Type 0 where

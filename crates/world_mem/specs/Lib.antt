@@ -15,3 +15,6 @@ pub mod Heard
 pub mod Losing
 pub mod Worlds
 pub mod Honest
+pub mod Scripts
+pub mod Scripted
+pub mod ScriptWorlds

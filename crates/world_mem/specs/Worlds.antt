@@ -1,11 +1,14 @@
 -- What contracts see of a world in memory.
-use Rattle.std.specs.Prelude.{◌≡◌, ◌⊎◌, ℕ, Some, Result, IsErr}
+use Rattle.std.specs.Prelude.{◌≡◌, ◌⊎◌, ℕ, List, Option, Some, Result, IsErr}
 use Rattle.server_mem.specs.States.{State}
-use Rattle.world_traits.specs.Counts.{CountsFailure}
-use Rattle.world_traits.specs.LinkState.{LinkState}
-use Rattle.world_traits.specs.Moments.{MayLeave}
+use Rattle.world_traits.specs.Counts.{counted, CountsFailure}
+use Rattle.world_traits.specs.LinkState.{Connection, LinkState}
+use Rattle.world_traits.specs.Moments.{Moment, MayLeave}
+use Rattle.world_mem.specs.Both.{Both}
 use Rattle.world_mem.specs.Image.{bytes_of}
-use Rattle.world_mem.specs.Memory.{run_of, connection_of, sent_of}
+use Rattle.world_mem.specs.Memory.{Line, run_of, line_of, connection_of, sent_of}
+use Rattle.world_mem.specs.Numbered.{moments_of, files_of}
+use Rattle.world_mem.specs.Others.{OthersSome, others_in}
 use Rattle.world_mem.specs.Planned.{Planned, IsStopped, loss_in}
 use Rattle.world_mem.specs.Running.{Run}
 use Rattle.world_mem.specs.Seen.{run_seen}
@@ -16,6 +19,27 @@ use Rattle.world_mem.specs.declared.plan.Loss.{Loss}
 -- what it holds, and what was done
 abbrev pub course_of : MemWorld → Course
 course_of world = world.course
+
+-- what was done, and what came of it
+abbrev pub run_in : MemWorld → Run
+run_in world = run_of (course_of world)
+
+-- its moments, and the files at the moment with a number
+abbrev pub moments_in : MemWorld → List Moment
+moments_in world = moments_of (course_of world)
+
+abbrev pub files_in : MemWorld → ℕ → Both
+files_in world k = files_of (course_of world) k
+
+-- its connection: all of it, as a link tells it, and what was sent
+abbrev pub line_in : MemWorld → Line
+line_in world = line_of (course_of world)
+
+abbrev pub connection_at : MemWorld → Option Connection
+connection_at world = connection_of (course_of world)
+
+abbrev pub sent_in : MemWorld → List ℕ
+sent_in world = sent_of (course_of world)
 
 -- its server, as the connection has it
 abbrev pub server_of : MemWorld → State
@@ -42,6 +66,21 @@ link_faults_of world = world.link_faults
 -- its link
 abbrev pub link_of : MemWorld → LinkState
 link_of world = record { faults = world.link_faults; connection = connection_of world.course; sent = sent_of world.course }
+
+-- one growth was refused in the call
+abbrev pub Refuses : MemWorld → MemWorld → Type 0
+Refuses old new = refused_of new ≡ counted (refused_of old)
+
+-- how the connection is lost in the last call of the link, if it is
+abbrev pub loss_by : MemWorld → Option Loss
+loss_by world = loss_in (planned_of world).plan.link_fails (planned_of world).link
+
+-- what others make of the old world as the call begins, and some of it, from the front
+abbrev pub entered : MemWorld → MemWorld → Run
+entered old new = others_in (planned_of new) (run_in old)
+
+abbrev pub EntersSome : MemWorld → MemWorld → Type 0
+EntersSome old new = OthersSome (planned_of new) (run_in old) (run_in new)
 
 -- A call fails for this reason, and else exactly where it was refused room.
 pub record FailsExactly {T E : Type 0} (reason : Type 0) (result : Result T E) (before after : ℕ) : Type 0 where

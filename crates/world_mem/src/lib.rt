@@ -12,6 +12,10 @@ mod mem_world;
 mod plan;
 mod replaying;
 mod schedule;
+mod script;
+mod script_link;
+mod script_rest;
+mod script_world;
 #[cfg(test)]
 mod tests;
 mod torn_file;
@@ -22,3 +26,5 @@ pub use draws::Draws;
 pub use files::Files;
 pub use mem_world::{ImageFault, MemWorld};
 pub use plan::{Loss, Plan};
+pub use script::Script;
+pub use script_world::ScriptWorld;

@@ -1,26 +1,28 @@
 //! The world in memory.
 
-ghost use Rattle.std.specs.Prelude.{◌≡◌, ◌⊎◌, ◌≤◌, ◌+◌, ◌-◌, ◌^◌, ℕ, [], Some, None, min, length, take, drop, OnOk, OnErr, IfOk, IfErr, IfSome, IsErr, IsErrOf, ◌↔◌};
-ghost use Rattle.world_mem.specs.Memory.{run_of, line_of, sent_of, waits_in, told_line, SentSome};
-ghost use Rattle.world_mem.specs.Worlds.{course_of, server_of, served_by, planned_of, refused_of, disk_faults_of, link_faults_of, link_of, FailsExactly, LinkIsToFail};
-ghost use Rattle.world_mem.specs.Planned.{unbegun, next_disk, next_link, DiskIsToFail, IsStopped};
-ghost use Rattle.world_mem.specs.Both.{torn_at};
-ghost use Rattle.world_mem.specs.Restarting.{goes_on_from, no_line};
-ghost use Rattle.world_mem.specs.Running.{step, start};
-ghost use Rattle.std.specs.Prelude.{◌<◌, slice_get};
-ghost use Rattle.world_traits.specs.Moments.{Moment, MayLeave};
-ghost use Rattle.world_mem.specs.Image.{bytes_of, image_of};
-ghost use Rattle.world_mem.specs.Numbered.{moments_of, files_of};
-ghost use Rattle.std.specs.Prelude.{true, false};
-ghost use Rattle.world_mem.specs.Standing.{is_on};
+ghost use Rattle.std.specs.Prelude.{◌≡◌, ◌⊎◌, ◌≤◌, ◌<◌, ◌+◌, ◌-◌, ◌^◌, ◌↔◌, ℕ, [], true, false, Some, None};
+ghost use Rattle.std.specs.Prelude.{min, length, take, drop, slice_get};
+ghost use Rattle.std.specs.Prelude.{OnOk, OnErr, IfOk, IfErr, IfSome, IsErr, IsErrOf};
 ghost use Rattle.imap_model.specs.Lawful.{broken_rule};
 ghost use Rattle.server_mem.specs.States.{disconnected};
+ghost use Rattle.world_traits.specs.Calls.{Rose, Wrote, Synced};
+ghost use Rattle.world_traits.specs.Counts.{counted};
+ghost use Rattle.world_traits.specs.Files.{file_of};
+ghost use Rattle.world_traits.specs.Moments.{Moment, MayLeave};
+ghost use Rattle.world_mem.specs.Both.{torn_at};
+ghost use Rattle.world_mem.specs.Image.{bytes_of, image_of};
+ghost use Rattle.world_mem.specs.Memory.{run_of, line_of, waits_in, told_line, SentSome};
+ghost use Rattle.world_mem.specs.Others.{OthersChange, changed, changes};
+ghost use Rattle.world_mem.specs.Planned.{unbegun, next_disk, next_link, DiskIsToFail, IsStopped};
+ghost use Rattle.world_mem.specs.Restarting.{goes_on_from, no_line};
+ghost use Rattle.world_mem.specs.Running.{step, start};
+ghost use Rattle.world_mem.specs.Standing.{is_on};
+ghost use Rattle.world_mem.specs.Worlds.{course_of, run_in, line_in, sent_in, moments_in, files_in};
+ghost use Rattle.world_mem.specs.Worlds.{server_of, served_by};
+ghost use Rattle.world_mem.specs.Worlds.{planned_of, refused_of, disk_faults_of, link_faults_of};
+ghost use Rattle.world_mem.specs.Worlds.{entered, EntersSome, FailsExactly, LinkIsToFail};
 ghost use Rattle.world_mem.specs.declared.course.Phase.TheVariants as phases;
 ghost use Rattle.world_mem.specs.declared.did.Did.TheVariants as did;
-ghost use Rattle.world_mem.specs.Others.{OthersChange, OthersSome, others_in, changed, changes};
-ghost use Rattle.world_traits.specs.Counts.{counted};
-ghost use Rattle.world_traits.specs.Calls.{Rose, Wrote, Synced};
-ghost use Rattle.world_traits.specs.Files.{file_of};
 
 use crate::course::Course;
 use crate::schedule::Schedule;
@@ -69,15 +71,17 @@ pub struct MemWorld {
 }
 
 impl MemWorld {
-    /// A world of this server and these files, which count as synced. There is one moment, and no connection.
+    /// A world of this server and these files, which count as synced. There is one moment, and no
+    /// connection.
     pub fn new(
         alloc: Global,
         server: MemServer,
         files: Files,
         plan: Plan,
     ) -> Result<MemWorld, AllocError>
-        ensures run { IfOk result (λ world. run_of (course_of world) ≡ start (bytes_of files) (disconnected server) None) }
-        ensures line { IfOk result (λ world. line_of (course_of world)
+        ensures run { IfOk result (λ world. run_in world
+            ≡ start (bytes_of files) (disconnected server) None) }
+        ensures line { IfOk result (λ world. line_in world
             ≡ record { phase = phases.Off; sent = []; lines = []; received = 0 }) }
         ensures plan { IfOk result (λ world. planned_of world ≡ unbegun plan) }
         ensures refused { IfOk result (λ world. refused_of world ≡ 0) }
@@ -104,13 +108,15 @@ impl MemWorld {
         }
     }
 
-    /// Stops the world, and goes on from one of the images that the stop may leave: the one that the pick takes. The server keeps its
-    /// mailboxes, its history and its choices, nothing is connected, and a command that waits waits on. There is one moment.
+    /// Stops the world, and goes on from one of the images that the stop may leave: the one that
+    /// the pick takes. The server keeps its mailboxes, its history and its choices, nothing is
+    /// connected, and a command that waits waits on. There is one moment.
     pub fn restart(self, pick: u64, plan: Plan) -> Result<MemWorld, AllocError>
-        ensures run { IfOk result (λ world. run_of (course_of world)
-            ≡ goes_on_from (image_of pick (torn_at (run_of (course_of self)).clock.now (run_of (course_of self)).seen)) (run_of (course_of self))) }
-        ensures lawful { IfOk result (λ world. MayLeave (run_of (course_of self)).clock.now (run_of (course_of world)).seen) }
-        ensures line { IfOk result (λ world. line_of (course_of world) ≡ no_line (run_of (course_of self)).held) }
+        ensures run { IfOk result (λ world. run_in world
+            ≡ goes_on_from (image_of pick (torn_at (run_in self).clock.now (run_in self).seen))
+            (run_in self)) }
+        ensures lawful { IfOk result (λ world. MayLeave (run_in self).clock.now (run_in world).seen) }
+        ensures line { IfOk result (λ world. line_in world ≡ no_line (run_in self).held) }
         ensures plan { IfOk result (λ world. planned_of world ≡ unbegun plan) }
         ensures refused { IfOk result (λ world. refused_of world ≡ 0) }
         ensures faults { IfOk result (λ world. disk_faults_of world ≡ 0) }
@@ -131,17 +137,18 @@ impl MemWorld {
         self.schedule = Schedule::new(plan);
     }
 
-    /// Makes a change by another client, at a moment of its own. Refuses one that breaks a rule, and then nothing changes, as for want
-    /// of memory.
+    /// Makes a change by another client, at a moment of its own. Refuses one that breaks a rule,
+    /// and then nothing changes, as for want of memory.
     pub fn foreign(&mut self, name: &BoxName, change: &Change) -> Result<(), ForeignFault>
-        ensures done { OnOk result (run_of (course_of self.new) ≡ step (did.Changed name.now change.now) (run_of (course_of self.old))) }
-        ensures told { OthersChange (run_of (course_of self.old)) (run_of (course_of self.new)) }
+        ensures done { OnOk result (run_in self.new
+            ≡ step (did.Changed name.now change.now) (run_in self.old)) }
+        ensures told { OthersChange (run_in self.old) (run_in self.new) }
         ensures rule { (number : ℕ) → IsErrOf result (ForeignFault.NotLawful number)
-            → broken_rule (run_of (course_of self.old)).state.server.boxes name.now change.now ≡ Some number }
+            → broken_rule (run_in self.old).state.server.boxes name.now change.now ≡ Some number }
         ensures lawful { OnOk result
-            (broken_rule (run_of (course_of self.old)).state.server.boxes name.now change.now ≡ None) }
-        ensures kept { OnErr result (run_of (course_of self.new) ≡ run_of (course_of self.old)) }
-        ensures line { line_of (course_of self.new) ≡ line_of (course_of self.old) }
+            (broken_rule (run_in self.old).state.server.boxes name.now change.now ≡ None) }
+        ensures kept { OnErr result (run_in self.new ≡ run_in self.old) }
+        ensures line { line_in self.new ≡ line_in self.old }
         ensures plan { planned_of self.new ≡ planned_of self.old }
         ensures refused { refused_of self.new ≡ refused_of self.old }
         ensures faults { disk_faults_of self.new ≡ disk_faults_of self.old }
@@ -153,33 +160,37 @@ impl MemWorld {
     /// The server.
     pub fn server(&self) -> &MemServer
         ensures value { result.now ≡ server_of self.now }
-        ensures server { result.now.server ≡ (run_of (course_of self.now)).state.server }
+        ensures server { result.now.server ≡ (run_in self.now).state.server }
     {
         self.course.server()
     }
 
     /// The bytes sent in the present connection, or in the last one where there is none.
     pub fn sent(&self) -> &[u8]
-        ensures { result.now ≡ (line_of (course_of self.now)).sent }
+        ensures { result.now ≡ (line_in self.now).sent }
     {
         self.course.sent()
     }
 
-    /// How many growths it was refused. The count never falls, and stays at 2^64 - 1, its last value. No other fault is counted.
+    /// How many growths it was refused. The count never falls, and stays at 2^64 - 1, its last
+    /// value. No other fault is counted.
     pub fn refused(&self) -> u64
         ensures { result ≡ refused_of self.now }
     {
         self.refused
     }
 
-    /// One of the images that a stop may leave at a moment, whose number counts from 0: the one that the pick takes.
+    /// One of the images that a stop may leave at a moment, whose number counts from 0: the one
+    /// that the pick takes.
     pub fn images_at(&self, moment: u64, pick: u64) -> Result<Files, ImageFault>
-        ensures value { IfOk result (λ files. bytes_of files ≡ image_of pick (files_of (course_of self.now) moment)) }
-        ensures lawful { (m : Moment) → slice_get (moments_of (course_of self.now)) moment ≡ Some m
+        ensures value { IfOk result (λ files. bytes_of files
+            ≡ image_of pick (files_in self.now moment)) }
+        ensures lawful { (m : Moment) → slice_get (moments_in self.now) moment ≡ Some m
             → IfOk result (λ files. MayLeave m (bytes_of files)) }
-        ensures no_moment { length (moments_of (course_of self.now)) ≤ moment
-            → result ≡ Err (ImageFault.NoMoment (length (moments_of (course_of self.now)))) }
-        ensures there { moment < length (moments_of (course_of self.now)) → IfErr result (λ fault. fault ≡ ImageFault.Memory) }
+        ensures no_moment { length (moments_in self.now) ≤ moment
+            → result ≡ Err (ImageFault.NoMoment (length (moments_in self.now))) }
+        ensures there { moment < length (moments_in self.now)
+            → IfErr result (λ fault. fault ≡ ImageFault.Memory) }
     {
         let moments = self.course.moments();
         if moment >= moments {
@@ -218,9 +229,9 @@ impl MemWorld {
 
     // A call of the link failed: the connection is lost.
     fn fail_link(&mut self) -> LinkFailed
-        ensures run { run_of (course_of self.new) ≡ run_of (course_of self.old) }
+        ensures run { run_in self.new ≡ run_in self.old }
         ensures lost { is_on (course_of self.new).phase ≡ false }
-        ensures sent { sent_of (course_of self.new) ≡ sent_of (course_of self.old) }
+        ensures sent { sent_in self.new ≡ sent_in self.old }
         ensures planned { planned_of self.new ≡ planned_of self.old }
         ensures faults { link_faults_of self.new ≡ counted (link_faults_of self.old) }
         ensures refused { refused_of self.new ≡ refused_of self.old }
@@ -235,9 +246,9 @@ impl MemWorld {
 
     // A growth was refused in a call of the link.
     fn refuse_link(&mut self) -> LinkFailed
-        ensures run { run_of (course_of self.new) ≡ run_of (course_of self.old) }
+        ensures run { run_in self.new ≡ run_in self.old }
         ensures lost { is_on (course_of self.new).phase ≡ false }
-        ensures sent { sent_of (course_of self.new) ≡ sent_of (course_of self.old) }
+        ensures sent { sent_in self.new ≡ sent_in self.old }
         ensures planned { planned_of self.new ≡ planned_of self.old }
         ensures faults { link_faults_of self.new ≡ counted (link_faults_of self.old) }
         ensures refused { refused_of self.new ≡ counted (refused_of self.old) }
@@ -252,16 +263,15 @@ impl MemWorld {
     // A call of the link begins, with what others change then.
     fn enter(&mut self) -> Result<(), LinkFailed>
         ensures next { planned_of self.new ≡ next_link (planned_of self.old) }
-        ensures exact { FailsExactly (IsStopped (planned_of self.new)) result (refused_of self.old) (refused_of self.new) }
-        ensures told { OthersChange (run_of (course_of self.old)) (run_of (course_of self.new)) }
-        ensures done { OnOk result (run_of (course_of self.new)
-            ≡ others_in (planned_of self.new) (run_of (course_of self.old))) }
-        ensures some { OnErr result (OthersSome (planned_of self.new)
-            (run_of (course_of self.old)) (run_of (course_of self.new))) }
-        ensures stopped { IsStopped (planned_of self.new) → run_of (course_of self.new) ≡ run_of (course_of self.old) }
-        ensures server { OnOk result (server_of self.new ≡ served_by self.old (run_of (course_of self.new))) }
-        ensures sent { sent_of (course_of self.new) ≡ sent_of (course_of self.old) }
-        ensures line { OnOk result (line_of (course_of self.new) ≡ line_of (course_of self.old)) }
+        ensures exact { FailsExactly (IsStopped (planned_of self.new)) result
+            (refused_of self.old) (refused_of self.new) }
+        ensures told { OthersChange (run_in self.old) (run_in self.new) }
+        ensures done { OnOk result (run_in self.new ≡ entered self.old self.new) }
+        ensures some { OnErr result (EntersSome self.old self.new) }
+        ensures stopped { IsStopped (planned_of self.new) → run_in self.new ≡ run_in self.old }
+        ensures server { OnOk result (server_of self.new ≡ served_by self.old (run_in self.new)) }
+        ensures sent { sent_in self.new ≡ sent_in self.old }
+        ensures line { OnOk result (line_in self.new ≡ line_in self.old) }
         ensures faults { OnOk result (link_faults_of self.new ≡ link_faults_of self.old) }
         ensures lost { OnErr result (is_on (course_of self.new).phase ≡ false) }
         ensures disk { disk_faults_of self.new ≡ disk_faults_of self.old }
@@ -289,7 +299,8 @@ fn change_all(
     ensures done { OnOk result (run_of course.new ≡ changes foreign.now call (run_of course.old)) }
     ensures some { OnErr result
         ((n : ℕ) × (run_of course.new ≡ changes (take n foreign.now) call (run_of course.old))) }
-    ensures server { course.new.server ≡ record course.old.server { server = (run_of course.new).state.server } }
+    ensures server { course.new.server
+        ≡ record course.old.server { server = (run_of course.new).state.server } }
     ensures line { line_of course.new ≡ line_of course.old }
 {
     for (number, name, change) in foreign {
@@ -305,7 +316,8 @@ fn change_one(course: &mut Course, name: &BoxName, change: &Change) -> Result<()
     ensures told { OthersChange (run_of course.old) (run_of course.new) }
     ensures done { OnOk result (run_of course.new ≡ changed name.now change.now (run_of course.old)) }
     ensures failed { OnErr result (run_of course.new ≡ run_of course.old) }
-    ensures server { course.new.server ≡ record course.old.server { server = (run_of course.new).state.server } }
+    ensures server { course.new.server
+        ≡ record course.old.server { server = (run_of course.new).state.server } }
     ensures line { line_of course.new ≡ line_of course.old }
 {
     match course.change(name, change) {
@@ -322,10 +334,9 @@ impl Clocked for MemWorld {
 
     ghost server_with_files = { λ tells. tells };
 
-    ghost use Rattle.world_mem.specs.Memory.{run_of};
-    ghost use Rattle.world_mem.specs.Worlds.{course_of, disk_faults_of, link_of};
+    ghost use Rattle.world_mem.specs.Worlds.{run_in, disk_faults_of, link_of};
 
-    ghost clock = { λ world. (run_of (course_of world)).clock };
+    ghost clock = { λ world. (run_in world).clock };
 
     ghost disk_faults = { λ world. disk_faults_of world };
 
@@ -335,19 +346,20 @@ impl Clocked for MemWorld {
 impl Disk for MemWorld {
     ghost use Rattle.world_mem.specs.Worlds.{seen_sound};
 
-    ghost seen = { λ world. (run_of (course_of world)).seen };
+    ghost seen = { λ world. (run_in world).seen };
 
     ghost seen_is = { λ world tells. seen_sound (course_of world) };
 
     /// The file's length in bytes. It fails exactly where it is planned to, or the world has stopped.
     fn length(&mut self, side: Side) -> Result<u64, DiskFailed>
-        ensures value { IfOk result (λ n. n ≡ length (file_of side (run_of (course_of self.old)).seen)) }
-        ensures same { run_of (course_of self.new) ≡ run_of (course_of self.old) }
+        ensures value { IfOk result (λ n. n ≡ length (file_of side (run_in self.old).seen)) }
+        ensures same { run_in self.new ≡ run_in self.old }
         ensures next { planned_of self.new ≡ next_disk (planned_of self.old) }
-        ensures exact { FailsExactly (DiskIsToFail (planned_of self.new)) result (refused_of self.old) (refused_of self.new) }
+        ensures exact { FailsExactly (DiskIsToFail (planned_of self.new)) result
+            (refused_of self.old) (refused_of self.new) }
         ensures count { disk_faults_of self.old ≤ disk_faults_of self.new }
         ensures cause { OnErr result (Rose (disk_faults_of self.old) (disk_faults_of self.new)) }
-        ensures line { line_of (course_of self.new) ≡ line_of (course_of self.old) }
+        ensures line { line_in self.new ≡ line_in self.old }
         ensures link { self.new.link_faults ≡ self.old.link_faults }
     {
         if self.schedule.next_disk() {
@@ -356,17 +368,20 @@ impl Disk for MemWorld {
         Ok(self.course.bytes(side).len() as u64)
     }
 
-    /// Reads from a place into the buffer's front, as many bytes as there are and fit. It fails exactly where it is planned to, or
-    /// the world has stopped.
+    /// Reads from a place into the buffer's front, as many bytes as there are and fit. It fails
+    /// exactly where it is planned to, or the world has stopped.
     fn read(&mut self, side: Side, at: u64, into: &mut [u8]) -> Result<usize, DiskFailed>
-        ensures value { IfOk result (λ n. n ≡ min (length into.old) (length (file_of side (run_of (course_of self.old)).seen) - at)) }
-        ensures bytes { IfOk result (λ n. take n into.new ≡ take n (drop at (file_of side (run_of (course_of self.old)).seen))) }
-        ensures same { run_of (course_of self.new) ≡ run_of (course_of self.old) }
+        ensures value { IfOk result (λ n.
+            n ≡ min (length into.old) (length (file_of side (run_in self.old).seen) - at)) }
+        ensures bytes { IfOk result (λ n.
+            take n into.new ≡ take n (drop at (file_of side (run_in self.old).seen))) }
+        ensures same { run_in self.new ≡ run_in self.old }
         ensures next { planned_of self.new ≡ next_disk (planned_of self.old) }
-        ensures exact { FailsExactly (DiskIsToFail (planned_of self.new)) result (refused_of self.old) (refused_of self.new) }
+        ensures exact { FailsExactly (DiskIsToFail (planned_of self.new)) result
+            (refused_of self.old) (refused_of self.new) }
         ensures count { disk_faults_of self.old ≤ disk_faults_of self.new }
         ensures cause { OnErr result (Rose (disk_faults_of self.old) (disk_faults_of self.new)) }
-        ensures line { line_of (course_of self.new) ≡ line_of (course_of self.old) }
+        ensures line { line_in self.new ≡ line_in self.old }
         ensures link { self.new.link_faults ≡ self.old.link_faults }
     {
         if self.schedule.next_disk() {
@@ -382,18 +397,19 @@ impl Disk for MemWorld {
         Ok(count)
     }
 
-    /// Writes the bytes at a place. It fails exactly where it is planned to, the world has stopped, or it is refused room, and then
-    /// nothing was written.
+    /// Writes the bytes at a place. It fails exactly where it is planned to, the world has stopped,
+    /// or it is refused room, and then nothing was written.
     fn write_at(&mut self, side: Side, at: u64, bytes: &[u8]) -> Result<(), DiskFailed>
         requires { at + length bytes.now ≤ 2 ^ 32 }
-        ensures told { Wrote side at bytes.now (run_of (course_of self.old)).clock (run_of (course_of self.new)).clock
-            (run_of (course_of self.old)).seen (run_of (course_of self.new)).seen result }
-        ensures failed { OnErr result (run_of (course_of self.new) ≡ run_of (course_of self.old)) }
+        ensures told { Wrote side at bytes.now (run_in self.old).clock (run_in self.new).clock
+            (run_in self.old).seen (run_in self.new).seen result }
+        ensures failed { OnErr result (run_in self.new ≡ run_in self.old) }
         ensures next { planned_of self.new ≡ next_disk (planned_of self.old) }
-        ensures exact { FailsExactly (DiskIsToFail (planned_of self.new)) result (refused_of self.old) (refused_of self.new) }
+        ensures exact { FailsExactly (DiskIsToFail (planned_of self.new)) result
+            (refused_of self.old) (refused_of self.new) }
         ensures count { disk_faults_of self.old ≤ disk_faults_of self.new }
         ensures cause { OnErr result (Rose (disk_faults_of self.old) (disk_faults_of self.new)) }
-        ensures line { line_of (course_of self.new) ≡ line_of (course_of self.old) }
+        ensures line { line_in self.new ≡ line_in self.old }
         ensures link { self.new.link_faults ≡ self.old.link_faults }
     {
         if self.schedule.next_disk() {
@@ -405,17 +421,18 @@ impl Disk for MemWorld {
         Ok(())
     }
 
-    /// Makes what a read gives the synced bytes. It fails exactly where it is planned to, the world has stopped, or it is refused
-    /// room, and then nothing changed.
+    /// Makes what a read gives the synced bytes. It fails exactly where it is planned to, the world
+    /// has stopped, or it is refused room, and then nothing changed.
     fn sync(&mut self, side: Side) -> Result<(), DiskFailed>
-        ensures told { Synced side (run_of (course_of self.old)).clock (run_of (course_of self.new)).clock
-            (run_of (course_of self.old)).seen (run_of (course_of self.new)).seen result }
-        ensures failed { OnErr result (run_of (course_of self.new) ≡ run_of (course_of self.old)) }
+        ensures told { Synced side (run_in self.old).clock (run_in self.new).clock
+            (run_in self.old).seen (run_in self.new).seen result }
+        ensures failed { OnErr result (run_in self.new ≡ run_in self.old) }
         ensures next { planned_of self.new ≡ next_disk (planned_of self.old) }
-        ensures exact { FailsExactly (DiskIsToFail (planned_of self.new)) result (refused_of self.old) (refused_of self.new) }
+        ensures exact { FailsExactly (DiskIsToFail (planned_of self.new)) result
+            (refused_of self.old) (refused_of self.new) }
         ensures count { disk_faults_of self.old ≤ disk_faults_of self.new }
         ensures cause { OnErr result (Rose (disk_faults_of self.old) (disk_faults_of self.new)) }
-        ensures line { line_of (course_of self.new) ≡ line_of (course_of self.old) }
+        ensures line { line_in self.new ≡ line_in self.old }
         ensures link { self.new.link_faults ≡ self.old.link_faults }
     {
         if self.schedule.next_disk() {
@@ -437,47 +454,44 @@ impl Link for MemWorld {
     ghost use Rattle.world_traits.specs.LinkState.{fresh};
     ghost use Rattle.world_traits.specs.Links.{AnyStep, Linked};
     ghost use Rattle.world_traits.specs.Sends.{Sent, Arrives};
-    ghost use Rattle.world_mem.specs.Planned.{IsShort, arriving, loss_in};
-    ghost use Rattle.world_mem.specs.Running.{Run};
+    ghost use Rattle.world_mem.specs.Planned.{IsShort, arriving};
     ghost use Rattle.world_mem.specs.declared.did.Held.{Held};
     ghost use Rattle.world_mem.specs.declared.plan.Loss.{Loss};
     ghost use Rattle.world_mem.specs.Heard.{HearsBytes};
     ghost use Rattle.world_mem.specs.Losing.{Loses};
-    ghost use Rattle.world_mem.specs.Memory.{connection_of};
     ghost use Rattle.world_mem.specs.Honest.{honest};
+    ghost use Rattle.world_mem.specs.Worlds.{connection_at, loss_by, Refuses};
 
     ghost honest = { λ world tells c is. honest (course_of world) c is };
 
-    /// Begins a new connection and ends an old one. What waits is carried out before the greeting, or dropped, as its loss says. It fails
-    /// exactly where it is planned to, the world has stopped, or it is refused room.
+    /// Begins a new connection and ends an old one. What waits is carried out before the greeting,
+    /// or dropped, as its loss says. It fails exactly where it is planned to, the world has
+    /// stopped, or it is refused room.
     fn connect(&mut self) -> Result<(), LinkFailed>
-        ensures files { Linked AnyStep (run_of (course_of self.old)).clock (run_of (course_of self.new)).clock }
-        ensures told { Linked Connecting (run_of (course_of self.old)).clock (run_of (course_of self.new)).clock }
-        ensures begins { OnOk result (connection_of (course_of self.new) ≡ Some fresh) }
-        ensures greets { OnOk result (IsGreeted (run_of (course_of self.new)).clock.now.outside) }
-        ensures free { (run_of (course_of self.old)).held ≡ None
-            → OnOk result (run_of (course_of self.new)
-            ≡ step did.Greeted (others_in (planned_of self.new) (run_of (course_of self.old)))) }
-        ensures dropped { (held : Held) → (run_of (course_of self.old)).held ≡ Some held → held.carried ≡ false
-            → OnOk result (run_of (course_of self.new)
-            ≡ step did.Greeted (others_in (planned_of self.new) (run_of (course_of self.old)))) }
-        ensures carried { (held : Held) → (run_of (course_of self.old)).held ≡ Some held → held.carried ≡ true
-            → OnOk result (run_of (course_of self.new)
-            ≡ step did.Greeted (step did.Settled (others_in (planned_of self.new) (run_of (course_of self.old))))) }
+        ensures files { Linked AnyStep (run_in self.old).clock (run_in self.new).clock }
+        ensures told { Linked Connecting (run_in self.old).clock (run_in self.new).clock }
+        ensures begins { OnOk result (connection_at self.new ≡ Some fresh) }
+        ensures greets { OnOk result (IsGreeted (run_in self.new).clock.now.outside) }
+        ensures free { (run_in self.old).held ≡ None
+            → OnOk result (run_in self.new ≡ step did.Greeted (entered self.old self.new)) }
+        ensures dropped { (held : Held) → (run_in self.old).held ≡ Some held → held.carried ≡ false
+            → OnOk result (run_in self.new ≡ step did.Greeted (entered self.old self.new)) }
+        ensures carried { (held : Held) → (run_in self.old).held ≡ Some held → held.carried ≡ true
+            → OnOk result (run_in self.new ≡ step did.Greeted (step did.Settled (entered self.old self.new))) }
         ensures loses { (IsStopped (planned_of self.new) → ⊥) → (loss : Loss)
-            → loss_in (planned_of self.new).plan.link_fails (planned_of self.new).link ≡ Some loss
-            → (run_of (course_of self.new) ≡ others_in (planned_of self.new) (run_of (course_of self.old)))
-            ⊎ (OthersSome (planned_of self.new) (run_of (course_of self.old)) (run_of (course_of self.new))
-            × (refused_of self.new ≡ counted (refused_of self.old))) }
-        ensures sent { OnOk result (sent_of (course_of self.new) ≡ []) }
-        ensures unsent { OnErr result (sent_of (course_of self.new) ≡ sent_of (course_of self.old)) }
+            → loss_by self.new ≡ Some loss
+            → (run_in self.new ≡ entered self.old self.new)
+            ⊎ (EntersSome self.old self.new × Refuses self.old self.new) }
+        ensures sent { OnOk result (sent_in self.new ≡ []) }
+        ensures unsent { OnErr result (sent_in self.new ≡ sent_in self.old) }
         ensures next { planned_of self.new ≡ next_link (planned_of self.old) }
-        ensures exact { FailsExactly (LinkIsToFail (planned_of self.new)) result (refused_of self.old) (refused_of self.new) }
-        ensures lost { OnErr result (connection_of (course_of self.new) ≡ None) }
+        ensures exact { FailsExactly (LinkIsToFail (planned_of self.new)) result
+            (refused_of self.old) (refused_of self.new) }
+        ensures lost { OnErr result (connection_at self.new ≡ None) }
         ensures disk { disk_faults_of self.new ≡ disk_faults_of self.old }
         ensures count { link_faults_of self.old ≤ link_faults_of self.new }
         ensures cause { OnErr result (Rose (link_faults_of self.old) (link_faults_of self.new)) }
-        ensures stopped { IsStopped (planned_of self.new) → run_of (course_of self.new) ≡ run_of (course_of self.old) }
+        ensures stopped { IsStopped (planned_of self.new) → run_in self.new ≡ run_in self.old }
     {
         self.course.lose();
         self.enter()?;
@@ -493,48 +507,59 @@ impl Link for MemWorld {
         Ok(())
     }
 
-    /// Sends the bytes, and the server answers all that is whole. It fails exactly where it is planned to, the world has stopped, there
-    /// is no connection, or it is refused room. Where it is planned to, as much of a part that is awaited arrives as the loss says.
+    /// Sends the bytes, and the server answers all that is whole. It fails exactly where it is
+    /// planned to, the world has stopped, there is no connection, or it is refused room. Where it
+    /// is planned to, as much of a part that is awaited arrives as the loss says.
     fn send(&mut self, bytes: &[u8]) -> Result<(), LinkFailed>
-        ensures files { Linked AnyStep (run_of (course_of self.old)).clock (run_of (course_of self.new)).clock }
+        ensures files { Linked AnyStep (run_in self.old).clock (run_in self.new).clock }
         ensures told { (tag : Tag) (command : Command) (before behind : List (List ℕ))
-            → IsPartOf tag command before bytes.now behind → Awaits tag before (run_of (course_of self.old)).clock.now.outside
-            → Sent tag command before bytes.now behind (run_of (course_of self.old)).clock (run_of (course_of self.new)).clock result }
-        ensures short { (loss : Loss) → loss_in (planned_of self.new).plan.link_fails (planned_of self.new).link ≡ Some loss
-            → IsShort loss (length bytes.now) → (tag : Tag) (command : Command) (before behind : List (List ℕ))
-            → IsPartOf tag command before bytes.now behind → Awaits tag before (run_of (course_of self.old)).clock.now.outside
-            → OthersChange (run_of (course_of self.old)) (run_of (course_of self.new)) }
-        ensures whole { (IsStopped (planned_of self.new) → ⊥) → (connection_of (course_of self.old) ≡ None → ⊥)
-            → (loss : Loss) → loss_in (planned_of self.new).plan.link_fails (planned_of self.new).link ≡ Some loss
-            → (IsShort loss (length bytes.now) → ⊥) → (tag : Tag) (command : Command) (before behind : List (List ℕ))
-            → IsPartOf tag command before bytes.now behind → Awaits tag before (run_of (course_of self.old)).clock.now.outside
-            → Arrives tag command before bytes.now behind (run_of (course_of self.old)).clock (run_of (course_of self.new)).clock
-            ⊎ (refused_of self.new ≡ counted (refused_of self.old)) }
-        ensures sent { OnOk result (sent_of (course_of self.new) ≡ sent_of (course_of self.old) ++ bytes.now) }
-        ensures arrived { (IsStopped (planned_of self.new) → ⊥) → (connection_of (course_of self.old) ≡ None → ⊥)
-            → (loss : Loss) → loss_in (planned_of self.new).plan.link_fails (planned_of self.new).link ≡ Some loss
-            → (sent_of (course_of self.new) ≡ sent_of (course_of self.old) ++ arriving loss bytes.now)
-            ⊎ (refused_of self.new ≡ counted (refused_of self.old)) }
-        ensures front { OnErr result (SentSome bytes.now (sent_of (course_of self.old)) (sent_of (course_of self.new))) }
+            → IsPartOf tag command before bytes.now behind
+            → Awaits tag before (run_in self.old).clock.now.outside
+            → Sent tag command before bytes.now behind (run_in self.old).clock (run_in self.new).clock
+            result }
+        ensures short { (loss : Loss) → loss_by self.new ≡ Some loss
+            → IsShort loss (length bytes.now)
+            → (tag : Tag) (command : Command) (before behind : List (List ℕ))
+            → IsPartOf tag command before bytes.now behind
+            → Awaits tag before (run_in self.old).clock.now.outside
+            → OthersChange (run_in self.old) (run_in self.new) }
+        ensures whole { (IsStopped (planned_of self.new) → ⊥) → (connection_at self.old ≡ None → ⊥)
+            → (loss : Loss) → loss_by self.new ≡ Some loss
+            → (IsShort loss (length bytes.now) → ⊥)
+            → (tag : Tag) (command : Command) (before behind : List (List ℕ))
+            → IsPartOf tag command before bytes.now behind
+            → Awaits tag before (run_in self.old).clock.now.outside
+            → Arrives tag command before bytes.now behind (run_in self.old).clock (run_in self.new).clock
+            ⊎ Refuses self.old self.new }
+        ensures sent { OnOk result (sent_in self.new ≡ sent_in self.old ++ bytes.now) }
+        ensures arrived { (IsStopped (planned_of self.new) → ⊥) → (connection_at self.old ≡ None → ⊥)
+            → (loss : Loss) → loss_by self.new ≡ Some loss
+            → (sent_in self.new ≡ sent_in self.old ++ arriving loss bytes.now)
+            ⊎ Refuses self.old self.new }
+        ensures front { OnErr result (SentSome bytes.now (sent_in self.old) (sent_in self.new)) }
         ensures hears { OnOk result (HearsBytes bytes.now
-            (served_by self.old (others_in (planned_of self.new) (run_of (course_of self.old))))
-            (others_in (planned_of self.new) (run_of (course_of self.old)))
-            (server_of self.new) (run_of (course_of self.new))) }
-        ensures loses { (IsStopped (planned_of self.new) → ⊥) → (connection_of (course_of self.old) ≡ None → ⊥)
-            → (loss : Loss) → loss_in (planned_of self.new).plan.link_fails (planned_of self.new).link ≡ Some loss
-            → Loses loss bytes.now
-            (served_by self.old (others_in (planned_of self.new) (run_of (course_of self.old))))
-            (others_in (planned_of self.new) (run_of (course_of self.old))) (run_of (course_of self.new))
-            ⊎ (refused_of self.new ≡ counted (refused_of self.old)) }
-        ensures received { OnOk result (connection_of (course_of self.new) ≡ connection_of (course_of self.old)) }
+            (served_by self.old (entered self.old self.new)) (entered self.old self.new)
+            (server_of self.new) (run_in self.new)) }
+        ensures loses { (IsStopped (planned_of self.new) → ⊥) → (connection_at self.old ≡ None → ⊥)
+            → (loss : Loss) → loss_by self.new ≡ Some loss
+            → Loses loss bytes.now (served_by self.old (entered self.old self.new))
+            (entered self.old self.new) (run_in self.new)
+            ⊎ Refuses self.old self.new }
+        ensures unsent { IsStopped (planned_of self.new) ⊎ (connection_at self.old ≡ None)
+            → sent_in self.new ≡ sent_in self.old }
+        ensures unheard { (IsStopped (planned_of self.new) → ⊥) → connection_at self.old ≡ None
+            → ((run_in self.new ≡ entered self.old self.new)
+            × (refused_of self.new ≡ refused_of self.old))
+            ⊎ (EntersSome self.old self.new × Refuses self.old self.new) }
+        ensures received { OnOk result (connection_at self.new ≡ connection_at self.old) }
         ensures next { planned_of self.new ≡ next_link (planned_of self.old) }
-        ensures exact { FailsExactly (LinkIsToFail (planned_of self.new) ⊎ (connection_of (course_of self.old) ≡ None)) result
-            (refused_of self.old) (refused_of self.new) }
-        ensures lost { OnErr result (connection_of (course_of self.new) ≡ None) }
+        ensures exact { FailsExactly (LinkIsToFail (planned_of self.new) ⊎ (connection_at self.old ≡ None))
+            result (refused_of self.old) (refused_of self.new) }
+        ensures lost { OnErr result (connection_at self.new ≡ None) }
         ensures disk { disk_faults_of self.new ≡ disk_faults_of self.old }
         ensures count { link_faults_of self.old ≤ link_faults_of self.new }
         ensures cause { OnErr result (Rose (link_faults_of self.old) (link_faults_of self.new)) }
-        ensures stopped { IsStopped (planned_of self.new) → run_of (course_of self.new) ≡ run_of (course_of self.old) }
+        ensures stopped { IsStopped (planned_of self.new) → run_in self.new ≡ run_in self.old }
     {
         self.enter()?;
         if !self.course.is_connected() {
@@ -552,32 +577,32 @@ impl Link for MemWorld {
         Err(self.fail_link())
     }
 
-    /// Gives from the front of what waits. It fails exactly where it is planned to, the world has stopped, nothing waits, or it is
-    /// refused room.
+    /// Gives from the front of what waits. It fails exactly where it is planned to, the world has
+    /// stopped, nothing waits, or it is refused room.
     fn recv(&mut self, into: &mut [u8]) -> Result<usize, LinkFailed>
         requires { 0 < length into.old }
-        ensures count_is { IfOk result (λ n. n ≡ min (length (waits_in (line_of (course_of self.old)))) (length into.old)) }
+        ensures count_is { IfOk result (λ n.
+            n ≡ min (length (waits_in (line_in self.old))) (length into.old)) }
         ensures some { IfOk result (λ n. 0 < n) }
         ensures fits { IfOk result (λ n. n ≤ length into.old) }
-        ensures bytes { IfOk result (λ n. take n into.new ≡ take n (waits_in (line_of (course_of self.old)))) }
-        ensures files { Linked AnyStep (run_of (course_of self.old)).clock (run_of (course_of self.new)).clock }
-        ensures told { Linked Answering (run_of (course_of self.old)).clock (run_of (course_of self.new)).clock }
-        ensures sent { sent_of (course_of self.new) ≡ sent_of (course_of self.old) }
-        ensures run { OnOk result (run_of (course_of self.new)
-            ≡ others_in (planned_of self.new) (run_of (course_of self.old))) }
+        ensures bytes { IfOk result (λ n. take n into.new ≡ take n (waits_in (line_in self.old))) }
+        ensures files { Linked AnyStep (run_in self.old).clock (run_in self.new).clock }
+        ensures told { Linked Answering (run_in self.old).clock (run_in self.new).clock }
+        ensures sent { sent_in self.new ≡ sent_in self.old }
+        ensures run { OnOk result (run_in self.new ≡ entered self.old self.new) }
         ensures loses { (IsStopped (planned_of self.new) → ⊥) → OnErr result
-            ((run_of (course_of self.new) ≡ others_in (planned_of self.new) (run_of (course_of self.old)))
-            ⊎ (OthersSome (planned_of self.new) (run_of (course_of self.old)) (run_of (course_of self.new))
-            × (refused_of self.new ≡ counted (refused_of self.old)))) }
-        ensures received { IfOk result (λ n. IfSome (connection_of (course_of self.old)) (λ c.
-            connection_of (course_of self.new) ≡ Some (record c { received = c.received ++ take n into.new }))) }
+            ((run_in self.new ≡ entered self.old self.new)
+            ⊎ (EntersSome self.old self.new × Refuses self.old self.new)) }
+        ensures received { IfOk result (λ n. IfSome (connection_at self.old) (λ c.
+            connection_at self.new ≡ Some (record c { received = c.received ++ take n into.new }))) }
         ensures next { planned_of self.new ≡ next_link (planned_of self.old) }
-        ensures exact { FailsExactly (LinkIsToFail (planned_of self.new) ⊎ (waits_in (line_of (course_of self.old)) ≡ [])) result (refused_of self.old) (refused_of self.new) }
-        ensures lost { OnErr result (connection_of (course_of self.new) ≡ None) }
+        ensures exact { FailsExactly (LinkIsToFail (planned_of self.new) ⊎ (waits_in (line_in self.old) ≡ []))
+            result (refused_of self.old) (refused_of self.new) }
+        ensures lost { OnErr result (connection_at self.new ≡ None) }
         ensures disk { disk_faults_of self.new ≡ disk_faults_of self.old }
         ensures count { link_faults_of self.old ≤ link_faults_of self.new }
         ensures cause { OnErr result (Rose (link_faults_of self.old) (link_faults_of self.new)) }
-        ensures stopped { IsStopped (planned_of self.new) → run_of (course_of self.new) ≡ run_of (course_of self.old) }
+        ensures stopped { IsStopped (planned_of self.new) → run_in self.new ≡ run_in self.old }
     {
         self.enter()?;
         if self.schedule.loss().is_some() {
@@ -589,20 +614,20 @@ impl Link for MemWorld {
         Ok(self.course.give(into))
     }
 
-    /// Ends the connection. It counts as a call of the link, as which begins others may change the server.
+    /// Ends the connection. It counts as a call of the link, as which begins others may change the
+    /// server.
     fn close(&mut self)
-        ensures files { Linked AnyStep (run_of (course_of self.old)).clock (run_of (course_of self.new)).clock }
-        ensures told { Linked Answering (run_of (course_of self.old)).clock (run_of (course_of self.new)).clock }
-        ensures ended { connection_of (course_of self.new) ≡ None }
-        ensures sent { sent_of (course_of self.new) ≡ sent_of (course_of self.old) }
+        ensures files { Linked AnyStep (run_in self.old).clock (run_in self.new).clock }
+        ensures told { Linked Answering (run_in self.old).clock (run_in self.new).clock }
+        ensures ended { connection_at self.new ≡ None }
+        ensures sent { sent_in self.new ≡ sent_in self.old }
         ensures run { (IsStopped (planned_of self.new) → ⊥)
-            → ((run_of (course_of self.new) ≡ others_in (planned_of self.new) (run_of (course_of self.old)))
+            → ((run_in self.new ≡ entered self.old self.new)
             × (refused_of self.new ≡ refused_of self.old))
-            ⊎ (OthersSome (planned_of self.new) (run_of (course_of self.old)) (run_of (course_of self.new))
-            × (refused_of self.new ≡ counted (refused_of self.old))) }
+            ⊎ (EntersSome self.old self.new × Refuses self.old self.new) }
         ensures refused { IsStopped (planned_of self.new) → refused_of self.new ≡ refused_of self.old }
         ensures next { planned_of self.new ≡ next_link (planned_of self.old) }
-        ensures stopped { IsStopped (planned_of self.new) → run_of (course_of self.new) ≡ run_of (course_of self.old) }
+        ensures stopped { IsStopped (planned_of self.new) → run_in self.new ≡ run_in self.old }
         ensures disk { disk_faults_of self.new ≡ disk_faults_of self.old }
         ensures count { link_faults_of self.new ≡ link_faults_of self.old }
     {

@@ -13,10 +13,10 @@ use Rattle.world_mem.specs.Others.{OthersChange, others_in}
 use Rattle.world_mem.specs.Planned.{Planned, IsShort, arriving}
 use Rattle.world_mem.specs.Standing.{is_on}
 use Rattle.world_mem.specs.declared.course.Phase.TheVariants as phases
-use Rattle.world_mem.specs.Worlds.{course_of, server_of, served_by, planned_of}
+use Rattle.world_mem.specs.Worlds.{course_of, server_of, served_by, planned_of, refused_of}
 use Rattle.world_mem.specs.declared.plan.Loss.{Loss}
 use Rattle.world_mem.proofs.Answering.{any_linked, linked_then}
-use Rattle.world_mem.proofs.Lines.{same_loss, no_loss, on_err, on_ok, same_connection, no_connection, runs_on, anyway}
+use Rattle.world_mem.proofs.Lines.{is_there, is_sent, same_loss, no_loss, on_err, on_ok, same_connection, no_connection, runs_on, anyway}
 use Rattle.world_mem.proofs.Parts.{sent_none, sent_same, sent_arriving}
 use Rattle.world_mem.proofs.Sending.{after_others, arrives_then, awaits_still, sent_done, sent_or_linked}
 use Rattle.world_mem.proofs.mem_world.MemWorldLink.send.Goals as goal
@@ -294,3 +294,60 @@ returns-clause-loses c = λ runs there loss is.
     (subst (λ (r : Run). Loses loss bytes (server_of c.enter.new.self) r (run_of (course_of c.fail_link-2.new.self))) c.in_ok-enter.ensures.done
     (subst (λ (r : Run). Loses loss bytes (server_of c.enter.new.self) mid r) (sym c.fail_link-2.ensures.run)
     (subst (λ (l : Loss). Loses l bytes (server_of c.enter.new.self) mid (run_of c.arrive_by.new.self)) same loses)))))
+
+-- nothing is sent behind the stop, or where there is no connection
+pub returns-in_err-enter-clause-unheard : goal.returns-in_err-enter-clause-unheard
+returns-in_err-enter-clause-unheard c = λ runs off. inr (c.in_err-enter.ensures.some, c.in_err-enter.ensures.exact.others runs)
+
+pub returns-then-not-is_connected-clause-unheard : goal.returns-then-not-is_connected-clause-unheard
+returns-then-not-is_connected-clause-unheard c = λ runs off.
+    inl (
+      c.fail_link.ensures.run ∙ c.in_ok-enter.ensures.done
+          ∙ ap (λ (s : Planned). others_in s (run_of (course_of c.args.self.now))) (sym c.fail_link.ensures.planned),
+      c.fail_link.ensures.refused ∙ c.in_ok-enter.ensures.exact.others
+          (runs_on (planned_of c.enter.new.self) (planned_of c.fail_link.new.self) c.fail_link.ensures.planned runs),
+    )
+
+pub returns-then-is_err-clause-unsent : goal.returns-then-is_err-clause-unsent
+returns-then-is_err-clause-unsent c = λ none.
+    let on : is_on (course_of c.enter.new.self).phase ≡ true = search rules in
+    is_sent tt (planned_of c.enter.new.self) (planned_of c.refuse_link.new.self) (refused_of c.args.self.now) (refused_of c.enter.new.self)
+    (line_of (course_of c.args.self.now)) (line_of (course_of c.enter.new.self)) c.refuse_link.ensures.planned c.in_ok-enter.ensures.exact c.in_ok-enter.ensures.line on none
+
+pub returns-then-is_err-clause-unheard : goal.returns-then-is_err-clause-unheard
+returns-then-is_err-clause-unheard c = λ runs off.
+    let on : is_on (course_of c.enter.new.self).phase ≡ true = search rules in
+    absurd (is_there (line_of (course_of c.args.self.now)) (line_of (course_of c.enter.new.self)) c.in_ok-enter.ensures.line on off)
+
+pub returns-in_default-clause-unsent : goal.returns-in_default-clause-unsent
+returns-in_default-clause-unsent c = λ none.
+    let on : is_on (course_of c.enter.new.self).phase ≡ true = search rules in
+    is_sent tt (planned_of c.enter.new.self) (planned_of c.enter.new.self) (refused_of c.args.self.now) (refused_of c.enter.new.self)
+    (line_of (course_of c.args.self.now)) (line_of (course_of c.enter.new.self)) refl c.in_ok-enter.ensures.exact c.in_ok-enter.ensures.line on none
+
+pub returns-in_default-clause-unheard : goal.returns-in_default-clause-unheard
+returns-in_default-clause-unheard c = λ runs off.
+    let on : is_on (course_of c.enter.new.self).phase ≡ true = search rules in
+    absurd (is_there (line_of (course_of c.args.self.now)) (line_of (course_of c.enter.new.self)) c.in_ok-enter.ensures.line on off)
+
+pub returns-then-is_err-2-clause-unsent : goal.returns-then-is_err-2-clause-unsent
+returns-then-is_err-2-clause-unsent c = λ none.
+    let on : is_on (course_of c.enter.new.self).phase ≡ true = search rules in
+    is_sent tt (planned_of c.enter.new.self) (planned_of c.refuse_link-then-is_err-2.new.self) (refused_of c.args.self.now) (refused_of c.enter.new.self)
+    (line_of (course_of c.args.self.now)) (line_of (course_of c.enter.new.self)) c.refuse_link-then-is_err-2.ensures.planned c.in_ok-enter.ensures.exact c.in_ok-enter.ensures.line on none
+
+pub returns-then-is_err-2-clause-unheard : goal.returns-then-is_err-2-clause-unheard
+returns-then-is_err-2-clause-unheard c = λ runs off.
+    let on : is_on (course_of c.enter.new.self).phase ≡ true = search rules in
+    absurd (is_there (line_of (course_of c.args.self.now)) (line_of (course_of c.enter.new.self)) c.in_ok-enter.ensures.line on off)
+
+pub returns-clause-unsent : goal.returns-clause-unsent
+returns-clause-unsent c = λ none.
+    let on : is_on (course_of c.enter.new.self).phase ≡ true = search rules in
+    is_sent tt (planned_of c.enter.new.self) (planned_of c.fail_link-2.new.self) (refused_of c.args.self.now) (refused_of c.enter.new.self)
+    (line_of (course_of c.args.self.now)) (line_of (course_of c.enter.new.self)) c.fail_link-2.ensures.planned c.in_ok-enter.ensures.exact c.in_ok-enter.ensures.line on none
+
+pub returns-clause-unheard : goal.returns-clause-unheard
+returns-clause-unheard c = λ runs off.
+    let on : is_on (course_of c.enter.new.self).phase ≡ true = search rules in
+    absurd (is_there (line_of (course_of c.args.self.now)) (line_of (course_of c.enter.new.self)) c.in_ok-enter.ensures.line on off)
