@@ -2,28 +2,27 @@
 //! its status to the caller.
 #![tactic(auto)]
 
-mod mail_folder;
 mod notices;
-mod open_files;
 mod settings;
-mod standard_numbers;
 mod streams;
+#[cfg(test)]
+mod tests;
 mod top_calls;
 
 use mail_base::{Line, Status};
-use mail_folder::MailFolder;
 use mail_top::run;
 use notices::{IN_USE, NO_NULL, notice_for};
 use settings::WordsFault;
-use standard_numbers::StandardNumbers;
 use std::alloc::AllocError;
 use std::fs::{File, Files};
 use std::io;
 use std::io::Eprint;
+use std::net::{Net, TcpStream};
 use std::process::ExitCode;
 use std::rt::Env;
 use streams::{InputSource, OutputSink};
 use top_calls::{TopCall, top_call};
+use world_real::{RealWorld, StandardNumbers};
 use world_traits::Sink;
 
 fn main(rt: HostRuntime) -> ExitCode {
@@ -36,7 +35,10 @@ fn main(rt: HostRuntime) -> ExitCode {
 }
 
 // The status of what the arguments ask for.
-fn answer<R: Files<File = File> + Env + Input + Print + Eprint + AllocGlobal>(rt: &R) -> Status {
+fn answer<R>(rt: &R) -> Status
+where
+    R: Files<File = File> + Net<Stream = TcpStream> + Env + Input + Print + Eprint + AllocGlobal,
+{
     let words = match settings::words(rt) {
         Ok(words) => words,
         Err(WordsFault::NotText) => return refused(rt, Status::Words, &Line::error_words()),
@@ -55,20 +57,16 @@ fn answer<R: Files<File = File> + Env + Input + Print + Eprint + AllocGlobal>(rt
 }
 
 // Hands the words to a top call, with the user's settings.
-fn carried_out<R: Files<File = File> + Env + Input + Print + Eprint + AllocGlobal>(
-    rt: &R,
-    call: TopCall,
-    words: &[String],
-) -> Result<Status, AllocError> {
+fn carried_out<R>(rt: &R, call: TopCall, words: &[String]) -> Result<Status, AllocError>
+where
+    R: Files<File = File> + Net<Stream = TcpStream> + Env + Input + Print + Eprint + AllocGlobal,
+{
     let account = settings::account(rt)?;
     let folder = settings::folder(rt)?;
-    let path = match &folder {
-        Some(path) => Some(path.as_str()),
-        None => None,
-    };
+    let server = settings::server(rt)?;
     let alloc = rt.alloc();
     let mut input = InputSource::new(rt.reader());
-    let mut world = MailFolder::new(rt, path);
+    let mut world = RealWorld::new(rt, as_text(&folder), as_text(&server));
     let mut out = OutputSink::new(io::writer(rt));
     let status = match call {
         TopCall::Run => run(alloc, words, &account, &mut input, &mut world, &mut out),
@@ -77,6 +75,14 @@ fn carried_out<R: Files<File = File> + Env + Input + Print + Eprint + AllocGloba
         let _ = rt.eprint(IN_USE);
     }
     Ok(status)
+}
+
+// The text of a setting, where it is one.
+fn as_text(setting: &Option<String>) -> Option<&str> {
+    match setting {
+        Some(text) => Some(text.as_str()),
+        None => None,
+    }
 }
 
 // Prints the line of a refusal that comes before the top call.

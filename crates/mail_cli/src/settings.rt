@@ -63,9 +63,24 @@ fn variable<R: Env + AllocGlobal>(rt: &R, name: &str) -> Result<String, AllocErr
 
 /// The folder of MAIL_DIR, or `.` where there is none. `None` where its path isn't UTF-8, which no file can be opened by.
 pub fn folder<R: Env + AllocGlobal>(rt: &R) -> Result<Option<String>, AllocError> {
-    match env::var(rt, "MAIL_DIR") {
-        Ok(path) => Ok(Some(path)),
-        Err(VarError::NotPresent) => Ok(Some(String::from_str(rt.alloc(), ".")?)),
+    variable_or(rt, "MAIL_DIR", ".")
+}
+
+/// The server of MAIL_SERVER as `HOST:PORT`, or `localhost:143` where there is none. `None` where it isn't UTF-8, which is no
+/// server's name.
+pub fn server<R: Env + AllocGlobal>(rt: &R) -> Result<Option<String>, AllocError> {
+    variable_or(rt, "MAIL_SERVER", "localhost:143")
+}
+
+// The text of a variable, or this text where there is none. `None` where it isn't UTF-8.
+fn variable_or<R: Env + AllocGlobal>(
+    rt: &R,
+    name: &str,
+    default: &str,
+) -> Result<Option<String>, AllocError> {
+    match env::var(rt, name) {
+        Ok(text) => Ok(Some(text)),
+        Err(VarError::NotPresent) => Ok(Some(String::from_str(rt.alloc(), default)?)),
         Err(VarError::NotUnicode) => Ok(None),
         Err(VarError::OutOfMemory) => Err(AllocError),
     }

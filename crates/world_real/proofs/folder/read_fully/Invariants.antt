@@ -1,5 +1,5 @@
 use Rattle.std.proofs.Common.{◌≤◌, length}
-use Rattle.mail_cli.proofs.open_files.read_fully.Given as goal
+use Rattle.world_real.proofs.folder.read_fully.Given as goal
 
 abbrev pub invariant-loop : goal.invariant-loop
 invariant-loop l = l.filled ≤ length l.into

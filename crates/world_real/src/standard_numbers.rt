@@ -2,14 +2,15 @@
 //! that it opens, and what it prints would go into that file.
 
 ghost use Rattle.std.specs.Prelude.{◌↔◌, IsTrue, IfOk, IfSome};
-ghost use Rattle.mail_cli.specs.Numbers.{IsStandard};
+ghost use Rattle.std.specs.Fd.{file_raw_fd};
+ghost use Rattle.world_real.specs.Numbers.{IsStandard};
 
 use std::fs::{File, Files};
 use std::io;
-use std::os::fd::AsRawFd;
+use std::os::fd::{AsRawFd, RawFd};
 
 // The number of standard error, the last of them.
-const LAST_STANDARD: i32 = 2;
+const LAST_STANDARD: RawFd = 2;
 
 /// `/dev/null`, opened for reading under each of the numbers 0 to 2 that was free, as long as this value lives. So each
 /// file that is opened meanwhile gets a later number, a read of a closed input finds its end, and a write to a closed
@@ -24,9 +25,9 @@ pub struct StandardNumbers {
 impl StandardNumbers {
     /// Takes the numbers that are free. The system gives the lowest one, and there are three.
     pub fn take<R: Files<File = File>>(rt: &R) -> io::Result<StandardNumbers>
-        ensures first { IfOk result (λ held. IfSome held.first IsStandard) }
-        ensures second { IfOk result (λ held. IfSome held.second IsStandard) }
-        ensures third { IfOk result (λ held. IfSome held.third IsStandard) }
+        ensures first { IfOk result (λ held. IfSome held.first (λ file. IsStandard (file_raw_fd file))) }
+        ensures second { IfOk result (λ held. IfSome held.second (λ file. IsStandard (file_raw_fd file))) }
+        ensures third { IfOk result (λ held. IfSome held.third (λ file. IsStandard (file_raw_fd file))) }
     {
         Ok(StandardNumbers {
             first: free_number(rt)?,
@@ -38,20 +39,19 @@ impl StandardNumbers {
 
 // Takes the lowest free number if it is a standard stream's. `None` where it is a later one, which is free again.
 fn free_number<R: Files<File = File>>(rt: &R) -> io::Result<Option<File>>
-    ensures { IfOk result (λ held. IfSome held IsStandard) }
+    ensures { IfOk result (λ held. IfSome held (λ file. IsStandard (file_raw_fd file))) }
 {
     let file = File::open(rt, "/dev/null")?;
-    if is_standard(&file) {
+    if is_standard(file.as_raw_fd()) {
         Ok(Some(file))
     } else {
         Ok(None)
     }
 }
 
-/// Whether the file has the number of a standard stream. A file that hasn't has a later one, as open files have no number
-/// below 0.
-pub fn is_standard(file: &File) -> bool
-    ensures { IsTrue result ↔ IsStandard file.now }
+/// Whether this is the number of a standard stream. Another one is later, as open files have no number below 0.
+pub fn is_standard(number: RawFd) -> bool
+    ensures { IsTrue result ↔ IsStandard number }
 {
-    file.as_raw_fd() <= LAST_STANDARD
+    number <= LAST_STANDARD
 }
