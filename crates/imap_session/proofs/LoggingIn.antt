@@ -1,0 +1,63 @@
+-- Which way in there is, and whether a server serves this client.
+use Rattle.std.proofs.Common.{◌≡◌, inl, inr, ap, sym, ◌∙◌, ◌+◌, ℕ, List, length, codes, if◌then◌else◌, Some, Bool, true, false, IsTrue, refl, subst}
+use Rattle.literal_feed.specs.Stream.{Stream}
+use Rattle.mail_base.specs.Account.{Credentials}
+use Rattle.imap_model.specs.declared.item.Item.{Item}
+use Rattle.imap_model.specs.declared.item.Item.TheVariants as items
+use Rattle.imap_model.specs.declared.replies.Replies.{Replies}
+use Rattle.imap_model.specs.declared.response.Response.{Response}
+use Rattle.world_traits.specs.LinkState.{LinkState}
+use Rattle.world_traits.specs.Moments.{Clock}
+use Rattle.imap_session.specs.Dialogue.{Dialogue, BrokeOff, TalkedOut}
+use Rattle.imap_session.specs.Dialogue.Dialogue.{Ends, Lacks, Asks}
+use Rattle.imap_session.specs.Faults.{Reading}
+use Rattle.imap_session.specs.Hearing.{Hears}
+use Rattle.imap_session.specs.Enabled.{is_enabled}
+use Rattle.imap_session.specs.LogIn.{NoWay, behind_offer, logged_in, switched_on, way_in}
+use Rattle.imap_session.specs.declared.fault.SessionFault.{SessionFault}
+use Rattle.imap_session.specs.declared.fault.SessionFault.TheVariants as faults
+use Rattle.imap_session.proofs.Dialogues.{broke_as, broke_first, broke_lack, out_lack}
+use Rattle.imap_session.proofs.Sent.{sent_none}
+
+pub behind_true : (preauth : Bool) (account : Credentials) (r : Replies) → IsTrue preauth → behind_offer preauth account r ≡ logged_in
+behind_true true account r is = refl
+behind_true false account r is = absurd (cc)
+
+pub behind_false : (preauth : Bool) (account : Credentials) (r : Replies) → preauth ≡ false → behind_offer preauth account r ≡ way_in account r
+behind_false true account r is = absurd (cc)
+behind_false false account r is = refl
+
+module _ (account : Credentials) (r : Replies) where
+  pub no_way_lacks : (item : Item) (count : ℕ) (k : Clock) → NoWay account r (faults.Lacking item)
+      → TalkedOut (way_in account r) count (Some item) k k
+  no_way_lacks item count k (inl lack) = let same : items.Login ≡ item = cc lack.0 in out_lack (way_in account r) count item k
+      (lack.1 ∙ ap Lacks same)
+  no_way_lacks item count k (inr want) = let e = want.0 in absurd (cc)
+
+  pub no_way_broke : (fault : SessionFault) (count : ℕ) (heard : List Response) (link : LinkState) (feed : Stream) → Hears heard link.connection feed
+      → NoWay account r fault → BrokeOff (way_in account r) count link.sent heard link fault
+  no_way_broke fault count heard link feed h (inl lack) = broke_lack
+      (way_in account r) count link.sent heard items.Login link feed fault lack.1 lack.0 refl h
+  no_way_broke fault count heard link feed h (inr want) =
+      broke_as (Asks want.1.0 (λ s. logged_in)) (way_in account r) count link.sent heard link fault want.1.1
+      (broke_first want.1.0 (λ s. logged_in) count link.sent heard link.connection feed link fault h (sent_none _ _ _ refl)
+      (inl (subst (Reading (length h.connection.received + 268435456) link.connection) (sym want.0) tt)))
+
+  pub no_way_bad : (at : ℕ) → NoWay account r (faults.BadReply at) → ⊥
+  no_way_bad at (inl lack) = let e = lack.0 in absurd (cc)
+  no_way_bad at (inr want) = let e = want.0 in absurd (cc)
+
+  pub no_way_link : NoWay account r faults.Link → ⊥
+  no_way_link (inl lack) = let e = lack.0 in absurd (cc)
+  no_way_link (inr want) = let e = want.0 in absurd (cc)
+
+-- QRESYNC was enabled, or not
+pub on_ends : (rev2 : Bool) (r : Replies) → IsTrue (is_enabled (codes "QRESYNC") r.untagged) → switched_on rev2 r ≡ Ends rev2
+on_ends rev2 r is = ap (λ (x : Bool). if x then Ends rev2 else Lacks items.Qresync) is
+
+if_off : (b : Bool) (x y : Dialogue) → ¬ (IsTrue b) → (if b then x else y) ≡ y
+if_off true x y off = absurd (off refl)
+if_off false x y off = refl
+
+pub off_lacks : (rev2 : Bool) (r : Replies) → ¬ (IsTrue (is_enabled (codes "QRESYNC") r.untagged)) → switched_on rev2 r ≡ Lacks items.Qresync
+off_lacks rev2 r off = if_off (is_enabled (codes "QRESYNC") r.untagged) (Ends rev2) (Lacks items.Qresync) off

@@ -1,0 +1,248 @@
+-- A reply as it comes, one part of it behind another.
+use Rattle.std.proofs.Common.{arith, ◌≡◌, ℕ, Bool, true, false, List, [], ◌∷◌, ◌++◌, Option, Some, None, MatchOption, Result, Ok, Err}
+use Rattle.std.proofs.Common.{IfOk, refl, sym, ◌∙◌, ap, subst, append_assoc}
+use Rattle.std.proofs.lemmas.List.{append-nil}
+use Rattle.mail_base.specs.declared.frame.Frame.{Frame}
+use Rattle.mail_base.specs.declared.tag.Tag.{Tag}
+use Rattle.literal_feed.specs.Stream.{Stream}
+use Rattle.imap_model.specs.Small.{IsSmall, IsSmallCode}
+use Rattle.imap_model.specs.Untagged.{IsBefore, AreBefore}
+use Rattle.imap_model.proofs.Remarking.{all_append}
+use Rattle.imap_model.specs.declared.code.Code.{Code}
+use Rattle.imap_model.specs.declared.ending.Ending.{Ending}
+use Rattle.imap_model.specs.declared.replies.Replies.{Replies}
+use Rattle.imap_model.specs.declared.response.Response.{Response}
+use Rattle.imap_model.specs.declared.response.Response.TheVariants as responses
+use Rattle.world_traits.specs.LinkState.{Connection}
+use Rattle.imap_session.specs.Hearing.{Reads, told_by, all_told_by}
+use Rattle.imap_session.specs.Knowing.{IsEnd, NoEnd}
+use Rattle.imap_session.specs.Permanent.{behind, behind_all, behind_code, permitted}
+use Rattle.imap_session.specs.Replying.{AllSmall, AreSmall, HeardOn, HeardTo, HeardDone, Came, ReceivedAtMost, read_as}
+use Rattle.imap_session.specs.declared.asking.Completion.{Completion}
+use Rattle.imap_session.specs.declared.permits.Permits.{Permits}
+use Rattle.imap_session.specs.declared.fault.SessionFault.TheVariants as faults
+
+-- what ends a whole reply ends the wait behind a part
+end_weaker : (r : Response) → IsEnd false r → IsEnd true r
+end_weaker (responses.Done tag ending code) e = e
+end_weaker (responses.Untagged ending code) e = e
+end_weaker responses.Bye e = e
+end_weaker (responses.Preauth code) e = e
+end_weaker responses.Go e = absurd e
+end_weaker (responses.Capability words) e = e
+end_weaker (responses.Enabled words) e = e
+end_weaker (responses.Exists count) e = e
+end_weaker (responses.Fetch fetched) e = e
+end_weaker (responses.Vanished earlier uids) e = e
+end_weaker (responses.Found uids) e = e
+end_weaker responses.Other e = e
+
+pub none_weaker : (rs : List Response) → NoEnd true rs → NoEnd false rs
+none_weaker [] none = tt
+none_weaker (r ∷ rs) none = ((λ e. none.0 (end_weaker r e)), none_weaker rs none.1)
+
+pub none_append : (part : Bool) (rs qs : List Response) → NoEnd part rs → NoEnd part qs → NoEnd part (rs ++ qs)
+none_append part [] qs a b = b
+none_append part (r ∷ rs) qs a b = (a.0, none_append part rs qs a.1 b)
+
+pub told_append : (rs qs : List Response) → all_told_by (rs ++ qs) ≡ all_told_by rs ++ all_told_by qs
+told_append [] qs = refl
+told_append (r ∷ rs) qs = ap (λ (t : List Response). told_by r ++ t) (told_append rs qs)
+    ∙ sym (append_assoc (told_by r) (all_told_by rs) (all_told_by qs))
+
+plain_one : (r : Response) → IsBefore r → told_by r ≡ r ∷ []
+plain_one (responses.Done tag ending code) is = refl
+plain_one (responses.Untagged ending code) is = refl
+plain_one responses.Bye is = refl
+plain_one (responses.Preauth code) is = refl
+plain_one responses.Go is = absurd is
+plain_one (responses.Capability words) is = refl
+plain_one (responses.Enabled words) is = refl
+plain_one (responses.Exists count) is = refl
+plain_one (responses.Fetch fetched) is = refl
+plain_one (responses.Vanished earlier uids) is = refl
+plain_one (responses.Found uids) is = refl
+plain_one responses.Other is = refl
+
+-- without a `+`, all that comes is told
+pub plain_told : (rs : List Response) → AreBefore rs → all_told_by rs ≡ rs
+plain_told [] all = refl
+plain_told (r ∷ rs) all = ap (λ (t : List Response). t ++ all_told_by rs) (plain_one r all.0)
+    ∙ ap (λ (t : List Response). r ∷ t) (plain_told rs all.1)
+
+-- one response more
+pub told_more : (before rows more : List Response) (told : List Response) (r : Response) → rows ≡ before ++ all_told_by told
+    → more ≡ rows ++ told_by r
+    → more ≡ before ++ all_told_by (told ++ r ∷ [])
+told_more before rows more told r is next =
+    next ∙ ap (λ (t : List Response). t ++ told_by r) is ∙ append_assoc before (all_told_by told) (told_by r)
+    ∙ ap (λ (t : List Response). before ++ t)
+    (ap (λ (t : List Response). all_told_by told ++ t) (sym (append-nil (told_by r))) ∙ sym (told_append told (r ∷ [])))
+
+behind_append : (p : Option Permits) (rs qs : List Response) → behind_all p (rs ++ qs) ≡ behind_all (behind_all p rs) qs
+behind_append p [] qs = refl
+behind_append p (r ∷ rs) qs = behind_append (behind p r) rs qs
+
+behind_told : (p : Option Permits) (r : Response) → behind_all p (told_by r) ≡ behind p r
+behind_told p (responses.Done tag ending code) = refl
+behind_told p (responses.Untagged ending code) = refl
+behind_told p responses.Bye = refl
+behind_told p (responses.Preauth code) = refl
+behind_told p responses.Go = refl
+behind_told p (responses.Capability words) = refl
+behind_told p (responses.Enabled words) = refl
+behind_told p (responses.Exists count) = refl
+behind_told p (responses.Fetch fetched) = refl
+behind_told p (responses.Vanished earlier uids) = refl
+behind_told p (responses.Found uids) = refl
+behind_told p responses.Other = refl
+
+-- what counts behind the rows counts behind one more
+pub permits_on : (start p q : Option Permits) (rows more : List Response) (r : Response) → p ≡ behind_all start rows → q ≡ behind p r
+    → more ≡ rows ++ told_by r
+    → q ≡ behind_all start more
+permits_on start p q rows more r is next grown =
+    next ∙ ap (λ (x : Option Permits). behind x r) is ∙ sym (behind_told (behind_all start rows) r) ∙ sym (behind_append start rows (told_by r))
+    ∙ ap (λ (t : List Response). behind_all start t) (sym grown)
+
+module _ (heard before rows : List Response) (most left : ℕ) (c : Option Connection) (feed : Stream) where
+  -- nothing was heard yet
+  pub heard_nothing : rows ≡ before → Reads heard most left c feed → HeardOn false heard before rows most left c feed
+  heard_nothing same r = record {
+    told = [];
+    none = tt;
+    grown = same ∙ sym (append-nil before);
+    reads = subst (λ (h : List Response). Reads h most left c feed) (sym (append-nil heard)) r;
+  }
+
+  pub heard_at : (d : Option Connection) → d ≡ c → HeardOn false heard before rows most left c feed → HeardOn false heard before rows most left d feed
+  heard_at d same h = subst (λ (x : Option Connection). HeardOn false heard before rows most left x feed) (sym same) h
+
+grown_on : (before mid after a b : List Response) → mid ≡ before ++ all_told_by a → after ≡ mid ++ all_told_by b
+    → after ≡ before ++ all_told_by (a ++ b)
+grown_on before mid after a b is next =
+    next ∙ ap (λ (t : List Response). t ++ all_told_by b) is ∙ append_assoc before (all_told_by a) (all_told_by b)
+    ∙ ap (λ (t : List Response). before ++ t) (sym (told_append a b))
+
+module _ (heard before mid after : List Response) (most left l : ℕ) (c d : Option Connection) (feed f : Stream)
+    (h : HeardOn false heard before mid most left c feed) where
+  -- more was heard behind it
+  pub on_on : HeardOn false (heard ++ h.told) mid after most l d f → HeardOn false heard before after most l d f
+  on_on n = record {
+    told = h.told ++ n.told;
+    none = none_append false h.told n.told h.none n.none;
+    grown = grown_on before mid after h.told n.told h.grown n.grown;
+    reads = subst (λ (t : List Response). Reads t most l d f) (append_assoc heard h.told n.told) n.reads;
+  }
+
+  -- and the completion
+  pub on_done : (tag : Tag) (e : Ending) (k : Code) → HeardDone (heard ++ h.told) mid after tag e k most l d f
+      → HeardDone heard before after tag e k most l d f
+  on_done tag e k n = record {
+    told = h.told ++ n.told;
+    none = none_append false h.told n.told h.none n.none;
+    grown = grown_on before mid after h.told n.told h.grown n.grown;
+    reads = subst (λ (t : List Response). Reads t most l d f)
+        (append_assoc heard h.told (n.told ++ responses.Done tag e k ∷ [])
+        ∙ ap (λ (t : List Response). heard ++ t) (sym (append_assoc h.told n.told (responses.Done tag e k ∷ []))))
+        n.reads;
+  }
+
+-- what a line behind a part leads to
+abbrev pub TurnedTo : Response → Tag → Option Completion → Type 0
+TurnedTo last tag o = MatchOption o (last ≡ responses.Go) (λ d. last ≡ responses.Done tag d.ending d.code)
+
+module _ (heard before rows : List Response) (frame : Frame) (last : Response) (most left : ℕ) (c : Option Connection) (feed : Stream) where
+  -- a `+` goes on
+  to_on : HeardTo true heard before rows frame last most left c feed → last ≡ responses.Go → HeardOn false heard before rows most left c feed
+  to_on h go = record {
+    told = h.told ++ last ∷ [];
+    none = none_append false h.told (last ∷ []) (none_weaker h.told h.none) (subst (λ (r : Response). NoEnd false (r ∷ [])) (sym go) ((λ e. e), tt));
+    grown = h.grown ∙ ap (λ (t : List Response). before ++ t)
+        (sym (append-nil (all_told_by h.told)) ∙ ap (λ (r : Response). all_told_by h.told ++ all_told_by (r ∷ [])) (sym go)
+        ∙ sym (told_append h.told (last ∷ [])));
+    reads = h.reads.reads;
+  }
+
+  to_done : (part : Bool) → HeardTo part heard before rows frame last most left c feed → ((rs : List Response) → NoEnd part rs → NoEnd false rs)
+      → (tag : Tag) (e : Ending) (k : Code)
+      → last ≡ responses.Done tag e k → HeardDone heard before rows tag e k most left c feed
+  to_done part h weaker tag e k is = record {
+    told = h.told;
+    none = weaker h.told h.none;
+    grown = h.grown;
+    reads = subst (λ (r : Response). Reads (heard ++ (h.told ++ r ∷ [])) most left c feed) is h.reads.reads;
+  }
+
+  pub whole_done : HeardTo false heard before rows frame last most left c feed → (tag : Tag) (e : Ending) (k : Code) → last ≡ responses.Done tag e k
+      → HeardDone heard before rows tag e k most left c feed
+  whole_done h tag e k is = to_done false h (λ rs none. none) tag e k is
+
+  turned_one : (o : Option Completion) (tag : Tag) → TurnedTo last tag o → HeardTo true heard before rows frame last most left c feed
+      → MatchOption o (HeardOn false heard before rows most left c feed) (λ d. HeardDone heard before rows tag d.ending d.code most left c feed)
+  turned_one None tag go h = to_on h go
+  turned_one (Some d) tag is h = to_done true h none_weaker tag d.ending d.code is
+
+  pub turned_reads : {E : Type 0} (res : Result (Option Completion) E) (tag : Tag) → IfOk res (TurnedTo last tag)
+      → HeardTo true heard before rows frame last most left c feed
+      → IfOk res
+      (λ o. MatchOption o (HeardOn false heard before rows most left c feed)
+      (λ d. HeardDone heard before rows tag d.ending d.code most left c feed))
+  turned_reads (Ok o) tag is h = turned_one o tag is h
+  turned_reads (Err e) tag is h = tt
+
+-- the whole reply came
+pub done_came : (heard before rows : List Response) (tag : Tag) (r : Replies) (e : Ending) (k : Code) (most left : ℕ) (c : Option Connection)
+    (feed : Stream)
+    → before ≡ [] → r ≡ read_as rows e k → HeardDone heard before rows tag e k most left c feed → Came heard tag r c feed
+done_came heard before rows tag r e k most left c feed none is h =
+    subst (λ (x : Replies). Came heard tag x c feed) (sym is)
+    (record { told = h.told; none = h.none; untagged = h.grown ∙ ap (λ (t : List Response). t ++ all_told_by h.told) none; hears = h.reads.hears })
+
+-- the permits that count behind the whole reply
+pub permitted_as : (start p q : Option Permits) (rows : List Response) (e : Ending) (k : Code) (r : Replies) → p ≡ behind_all start rows
+    → r ≡ read_as rows e k → q ≡ behind_code p k → q ≡ permitted start r
+permitted_as start p q rows e k r counts is last =
+    last ∙ ap (λ (x : Option Permits). behind_code x k) counts ∙ ap (λ (x : Replies). behind_code (behind_all start x.untagged) x.code) (sym is)
+
+-- a fault for want of memory alone is no other
+pub bad_memory : (at : ℕ) → faults.BadReply at ≡ faults.Memory → ⊥
+bad_memory at e = cc
+
+pub link_memory : faults.Link ≡ faults.Memory → ⊥
+link_memory e = cc
+
+-- one response more keeps all small
+pub small_on : (rows more : List Response) (r : Response) → AllSmall rows → IsSmall r → more ≡ rows ++ told_by r → AllSmall more
+small_on rows more r all small grown = subst AllSmall (sym grown) (all_append IsSmall rows (told_by r) all (small_told r small))
+  where
+    small_told : (r : Response) → IsSmall r → AllSmall (told_by r)
+    small_told (responses.Done tag ending code) small = (small, tt)
+    small_told (responses.Untagged ending code) small = (small, tt)
+    small_told responses.Bye small = (small, tt)
+    small_told (responses.Preauth code) small = (small, tt)
+    small_told responses.Go small = tt
+    small_told (responses.Capability words) small = (small, tt)
+    small_told (responses.Enabled words) small = (small, tt)
+    small_told (responses.Exists count) small = (small, tt)
+    small_told (responses.Fetch fetched) small = (small, tt)
+    small_told (responses.Vanished earlier uids) small = (small, tt)
+    small_told (responses.Found uids) small = (small, tt)
+    small_told responses.Other small = (small, tt)
+
+-- the completion's code is small
+pub small_code : (r : Response) (tag : Tag) (e : Ending) (k : Code) → r ≡ responses.Done tag e k → IsSmall r → IsSmallCode k
+small_code r tag e k is small = subst IsSmall is small
+
+-- the replies that were read are small
+pub small_replies : (r : Replies) (rows : List Response) (e : Ending) (k : Code) → r ≡ read_as rows e k → AllSmall rows → IsSmallCode k → AreSmall r
+small_replies r rows e k is all small = subst AreSmall (sym is) (record { untagged = all; code = small })
+
+-- no more was received than may come
+pub done_within : (heard before rows : List Response) (tag : Tag) (e : Ending) (k : Code) (most left : ℕ) (c : Option Connection) (feed : Stream)
+    → HeardDone heard before rows tag e k most left c feed → ReceivedAtMost most c
+done_within heard before rows tag e k most left c feed h = record {
+  connection = h.reads.hears.connection;
+  there = h.reads.hears.there;
+  few = omega (arith, h.reads.room);
+}

@@ -1,0 +1,71 @@
+use Rattle.std.proofs.Common.{ap, length, ◌≡◌, ◌∙◌, arith, rules, subst, sym}
+use Rattle.std.proofs.lemmas.Option.{MatchOption-at_some, MatchOption-at_none}
+use Rattle.literal_feed.specs.Stream.{Stream}
+use Rattle.mail_base.specs.declared.frame.Frame.{Frame}
+use Rattle.mail_base.proofs.Frames.{next_size}
+use Rattle.imap_model.specs.Talking.{Answering}
+use Rattle.imap_model.specs.Responses.{Spells}
+use Rattle.world_traits.specs.Links.{AnyStep}
+use Rattle.imap_session.specs.declared.fault.SessionFault.TheVariants as faults
+use Rattle.imap_session.proofs.Hearing.{reads_line, line_why, as_reads, reads_same}
+use Rattle.imap_session.proofs.Outcomes.{if_ok_both, if_ok_more}
+use Rattle.imap_session.proofs.Reading.{listens_on, listens_same}
+use Rattle.imap_session.proofs.Talking.{linked_then}
+use Rattle.imap_session.proofs.listening.next.Goals as goal
+
+pub returns-in-Some-clause-reads : goal.returns-in-Some-clause-reads
+returns-in-Some-clause-reads g c = λ tells heard most r.
+    let took = MatchOption-at_some _ _ c.in-Some.frame c.in-Some.is c.in_ok-frame.ensures.frame in
+    if_ok_both c.line_of.result (λ line. line.frame ≡ c.in-Some.frame) (λ line. Spells c.in-Some.frame line.response) _
+    (λ line same spells. reads_line _ _ c.in-Some.frame took.0 took.1 heard most _ _ line.response line.frame same
+    (c.loop-frame.invariant.reads tells heard most r) spells)
+    c.line_of.ensures.frame c.line_of.ensures.spells
+
+pub returns-in-Some-clause-spells : goal.returns-in-Some-clause-spells
+returns-in-Some-clause-spells g c =
+    if_ok_both c.line_of.result (λ line. line.frame ≡ c.in-Some.frame) (λ line. Spells c.in-Some.frame line.response) _
+    (λ line same spells. subst (λ (f : Frame). Spells f line.response) (sym same) spells)
+    c.line_of.ensures.frame c.line_of.ensures.spells
+
+pub returns-in-Some-clause-why : goal.returns-in-Some-clause-why
+returns-in-Some-clause-why g c = λ tells heard most r fault is.
+    let took = MatchOption-at_some _ _ c.in-Some.frame c.in-Some.is c.in_ok-frame.ensures.frame in
+    line_why _ _ c.in-Some.frame took.0 took.1 heard most _ _ fault (c.loop-frame.invariant.reads tells heard most r) (c.line_of.ensures.why fault is)
+
+pub loop-frame-preserved : goal.loop-frame-preserved
+loop-frame-preserved g c =
+    let none = MatchOption-at_none _ _ c.in_default.is c.in_ok-frame.ensures.none in
+    record {
+      files = λ t. linked_then AnyStep _ _ _ (c.loop-frame.invariant.files t) (c.receive.ensures.files t);
+      told = λ t. linked_then Answering _ _ _ (c.loop-frame.invariant.told t) (c.receive.ensures.told t);
+      owed = λ t. listens_on _ _ _ _ _ _ (listens_same _ _ _ _ (c.loop-frame.invariant.owed t) none.1) (c.receive.ensures.told t)
+          (λ heard h. (c.in_ok-receive.ensures.reads (g.L.Clocked.server_with_files t) heard _ (as_reads heard c.loop-frame.left _ _ h)).hears);
+      reads = λ t heard most r. c.in_ok-receive.ensures.reads t heard most
+          (reads_same heard most _ _ _ _ (c.loop-frame.invariant.reads t heard most r) none.1);
+      sent = λ t. c.receive.ensures.sent t ∙ c.loop-frame.invariant.sent t;
+      sum = omega (arith, c.in_ok-receive.ensures.sum, ap (λ (s : Stream). length s.bytes) none.1, c.loop-frame.invariant.sum);
+      disk = c.receive.ensures.disk ∙ c.loop-frame.invariant.disk;
+      count = omega (arith, c.receive.ensures.count, c.loop-frame.invariant.count);
+    }
+
+pub returns-in_err-receive-clause-files : goal.returns-in_err-receive-clause-files
+returns-in_err-receive-clause-files g c = λ t. linked_then AnyStep _ _ _ (c.loop-frame.invariant.files t) (c.receive.ensures.files t)
+
+pub returns-in_err-receive-clause-told : goal.returns-in_err-receive-clause-told
+returns-in_err-receive-clause-told g c = λ t. linked_then Answering _ _ _ (c.loop-frame.invariant.told t) (c.receive.ensures.told t)
+
+pub returns-in_err-receive-clause-why : goal.returns-in_err-receive-clause-why
+returns-in_err-receive-clause-why g c = λ tells heard most r fault is.
+    let none = MatchOption-at_none _ _ c.in_default.is c.in_ok-frame.ensures.none in
+    c.receive.ensures.why tells heard most (reads_same heard most _ _ _ _ (c.loop-frame.invariant.reads tells heard most r) none.1) fault
+    (search rules)
+
+pub returns-in-Some-clause-cause : goal.returns-in-Some-clause-cause
+returns-in-Some-clause-cause g c = λ is. absurd (c.line_of.ensures.why faults.Link is)
+
+pub returns-in-Some-clause-less : goal.returns-in-Some-clause-less
+returns-in-Some-clause-less g c =
+    let took = MatchOption-at_some _ _ c.in-Some.frame c.in-Some.is c.in_ok-frame.ensures.frame in
+    if_ok_more c.line_of.result (λ line. line.frame ≡ c.in-Some.frame) _
+    (λ line same. omega (arith, next_size _ _ c.in-Some.frame _ took.0, c.loop-frame.invariant.sum))
+    c.line_of.ensures.frame

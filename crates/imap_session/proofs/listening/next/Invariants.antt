@@ -1,0 +1,26 @@
+use Rattle.std.proofs.Common.{◌≡◌, ◌≤◌, ◌+◌, ℕ, List, length}
+use Rattle.imap_model.specs.Talking.{Answering}
+use Rattle.imap_model.specs.declared.response.Response.{Response}
+use Rattle.world_traits.specs.Links.{Linked, AnyStep}
+use Rattle.imap_session.specs.Hearing.{Reads}
+use Rattle.imap_session.specs.Session.{Listening}
+use Rattle.imap_session.proofs.listening.next.Given as goal
+
+abbrev pub invariant-loop-frame : goal.invariant-loop-frame
+invariant-loop-frame g l =
+    let clock = g.L.Clocked.clock in
+    let link = g.L.Clocked.link in
+    record {
+      files : g.L.Clocked.tells_files → Linked AnyStep (clock l.fn.link) (clock l.link);
+      told : g.L.Clocked.tells_server → Linked Answering (clock l.fn.link) (clock l.link);
+      owed : g.L.Clocked.tells_server → Listening (clock l.link).now.outside (link l.link).connection l.feed;
+      reads : g.L.Clocked.tells_files → (heard : List Response) (most : ℕ) → Reads heard most l.fn.left (link l.fn.link).connection l.fn.feed
+          → Reads heard most l.left (link l.link).connection l.feed;
+      sent : g.L.Clocked.tells_files → (link l.link).sent ≡ (link l.fn.link).sent;
+      sum : length l.feed.bytes + l.left ≡ length l.fn.feed.bytes + l.fn.left;
+      disk : g.L.Clocked.disk_faults l.link ≡ g.L.Clocked.disk_faults l.fn.link;
+      count : (link l.fn.link).faults ≤ (link l.link).faults;
+    }
+
+abbrev pub decreases-loop-frame : goal.decreases-loop-frame
+decreases-loop-frame g l = l.left

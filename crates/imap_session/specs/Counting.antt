@@ -1,0 +1,14 @@
+-- The tags of a connection (RFC 9051, section 2.2.1): those of the user's actions are theirs, and the others count from 1, so that none comes twice.
+use Rattle.std.specs.Prelude.{◌≡◌, ℕ, ◌+◌, ◌<◌, Bool, true, false}
+use Rattle.mail_base.specs.declared.tag.Tag.{Tag}
+use Rattle.mail_base.specs.declared.tag.Tag.TheVariants as tags
+
+-- the tag of the next command: an action's own tag where the command carries one out, else that of the next count
+abbrev pub HasTag : Bool → ℕ → Tag → Type 0
+HasTag true count tag = (n : ℕ) × (tag ≡ tags.Play n) × (0 < n)
+HasTag false count tag = tag ≡ tags.Count (count + 1)
+
+-- how many commands have such a count behind it
+abbrev pub count_after : Bool → ℕ → ℕ
+count_after true count = count
+count_after false count = count + 1

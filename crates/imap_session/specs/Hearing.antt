@@ -1,0 +1,107 @@
+-- What was read from a connection, and why nothing more is.
+use Rattle.std.specs.Prelude.{◌≡◌, ◌⊎◌, ℕ, ◌+◌, ◌<◌, List, [], ◌∷◌, ◌++◌, length, Option, Some, Err}
+use Rattle.mail_base.specs.Frames.{FirstFault, IsNext}
+use Rattle.mail_base.specs.declared.frame.Frame.{Frame}
+use Rattle.mail_base.specs.declared.frame.FeedFault.TheVariants as feeds
+use Rattle.literal_feed.specs.Stream.{Stream, NoFault, StandsFor}
+use Rattle.imap_model.specs.Responses.{Spells}
+use Rattle.imap_model.specs.declared.limit.Limit.{Limit}
+use Rattle.imap_model.specs.declared.limit.Limit.TheVariants as limits
+use Rattle.imap_model.specs.declared.response.Response.{Response}
+use Rattle.imap_model.specs.declared.response.Response.TheVariants as responses
+use Rattle.imap_response.specs.Flags.{kept}
+use Rattle.imap_response.specs.Reading.{answer_to, reading}
+use Rattle.imap_response.specs.Within.{SpellsWithin}
+use Rattle.imap_response.specs.declared.fault.ResponseFault.TheVariants as readings
+use Rattle.imap_response.specs.Heard.{Spell}
+use Rattle.world_traits.specs.LinkState.{Connection}
+
+-- Of all that was received in the connection these frames were taken, which spell these responses, and the rest stands in the
+-- feed.
+pub record Hears (heard : List Response) (c : Option Connection) (feed : Stream) : Type 0 where
+  pub connection : Connection
+  pub there : c ≡ Some connection
+  pub taken : List Frame
+  pub stands : StandsFor connection.received taken feed
+  pub spell : Spell taken heard
+  pub sound : NoFault feed
+
+-- And so many bytes of the reply may still come.
+pub record Reads (heard : List Response) (most left : ℕ) (c : Option Connection) (feed : Stream) : Type 0 where
+  pub hears : Hears heard c feed
+  pub room : length hears.connection.received + left ≡ most
+
+-- The last of the responses was read from this frame.
+pub record ReadsLast (heard : List Response) (frame : Frame) (most left : ℕ) (c : Option Connection) (feed : Stream) : Type 0 where
+  pub reads : Reads heard most left c feed
+  pub before : List Frame
+  pub last : reads.hears.taken ≡ before ++ frame ∷ []
+
+-- what a response tells of a reply: a `+` asks for a part of the command, and tells nothing
+abbrev pub told_by : Response → List Response
+told_by (responses.Done tag ending code) = responses.Done tag ending code ∷ []
+told_by (responses.Untagged ending code) = responses.Untagged ending code ∷ []
+told_by responses.Bye = responses.Bye ∷ []
+told_by (responses.Preauth code) = responses.Preauth code ∷ []
+told_by responses.Go = []
+told_by (responses.Capability words) = responses.Capability words ∷ []
+told_by (responses.Enabled words) = responses.Enabled words ∷ []
+told_by (responses.Exists count) = responses.Exists count ∷ []
+told_by (responses.Fetch fetched) = responses.Fetch fetched ∷ []
+told_by (responses.Vanished earlier uids) = responses.Vanished earlier uids ∷ []
+told_by (responses.Found uids) = responses.Found uids ∷ []
+told_by responses.Other = responses.Other ∷ []
+
+abbrev pub all_told_by : List Response → List Response
+all_told_by [] = []
+all_told_by (r ∷ rs) = told_by r ++ all_told_by rs
+
+-- The frames that were taken, and what is left of all that was received.
+pub record Took (heard : List Response) (taken : List Frame) (left : Stream) (c : Option Connection) : Type 0 where
+  pub connection : Connection
+  pub there : c ≡ Some connection
+  pub stands : StandsFor connection.received taken left
+  pub spell : Spell taken heard
+
+-- the next frame of the stream has this place and spells no response
+pub record SpellsNone (at : ℕ) (left : Stream) : Type 0 where
+  pub frame : Frame
+  pub rest : List ℕ
+  pub next : IsNext left.at left.bytes frame rest
+  pub place : at ≡ frame.at
+  pub none : (response : Response) → ¬ (Spells frame response)
+
+-- The bytes received don't go on as spelled responses: there is an LF without CR, or a frame spells none.
+pub record Unspelled (at : ℕ) (c : Option Connection) : Type 0 where
+  pub heard : List Response
+  pub taken : List Frame
+  pub left : Stream
+  pub took : Took heard taken left c
+  pub bad : ∥ FirstFault left.at left.bytes (feeds.BareLf at) ∥₁ ⊎ SpellsNone at left
+
+-- The frame spells a response, and a list of its flags is the first that passes this limit, or one of its flags.
+pub record PassesLimit (frame : Frame) (limit : Limit) (number : ℕ) : Type 0 where
+  pub spells : (response : Response) × Spells frame response
+  pub none : (response : Response) → ¬ (SpellsWithin frame response)
+  pub which : answer_to (length frame.bytes) (reading kept frame) ≡ Err (readings.TooLarge limit number)
+
+-- The next frame spells a response with more, or longer, flags than this client takes.
+pub record SpellsTooMuch (limit : Limit) (number : ℕ) (left : Stream) : Type 0 where
+  pub frame : Frame
+  pub rest : List ℕ
+  pub next : IsNext left.at left.bytes frame rest
+  pub passes : PassesLimit frame limit number
+
+-- A line has more bytes, or a literal more octets, than this client takes.
+abbrev pub FedTooMuch : Limit → ℕ → Stream → Type 0
+FedTooMuch limit number left =
+    ((at : ℕ) × (limit ≡ limits.Literal) × ∥ FirstFault left.at left.bytes (feeds.LiteralTooLarge at number) ∥₁)
+    ⊎ ((at : ℕ) × (limit ≡ limits.Line) × (number ≡ 1048577) × ∥ FirstFault left.at left.bytes (feeds.LineTooLong at) ∥₁)
+
+-- The bytes received pass a limit: those of the reply are too many, or what comes next is too large.
+pub record TooMuch (limit : Limit) (number most : ℕ) (c : Option Connection) : Type 0 where
+  pub connection : Connection
+  pub there : c ≡ Some connection
+  pub why : ((limit ≡ limits.Reply) × (number ≡ 268435457) × (most < length connection.received))
+      ⊎ ((heard : List Response) × (taken : List Frame) × (left : Stream) × Took heard taken left c
+      × (FedTooMuch limit number left ⊎ SpellsTooMuch limit number left))

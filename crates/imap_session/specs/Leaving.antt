@@ -1,0 +1,41 @@
+-- How a session ends: LOGOUT is sent, and a BYE or the completion is read, whichever comes first (RFC 9051, sections 6.1.3 and
+-- 7.1.5). The BYE may have been told before LOGOUT was sent.
+use Rattle.std.specs.Prelude.{◌≡◌, ◌≢◌, ◌⊎◌, ℕ, false, List, [], ◌∷◌, ◌++◌, Option}
+use Rattle.mail_base.specs.declared.frame.Frame.{Frame}
+use Rattle.mail_base.specs.declared.tag.Tag.{Tag}
+use Rattle.literal_feed.specs.Stream.{Stream}
+use Rattle.imap_model.specs.declared.code.Code.{Code}
+use Rattle.imap_model.specs.declared.ending.Ending.TheVariants as endings
+use Rattle.imap_model.specs.declared.response.Response.{Response}
+use Rattle.imap_model.specs.declared.response.Response.TheVariants as responses
+use Rattle.world_traits.specs.LinkState.{Connection}
+use Rattle.imap_session.specs.Causes.{LastLine}
+use Rattle.imap_session.specs.Faults.{Reading, Unfit}
+use Rattle.imap_session.specs.Hearing.{Hears}
+use Rattle.imap_session.specs.Knowing.{NoEnd}
+use Rattle.imap_session.specs.declared.fault.SessionFault.{SessionFault}
+
+-- BYE, or the completion of LOGOUT
+abbrev pub IsFarewell : Tag → Response → Type 0
+IsFarewell tag response = (response ≡ responses.Bye) ⊎ ((code : Code) × (response ≡ responses.Done tag endings.Ok code))
+
+-- Behind what was heard before, the first such line is the last one that was read.
+pub record Left (heard : List Response) (tag : Tag) (c : Option Connection) : Type 0 where
+  pub rows : List Response
+  pub last : Response
+  pub feed : Stream
+  pub hears : Hears (heard ++ (rows ++ last ∷ [])) c feed
+  pub first : NoEnd false rows
+  pub farewell : IsFarewell tag last
+
+-- the last line that was read is no such line; a BYE is never a fault
+pub record IsNoFarewell (heard : List Response) (tag : Tag) (c : Option Connection) (fault : SessionFault) : Type 0 where
+  pub frame : Frame
+  pub response : Response
+  pub line : LastLine heard frame response c
+  pub unfit : Unfit tag ⊥ frame response fault
+  pub other : response ≢ responses.Bye
+
+-- what a fault of leaving says of the bytes received, of which at most so many are taken
+abbrev pub Staying : List Response → Tag → ℕ → Option Connection → SessionFault → Type 0
+Staying heard tag most c fault = Reading most c fault ⊎ IsNoFarewell heard tag c fault

@@ -1,0 +1,15 @@
+pub mod Causes
+pub mod Counting
+pub mod Faults
+pub mod Hearing
+pub mod Knowing
+pub mod Permanent
+pub mod Replying
+pub mod Sent
+pub mod Session
+pub mod Offers
+pub mod Enabled
+pub mod Dialogue
+pub mod LogIn
+pub mod Greeting
+pub mod Leaving

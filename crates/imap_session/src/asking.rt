@@ -1,0 +1,368 @@
+//! One command and its whole reply.
+
+ghost use Rattle.std.specs.Prelude.{◌≡◌, ◌≢◌, ◌≤◌, ◌<◌, ◌++◌, ◌+◌, [], ◌∷◌, ℕ, List, Option, Some, None, IfOk, OnOk, IsErrOf, IsTrue, length, take, drop, MatchOption, IfSome, IfNone, true, false};
+ghost use Rattle.imap_model.specs.CommandText.{IsWritable, parts_of};
+ghost use Rattle.imap_model.specs.Held.{IsSent};
+ghost use Rattle.imap_model.specs.Small.{IsSmall, IsSmallCode};
+ghost use Rattle.imap_model.specs.declared.response.Response.{Response};
+ghost use Rattle.imap_model.specs.declared.response.Response.TheVariants as responses;
+ghost use Rattle.imap_model.specs.declared.ending.Ending.TheVariants as endings;
+ghost use Rattle.world_traits.specs.Asking.{Asking};
+ghost use Rattle.world_traits.specs.Calls.{Rose};
+ghost use Rattle.world_traits.specs.Links.{Linked, AnyStep};
+ghost use Rattle.world_traits.specs.Moments.{Clock};
+ghost use Rattle.imap_session.specs.Causes.{FailsBehind};
+ghost use Rattle.imap_session.specs.Hearing.{Hears, Reads};
+ghost use Rattle.imap_session.specs.Faults.{HasParts, IsCount, Unfit};
+ghost use Rattle.imap_session.specs.Knowing.{IsEnd};
+ghost use Rattle.imap_session.specs.Permanent.{behind_all, behind_code, permitted};
+ghost use Rattle.imap_session.specs.Replying.{AllSmall, AreSmall, Came, HeardDone, HeardOn, ReceivedAtMost, read_as};
+ghost use Rattle.imap_session.specs.Sent.{joined, SentFront};
+ghost use Rattle.imap_session.specs.declared.permits.Permits.{Permits};
+ghost use Rattle.imap_session.specs.Session.{Answered, Begun, Follows, IsReady, KeepsSelection, Sending, Stands, waiting_of};
+ghost use Rattle.imap_session.specs.declared.fault.SessionFault.{SessionFault};
+ghost use Rattle.imap_session.specs.declared.fault.SessionFault.TheVariants as faults;
+
+use crate::SessionFault;
+use crate::listener::Listener;
+use crate::listening::{Line, MOST, listen};
+use crate::permits::{Permits, behind_code};
+use imap_command::write;
+use imap_model::{Code, Command, Ending, Replies, Response};
+use literal_feed::Feed;
+use mail_base::{Bytes, Tag};
+use std::alloc::{AllocError, Global};
+use world_traits::{Clocked, Link, LinkFailed};
+
+/// How a command ended.
+#[derive(Drop)]
+pub struct Completion {
+    pub ending: Ending,
+    pub code: Code,
+}
+
+/// What the last line of a reply says: the completion of this command. Where a part of it is awaited, OK is none.
+pub fn finish(line: Line, tag: Tag, early: bool) -> Result<Completion, SessionFault>
+    requires ended { IsEnd false line.response }
+    ensures value { IfOk result (λ d. line.response ≡ responses.Done tag d.ending d.code) }
+    ensures accepted { IfOk result (λ d. IsCount tag → d.ending ≡ endings.Ok) }
+    ensures refused { IsTrue early → IfOk result (λ d. d.ending ≢ endings.Ok) }
+    ensures small { IsSmall line.response → IfOk result (λ d. IsSmallCode d.code) }
+    ensures why { (fault : SessionFault) → IsErrOf result fault
+        → Unfit tag (IsTrue early) line.frame line.response fault }
+{
+    let Line { frame, response } = line;
+    match response {
+        Response::Done {
+            tag: told,
+            ending,
+            code,
+        } => {
+            if told != tag {
+                return Err(SessionFault::BadReply { at: frame.at });
+            }
+            if ending == Ending::Ok {
+                if early {
+                    return Err(SessionFault::BadReply { at: frame.at });
+                }
+            } else if let Tag::Count(_) = tag {
+                return Err(SessionFault::Refused { line: frame.bytes });
+            }
+            Ok(Completion { ending, code })
+        }
+        Response::Bye => Err(SessionFault::Refused { line: frame.bytes }),
+        _ => unreachable!(),
+    }
+}
+
+// One of the parts.
+fn part_at(parts: &[Bytes], index: usize) -> &[u8]
+    requires { index < length parts.now }
+    ensures cut { parts.now ≡ take index parts.now ++ result.now ∷ drop (index + 1) parts.now }
+    ensures more { take (index + 1) parts.now ≡ take index parts.now ++ result.now ∷ [] }
+{
+    parts[index].as_slice()
+}
+
+// What a line means for which the client waited behind a part: the server asks for the next one, or has answered.
+fn turned(line: Line, tag: Tag) -> Result<Option<Completion>, SessionFault>
+    requires ended { IsEnd true line.response }
+    ensures value { IfOk result (λ o. MatchOption o (line.response ≡ responses.Go)
+        (λ d. line.response ≡ responses.Done tag d.ending d.code)) }
+    ensures accepted { IfOk result (λ o. IfSome o (λ d. IsCount tag → d.ending ≡ endings.Ok)) }
+    ensures refused { IfOk result (λ o. IfSome o (λ d. d.ending ≢ endings.Ok)) }
+    ensures small { IsSmall line.response → IfOk result (λ o. IfSome o (λ d. IsSmallCode d.code)) }
+    ensures why { (fault : SessionFault) → IsErrOf result fault
+        → Unfit tag (IsTrue true) line.frame line.response fault }
+{
+    if let Response::Go = line.response {
+        return Ok(None);
+    }
+    let done = finish(line, tag, true)?;
+    Ok(Some(done))
+}
+
+// Sends a part that isn't the last, and waits until the server asks for the next one, or answers.
+fn send_on<L: Link>(
+    alloc: Global,
+    feed: &mut Feed,
+    left: &mut u64,
+    link: &mut L,
+    listener: &mut Listener,
+    tag: Tag,
+    command: &Command,
+    part: &[u8],
+) -> Result<Option<Completion>, SessionFault>
+    requires ready { L.tells_server → (selected : Option (List ℕ)) × (before : List (List ℕ)) × (next : List ℕ)
+        × (behind : List (List ℕ)) × (old : Clock)
+        × IsReady (waiting_of selected tag command.now) before part.now (next ∷ behind) old (L.clock link.old)
+        (L.link link.old).connection feed.old }
+    requires keeps { KeepsSelection command.now }
+    requires several { HasParts tag command.now }
+    requires silent { L.tells_server → listener.old.rows ≡ [] }
+    ensures files { L.tells_files → Linked AnyStep (L.clock link.old) (L.clock link.new) }
+    ensures told { L.tells_server → (selected : Option (List ℕ)) (before : List (List ℕ)) (next : List ℕ)
+        (behind : List (List ℕ)) (old : Clock)
+        → IsReady (waiting_of selected tag command.now) before part.now (next ∷ behind) old (L.clock link.old)
+        (L.link link.old).connection feed.old
+        → Linked (Asking old.now.outside.talk.told tag command.now) (L.clock link.old) (L.clock link.new) }
+    ensures went { L.tells_server → (selected : Option (List ℕ)) (before : List (List ℕ)) (next : List ℕ)
+        (behind : List (List ℕ)) (old : Clock)
+        → IsReady (waiting_of selected tag command.now) before part.now (next ∷ behind) old (L.clock link.old)
+        (L.link link.old).connection feed.old
+        → IfOk result (λ o. MatchOption o
+        ((listener.new.rows ≡ []) × Sending (waiting_of selected tag command.now) (before ++ part.now ∷ []) old
+        (L.clock link.new) (L.link link.new).connection feed.new)
+        (λ d. Answered (waiting_of selected tag command.now) (read_as listener.new.rows d.ending d.code) old
+        (L.clock link.new) (L.link link.new).connection feed.new)) }
+    ensures accepted { IfOk result (λ o. IfSome o (λ d. IsCount tag → d.ending ≡ endings.Ok)) }
+    ensures refused { IfOk result (λ o. IfSome o (λ d. d.ending ≢ endings.Ok)) }
+    ensures small { AllSmall listener.old.rows
+        → IfOk result (λ o. AllSmall listener.new.rows × IfSome o (λ d. IsSmallCode d.code)) }
+    ensures reads { L.tells_files → (heard : List Response) (most : ℕ)
+        → Reads heard most left.old (L.link link.old).connection feed.old
+        → IfOk result (λ o. MatchOption o
+        (HeardOn false heard listener.old.rows listener.new.rows most left.new (L.link link.new).connection feed.new)
+        (λ d. HeardDone heard listener.old.rows listener.new.rows tag d.ending d.code most left.new
+        (L.link link.new).connection feed.new)) }
+    ensures permits { (start : Option Permits) → listener.old.permits ≡ behind_all start listener.old.rows
+        → OnOk result (listener.new.permits ≡ behind_all start listener.new.rows) }
+    ensures why { L.tells_files → (heard : List Response) (most : ℕ)
+        → Reads heard most left.old (L.link link.old).connection feed.old → (fault : SessionFault)
+        → IsErrOf result fault
+        → FailsBehind heard tag command.now most (L.link link.new).connection fault }
+    ensures sent { L.tells_files → SentFront part.now (L.link link.old).sent (L.link link.new).sent }
+    ensures sent_all { L.tells_files → OnOk result ((L.link link.new).sent ≡ (L.link link.old).sent ++ part.now) }
+    ensures honest { L.tells_server → (selected : Option (List ℕ)) (before : List (List ℕ)) (next : List ℕ)
+        (behind : List (List ℕ)) (old : Clock)
+        → IsReady (waiting_of selected tag command.now) before part.now (next ∷ behind) old (L.clock link.old)
+        (L.link link.old).connection feed.old
+        → (at : ℕ) → IsErrOf result (faults.BadReply at) → ⊥ }
+    ensures disk { L.disk_faults link.new ≡ L.disk_faults link.old }
+    ensures count { (L.link link.old).faults ≤ (L.link link.new).faults }
+    ensures cause { IsErrOf result faults.Link → Rose (L.link link.old).faults (L.link link.new).faults }
+{
+    link.send(part)?;
+    let line = listen(alloc, feed, left, link, listener, true)?;
+    turned(line, tag)
+}
+
+// Sends the parts of a command. Where the server answers before the last one, that is given.
+fn begin<L: Link>(
+    alloc: Global,
+    feed: &mut Feed,
+    left: &mut u64,
+    link: &mut L,
+    listener: &mut Listener,
+    tag: Tag,
+    command: &Command,
+    parts: &[Bytes],
+) -> Result<Option<Completion>, SessionFault>
+    requires text { parts.now ≡ parts_of tag command.now }
+    requires some { 0 < length parts.now }
+    requires held { IsSent tag command.now }
+    requires keeps { HasParts tag command.now → KeepsSelection command.now }
+    requires silent { L.tells_server → listener.old.rows ≡ [] }
+    requires stands { L.tells_server → (selected : Option (List ℕ)) × Stands selected (L.clock link.old)
+        (L.link link.old).connection feed.old }
+    ensures files { L.tells_files → Linked AnyStep (L.clock link.old) (L.clock link.new) }
+    ensures told { L.tells_server → Linked (Asking (L.clock link.old).now.outside.talk.told tag command.now)
+        (L.clock link.old) (L.clock link.new) }
+    ensures begun { L.tells_server → (selected : Option (List ℕ))
+        → Stands selected (L.clock link.old) (L.link link.old).connection feed.old
+        → IfOk result (λ o. MatchOption o
+        ((listener.new.rows ≡ []) × Begun (waiting_of selected tag command.now) (L.clock link.old) (L.clock link.new)
+        (L.link link.new).connection feed.new)
+        (λ d. Answered (waiting_of selected tag command.now) (read_as listener.new.rows d.ending d.code)
+        (L.clock link.old) (L.clock link.new) (L.link link.new).connection feed.new)) }
+    ensures accepted { IfOk result (λ o. IfSome o (λ d. IsCount tag → d.ending ≡ endings.Ok)) }
+    ensures refused { IfOk result (λ o. IfSome o (λ d. d.ending ≢ endings.Ok)) }
+    ensures small { AllSmall listener.old.rows
+        → IfOk result (λ o. AllSmall listener.new.rows × IfSome o (λ d. IsSmallCode d.code)) }
+    ensures reads { L.tells_files → (heard : List Response) (most : ℕ)
+        → Reads heard most left.old (L.link link.old).connection feed.old
+        → IfOk result (λ o. MatchOption o
+        (HeardOn false heard listener.old.rows listener.new.rows most left.new (L.link link.new).connection feed.new)
+        (λ d. HeardDone heard listener.old.rows listener.new.rows tag d.ending d.code most left.new
+        (L.link link.new).connection feed.new)) }
+    ensures permits { (start : Option Permits) → listener.old.permits ≡ behind_all start listener.old.rows
+        → OnOk result (listener.new.permits ≡ behind_all start listener.new.rows) }
+    ensures why { L.tells_files → (heard : List Response) (most : ℕ)
+        → Reads heard most left.old (L.link link.old).connection feed.old → (fault : SessionFault)
+        → IsErrOf result fault
+        → FailsBehind heard tag command.now most (L.link link.new).connection fault }
+    ensures sent { L.tells_files → SentFront (joined parts.now) (L.link link.old).sent (L.link link.new).sent }
+    ensures sent_all { L.tells_files
+        → IfOk result (λ o. IfNone o ((L.link link.new).sent ≡ (L.link link.old).sent ++ joined parts.now)) }
+    ensures honest { L.tells_server → (at : ℕ) → IsErrOf result (faults.BadReply at) → ⊥ }
+    ensures disk { L.disk_faults link.new ≡ L.disk_faults link.old }
+    ensures count { (L.link link.old).faults ≤ (L.link link.new).faults }
+    ensures cause { IsErrOf result faults.Link → Rose (L.link link.old).faults (L.link link.new).faults }
+{
+    let last = parts.len() - 1;
+    for index in 0..last {
+        let part = part_at(parts, index);
+        if let Some(done) = send_on(alloc, feed, left, link, listener, tag, command, part)? {
+            return Ok(Some(done));
+        }
+    }
+    let end = part_at(parts, last);
+    link.send(end)?;
+    Ok(None)
+}
+
+/// A whole reply, and the PERMANENTFLAGS that counts behind it.
+#[derive(Drop)]
+pub struct Answer {
+    pub replies: Replies,
+    pub permits: Option<Permits>,
+}
+
+// All that was heard, with the completion.
+fn conclude(listener: Listener, done: Completion) -> Result<Answer, SessionFault>
+    ensures replies { IfOk result (λ a. a.replies ≡ read_as listener.rows done.ending done.code) }
+    ensures permits { IfOk result (λ a. a.permits ≡ behind_code listener.permits done.code) }
+    ensures why { (fault : SessionFault) → IsErrOf result fault → fault ≡ faults.Memory }
+{
+    let Listener { rows, permits } = listener;
+    let Completion { ending, code } = done;
+    let permits = behind_code(permits, &code)?;
+    let replies = Replies {
+        untagged: rows,
+        ending,
+        code,
+    };
+    Ok(Answer { replies, permits })
+}
+
+/// Sends a command and reads its whole reply. `permits` is the PERMANENTFLAGS that counts in front of it.
+pub fn exchange<L: Link>(
+    alloc: Global,
+    feed: &mut Feed,
+    link: &mut L,
+    tag: Tag,
+    command: &Command,
+    permits: Option<Permits>,
+) -> Result<Answer, SessionFault>
+    requires writable { IsWritable tag command.now }
+    requires keeps { HasParts tag command.now → KeepsSelection command.now }
+    requires follows { L.tells_files → Follows (L.link link.old).connection feed.old }
+    requires stands { L.tells_server → (selected : Option (List ℕ)) × Stands selected (L.clock link.old)
+        (L.link link.old).connection feed.old }
+    ensures files { L.tells_files → Linked AnyStep (L.clock link.old) (L.clock link.new) }
+    ensures told { L.tells_server → Linked (Asking (L.clock link.old).now.outside.talk.told tag command.now)
+        (L.clock link.old) (L.clock link.new) }
+    ensures answered { L.tells_server → (selected : Option (List ℕ))
+        → Stands selected (L.clock link.old) (L.link link.old).connection feed.old
+        → IfOk result
+        (λ a. Answered (waiting_of selected tag command.now) a.replies (L.clock link.old) (L.clock link.new)
+        (L.link link.new).connection feed.new) }
+    ensures accepted { IfOk result (λ a. IsCount tag → a.replies.ending ≡ endings.Ok) }
+    ensures came { L.tells_files → (heard : List Response) → Hears heard (L.link link.old).connection feed.old
+        → IfOk result (λ a. Came heard tag a.replies (L.link link.new).connection feed.new) }
+    ensures small { IfOk result (λ a. AreSmall a.replies) }
+    ensures within { L.tells_files → (heard : List Response) → (h : Hears heard (L.link link.old).connection feed.old)
+        → OnOk result (ReceivedAtMost (length h.connection.received + 268435456) (L.link link.new).connection) }
+    ensures permits { IfOk result (λ a. a.permits ≡ permitted permits a.replies) }
+    ensures why { L.tells_files → (heard : List Response) → (h : Hears heard (L.link link.old).connection feed.old)
+        → (fault : SessionFault) → IsErrOf result fault
+        → FailsBehind heard tag command.now (length h.connection.received + 268435456) (L.link link.new).connection
+        fault }
+    ensures sent { L.tells_files → SentFront (joined (parts_of tag command.now)) (L.link link.old).sent
+        (L.link link.new).sent }
+    ensures whole { L.tells_files
+        → IfOk result
+        (λ a. a.replies.ending ≡ endings.Ok → (L.link link.new).sent ≡ (L.link link.old).sent ++ joined
+        (parts_of tag command.now)) }
+    ensures honest { L.tells_server → (at : ℕ) → IsErrOf result (faults.BadReply at) → ⊥ }
+    ensures disk { L.disk_faults link.new ≡ L.disk_faults link.old }
+    ensures count { (L.link link.old).faults ≤ (L.link link.new).faults }
+    ensures cause { IsErrOf result faults.Link → Rose (L.link link.old).faults (L.link link.new).faults }
+{
+    let parts = write(alloc, tag, command)?;
+    let mut left = MOST;
+    let mut listener = Listener::new(alloc, permits);
+    let early = begin(
+        alloc,
+        feed,
+        &mut left,
+        link,
+        &mut listener,
+        tag,
+        command,
+        parts.as_slice(),
+    )?;
+    if let Some(done) = early {
+        return conclude(listener, done);
+    }
+    let line = listen(alloc, feed, &mut left, link, &mut listener, false)?;
+    let done = finish(line, tag, false)?;
+    conclude(listener, done)
+}
+
+/// Sends a command and reads its whole reply, where no mailbox is selected.
+pub fn converse<L: Link>(
+    alloc: Global,
+    feed: &mut Feed,
+    link: &mut L,
+    tag: Tag,
+    command: &Command,
+) -> Result<Replies, SessionFault>
+    requires writable { IsWritable tag command.now }
+    requires keeps { HasParts tag command.now → KeepsSelection command.now }
+    requires follows { L.tells_files → Follows (L.link link.old).connection feed.old }
+    requires stands { L.tells_server → (selected : Option (List ℕ)) × Stands selected (L.clock link.old)
+        (L.link link.old).connection feed.old }
+    ensures files { L.tells_files → Linked AnyStep (L.clock link.old) (L.clock link.new) }
+    ensures told { L.tells_server → Linked (Asking (L.clock link.old).now.outside.talk.told tag command.now)
+        (L.clock link.old) (L.clock link.new) }
+    ensures answered { L.tells_server → (selected : Option (List ℕ))
+        → Stands selected (L.clock link.old) (L.link link.old).connection feed.old
+        → IfOk result
+        (λ r. Answered (waiting_of selected tag command.now) r (L.clock link.old) (L.clock link.new)
+        (L.link link.new).connection feed.new) }
+    ensures accepted { IfOk result (λ r. IsCount tag → r.ending ≡ endings.Ok) }
+    ensures came { L.tells_files → (heard : List Response) → Hears heard (L.link link.old).connection feed.old
+        → IfOk result (λ r. Came heard tag r (L.link link.new).connection feed.new) }
+    ensures small { IfOk result AreSmall }
+    ensures within { L.tells_files → (heard : List Response) → (h : Hears heard (L.link link.old).connection feed.old)
+        → OnOk result (ReceivedAtMost (length h.connection.received + 268435456) (L.link link.new).connection) }
+    ensures still { L.tells_files → OnOk result (Follows (L.link link.new).connection feed.new) }
+    ensures why { L.tells_files → (heard : List Response) → (h : Hears heard (L.link link.old).connection feed.old)
+        → (fault : SessionFault) → IsErrOf result fault
+        → FailsBehind heard tag command.now (length h.connection.received + 268435456) (L.link link.new).connection
+        fault }
+    ensures sent { L.tells_files → SentFront (joined (parts_of tag command.now)) (L.link link.old).sent
+        (L.link link.new).sent }
+    ensures whole { L.tells_files
+        → IfOk result
+        (λ r. r.ending ≡ endings.Ok → (L.link link.new).sent ≡ (L.link link.old).sent ++ joined
+        (parts_of tag command.now)) }
+    ensures honest { L.tells_server → (at : ℕ) → IsErrOf result (faults.BadReply at) → ⊥ }
+    ensures disk { L.disk_faults link.new ≡ L.disk_faults link.old }
+    ensures count { (L.link link.old).faults ≤ (L.link link.new).faults }
+    ensures cause { IsErrOf result faults.Link → Rose (L.link link.old).faults (L.link link.new).faults }
+{
+    let answer = exchange(alloc, feed, link, tag, command, None)?;
+    Ok(answer.replies)
+}

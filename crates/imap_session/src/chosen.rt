@@ -1,0 +1,248 @@
+//! A connection in which a mailbox is selected.
+
+ghost use Rattle.std.specs.Prelude.{◌≡◌, ◌≤◌, ◌<◌, ◌+◌, ◌++◌, ℕ, List, Option, None, Some, IfOk, OnOk, IsErrOf, length};
+ghost use Rattle.std.specs.List.{list_all};
+ghost use Rattle.mail_base.specs.declared.tag.Tag.TheVariants as tags;
+ghost use Rattle.imap_model.specs.CommandText.{IsCarried, parts_of};
+ghost use Rattle.imap_model.specs.Mutating.{is_mutating};
+ghost use Rattle.imap_model.specs.declared.command.Command.TheVariants as commands;
+ghost use Rattle.imap_model.specs.declared.response.Response.{Response};
+ghost use Rattle.imap_model.specs.declared.ending.Ending.TheVariants as endings;
+ghost use Rattle.world_traits.specs.Asking.{Asking};
+ghost use Rattle.world_traits.specs.Calls.{Rose};
+ghost use Rattle.world_traits.specs.Links.{Linked, AnyStep};
+ghost use Rattle.imap_session.specs.Counting.{HasTag, count_after};
+ghost use Rattle.imap_session.specs.Causes.{FailsBehind};
+ghost use Rattle.imap_session.specs.Faults.{IsCount};
+ghost use Rattle.imap_session.specs.Hearing.{Hears};
+ghost use Rattle.imap_session.specs.Permanent.{keeps, permitted};
+ghost use Rattle.imap_session.specs.Replying.{AreSmall, Came, ReceivedAtMost};
+ghost use Rattle.imap_session.specs.Sent.{joined, SentFront};
+ghost use Rattle.imap_session.specs.Session.{Answered, Follows, IsAsked, Stands, waiting_of};
+ghost use Rattle.imap_session.specs.declared.fault.SessionFault.{SessionFault};
+ghost use Rattle.imap_session.specs.declared.fault.SessionFault.TheVariants as faults;
+
+use crate::SessionFault;
+use crate::asking::{Answer, exchange};
+use crate::conversation::Conversation;
+use crate::permits::{Permits, keeps_all};
+use crate::selecting::select;
+use flag_set::FlagSet;
+use imap_model::{Command, Mark, Replies};
+use mail_base::{BoxName, Tag};
+use world_traits::{Clocked, Link};
+
+/// A connection in which a mailbox is selected (RFC 9051, section 3.3). A call that sends something uses it up, and gives
+/// it back unless there is a fault.
+#[derive(Drop)]
+pub struct Chosen {
+    pub(crate) conversation: Conversation,
+    pub(crate) name: BoxName,
+    // The PERMANENTFLAGS that counts of the reply to SELECT, if one was told.
+    pub(crate) permits: Option<Permits>,
+}
+
+impl Chosen {
+    /// The mailbox that is selected.
+    pub fn name(&self) -> &BoxName
+        ensures { result.now ≡ self.now.name }
+    {
+        &self.name
+    }
+
+    /// The tag of the next question: `C` and its count (RFC 9051, section 2.2.1).
+    pub fn next_tag(&self) -> Tag
+        ensures { result ≡ tags.Count (self.now.conversation.count + 1) }
+    {
+        Tag::Count(self.conversation.count + 1)
+    }
+
+    /// Whether each of the flags can be changed for good: it is named by the PERMANENTFLAGS that counts of the reply to
+    /// SELECT, or it is a keyword and new ones can be made. Where none was told, all can (RFC 9051, section 6.3.2). What a
+    /// later reply tells of them doesn't count.
+    pub fn permits(&self, flags: &FlagSet) -> bool
+        ensures { result ≡ list_all (keeps self.now.permits) flags.now }
+    {
+        keeps_all(&self.permits, flags)
+    }
+
+    /// Selects another mailbox, or the same one anew, and gives the whole reply to SELECT (RFC 9051, section 6.3.2).
+    /// With a mark the server tells what changed since (RFC 7162, section 3.2.5).
+    ///
+    /// `Refused` where a BYE came, or NO or BAD: its line. `BadReply` where what came is no reply to this command: the
+    /// place in bytes of the connection. `TooLarge` where a limit is passed, `Link` where the link failed, and `Memory`.
+    /// After a fault the connection isn't used again.
+    pub fn select<L: Link>(
+        self,
+        link: &mut L,
+        name: &BoxName,
+        since: Option<Mark>,
+    ) -> Result<(Chosen, Replies), SessionFault>
+        requires room { self.conversation.count + 1 < 4294967295 }
+        requires follows { L.tells_files → Follows (L.link link.old).connection self.conversation.feed }
+        requires stands { L.tells_server → Stands (Some self.name) (L.clock link.old) (L.link link.old).connection
+            self.conversation.feed }
+
+        // Over a link that tells its server, the replies are the answer to this SELECT at one moment of this call.
+        ensures files { L.tells_files → Linked AnyStep (L.clock link.old) (L.clock link.new) }
+        ensures told { L.tells_server
+            → Linked (Asking (L.clock link.old).now.outside.talk.told (tags.Count (self.conversation.count + 1))
+            (commands.Select name.now since))
+            (L.clock link.old) (L.clock link.new) }
+        ensures answered { L.tells_server
+            → IfOk result
+            (λ p. Answered
+            (waiting_of (Some self.name) (tags.Count (self.conversation.count + 1)) (commands.Select name.now since))
+            p.1
+            (L.clock link.old) (L.clock link.new) (L.link link.new).connection p.0.conversation.feed) }
+        ensures accepted { IfOk result (λ p. p.1.ending ≡ endings.Ok) }
+        ensures came { L.tells_files → (heard : List Response)
+            → Hears heard (L.link link.old).connection self.conversation.feed
+            → IfOk result
+            (λ p. Came heard (tags.Count (self.conversation.count + 1)) p.1 (L.link link.new).connection
+            p.0.conversation.feed) }
+        ensures small { IfOk result (λ p. AreSmall p.1) }
+        ensures within { L.tells_files → (heard : List Response)
+            → (h : Hears heard (L.link link.old).connection self.conversation.feed)
+            → OnOk result (ReceivedAtMost (length h.connection.received + 268435456) (L.link link.new).connection) }
+
+        // How the connection stands then.
+        ensures stands { L.tells_server
+            → IfOk result
+            (λ p. Stands (Some name.now) (L.clock link.new) (L.link link.new).connection p.0.conversation.feed) }
+        ensures still { L.tells_files
+            → IfOk result (λ p. Follows (L.link link.new).connection p.0.conversation.feed) }
+        ensures name { IfOk result (λ p. p.0.name ≡ name.now) }
+        ensures counted { IfOk result (λ p. p.0.conversation.count ≡ self.conversation.count + 1) }
+        ensures permits { IfOk result (λ p. p.0.permits ≡ permitted None p.1) }
+
+        // Why it ends otherwise, on the bytes received.
+        ensures why { L.tells_files → (heard : List Response)
+            → (h : Hears heard (L.link link.old).connection self.conversation.feed)
+            → (fault : SessionFault) → IsErrOf result fault
+            → FailsBehind heard (tags.Count (self.conversation.count + 1)) (commands.Select name.now since)
+            (length h.connection.received + 268435456) (L.link link.new).connection fault }
+        ensures honest { L.tells_server → (at : ℕ) → IsErrOf result (faults.BadReply at) → ⊥ }
+        ensures sent { L.tells_files
+            → SentFront (joined
+            (parts_of (tags.Count (self.conversation.count + 1)) (commands.Select name.now since)))
+            (L.link link.old).sent (L.link link.new).sent }
+        ensures whole { L.tells_files
+            → OnOk result
+            ((L.link link.new).sent ≡ (L.link link.old).sent ++ joined
+            (parts_of (tags.Count (self.conversation.count + 1)) (commands.Select name.now since))) }
+        ensures disk { L.disk_faults link.new ≡ L.disk_faults link.old }
+        ensures count { (L.link link.old).faults ≤ (L.link link.new).faults }
+        ensures cause { IsErrOf result faults.Link → Rose (L.link link.old).faults (L.link link.new).faults }
+    {
+        let Chosen {
+            conversation,
+            name: _before,
+            permits: _old,
+        } = self;
+        select(conversation, link, name, since)
+    }
+
+    /// Runs one command and its whole reply: a question under the next tag, or a command that carries out an action,
+    /// under the action's tag (RFC 9051, sections 6.4 and 6.3.12).
+    ///
+    /// A NO or BAD to an action is a reply; to a question it is `Refused`, as a BYE is to either. The other faults are
+    /// those of `select`.
+    pub fn ask<L: Link>(
+        self,
+        link: &mut L,
+        tag: Tag,
+        command: &Command,
+    ) -> Result<(Chosen, Replies), SessionFault>
+        requires asked { IsAsked command.now }
+        requires tagged { HasTag (is_mutating command.now) self.conversation.count tag }
+        requires carried { IsCarried command.now }
+        requires room { self.conversation.count + 1 < 4294967295 }
+        requires follows { L.tells_files → Follows (L.link link.old).connection self.conversation.feed }
+        requires stands { L.tells_server → Stands (Some self.name) (L.clock link.old) (L.link link.old).connection
+            self.conversation.feed }
+
+        // Over a link that tells its server, the replies are the answer to this command at one moment of this call.
+        ensures files { L.tells_files → Linked AnyStep (L.clock link.old) (L.clock link.new) }
+        ensures told { L.tells_server → Linked (Asking (L.clock link.old).now.outside.talk.told tag command.now)
+            (L.clock link.old) (L.clock link.new) }
+        ensures answered { L.tells_server
+            → IfOk result (λ p. Answered (waiting_of (Some self.name) tag command.now) p.1
+            (L.clock link.old) (L.clock link.new) (L.link link.new).connection p.0.conversation.feed) }
+        ensures accepted { IfOk result (λ p. IsCount tag → p.1.ending ≡ endings.Ok) }
+        ensures came { L.tells_files → (heard : List Response)
+            → Hears heard (L.link link.old).connection self.conversation.feed
+            → IfOk result (λ p. Came heard tag p.1 (L.link link.new).connection p.0.conversation.feed) }
+        ensures small { IfOk result (λ p. AreSmall p.1) }
+        ensures within { L.tells_files → (heard : List Response)
+            → (h : Hears heard (L.link link.old).connection self.conversation.feed)
+            → OnOk result (ReceivedAtMost (length h.connection.received + 268435456) (L.link link.new).connection) }
+
+        // How the connection stands then.
+        ensures stands { L.tells_server
+            → IfOk result
+            (λ p. Stands (Some p.0.name) (L.clock link.new) (L.link link.new).connection p.0.conversation.feed) }
+        ensures still { L.tells_files
+            → IfOk result (λ p. Follows (L.link link.new).connection p.0.conversation.feed) }
+        ensures name { IfOk result (λ p. p.0.name ≡ self.name) }
+        ensures counted { IfOk result
+            (λ p. p.0.conversation.count ≡ count_after (is_mutating command.now) self.conversation.count) }
+        ensures permits { IfOk result (λ p. p.0.permits ≡ self.permits) }
+
+        // Why it ends otherwise, on the bytes received.
+        ensures why { L.tells_files → (heard : List Response)
+            → (h : Hears heard (L.link link.old).connection self.conversation.feed)
+            → (fault : SessionFault) → IsErrOf result fault
+            → FailsBehind heard tag command.now (length h.connection.received + 268435456)
+            (L.link link.new).connection fault }
+        ensures honest { L.tells_server → (at : ℕ) → IsErrOf result (faults.BadReply at) → ⊥ }
+        ensures sent { L.tells_files → SentFront (joined (parts_of tag command.now)) (L.link link.old).sent
+            (L.link link.new).sent }
+        ensures whole { L.tells_files
+            → IfOk result
+            (λ p. p.1.ending ≡ endings.Ok → (L.link link.new).sent ≡ (L.link link.old).sent ++ joined
+            (parts_of tag command.now)) }
+        ensures disk { L.disk_faults link.new ≡ L.disk_faults link.old }
+        ensures count { (L.link link.old).faults ≤ (L.link link.new).faults }
+        ensures cause { IsErrOf result faults.Link → Rose (L.link link.old).faults (L.link link.new).faults }
+    {
+        let Chosen {
+            conversation: Conversation {
+                alloc,
+                mut feed,
+                count,
+            },
+            name,
+            permits,
+        } = self;
+        let answer = exchange(alloc, &mut feed, link, tag, command, None)?;
+        let Answer {
+            replies,
+            permits: _told,
+        } = answer;
+        let conversation = Conversation {
+            alloc,
+            feed,
+            count: counted(count, command),
+        };
+        let chosen = Chosen {
+            conversation,
+            name,
+            permits,
+        };
+        Ok((chosen, replies))
+    }
+}
+
+// The count of questions behind a command.
+fn counted(count: u32, command: &Command) -> u32
+    requires { count + 1 < 4294967295 }
+    ensures value { result ≡ count_after (is_mutating command.now) count }
+    ensures room { result < 4294967295 }
+{
+    if command.is_mutating() {
+        count
+    } else {
+        count + 1
+    }
+}

@@ -1,0 +1,216 @@
+//! A connection whose greeting was read (RFC 9051, sections 3.1 and 3.2).
+
+ghost use Rattle.std.specs.Prelude.{◌≡◌, ◌≤◌, ◌<◌, ◌+◌, ℕ, List, Some, None, IfOk, OnOk, IsErrOf};
+ghost use Rattle.imap_model.specs.declared.item.Item.{Item};
+ghost use Rattle.imap_model.specs.declared.response.Response.{Response};
+ghost use Rattle.world_traits.specs.Calls.{Rose};
+ghost use Rattle.world_traits.specs.Links.{Linked, AnyStep};
+ghost use Rattle.imap_session.specs.Dialogue.{BrokeOff, CameToEnd, SentIn, Talked, TalkedOut, next_tag};
+ghost use Rattle.imap_session.specs.Hearing.{Hears};
+ghost use Rattle.imap_session.specs.LogIn.{SwitchedOn, enabling, entering};
+ghost use Rattle.imap_session.specs.Session.{Follows, Stands};
+ghost use Rattle.imap_session.specs.declared.fault.SessionFault.{SessionFault};
+ghost use Rattle.imap_session.specs.declared.fault.SessionFault.TheVariants as faults;
+
+use crate::asking::converse;
+use crate::conversation::Conversation;
+use crate::login::{check_enabled, check_offer, log_in};
+use crate::{Ready, SessionFault};
+use imap_model::Command;
+use mail_base::{Account, Tag};
+use world_traits::{Clocked, Link};
+
+/// A connection whose greeting was read. The user is known where the greeting was PREAUTH, or once `authenticate` was
+/// called.
+#[derive(Drop)]
+pub struct Greeted {
+    pub(crate) conversation: Conversation,
+    // The greeting was PREAUTH: no login is due.
+    pub(crate) preauth: bool,
+    // The last CAPABILITY that was told offers IMAP4rev2.
+    pub(crate) rev2: bool,
+}
+
+impl Greeted {
+    /// Logs the user in, unless the greeting was PREAUTH: by AUTHENTICATE PLAIN where it is offered, else by LOGIN unless
+    /// LOGINDISABLED was told. Then checks that the server offers what this client needs: QRESYNC, and IMAP4rev2 or both
+    /// UIDPLUS and MOVE (RFC 9051, sections 6.1.1, 6.2.2 and 6.2.3).
+    ///
+    /// `Lacking` names a way to log in, or the first of these that is missing. `Refused` where a BYE came, or NO or BAD: its
+    /// line. `BadReply` where what came is no reply: the place in bytes of the connection. `TooLarge` where a limit is
+    /// passed, `Link` where the link failed, and `Memory`. After a fault the connection isn't used again.
+    pub fn authenticate<L: Link>(
+        self,
+        link: &mut L,
+        account: &Account,
+    ) -> Result<Greeted, SessionFault>
+        requires room { self.conversation.count + 3 < 4294967295 }
+        requires follows { L.tells_files
+            → Follows (L.link link.old).connection self.conversation.feed }
+        requires stands { L.tells_server
+            → Stands None (L.clock link.old) (L.link link.old).connection self.conversation.feed }
+
+        // Over a link that tells its server, each question was answered at one moment of this call.
+        ensures files { L.tells_files → Linked AnyStep (L.clock link.old) (L.clock link.new) }
+        ensures told { L.tells_server
+            → Talked (entering self.preauth account.now) self.conversation.count (L.clock link.old)
+            (L.clock link.new) }
+        ensures answered { L.tells_server
+            → OnOk result (TalkedOut
+            (entering self.preauth account.now) self.conversation.count None (L.clock link.old)
+            (L.clock link.new)) }
+        ensures lacking { L.tells_server → (item : Item) → IsErrOf result (faults.Lacking item)
+            → TalkedOut (entering self.preauth account.now) self.conversation.count (Some item)
+            (L.clock link.old) (L.clock link.new) }
+
+        // Which bytes were sent and received, and how the connection stands then.
+        ensures came { L.tells_files → (heard : List Response)
+            → Hears heard (L.link link.old).connection self.conversation.feed
+            → IfOk result (λ s. CameToEnd
+            (entering self.preauth account.now) self.conversation.count
+            (L.link link.old).sent heard (record { count = s.conversation.count; rev2 = s.rev2 })
+            (L.link link.new) s.conversation.feed) }
+        ensures sent { L.tells_files
+            → SentIn (entering self.preauth account.now) self.conversation.count
+            (L.link link.old).sent (L.link link.new).sent }
+        ensures stands { L.tells_server
+            → IfOk result (λ s. Stands None (L.clock link.new)
+            (L.link link.new).connection s.conversation.feed) }
+        ensures still { L.tells_files
+            → IfOk result (λ s. Follows (L.link link.new).connection s.conversation.feed) }
+        ensures preauth { IfOk result (λ s. s.preauth ≡ self.preauth) }
+        ensures counted { IfOk result (λ s. s.conversation.count ≤ self.conversation.count + 3) }
+
+        // Why it ends otherwise, on the bytes received.
+        ensures why { L.tells_files → (heard : List Response)
+            → Hears heard (L.link link.old).connection self.conversation.feed
+            → (fault : SessionFault) → IsErrOf result fault
+            → BrokeOff (entering self.preauth account.now) self.conversation.count
+            (L.link link.old).sent heard (L.link link.new) fault }
+        ensures honest { L.tells_server → (at : ℕ) → IsErrOf result (faults.BadReply at) → ⊥ }
+        ensures disk { L.disk_faults link.new ≡ L.disk_faults link.old }
+        ensures count { (L.link link.old).faults ≤ (L.link link.new).faults }
+        ensures cause { IsErrOf result faults.Link
+            → Rose (L.link link.old).faults (L.link link.new).faults }
+    {
+        let Greeted {
+            conversation: Conversation {
+                alloc,
+                mut feed,
+                count,
+            },
+            preauth,
+            ..
+        } = self;
+        let offer = converse(
+            alloc,
+            &mut feed,
+            link,
+            Tag::Count(count + 1),
+            &Command::Capability,
+        )?;
+        if preauth {
+            let rev2 = check_offer(alloc, &mut feed, link, count + 1)?;
+            let conversation = Conversation {
+                alloc,
+                feed,
+                count: count + 2,
+            };
+            return Ok(Greeted {
+                conversation,
+                preauth,
+                rev2,
+            });
+        }
+        let rev2 = log_in(alloc, &mut feed, link, count + 1, account, &offer)?;
+        let conversation = Conversation {
+            alloc,
+            feed,
+            count: count + 3,
+        };
+        Ok(Greeted {
+            conversation,
+            preauth,
+            rev2,
+        })
+    }
+
+    /// Enables QRESYNC, with IMAP4rev2 where that was offered (RFC 9051, section 6.3.1; RFC 7162, section 3.2.3).
+    ///
+    /// `Lacking` where ENABLED doesn't name QRESYNC. The other faults are those of `authenticate`.
+    pub fn enable<L: Link>(self, link: &mut L) -> Result<Ready, SessionFault>
+        requires room { self.conversation.count + 1 < 4294967295 }
+        requires follows { L.tells_files
+            → Follows (L.link link.old).connection self.conversation.feed }
+        requires stands { L.tells_server
+            → Stands None (L.clock link.old) (L.link link.old).connection self.conversation.feed }
+
+        // Over a link that tells its server, each question was answered at one moment of this call.
+        ensures files { L.tells_files → Linked AnyStep (L.clock link.old) (L.clock link.new) }
+        ensures told { L.tells_server
+            → Talked (enabling self.rev2) self.conversation.count (L.clock link.old)
+            (L.clock link.new) }
+        ensures answered { L.tells_server
+            → OnOk result (TalkedOut (enabling self.rev2) self.conversation.count None
+            (L.clock link.old) (L.clock link.new)) }
+        ensures enabled { L.tells_server
+            → IfOk result (λ s. SwitchedOn self.rev2 (next_tag self.conversation.count)
+            (L.clock link.old) (L.clock link.new) (L.link link.new).connection s.conversation.feed) }
+        ensures lacking { L.tells_server → (item : Item) → IsErrOf result (faults.Lacking item)
+            → TalkedOut (enabling self.rev2) self.conversation.count (Some item) (L.clock link.old)
+            (L.clock link.new) }
+
+        // Which bytes were sent and received, and how the connection stands then.
+        ensures came { L.tells_files → (heard : List Response)
+            → Hears heard (L.link link.old).connection self.conversation.feed
+            → IfOk result (λ s. CameToEnd (enabling self.rev2) self.conversation.count
+            (L.link link.old).sent heard
+            (record { count = s.conversation.count; rev2 = self.rev2 })
+            (L.link link.new) s.conversation.feed) }
+        ensures sent { L.tells_files
+            → SentIn (enabling self.rev2) self.conversation.count (L.link link.old).sent
+            (L.link link.new).sent }
+        ensures stands { L.tells_server
+            → IfOk result (λ s. Stands None (L.clock link.new)
+            (L.link link.new).connection s.conversation.feed) }
+        ensures still { L.tells_files
+            → IfOk result (λ s. Follows (L.link link.new).connection s.conversation.feed) }
+        ensures counted { IfOk result (λ s. s.conversation.count ≡ self.conversation.count + 1) }
+
+        // Why it ends otherwise, on the bytes received.
+        ensures why { L.tells_files → (heard : List Response)
+            → Hears heard (L.link link.old).connection self.conversation.feed
+            → (fault : SessionFault) → IsErrOf result fault
+            → BrokeOff (enabling self.rev2) self.conversation.count (L.link link.old).sent heard
+            (L.link link.new) fault }
+        ensures honest { L.tells_server → (at : ℕ) → IsErrOf result (faults.BadReply at) → ⊥ }
+        ensures disk { L.disk_faults link.new ≡ L.disk_faults link.old }
+        ensures count { (L.link link.old).faults ≤ (L.link link.new).faults }
+        ensures cause { IsErrOf result faults.Link
+            → Rose (L.link link.old).faults (L.link link.new).faults }
+    {
+        let Greeted {
+            conversation: Conversation {
+                alloc,
+                mut feed,
+                count,
+            },
+            rev2,
+            ..
+        } = self;
+        let replies = converse(
+            alloc,
+            &mut feed,
+            link,
+            Tag::Count(count + 1),
+            &Command::Enable { rev2 },
+        )?;
+        check_enabled(&replies)?;
+        let conversation = Conversation {
+            alloc,
+            feed,
+            count: count + 1,
+        };
+        Ok(Ready { conversation })
+    }
+}

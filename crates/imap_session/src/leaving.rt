@@ -1,0 +1,203 @@
+//! The end of a session (RFC 9051, sections 6.1.3 and 7.1.5).
+
+ghost use Rattle.std.specs.Prelude.{◌≡◌, ◌≢◌, ◌≤◌, ◌<◌, ◌+◌, ◌++◌, [], ◌∷◌, ℕ, List, Option, Some, None, OnOk, IsErrOf, false, length};
+ghost use Rattle.imap_model.specs.declared.command.Command.TheVariants as commands;
+ghost use Rattle.imap_model.specs.declared.response.Response.{Response};
+ghost use Rattle.imap_model.specs.declared.response.Response.TheVariants as responses;
+ghost use Rattle.world_traits.specs.Asking.{Asking};
+ghost use Rattle.world_traits.specs.Calls.{Rose};
+ghost use Rattle.world_traits.specs.Links.{Linked, AnyStep};
+ghost use Rattle.imap_session.specs.Dialogue.{next_tag, next_text};
+ghost use Rattle.imap_session.specs.Faults.{IsCount, Unfit};
+ghost use Rattle.imap_session.specs.Hearing.{Hears};
+ghost use Rattle.imap_session.specs.Knowing.{IsEnd};
+ghost use Rattle.imap_session.specs.Leaving.{IsFarewell, Left, Staying};
+ghost use Rattle.imap_session.specs.Replying.{ReceivedAtMost};
+ghost use Rattle.imap_session.specs.Sent.{SentFront};
+ghost use Rattle.imap_session.specs.Session.{Follows, Stands};
+ghost use Rattle.imap_session.specs.declared.fault.SessionFault.{SessionFault};
+ghost use Rattle.imap_session.specs.declared.fault.SessionFault.TheVariants as faults;
+
+use crate::asking::finish;
+use crate::conversation::Conversation;
+use crate::listener::Listener;
+use crate::listening::{Line, MOST, listen};
+use crate::{Chosen, Ready, SessionFault};
+use imap_command::write;
+use imap_model::{Command, Response};
+use literal_feed::Feed;
+use mail_base::{Bytes, Tag};
+use std::alloc::{AllocError, Global};
+use world_traits::{Clocked, Link, LinkFailed};
+
+impl Ready {
+    /// Says LOGOUT and reads up to a BYE or the completion, whichever comes first. A BYE ends the session well, also where
+    /// the server had said it before LOGOUT was sent.
+    pub fn leave<L: Link>(self, link: &mut L) -> Result<(), SessionFault>
+        requires room { self.conversation.count + 1 < 4294967295 }
+        requires follows { L.tells_files
+            → Follows (L.link link.old).connection self.conversation.feed }
+        requires stands { L.tells_server
+            → Stands None (L.clock link.old) (L.link link.old).connection self.conversation.feed }
+        ensures files { L.tells_files → Linked AnyStep (L.clock link.old) (L.clock link.new) }
+        ensures told { L.tells_server
+            → Linked (Asking (L.clock link.old).now.outside.talk.told
+            (next_tag self.conversation.count) commands.Logout) (L.clock link.old)
+            (L.clock link.new) }
+        ensures left { L.tells_files → (heard : List Response)
+            → Hears heard (L.link link.old).connection self.conversation.feed
+            → OnOk result (Left heard (next_tag self.conversation.count)
+            (L.link link.new).connection) }
+        ensures within { L.tells_files → (heard : List Response)
+            → (h : Hears heard (L.link link.old).connection self.conversation.feed)
+            → OnOk result (ReceivedAtMost (length h.connection.received + 268435456)
+            (L.link link.new).connection) }
+        ensures why { L.tells_files → (heard : List Response)
+            → (h : Hears heard (L.link link.old).connection self.conversation.feed)
+            → (fault : SessionFault) → IsErrOf result fault
+            → Staying heard (next_tag self.conversation.count)
+            (length h.connection.received + 268435456) (L.link link.new).connection fault }
+        ensures sent { L.tells_files
+            → SentFront (next_text self.conversation.count commands.Logout) (L.link link.old).sent
+            (L.link link.new).sent }
+        ensures whole { L.tells_files
+            → OnOk result ((L.link link.new).sent ≡
+            (L.link link.old).sent ++ next_text self.conversation.count commands.Logout) }
+        ensures honest { L.tells_server → (at : ℕ) → IsErrOf result (faults.BadReply at) → ⊥ }
+        ensures disk { L.disk_faults link.new ≡ L.disk_faults link.old }
+        ensures count { (L.link link.old).faults ≤ (L.link link.new).faults }
+        ensures cause { IsErrOf result faults.Link
+            → Rose (L.link link.old).faults (L.link link.new).faults }
+    {
+        let Ready {
+            conversation: Conversation {
+                alloc,
+                mut feed,
+                count,
+            },
+        } = self;
+        log_out(alloc, &mut feed, link, count)
+    }
+}
+
+impl Chosen {
+    /// Says LOGOUT and reads up to a BYE or the completion, whichever comes first. A BYE ends the session well, also where
+    /// the server had said it before LOGOUT was sent.
+    pub fn leave<L: Link>(self, link: &mut L) -> Result<(), SessionFault>
+        requires room { self.conversation.count + 1 < 4294967295 }
+        requires follows { L.tells_files
+            → Follows (L.link link.old).connection self.conversation.feed }
+        requires stands { L.tells_server
+            → Stands (Some self.name) (L.clock link.old)
+            (L.link link.old).connection self.conversation.feed }
+        ensures files { L.tells_files → Linked AnyStep (L.clock link.old) (L.clock link.new) }
+        ensures told { L.tells_server
+            → Linked (Asking (L.clock link.old).now.outside.talk.told
+            (next_tag self.conversation.count) commands.Logout) (L.clock link.old)
+            (L.clock link.new) }
+        ensures left { L.tells_files → (heard : List Response)
+            → Hears heard (L.link link.old).connection self.conversation.feed
+            → OnOk result (Left heard (next_tag self.conversation.count)
+            (L.link link.new).connection) }
+        ensures within { L.tells_files → (heard : List Response)
+            → (h : Hears heard (L.link link.old).connection self.conversation.feed)
+            → OnOk result (ReceivedAtMost (length h.connection.received + 268435456)
+            (L.link link.new).connection) }
+        ensures why { L.tells_files → (heard : List Response)
+            → (h : Hears heard (L.link link.old).connection self.conversation.feed)
+            → (fault : SessionFault) → IsErrOf result fault
+            → Staying heard (next_tag self.conversation.count)
+            (length h.connection.received + 268435456) (L.link link.new).connection fault }
+        ensures sent { L.tells_files
+            → SentFront (next_text self.conversation.count commands.Logout) (L.link link.old).sent
+            (L.link link.new).sent }
+        ensures whole { L.tells_files
+            → OnOk result ((L.link link.new).sent ≡
+            (L.link link.old).sent ++ next_text self.conversation.count commands.Logout) }
+        ensures honest { L.tells_server → (at : ℕ) → IsErrOf result (faults.BadReply at) → ⊥ }
+        ensures disk { L.disk_faults link.new ≡ L.disk_faults link.old }
+        ensures count { (L.link link.old).faults ≤ (L.link link.new).faults }
+        ensures cause { IsErrOf result faults.Link
+            → Rose (L.link link.old).faults (L.link link.new).faults }
+    {
+        let Chosen {
+            conversation: Conversation {
+                alloc,
+                mut feed,
+                count,
+            },
+            ..
+        } = self;
+        log_out(alloc, &mut feed, link, count)
+    }
+}
+
+// Says LOGOUT, and reads the farewell.
+fn log_out<L: Link>(
+    alloc: Global,
+    feed: &mut Feed,
+    link: &mut L,
+    count: u32,
+) -> Result<(), SessionFault>
+    requires room { count + 1 < 4294967295 }
+    requires follows { L.tells_files → Follows (L.link link.old).connection feed.old }
+    requires stands { L.tells_server → (selected : Option (List ℕ))
+        × Stands selected (L.clock link.old) (L.link link.old).connection feed.old }
+    ensures files { L.tells_files → Linked AnyStep (L.clock link.old) (L.clock link.new) }
+    ensures told { L.tells_server
+        → Linked (Asking (L.clock link.old).now.outside.talk.told (next_tag count) commands.Logout)
+        (L.clock link.old) (L.clock link.new) }
+    ensures left { L.tells_files → (heard : List Response)
+        → Hears heard (L.link link.old).connection feed.old
+        → OnOk result (Left heard (next_tag count) (L.link link.new).connection) }
+    ensures within { L.tells_files → (heard : List Response)
+        → (h : Hears heard (L.link link.old).connection feed.old)
+        → OnOk result (ReceivedAtMost (length h.connection.received + 268435456)
+        (L.link link.new).connection) }
+    ensures why { L.tells_files → (heard : List Response)
+        → (h : Hears heard (L.link link.old).connection feed.old)
+        → (fault : SessionFault) → IsErrOf result fault
+        → Staying heard (next_tag count) (length h.connection.received + 268435456)
+        (L.link link.new).connection fault }
+    ensures sent { L.tells_files
+        → SentFront (next_text count commands.Logout) (L.link link.old).sent
+        (L.link link.new).sent }
+    ensures whole { L.tells_files
+        → OnOk result ((L.link link.new).sent ≡
+        (L.link link.old).sent ++ next_text count commands.Logout) }
+    ensures honest { L.tells_server → (at : ℕ) → IsErrOf result (faults.BadReply at) → ⊥ }
+    ensures disk { L.disk_faults link.new ≡ L.disk_faults link.old }
+    ensures count { (L.link link.old).faults ≤ (L.link link.new).faults }
+    ensures cause { IsErrOf result faults.Link
+        → Rose (L.link link.old).faults (L.link link.new).faults }
+{
+    let tag = Tag::Count(count + 1);
+    let parts = write(alloc, tag, &Command::Logout)?;
+    link.send(only_part(parts.as_slice()))?;
+    let mut left = MOST;
+    let mut listener = Listener::new(alloc, None);
+    let line = listen(alloc, feed, &mut left, link, &mut listener, false)?;
+    farewell(line, tag)
+}
+
+fn only_part(parts: &[Bytes]) -> &[u8]
+    requires { length parts.now ≡ 1 }
+    ensures { parts.now ≡ result.now ∷ [] }
+{
+    parts[0].as_slice()
+}
+
+// Whether the last line ends the session well.
+fn farewell(line: Line, tag: Tag) -> Result<(), SessionFault>
+    requires ended { IsEnd false line.response }
+    requires counted { IsCount tag }
+    ensures farewell { OnOk result (IsFarewell tag line.response) }
+    ensures why { (fault : SessionFault) → IsErrOf result fault
+        → Unfit tag ⊥ line.frame line.response fault × (line.response ≢ responses.Bye) }
+{
+    if let Response::Bye = line.response {
+        return Ok(());
+    }
+    finish(line, tag, false)?;
+    Ok(())
+}

@@ -1,0 +1,202 @@
+//! Reads responses.
+
+ghost use Rattle.std.specs.Prelude.{◌≡◌, ◌≤◌, ◌<◌, ◌++◌, ◌+◌, [], ◌∷◌, ℕ, List, Option, Some, IfOk, OnOk, IsErrOf, IsTrue, ◌↔◌, length};
+ghost use Rattle.mail_base.specs.Frames.{NoWhole};
+ghost use Rattle.mail_base.specs.declared.frame.Frame.{Frame};
+ghost use Rattle.imap_model.specs.Responses.{Spells};
+ghost use Rattle.imap_model.specs.Small.{IsSmall};
+ghost use Rattle.imap_model.specs.Talking.{Answering};
+ghost use Rattle.imap_model.specs.declared.response.Response.{Response};
+ghost use Rattle.world_traits.specs.Calls.{Rose};
+ghost use Rattle.world_traits.specs.Links.{Linked, AnyStep};
+ghost use Rattle.imap_session.specs.Hearing.{Reads, ReadsLast};
+ghost use Rattle.imap_session.specs.Faults.{Reading, LineBad, of_feed};
+ghost use Rattle.imap_session.specs.Knowing.{IsEnd};
+ghost use Rattle.imap_session.specs.Permanent.{behind_all};
+ghost use Rattle.imap_session.specs.Replying.{AllSmall, HeardTo};
+ghost use Rattle.imap_session.specs.Session.{Listening, Asked};
+ghost use Rattle.imap_session.specs.declared.permits.Permits.{Permits};
+ghost use Rattle.imap_session.specs.declared.fault.SessionFault.{SessionFault};
+ghost use Rattle.imap_session.specs.declared.fault.SessionFault.TheVariants as faults;
+
+use crate::SessionFault;
+use crate::listener::Listener;
+use imap_model::{Limit, Response};
+use imap_response::{ResponseFault, read};
+use literal_feed::Feed;
+use mail_base::{FeedFault, Frame};
+use std::alloc::{AllocError, Global};
+use world_traits::{Clocked, Link, LinkFailed};
+
+/// How many bytes the reply to one command may have.
+pub const MOST: u64 = 268_435_456;
+
+// A response, and the line that spells it.
+#[derive(Drop)]
+pub struct Line {
+    pub frame: Frame,
+    pub response: Response,
+}
+
+// Receives a piece.
+fn receive<L: Link>(feed: &mut Feed, left: &mut u64, link: &mut L) -> Result<(), SessionFault>
+    requires owed { L.tells_server → Listening (L.clock link.old).now.outside (L.link link.old).connection feed.old }
+    requires cut { NoWhole feed.old.bytes }
+    ensures files { L.tells_files → Linked AnyStep (L.clock link.old) (L.clock link.new) }
+    ensures told { L.tells_server → Linked Answering (L.clock link.old) (L.clock link.new) }
+    ensures reads { L.tells_files → (heard : List Response) (most : ℕ)
+        → Reads heard most left.old (L.link link.old).connection feed.old
+        → OnOk result (Reads heard most left.new (L.link link.new).connection feed.new) }
+    ensures why { L.tells_files → (heard : List Response) (most : ℕ)
+        → Reads heard most left.old (L.link link.old).connection feed.old
+        → (fault : SessionFault) → IsErrOf result fault → Reading most (L.link link.new).connection fault }
+    ensures sent { L.tells_files → (L.link link.new).sent ≡ (L.link link.old).sent }
+    ensures less { OnOk result (left.new < left.old) }
+    ensures sum { OnOk result (length feed.new.bytes + left.new ≡ length feed.old.bytes + left.old) }
+    ensures disk { L.disk_faults link.new ≡ L.disk_faults link.old }
+    ensures count { (L.link link.old).faults ≤ (L.link link.new).faults }
+    ensures cause { IsErrOf result faults.Link → Rose (L.link link.old).faults (L.link link.new).faults }
+{
+    let mut piece = [0; 4096];
+    let count = link.recv(&mut piece)?;
+    let size = count as u64;
+    if *left < size {
+        return Err(SessionFault::TooLarge {
+            limit: Limit::Reply,
+            number: MOST + 1,
+        });
+    }
+    *left -= size;
+    match feed.push(&piece[..count]) {
+        Ok(()) => Ok(()),
+        Err(fault) => Err(fed_badly(fault)),
+    }
+}
+
+fn fed_badly(fault: FeedFault) -> SessionFault
+    ensures value { result ≡ of_feed fault }
+{
+    match fault {
+        FeedFault::Memory => SessionFault::Memory,
+        FeedFault::BareLf { at } => SessionFault::BadReply { at },
+        FeedFault::LiteralTooLarge { asked, .. } => SessionFault::TooLarge {
+            limit: Limit::Literal,
+            number: asked,
+        },
+        FeedFault::LineTooLong { .. } => SessionFault::TooLarge {
+            limit: Limit::Line,
+            number: 1_048_577,
+        },
+    }
+}
+
+// The response that a frame spells.
+fn line_of(alloc: Global, frame: Frame) -> Result<Line, SessionFault>
+    ensures frame { IfOk result (λ line. line.frame ≡ frame) }
+    ensures spells { IfOk result (λ line. Spells frame line.response) }
+    ensures small { IfOk result (λ line. IsSmall line.response) }
+    ensures why { (fault : SessionFault) → IsErrOf result fault → LineBad frame fault }
+{
+    match read(alloc, &frame) {
+        Ok(response) => Ok(Line { frame, response }),
+        Err(ResponseFault::Memory) => Err(SessionFault::Memory),
+        Err(ResponseFault::BadForm { .. }) => Err(SessionFault::BadReply { at: frame.at }),
+        Err(ResponseFault::TooLarge { limit, number }) => Err(SessionFault::TooLarge {
+            limit,
+            number,
+        }),
+    }
+}
+
+/// Waits for the next response.
+pub fn next<L: Link>(
+    alloc: Global,
+    feed: &mut Feed,
+    left: &mut u64,
+    link: &mut L,
+) -> Result<Line, SessionFault>
+    requires owed { L.tells_server → Listening (L.clock link.old).now.outside (L.link link.old).connection feed.old }
+    ensures files { L.tells_files → Linked AnyStep (L.clock link.old) (L.clock link.new) }
+    ensures told { L.tells_server → Linked Answering (L.clock link.old) (L.clock link.new) }
+    ensures reads { L.tells_files → (heard : List Response) (most : ℕ)
+        → Reads heard most left.old (L.link link.old).connection feed.old
+        → IfOk result
+        (λ line. ReadsLast (heard ++ line.response ∷ []) line.frame most left.new (L.link link.new).connection
+        feed.new) }
+    ensures spells { IfOk result (λ line. Spells line.frame line.response) }
+    ensures small { IfOk result (λ line. IsSmall line.response) }
+    ensures less { IfOk result (λ _. length feed.new.bytes + left.new < length feed.old.bytes + left.old) }
+    ensures why { L.tells_files → (heard : List Response) (most : ℕ)
+        → Reads heard most left.old (L.link link.old).connection feed.old
+        → (fault : SessionFault) → IsErrOf result fault → Reading most (L.link link.new).connection fault }
+    ensures sent { L.tells_files → (L.link link.new).sent ≡ (L.link link.old).sent }
+    ensures disk { L.disk_faults link.new ≡ L.disk_faults link.old }
+    ensures count { (L.link link.old).faults ≤ (L.link link.new).faults }
+    ensures cause { IsErrOf result faults.Link → Rose (L.link link.old).faults (L.link link.new).faults }
+{
+    loop {
+        if let Some(frame) = feed.take()? {
+            return line_of(alloc, frame);
+        }
+        receive(feed, left, link)?;
+    }
+}
+
+// Whether a response ends a reply. Where a text is arriving, a request to go on does.
+fn ends(part: bool, response: &Response) -> bool
+    ensures { IsTrue result ↔ IsEnd part response.now }
+{
+    match response {
+        Response::Done { .. } | Response::Bye => true,
+        Response::Go => part,
+        Response::Untagged { .. }
+        | Response::Preauth { .. }
+        | Response::Capability(_)
+        | Response::Enabled(_)
+        | Response::Exists(_)
+        | Response::Fetch(_)
+        | Response::Vanished { .. }
+        | Response::Found(_)
+        | Response::Other => false,
+    }
+}
+
+/// Reads up to a response that ends the reply, and hands each one before it to the listener as it comes.
+pub fn listen<L: Link>(
+    alloc: Global,
+    feed: &mut Feed,
+    left: &mut u64,
+    link: &mut L,
+    listener: &mut Listener,
+    part: bool,
+) -> Result<Line, SessionFault>
+    requires asked { L.tells_server → Asked part (L.clock link.old) (L.link link.old).connection feed.old }
+    ensures files { L.tells_files → Linked AnyStep (L.clock link.old) (L.clock link.new) }
+    ensures told { L.tells_server → Linked Answering (L.clock link.old) (L.clock link.new) }
+    ensures reads { L.tells_files → (heard : List Response) (most : ℕ)
+        → Reads heard most left.old (L.link link.old).connection feed.old
+        → IfOk result
+        (λ line. HeardTo part heard listener.old.rows listener.new.rows line.frame line.response most left.new
+        (L.link link.new).connection feed.new) }
+    ensures ends { IfOk result (λ line. IsEnd part line.response) }
+    ensures spells { IfOk result (λ line. Spells line.frame line.response) }
+    ensures small { AllSmall listener.old.rows
+        → IfOk result (λ line. IsSmall line.response × AllSmall listener.new.rows) }
+    ensures permits { (start : Option Permits) → listener.old.permits ≡ behind_all start listener.old.rows
+        → OnOk result (listener.new.permits ≡ behind_all start listener.new.rows) }
+    ensures why { L.tells_files → (heard : List Response) (most : ℕ)
+        → Reads heard most left.old (L.link link.old).connection feed.old
+        → (fault : SessionFault) → IsErrOf result fault → Reading most (L.link link.new).connection fault }
+    ensures sent { L.tells_files → (L.link link.new).sent ≡ (L.link link.old).sent }
+    ensures disk { L.disk_faults link.new ≡ L.disk_faults link.old }
+    ensures count { (L.link link.old).faults ≤ (L.link link.new).faults }
+    ensures cause { IsErrOf result faults.Link → Rose (L.link link.old).faults (L.link link.new).faults }
+{
+    loop {
+        let line = next(alloc, feed, left, link)?;
+        if ends(part, &line.response) {
+            return Ok(line);
+        }
+        listener.hear(line.response)?;
+    }
+}
