@@ -5,14 +5,11 @@
 
 ghost use Rattle.std.specs.Prelude.{◌≡◌};
 
-use crate::answer::Answer;
 use crate::events::{event, put_action, put_intent, put_message, target};
-use crate::fault::CaseFault;
-use crate::input::Input;
 use crate::outcomes::put_outcome;
 use crate::rules::put_rule;
-use crate::values::put_modseq;
 use action_queue::{Book, Event, Found, Intent, Known, Queued, Rule, Version};
+use case_words::{Answer, CaseFault, Input, put_modseq};
 use mail_base::{BoxName, List};
 use std::alloc::{AllocError, Global};
 

@@ -2,12 +2,9 @@
 
 ghost use Rattle.std.specs.Prelude.{◌≡◌, ◌≤◌, true, false, IfOk};
 
-use crate::answer::Answer;
 use crate::deltas::{delta, put_row};
-use crate::fault::CaseFault;
-use crate::input::Input;
 use crate::numbers::known;
-use crate::values::{put_modseq, put_uid, put_validity};
+use case_words::{Answer, CaseFault, Input, put_modseq, put_uid, put_validity};
 use mailbox_cache::{Cache, Delta};
 use std::alloc::Global;
 

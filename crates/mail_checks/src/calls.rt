@@ -1,11 +1,9 @@
 //! Finds the module that answers a call.
 
-use crate::answer::Answer;
-use crate::fault::CaseFault;
-use crate::input::Input;
 use crate::{
     books, caches, commands, flags, frames, headers, numbers, records, responses, sets, tokens,
 };
+use case_words::{Answer, CaseFault, Input};
 
 /// Adds what a call answers of an input.
 pub fn put_answer(call: &str, input: &mut Input, answer: &mut Answer) -> Result<(), CaseFault> {

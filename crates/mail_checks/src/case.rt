@@ -1,11 +1,7 @@
 //! A line of data: what is called, with what, and what is due.
 
-use crate::answer::Answer;
 use crate::calls::put_answer;
-use crate::fault::CaseFault;
-use crate::input::Input;
-use crate::word::Word;
-use crate::words::words_of;
+use case_words::{Answer, CaseFault, Input, Word, words_of};
 use std::alloc::Global;
 
 /// What came of a case.

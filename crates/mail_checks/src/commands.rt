@@ -1,11 +1,7 @@
 //! Calls of `imap_command` and `command_texts`: the texts of commands, as they are written and as they are heard.
 
-use crate::answer::Answer;
-use crate::command::{command, put_command};
-use crate::fault::CaseFault;
-use crate::input::Input;
 use crate::numbers::known;
-use crate::values::{put_tag, tag};
+use case_words::{Answer, CaseFault, Input, command, put_command, put_tag, tag};
 use command_texts::{Heard, heard};
 use imap_command::{Parts, astring, write};
 use imap_model::Command;

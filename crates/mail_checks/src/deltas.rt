@@ -4,11 +4,9 @@
 ghost use Rattle.std.specs.Prelude.{◌≡◌};
 ghost use Rattle.mailbox_cache.specs.Rows.{has_uid};
 
-use crate::answer::Answer;
-use crate::fault::CaseFault;
-use crate::input::Input;
-use crate::values::{
-    flags, modseq, put_flags, put_modseq, put_set, put_uid, put_validity, set, uid, validity,
+use case_words::{
+    Answer, CaseFault, Input, flags, modseq, put_flags, put_modseq, put_set, put_uid, put_validity,
+    set, uid, validity,
 };
 use mail_base::List;
 use mailbox_cache::{Delta, Row};

@@ -1,16 +1,12 @@
 //! The events of a journal, as words: `begin`, `accept`, `intend`, `settle` and `learn`, with what they tell.
 
-use crate::answer::Answer;
-use crate::command::{put_name, put_sign, sign};
 use crate::deltas::{delta, put_delta};
-use crate::fault::CaseFault;
-use crate::input::Input;
 use crate::outcomes::{outcome, put_outcome};
-use crate::values::{
-    action_id, bytes, flags, modseq, name, put_flags, put_modseq, put_uid, put_validity, uid,
-    validity,
-};
 use action_queue::{Action, Event, Intent, Target};
+use case_words::{
+    Answer, CaseFault, Input, action_id, bytes, flags, modseq, name, put_flags, put_modseq,
+    put_name, put_sign, put_uid, put_validity, sign, uid, validity,
+};
 use mail_base::{ActionId, BoxName, List, Validity};
 use mailbox_cache::Delta;
 use uid_sets::Uid;

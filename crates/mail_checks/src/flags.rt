@@ -1,10 +1,7 @@
 //! Calls of `flag_set`: flags, lists of flags, and sets of them.
 
-use crate::answer::Answer;
-use crate::fault::CaseFault;
-use crate::input::Input;
 use crate::numbers::known;
-use crate::values::{flags, key, put_flags};
+use case_words::{Answer, CaseFault, Input, flags, key, put_flags};
 use flag_set::{FlagFault, FlagKey, FlagSet, is_flag_list, is_permanent_list, read_permanent};
 
 /// Answers a call of this module, or tells that it is none.

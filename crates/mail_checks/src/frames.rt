@@ -1,9 +1,7 @@
 //! Calls of `literal_feed`: the frames of a stream, however it comes.
 
-use crate::answer::Answer;
-use crate::fault::CaseFault;
-use crate::input::Input;
 use crate::numbers::{known, put_spans};
+use case_words::{Answer, CaseFault, Input};
 use literal_feed::Feed;
 use mail_base::{FeedFault, Frame, List};
 use std::alloc::Global;

@@ -1,9 +1,7 @@
 //! Calls of `mail_header`: the fields of a message's header, and its Message-ID.
 
-use crate::answer::Answer;
-use crate::fault::CaseFault;
-use crate::input::Input;
 use crate::numbers::known;
+use case_words::{Answer, CaseFault, Input};
 use mail_header::{IdFault, crlf_of, fields, message_id, unfold};
 
 /// Answers a call of this module, or tells that it is none.

@@ -3,32 +3,24 @@
 //! here name, and texts, numbers and names are written as `words` says. It tells each case that fails, and how many passed.
 #![tactic(auto)]
 
-mod answer;
 mod books;
 mod caches;
 mod calls;
 mod case;
-mod command;
 mod commands;
 mod deltas;
 mod events;
-mod fault;
 mod flags;
 mod frames;
 mod headers;
-mod input;
 mod numbers;
 mod outcomes;
-mod piece;
 mod records;
 mod responses;
 mod rules;
 mod sets;
 mod tally;
 mod tokens;
-mod values;
-mod word;
-mod words;
 
 use std::alloc::AllocError;
 use std::process::ExitCode;

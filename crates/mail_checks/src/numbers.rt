@@ -1,9 +1,6 @@
 //! Calls of `mail_base`: numbers, names, accounts, printed lines, lists, tags and statuses.
 
-use crate::answer::Answer;
-use crate::fault::CaseFault;
-use crate::input::Input;
-use crate::values::{bytes, name};
+use case_words::{Answer, CaseFault, Input, bytes, name};
 use mail_base::{
     Account, AccountFault, ActionId, BoxName, Frame, Line, List, Map, NameFault, NumberFault, Span,
     Status, Tag, Validity, Words, read_modseq, read_u32,

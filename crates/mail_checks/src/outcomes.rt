@@ -1,10 +1,9 @@
 //! How actions end, as words: `done`, `done 9 7` at a place, or the kind of a conflict, with its numbers.
 
-use crate::answer::Answer;
-use crate::fault::CaseFault;
-use crate::input::Input;
-use crate::values::{action_id, modseq, put_modseq, put_uid, put_validity, uid, validity};
 use action_queue::{Kind, Outcome, Place};
+use case_words::{
+    Answer, CaseFault, Input, action_id, modseq, put_modseq, put_uid, put_validity, uid, validity,
+};
 
 /// The next words as an outcome.
 pub fn outcome(input: &mut Input) -> Result<Outcome, CaseFault> {

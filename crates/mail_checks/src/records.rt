@@ -4,11 +4,9 @@ ghost use Rattle.std.specs.Prelude.{◌≡◌, ◌≤◌, length};
 ghost use Rattle.action_queue.specs.Writable.{IsWritable};
 ghost use Rattle.record_codec.specs.Spelling.{Spelled};
 
-use crate::answer::Answer;
 use crate::events::put_event;
-use crate::fault::CaseFault;
-use crate::input::Input;
 use action_queue::Event;
+use case_words::{Answer, CaseFault, Input};
 use record_codec::{RecordFault, action_size, decode, encode, encode_outcome, size};
 use std::alloc::Global;
 

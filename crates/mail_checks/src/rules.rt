@@ -1,8 +1,7 @@
 //! The rules of a book, as words.
 
-use crate::answer::Answer;
-use crate::fault::CaseFault;
 use action_queue::Rule;
+use case_words::{Answer, CaseFault};
 
 /// Adds the rule that an event breaks, or that it is entered.
 pub fn put_rule(answer: &mut Answer, rule: Option<Rule>) -> Result<(), CaseFault> {

@@ -1,10 +1,7 @@
 //! Calls of `uid_sets`: sets of UIDs, as their texts.
 
-use crate::answer::Answer;
-use crate::fault::CaseFault;
-use crate::input::Input;
 use crate::numbers::known;
-use crate::values::{put_set, put_uid, set, uid};
+use case_words::{Answer, CaseFault, Input, put_set, put_uid, set, uid};
 use uid_sets::{SetFault, UidRange, UidSet};
 
 /// Answers a call of this module, or tells that it is none.

@@ -1,7 +1,7 @@
 //! Goes over the lines of a file, and keeps what is to be printed.
 
 use crate::case::{Verdict, check};
-use crate::fault::CaseFault;
+use case_words::CaseFault;
 use std::alloc::Global;
 
 /// How many cases passed and failed, and what is told of those that failed.

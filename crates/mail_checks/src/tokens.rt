@@ -1,9 +1,7 @@
 //! Calls of `imap_tokens`: the tokens of a line.
 
-use crate::answer::Answer;
-use crate::fault::CaseFault;
-use crate::input::Input;
 use crate::numbers::spans;
+use case_words::{Answer, CaseFault, Input};
 use imap_tokens::{Token, TokenFault, TokenKind, Tokens};
 use mail_base::Span;
 

@@ -77,6 +77,10 @@ fn bodies(alloc: Global, text: &[u8]) -> Result<Vec<Placed>, AllocError> {
     Ok(found)
 }
 
+/// A field's body without its folds: CR LF goes where a blank stands behind it (RFC 5322, section 2.2.3).
+///
+/// # Errors
+/// `AllocError` for want of memory.
 pub fn unfold(alloc: Global, body: &[u8]) -> Result<Vec<u8>, AllocError> {
     let mut text = Vec::new(alloc);
     for byte in body {
@@ -89,6 +93,10 @@ pub fn unfold(alloc: Global, body: &[u8]) -> Result<Vec<u8>, AllocError> {
     Ok(text)
 }
 
+/// A text in which each bare LF is a CR LF.
+///
+/// # Errors
+/// `AllocError` for want of memory.
 pub fn crlf_of(alloc: Global, input: &[u8]) -> Result<Vec<u8>, AllocError> {
     let mut text = Vec::new(alloc);
     for byte in input {
@@ -135,6 +143,10 @@ fn unfit(id: &[u8]) -> Option<usize> {
     if closed { None } else { Some(id.len()) }
 }
 
+/// The identifier of a message's header, or why it has none (RFC 5322, section 3.6.4).
+///
+/// # Errors
+/// `AllocError` for want of memory. The inner fault is the header's: no field, two fields, or a body that is no identifier.
 pub fn message_id(alloc: Global, text: &[u8]) -> Result<Result<Vec<u8>, IdFault>, AllocError> {
     let found = bodies(alloc, text)?;
     if let Some((second, _)) = found.get(1) {

@@ -3,34 +3,40 @@
 use super::*;
 use mailbox_cache::Row;
 
-// A mailbox of the tests' book.
+/// A mailbox of the tests' book.
 #[derive(Clone, Copy)]
 pub enum Mailbox {
+    /// `INBOX`
     Inbox,
+    /// `Archive`
     Archive,
 }
 
-// A message: number 42 of a mailbox under validity 5, or the one that an action makes.
+/// A message: number 42 of a mailbox under validity 5, or the one that an action makes.
 #[derive(Clone, Copy)]
 pub enum Of {
+    /// Message 42 of this mailbox.
     In(Mailbox),
+    /// The message that the action of this number makes.
     Made(u32),
 }
 
+/// Message 42 of INBOX.
 pub const INBOX_42: Of = Of::In(Mailbox::Inbox);
 
-// An event. The first number of those of actions is its action's.
+/// An event. The first number of those of actions is its action's.
 #[derive(Clone, Copy)]
 pub enum Step {
-    // An action moves a message to a mailbox.
+    /// An action moves a message to a mailbox.
     Moves(u32, Of, Mailbox),
-    // An action is about to move message 42 of INBOX to a mailbox.
+    /// An action is about to move message 42 of INBOX to a mailbox.
     Shifts(u32, Mailbox),
-    // INBOX learns all or a part, with this highest mod-sequence, and the rows from one UID to another.
+    /// INBOX learns all or a part, with this highest mod-sequence, and the rows from one UID to another.
     LearnsRows(bool, u64, u32, u32),
 }
 
 impl Mailbox {
+    /// Its name. None where the text is no name, which doesn't happen.
     pub fn name(self) -> Option<BoxName> {
         let text = match self {
             Mailbox::Inbox => b"INBOX".as_slice(),
@@ -41,7 +47,7 @@ impl Mailbox {
 }
 
 impl Of {
-    // None where a number is none.
+    /// The message as an action names it. None where a number is none.
     pub fn target(self) -> Option<Target> {
         match self {
             Of::In(mailbox) => {
@@ -60,7 +66,7 @@ impl Of {
 }
 
 impl Step {
-    // None where a number is none, or for want of memory.
+    /// The event of the row. None where a number is none, or for want of memory.
     pub fn event(self, alloc: Global) -> Option<Event> {
         match self {
             Step::Moves(id, of, to) => moves(id, of, to),

@@ -84,7 +84,8 @@ fn append(input: &mut Input) -> Result<Command, CaseFault> {
     Ok(Command::Append { to, flags, text })
 }
 
-fn account(input: &mut Input) -> Result<Account, CaseFault> {
+/// The next texts as a user and a password.
+pub fn account(input: &mut Input) -> Result<Account, CaseFault> {
     let (user, password) = (input.letters()?, input.letters()?);
     match Account::new(input.alloc, user, password) {
         Ok(account) => Ok(account),
@@ -92,8 +93,8 @@ fn account(input: &mut Input) -> Result<Account, CaseFault> {
     }
 }
 
-// `since 5 715`, where it stands there.
-fn mark(input: &mut Input) -> Result<Option<Mark>, CaseFault> {
+/// `since 5 715`, where it stands there.
+pub fn mark(input: &mut Input) -> Result<Option<Mark>, CaseFault> {
     if !input.skips("since") {
         return Ok(None);
     }
