@@ -1,17 +1,11 @@
 -- The lines that a server writes (RFC 9051, sections 2.2 and 4.3), however long they are: what is too long is for the client to refuse.
-use Rattle.std.specs.Prelude.{◌≡◌, ℕ, List, [], ◌∷◌, ◌++◌, length}
+use Rattle.std.specs.Prelude.{◌≡◌, ℕ, List, [], ◌∷◌, ◌++◌}
 use Rattle.std.specs.List.{AllByRecursion}
-use Rattle.std.specs.Str.Parse.{IsNumeral, digits_value}
-use Rattle.mail_base.specs.Frames.{Opening, NoLf, header, line_text, literals_from}
+use Rattle.mail_base.specs.Frames.{Opening, NoLf, line_text, literals_from}
+use Rattle.mail_base.specs.ToldLines.{IsOpened, IsClosed}
 use Rattle.mail_base.specs.declared.frame.Frame.{Frame}
 use Rattle.imap_model.specs.Responses.{Spells}
 use Rattle.imap_model.specs.declared.response.Response.{Response}
-
--- the header of the literal says how many octets stand behind it
-pub record IsOpened (o : Opening) : Type 0 where
-  pub plain : NoLf o.front
-  pub number : IsNumeral 10 o.digits
-  pub octets : digits_value 10 o.digits ≡ length o.octets
 
 -- the frame is a line: parts that open literals, and a last part that opens none
 pub record IsLineFrame (frame : Frame) : Type 0 where
@@ -19,7 +13,7 @@ pub record IsLineFrame (frame : Frame) : Type 0 where
   pub last : List ℕ
   pub opened : AllByRecursion IsOpened openings
   pub plain : NoLf last
-  pub closed : (front digits : List ℕ) → IsNumeral 10 digits → last ≡ front ++ header digits → ⊥
+  pub closed : IsClosed last
   pub text : frame.bytes ≡ line_text openings last
   pub literals : frame.literals ≡ literals_from 0 openings
 

@@ -1,25 +1,20 @@
 -- The frames that were taken of a stream spell a front of the responses that were told in it; and where neither a frame nor a
 -- fault stands at its front, nothing more was told (RFC 9051, sections 2.2 and 4.3).
 use Rattle.std.proofs.Common.{◌≡◌, ℕ, ◌+◌, List, [], ◌∷◌, ◌++◌, length, refl, sym, ◌∙◌, ap, subst, arith, length-append}
-use Rattle.std.specs.List.{AllByRecursion}
 use Rattle.mail_base.specs.declared.frame.Frame.{Frame}
 use Rattle.mail_base.specs.declared.frame.FeedFault.{FeedFault}
-use Rattle.mail_base.specs.Frames.{Opening, line_text, IsNext, NoWhole, AreFrames, FirstFault}
-use Rattle.mail_base.specs.ToldLines.{IsOpened, IsToldLine}
+use Rattle.mail_base.specs.Frames.{line_text, IsNext, NoWhole, AreFrames, FirstFault}
+use Rattle.mail_base.specs.ToldLines.{IsToldLine}
 use Rattle.mail_base.proofs.ToldLines.{one_told, none_told}
-use Rattle.imap_model.specs.Lines.{IsOpened as OpensLiteral, IsLineFrame, IsSpelled, AreLines}
+use Rattle.imap_model.specs.Lines.{IsLineFrame, IsSpelled, AreLines}
 use Rattle.imap_model.specs.Responses.{Spells}
 use Rattle.imap_model.specs.declared.response.Response.{Response}
 use Rattle.imap_response.specs.Heard.{Spell}
 use Rattle.imap_response.proofs.spelling.Whole.{same_frame, one_response}
 
-all_opened : (os : List Opening) → AllByRecursion OpensLiteral os → AllByRecursion IsOpened os
-all_opened [] all = tt
-all_opened (o ∷ os) all = (record { plain = all.0.plain; number = all.0.number; octets = all.0.octets }, all_opened os all.1)
-
 -- the line of a server is a whole line, of any size
 pub told_line : (frame : Frame) (is : IsLineFrame frame) → IsToldLine is.openings is.last
-told_line frame is = record { opened = all_opened is.openings is.opened; plain = is.plain; closed = is.closed }
+told_line frame is = record { opened = is.opened; plain = is.plain; closed = is.closed }
 
 -- a stream that was told so, with the line's literals apart
 whole_told : (stream : List ℕ) (s : Response) (line rest : List ℕ) (spelt : IsSpelled s line) → stream ≡ line ++ 13 ∷ 10 ∷ rest

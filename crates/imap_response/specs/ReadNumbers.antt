@@ -1,5 +1,5 @@
 -- The reading of numbers at the front of a text (RFC 9051, section 9, number and nz-number; RFC 7162, section 7, mod-sequence-value).
-use Rattle.std.specs.Prelude.{ℕ, ◌&&◌, ◌==◌, nat_le, List, Option, Some, None, Result, if◌then◌else◌}
+use Rattle.std.specs.Prelude.{ℕ, ◌&&◌, ◌==◌, ◌-◌, ◌^◌, nat_le, List, Option, Some, None, Result, if◌then◌else◌}
 use Rattle.std.specs.Str.Parse.{digits_value}
 use Rattle.imap_response.specs.Reads.{with_rest}
 use Rattle.imap_response.specs.Leaf.{is_digits, wide_at}
@@ -23,4 +23,4 @@ nonzero_at text = with_rest text (wide_at text).1 (nonzero (number_of 4294967295
 
 -- a mod-sequence
 unfoldable pub modseq_at : List ℕ → Result (ℕ × List ℕ) ℕ
-modseq_at text = with_rest text (wide_at text).1 (nonzero (number_of 9223372036854775807 (wide_at text).0))
+modseq_at text = with_rest text (wide_at text).1 (nonzero (number_of (2 ^ 63 - 1) (wide_at text).0))

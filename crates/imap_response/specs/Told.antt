@@ -5,4 +5,7 @@ use Rattle.imap_response.specs.declared.fetch.Told.TheVariants as tellings
 
 abbrev pub IsSmallTold : Told → Type 0
 IsSmallTold (tellings.Flags flags excess) = AreFew flags
-IsSmallTold told = Unit {0}
+IsSmallTold (tellings.Uid uid) = Unit {0}
+IsSmallTold (tellings.ModSeq modseq) = Unit {0}
+IsSmallTold (tellings.Ids ids) = Unit {0}
+IsSmallTold tellings.Nothing = Unit {0}

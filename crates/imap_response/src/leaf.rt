@@ -1,6 +1,6 @@
 //! Spaces, words and numbers (RFC 9051, section 9).
 
-ghost use Rattle.std.specs.Prelude.{◌≡◌, ◌<◌, ◌^◌, IfOk, IfErr, IfSome};
+ghost use Rattle.std.specs.Prelude.{◌≡◌, ◌<◌, ◌^◌, ◌-◌, IfOk, IfErr, IfSome};
 ghost use Rattle.imap_response.specs.Reads.{Gives, IsPlace};
 ghost use Rattle.imap_response.specs.Leaf.{gap_at, blank_at, end_at, mark_at, word_at, wide_at, named_at};
 ghost use Rattle.imap_response.specs.ReadNumbers.{number_of, nonzero, number_at, nonzero_at, modseq_at};
@@ -143,7 +143,7 @@ pub(crate) fn validity_of(number: u32) -> Validity
 // The mod-sequence that the text is.
 fn modseq_in_whole(text: &[u8]) -> Option<u64>
     ensures within { IfSome result (λ number. (0 < number) × (number < 2 ^ 63)) }
-    ensures value { result ≡ nonzero (number_of 9223372036854775807 text.now) }
+    ensures value { result ≡ nonzero (number_of (2 ^ 63 - 1) text.now) }
 {
     match read_modseq(text) {
         Ok(modseq) => Some(modseq.number()),

@@ -1,5 +1,5 @@
 -- What an append does at every moment.
-use Rattle.std.specs.Prelude.{◌≡◌, ℕ, ◌+◌, min, List, [], ◌∷◌, ◌++◌, Result, OnOk}
+use Rattle.std.specs.Prelude.{◌≡◌, ℕ, ◌+◌, min, List, [], ◌∷◌, ◌++◌, ◌-◌, ◌^◌, Result, OnOk}
 use Rattle.world_traits.specs.Files.{Files}
 use Rattle.world_traits.specs.Moments.{Clock}
 use Rattle.mail_base.specs.Bodies.{IsBody, frame_of}
@@ -13,7 +13,7 @@ end_with size journal = journal.place + 1 + size
 
 -- the same in a u64
 abbrev pub told_end : ℕ → ℕ
-told_end end = min end 18446744073709551615
+told_end end = min end (2 ^ 64 - 1)
 
 -- the bytes are a frame: a body's length, the body, and a closed gate
 pub record IsFrame (bytes : List ℕ) : Type 0 where

@@ -50,7 +50,7 @@ pub(crate) fn told(at: u64, by: usize) -> u64
 
 // So many octets as they are told.
 fn asked(octets: u64) -> u64
-    ensures { result ≡ min octets 9223372036854775807 }
+    ensures { result ≡ min octets (2 ^ 63 - 1) }
 {
     octets.min(MOST_ASKED)
 }

@@ -1,5 +1,5 @@
 -- The frames of a stream: lines with their literals (RFC 9051, sections 2.2, 4.3 and 9). All is said of the whole stream.
-use Rattle.std.specs.Prelude.{◌≡◌, ◌≢◌, ℕ, ◌+◌, ◌-◌, ◌<◌, ◌≤◌, List, [], ◌∷◌, ◌++◌, length, min}
+use Rattle.std.specs.Prelude.{◌≡◌, ◌≢◌, ℕ, ◌+◌, ◌-◌, ◌<◌, ◌≤◌, List, [], ◌∷◌, ◌++◌, ◌^◌, length, min}
 use Rattle.std.specs.List.{AllByRecursion, flat_map}
 use Rattle.std.specs.Str.Parse.{IsNumeral, digits_value}
 use Rattle.mail_base.specs.declared.span.Span.{Span}
@@ -9,7 +9,7 @@ use Rattle.mail_base.specs.declared.frame.FeedFault.TheVariants as faults
 
 -- a place as it is told
 abbrev pub told : ℕ → ℕ
-told place = min place 18446744073709551615
+told place = min place (2 ^ 64 - 1)
 
 -- no LF stands among the bytes
 abbrev pub NoLf : List ℕ → Type 0
@@ -119,7 +119,7 @@ PartFault at used tail (faults.BareLf place) =
     (part : List ℕ) × (rest : List ℕ) × HasBareLf used tail part rest × (place ≡ told (at + length part))
 PartFault at used tail (faults.LiteralTooLarge place asked) =
     (front : List ℕ) × (digits : List ℕ) × (rest : List ℕ) × HasLargeLiteral used tail front digits rest
-    × (place ≡ told (at + length front)) × (asked ≡ min (digits_value 10 digits) 9223372036854775807)
+    × (place ≡ told (at + length front)) × (asked ≡ min (digits_value 10 digits) (2 ^ 63 - 1))
 PartFault at used tail (faults.LineTooLong place) =
     (part : List ℕ) × (byte : ℕ) × (rest : List ℕ) × HasLongLine used tail part byte rest × (place ≡ told (at + length part))
 PartFault at used tail faults.Memory = ⊥

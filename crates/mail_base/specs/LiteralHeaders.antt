@@ -1,5 +1,5 @@
 -- The header of a literal at the end of a part of a line (RFC 9051, section 4.3).
-use Rattle.std.specs.Prelude.{◌≡◌, ℕ, List, ◌++◌, length, min}
+use Rattle.std.specs.Prelude.{◌≡◌, ℕ, List, ◌++◌, ◌-◌, ◌^◌, length, min}
 use Rattle.std.specs.Str.Parse.{IsNumeral, digits_value}
 use Rattle.mail_base.specs.Frames.{header}
 use Rattle.mail_base.specs.declared.literal_header.LiteralHeader.{LiteralHeader}
@@ -9,4 +9,4 @@ pub record EndsIn (part front digits : List ℕ) (told : LiteralHeader) : Type 0
   pub text : part ≡ front ++ header digits
   pub number : IsNumeral 10 digits
   pub at : told.at ≡ length front
-  pub octets : told.octets ≡ min (digits_value 10 digits) 18446744073709551615
+  pub octets : told.octets ≡ min (digits_value 10 digits) (2 ^ 64 - 1)

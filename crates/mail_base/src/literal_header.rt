@@ -1,6 +1,6 @@
 //! The header of a literal at the end of a part of a line: `{`, digits and `}` (RFC 9051, section 4.3).
 
-ghost use Rattle.std.specs.Prelude.{◌≡◌, ℕ, ◌+◌, ◌*◌, ◌-◌, ◌<◌, ◌≤◌, ◌++◌, List, length, take, drop, min, IfSome, IfNone, slice_index};
+ghost use Rattle.std.specs.Prelude.{◌≡◌, ℕ, ◌+◌, ◌*◌, ◌-◌, ◌<◌, ◌≤◌, ◌++◌, ◌^◌, List, length, take, drop, min, IfSome, IfNone, slice_index};
 ghost use Rattle.std.specs.Char.{IsAsciiDigit};
 ghost use Rattle.std.specs.Str.Parse.{IsNumeral, AllDigits, digits_value};
 ghost use Rattle.mail_base.specs.Frames.{header};
@@ -48,7 +48,7 @@ fn digits_from(text: &[u8]) -> usize
 // The number that the digits write, or 2^64 - 1 for more.
 fn number_of(digits: &[u8]) -> u64
     requires { AllDigits 10 digits.now }
-    ensures { result ≡ min (digits_value 10 digits.now) 18446744073709551615 }
+    ensures { result ≡ min (digits_value 10 digits.now) (2 ^ 64 - 1) }
 {
     let mut number = 0;
     for at in 0..digits.len() {
@@ -61,7 +61,7 @@ fn number_of(digits: &[u8]) -> u64
 // The number with one digit more, or 2^64 - 1 where it is more.
 fn with_digit(number: u64, digit: u64) -> u64
     requires { digit < 10 }
-    ensures { result ≡ min (number * 10 + digit) 18446744073709551615 }
+    ensures { result ≡ min (number * 10 + digit) (2 ^ 64 - 1) }
 {
     if number > (u64::MAX - digit) / 10 {
         u64::MAX

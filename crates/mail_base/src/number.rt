@@ -1,6 +1,6 @@
 //! Numbers as the protocol writes them: decimal digits, of which the first ones may be 0 (RFC 9051, section 9).
 
-ghost use Rattle.std.specs.Prelude.{◌≡◌, ◌≤◌, ◌<◌, ◌^◌, ◌↔◌, ℕ, [], IsErrOf};
+ghost use Rattle.std.specs.Prelude.{◌≡◌, ◌≤◌, ◌<◌, ◌^◌, ◌↔◌, ◌-◌, ℕ, [], IsErrOf};
 ghost use Rattle.mail_base.specs.Number.{IsNumberUpTo, StopsAtByte, StopsAtSize, Verdict};
 
 use crate::ModSeq;
@@ -69,11 +69,11 @@ pub fn read_u32(text: &[u8]) -> Result<u32, NumberFault>
 ///
 /// Refuses as `read_u32` does, with 2^63 - 1 as the largest number, and `Zero` exactly where the number is 0.
 pub fn read_modseq(text: &[u8]) -> Result<ModSeq, NumberFault>
-    ensures value { (n : ℕ) → (result ≡ Ok n) ↔ (IsNumberUpTo 9223372036854775807 text.now n × (0 < n)) }
+    ensures value { (n : ℕ) → (result ≡ Ok n) ↔ (IsNumberUpTo (2 ^ 63 - 1) text.now n × (0 < n)) }
     ensures empty { IsErrOf result NumberFault.Empty ↔ (text.now ≡ []) }
-    ensures not_digit { (at : ℕ) → IsErrOf result (NumberFault.NotDigit at) ↔ StopsAtByte 9223372036854775807 text.now at }
-    ensures too_big { (at : ℕ) → IsErrOf result (NumberFault.TooBig at) ↔ StopsAtSize 9223372036854775807 text.now at }
-    ensures zero { IsErrOf result NumberFault.Zero ↔ IsNumberUpTo 9223372036854775807 text.now 0 }
+    ensures not_digit { (at : ℕ) → IsErrOf result (NumberFault.NotDigit at) ↔ StopsAtByte (2 ^ 63 - 1) text.now at }
+    ensures too_big { (at : ℕ) → IsErrOf result (NumberFault.TooBig at) ↔ StopsAtSize (2 ^ 63 - 1) text.now at }
+    ensures zero { IsErrOf result NumberFault.Zero ↔ IsNumberUpTo (2 ^ 63 - 1) text.now 0 }
 {
     match read_up_to(text, MAX_MODSEQ) {
         Ok(number) => match ModSeq::new(number) {

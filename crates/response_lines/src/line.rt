@@ -1,7 +1,7 @@
 //! The line of each response (RFC 9051, section 7).
 #![tactic(auto, using(crate::proofs::TextChains::text_assoc, crate::proofs::TextChains::text_nil))]
 
-ghost use Rattle.std.specs.Prelude.{◌≡◌, ◌≢◌, ◌<◌, ◌≤◌, ◌+◌, ◌++◌, ◌==◌, [], Some, IfSome, OnOk, length, codes, true, false};
+ghost use Rattle.std.specs.Prelude.{◌≡◌, ◌≢◌, ◌<◌, ◌≤◌, ◌+◌, ◌++◌, ◌==◌, ◌-◌, ◌^◌, [], Some, IfSome, OnOk, length, codes, true, false};
 ghost use Rattle.std.specs.List.{AllByRecursion, position};
 ghost use Rattle.imap_model.specs.Lines.{IsSpelled};
 ghost use Rattle.imap_model.specs.TagText.{IsCommandTag};
@@ -248,7 +248,7 @@ fn put_other(out: &mut Vec<u8>, before: usize) -> Result<(), AllocError>
 
 // How many lines without a meaning came up to this response.
 fn count_other(before: usize, response: &Response) -> usize
-    ensures value { before < 18446744073709551615 → result ≡ count_other before response.now }
+    ensures value { before < 2 ^ 64 - 1 → result ≡ count_other before response.now }
     ensures least { before ≤ result }
     ensures one { result ≤ before + 1 }
 {

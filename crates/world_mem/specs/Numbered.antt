@@ -18,7 +18,13 @@ moments_of course = moments (run_of course).clock
 -- how many moments it adds: a part that is answered comes at one of them
 abbrev pub added_by : Did → ℕ
 added_by (did.Heard part answered) = 2
-added_by other = 1
+added_by (did.Wrote side at bytes) = 1
+added_by (did.Synced side) = 1
+added_by (did.Changed name change) = 1
+added_by did.Greeted = 1
+added_by did.Began = 1
+added_by (did.Waited held) = 1
+added_by did.Settled = 1
 
 -- the files so many moments behind this one, where these things were done since
 abbrev pub files_at : List Did → Run → ℕ → Both

@@ -1,5 +1,5 @@
 -- What a script of pieces gives, as a list of bytes.
-use Rattle.std.specs.Prelude.{ℕ, zero, suc, ◌-◌, ◌%◌, nat_lt, List, [], ◌∷◌, ◌++◌, take, drop, length, if◌then◌else◌}
+use Rattle.std.specs.Prelude.{ℕ, zero, suc, ◌-◌, ◌%◌, nat_lt, List, [], ◌∷◌, ◌++◌, ◌^◌, take, drop, length, if◌then◌else◌}
 use Rattle.world_mem.specs.declared.script.Script.{Script}
 use Rattle.world_mem.specs.declared.script.Script.TheVariants.{Piece, Endless}
 
@@ -23,4 +23,4 @@ rest_at at (Endless bytes ∷ script) = drop (at % length bytes.items) bytes.ite
 
 -- the same, of a script that ends behind 2^64 - 1 bytes, the last value of a count
 abbrev pub coming : ℕ → List Script → List ℕ
-coming given script = take (18446744073709551615 - given) (rest_at given script)
+coming given script = take (2 ^ 64 - 1 - given) (rest_at given script)

@@ -112,7 +112,9 @@ WholeIn phases.Waiting held parts = IsComplete held parts
 -- the parts that stay, where the last of them is answered so
 abbrev pub kept_as : Answered → List (List ℕ) → List (List ℕ)
 kept_as (answers.Asked tag) parts = parts
-kept_as _ parts = []
+kept_as (answers.Carried tag command) parts = []
+kept_as (answers.Refused tag) parts = []
+kept_as (answers.Bad tag) parts = []
 
 -- what the world holds is what was done
 pub record Stands (files : Both) (server : State) (phase : Phase) (held : Option Held) (parts : List (List ℕ)) (unfinished : ℕ)

@@ -16,8 +16,6 @@ mod script;
 mod script_link;
 mod script_rest;
 mod script_world;
-#[cfg(test)]
-mod tests;
 mod torn_file;
 mod torn_files;
 

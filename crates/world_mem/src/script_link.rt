@@ -1,6 +1,6 @@
 //! A link over which a script comes.
 
-ghost use Rattle.std.specs.Prelude.{◌≡◌, ◌≤◌, ◌<◌, ◌+◌, ◌++◌, ◌↔◌, [], Some, true, false, min, length, take};
+ghost use Rattle.std.specs.Prelude.{◌≡◌, ◌≤◌, ◌<◌, ◌+◌, ◌++◌, ◌↔◌, ◌-◌, ◌^◌, [], Some, true, false, min, length, take};
 ghost use Rattle.std.specs.Prelude.{OnOk, OnErr, IfOk, IfSome, IsErr};
 ghost use Rattle.world_traits.specs.Calls.{Rose};
 ghost use Rattle.world_traits.specs.Counts.{counted};
@@ -88,7 +88,7 @@ impl ScriptLink {
     // What comes next.
     fn coming(&self) -> &[u8]
         ensures now { result.now ≡ coming_in self.now }
-        ensures within { self.now.given + length result.now ≤ 18446744073709551615 }
+        ensures within { self.now.given + length result.now ≤ 2 ^ 64 - 1 }
     {
         let rest = rest_at(&self.script, self.given);
         let left = (u64::MAX - self.given) as usize;
@@ -126,7 +126,7 @@ impl ScriptLink {
     // Goes so many bytes on.
     fn pass(&mut self, count: usize)
         requires there { count ≤ length (coming_in self.old) }
-        requires within { self.old.given + count ≤ 18446744073709551615 }
+        requires within { self.old.given + count ≤ 2 ^ 64 - 1 }
         ensures now { self.new ≡ record self.old { given = self.old.given + count } }
         ensures received { IfSome (connection_of self.old) (λ c. connection_of self.new
             ≡ Some (record c { received = c.received ++ take count (coming_in self.old) })) }

@@ -1,48 +1,11 @@
 -- A line that is told is cut off the front of a stream in one way, however long it is (RFC 9051, sections 2.2 and 4.3).
-use Rattle.std.proofs.Common.{◌≡◌, ℕ, List, [], ◌∷◌, ◌++◌, length, take, drop, refl, sym, ◌∙◌, ap, subst, arith, append_assoc, length-append}
-use Rattle.std.proofs.Math.Seq.{take-append_seam, drop-append_seam}
-use Rattle.std.proofs.lemmas.List.{same_from_push}
+use Rattle.std.proofs.Common.{◌≡◌, ℕ, List, [], ◌∷◌, ◌++◌, length, refl, sym, ◌∙◌, ap, subst, arith, append_assoc, length-append}
 use Rattle.std.specs.List.{AllByRecursion}
-use Rattle.std.specs.Str.Parse.{IsNumeral, digits_value}
-use Rattle.mail_base.specs.Frames.{NoLf, header, Opening, opening_text, part_of}
-use Rattle.mail_base.proofs.Lf.{no_lf-append, no_lf-header, one_lf}
-use Rattle.mail_base.proofs.Headers.{one_header}
-use Rattle.mail_base.proofs.Openings.{spelled}
-use Rattle.imap_model.specs.Lines.{IsOpened, IsSpelled, AreLines}
+use Rattle.mail_base.specs.Frames.{NoLf, Opening, opening_text, part_of}
+use Rattle.mail_base.specs.ToldLines.{IsOpened, IsClosed}
+use Rattle.mail_base.proofs.Openings.{spelled, one_crlf, part_plain, peel_any}
+use Rattle.imap_model.specs.Lines.{IsSpelled, AreLines}
 use Rattle.imap_model.specs.declared.response.Response.{Response}
-
-lf_plain : NoLf (13 ∷ [])
-lf_plain = ((λ e. absurd {A = ⊥} (cc e)), tt)
-
-crlf_split : (body rest : List ℕ) → body ++ 13 ∷ 10 ∷ rest ≡ (body ++ 13 ∷ []) ++ 10 ∷ rest
-crlf_split body rest = sym (append_assoc body (13 ∷ []) (10 ∷ rest))
-
--- the first CRLF is one
-one_crlf : (a b x y : List ℕ) → NoLf a → NoLf b → a ++ 13 ∷ 10 ∷ x ≡ b ++ 13 ∷ 10 ∷ y → (a ≡ b) × (x ≡ y)
-one_crlf a b x y pa pb e =
-    let same = one_lf (a ++ 13 ∷ []) (b ++ 13 ∷ []) x y (no_lf-append a (13 ∷ []) pa lf_plain) (no_lf-append b (13 ∷ []) pb lf_plain)
-    (sym (crlf_split a x) ∙ e ∙ crlf_split b y) in
-    ((same_from_push a b 13 13 same.0).0, same.1)
-
-part_plain : (o : Opening) → IsOpened o → NoLf (part_of o)
-part_plain o is = no_lf-append o.front (header o.digits) is.plain (no_lf-header o.digits is.number.1)
-
--- two literals that are opened in front are one
-one_opening : (o p : Opening) (x y : List ℕ) → IsOpened o → IsOpened p → opening_text o ++ x ≡ opening_text p ++ y → (o ≡ p) × (x ≡ y)
-one_opening o p x y io ip e =
-    let crlf = one_crlf (part_of o) (part_of p) (o.octets ++ x) (p.octets ++ y) (part_plain o io) (part_plain p ip)
-    (sym (append_assoc (part_of o) (13 ∷ 10 ∷ o.octets) x) ∙ e ∙ append_assoc (part_of p) (13 ∷ 10 ∷ p.octets) y) in
-    let parts = one_header o.front o.digits p.front p.digits io.number.1 ip.number.1 crlf.0 in
-    let n : length o.octets ≡ length p.octets = sym io.octets ∙ ap (digits_value 10) parts.1 ∙ ip.octets in
-    let octets : o.octets ≡ p.octets =
-    sym (take-append_seam o.octets x) ∙ ap (take (length o.octets)) crlf.1 ∙ ap (λ (k : ℕ). take k (p.octets ++ y)) n ∙ take-append_seam p.octets y in
-    let rest : x ≡ y =
-    sym (drop-append_seam o.octets x) ∙ ap (drop (length o.octets)) crlf.1 ∙ ap (λ (k : ℕ). drop k (p.octets ++ y)) n ∙ drop-append_seam p.octets y in
-    ((λ i. record { front = parts.0 i; digits = parts.1 i; octets = octets i }), rest)
-
--- opens no literal
-abbrev IsClosed : List ℕ → Type 0
-IsClosed last = (front digits : List ℕ) → IsNumeral 10 digits → last ≡ front ++ header digits → ⊥
 
 last_or_part : (p : Opening) (ps : List Opening) (last rest u : List ℕ) → IsOpened p → NoLf last → IsClosed last →
     last ++ 13 ∷ 10 ∷ rest ≡ spelled (p ∷ ps) ++ u → ⊥
@@ -59,7 +22,7 @@ one_cut [] [] last rest last' rest' a b pl pl' cl cl' e = (one_crlf last last' r
 one_cut [] (p ∷ ps) last rest last' rest' a b pl pl' cl cl' e = absurd (last_or_part p ps last rest (last' ++ 13 ∷ 10 ∷ rest') b.0 pl cl e)
 one_cut (o ∷ os) [] last rest last' rest' a b pl pl' cl cl' e = absurd (last_or_part o os last' rest' (last ++ 13 ∷ 10 ∷ rest) a.0 pl' cl' (sym e))
 one_cut (o ∷ os) (p ∷ ps) last rest last' rest' a b pl pl' cl cl' e =
-    let first = one_opening o p (spelled os ++ (last ++ 13 ∷ 10 ∷ rest)) (spelled ps ++ (last' ++ 13 ∷ 10 ∷ rest')) a.0 b.0
+    let first = peel_any o p (spelled os ++ (last ++ 13 ∷ 10 ∷ rest)) (spelled ps ++ (last' ++ 13 ∷ 10 ∷ rest')) a.0 b.0
     (sym (append_assoc (opening_text o) (spelled os) (last ++ 13 ∷ 10 ∷ rest)) ∙ e ∙ append_assoc (opening_text p) (spelled ps) (last' ++ 13 ∷ 10 ∷ rest')) in
     one_cut os ps last rest last' rest' a.1 b.1 pl pl' cl cl' first.1
 

@@ -1,12 +1,12 @@
 -- What the calls of a disk do to its moments and to what its files read as.
-use Rattle.std.specs.Prelude.{◌≡◌, ◌⊎◌, ℕ, ◌<◌, List, length, Result, OnOk, OnErr}
+use Rattle.std.specs.Prelude.{◌≡◌, ◌⊎◌, ℕ, ◌<◌, ◌-◌, ◌^◌, List, length, Result, OnOk, OnErr}
 use Rattle.world_traits.specs.Files.{Files, clean, touch, put, file_of, with_file}
 use Rattle.world_traits.specs.Moments.{Moment, Clock, tick, stored, with_stored}
 use Rattle.world_traits.specs.declared.disk.Side.{Side}
 
 -- The count of faults rose, or it stands at its last value, 2^64 - 1, and can't rise.
 abbrev pub Rose : ℕ → ℕ → Type 0
-Rose old new = new < 18446744073709551615 → old < new
+Rose old new = new < 2 ^ 64 - 1 → old < new
 
 -- the moment stays, told once more or not
 abbrev pub Stays : Clock → Clock → Type 0

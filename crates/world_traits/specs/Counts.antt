@@ -1,9 +1,9 @@
 -- How counts of failures go on, and which calls of an object are planned to fail.
-use Rattle.std.specs.Prelude.{◌≡◌, ℕ, ◌+◌, min, List, Contains, Result, IsErr, MatchResult}
+use Rattle.std.specs.Prelude.{◌≡◌, ℕ, ◌+◌, ◌-◌, ◌^◌, min, List, Contains, Result, IsErr, MatchResult}
 
 -- one more, up to the last value of a count, 2^64 - 1
 abbrev pub counted : ℕ → ℕ
-counted n = min (n + 1) 18446744073709551615
+counted n = min (n + 1) (2 ^ 64 - 1)
 
 -- a call failed exactly where this count went on in it
 abbrev pub CountsFailure : {T E : Type 0} → Result T E → ℕ → ℕ → Type 0

@@ -16,8 +16,6 @@ mod memory;
 mod no_link;
 mod putting;
 mod streams;
-#[cfg(test)]
-mod tests;
 mod world;
 
 pub use clocked::Clocked;

@@ -24,7 +24,8 @@ returns-clause-answered c = record {
       let turn = turn_at c.args.self.now c.args.tag c.args.command in
       c.drop_parts.ensures ∙ ap dropped (entered c.args.self.now c.enter.new.self _ _ turn c.in_ok-told.ensures.server
       c.in_ok-told.ensures.selected c.in_ok-enter.ensures.done);
-  lines = subst (λ (l : List Response). AreLines l c.in_ok-lines.lines.items) (c.as_slice.ensures.value ∙ c.in_ok-told.ensures.told) c.in_ok-lines.ensures.spelled;
+  lines = subst (λ (l : List Response). AreLines l c.in_ok-lines.lines.items) (c.as_slice.ensures.value ∙ c.in_ok-told.ensures.told)
+      c.in_ok-lines.ensures.spelled;
   text = command_told c.args.self.now c.args.tag c.args.command _ _ _ _ _ c.in_ok-lines.lines.items c.messages_in-messages.ensures c.boxes_behind.ensures
       c.in_ok-told.ensures.server c.in_ok-told.ensures.selected (c.as_slice.ensures.value ∙ c.in_ok-told.ensures.told) c.in_ok-lines.ensures.text;
 }

@@ -312,7 +312,8 @@ pub returns-then-is_err-clause-unsent : goal.returns-then-is_err-clause-unsent
 returns-then-is_err-clause-unsent c = λ none.
     let on : is_on (course_of c.enter.new.self).phase ≡ true = search rules in
     is_sent tt (planned_of c.enter.new.self) (planned_of c.refuse_link.new.self) (refused_of c.args.self.now) (refused_of c.enter.new.self)
-    (line_of (course_of c.args.self.now)) (line_of (course_of c.enter.new.self)) c.refuse_link.ensures.planned c.in_ok-enter.ensures.exact c.in_ok-enter.ensures.line on none
+    (line_of (course_of c.args.self.now)) (line_of (course_of c.enter.new.self)) c.refuse_link.ensures.planned
+    c.in_ok-enter.ensures.exact c.in_ok-enter.ensures.line on none
 
 pub returns-then-is_err-clause-unheard : goal.returns-then-is_err-clause-unheard
 returns-then-is_err-clause-unheard c = λ runs off.
@@ -334,7 +335,8 @@ pub returns-then-is_err-2-clause-unsent : goal.returns-then-is_err-2-clause-unse
 returns-then-is_err-2-clause-unsent c = λ none.
     let on : is_on (course_of c.enter.new.self).phase ≡ true = search rules in
     is_sent tt (planned_of c.enter.new.self) (planned_of c.refuse_link-then-is_err-2.new.self) (refused_of c.args.self.now) (refused_of c.enter.new.self)
-    (line_of (course_of c.args.self.now)) (line_of (course_of c.enter.new.self)) c.refuse_link-then-is_err-2.ensures.planned c.in_ok-enter.ensures.exact c.in_ok-enter.ensures.line on none
+    (line_of (course_of c.args.self.now)) (line_of (course_of c.enter.new.self)) c.refuse_link-then-is_err-2.ensures.planned
+    c.in_ok-enter.ensures.exact c.in_ok-enter.ensures.line on none
 
 pub returns-then-is_err-2-clause-unheard : goal.returns-then-is_err-2-clause-unheard
 returns-then-is_err-2-clause-unheard c = λ runs off.
@@ -345,7 +347,8 @@ pub returns-clause-unsent : goal.returns-clause-unsent
 returns-clause-unsent c = λ none.
     let on : is_on (course_of c.enter.new.self).phase ≡ true = search rules in
     is_sent tt (planned_of c.enter.new.self) (planned_of c.fail_link-2.new.self) (refused_of c.args.self.now) (refused_of c.enter.new.self)
-    (line_of (course_of c.args.self.now)) (line_of (course_of c.enter.new.self)) c.fail_link-2.ensures.planned c.in_ok-enter.ensures.exact c.in_ok-enter.ensures.line on none
+    (line_of (course_of c.args.self.now)) (line_of (course_of c.enter.new.self)) c.fail_link-2.ensures.planned
+    c.in_ok-enter.ensures.exact c.in_ok-enter.ensures.line on none
 
 pub returns-clause-unheard : goal.returns-clause-unheard
 returns-clause-unheard c = λ runs off.
