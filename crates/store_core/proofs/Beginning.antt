@@ -96,9 +96,9 @@ module _ (body : List ℕ) (names : List (List ℕ)) (are : AreNames names) (is 
     through_one : CreatesThrough (body ∷ []) k l
     through_one = subst (λ (b : List (List ℕ)). CreatesThrough b k l) one through
 
-    pub creates : Creates names k l
+    pub creates : Creates mail (events.Begin names) k l
     creates =
-        since_weaker (λ m. Within k.now m ⊎ Images (λ files. IsUnbegun files ⊎ Holds First (body ∷ []) files) m) (IsCreating names k.now)
+        since_weaker (λ m. Within k.now m ⊎ Images (λ files. IsUnbegun files ⊎ Holds First (body ∷ []) files) m) (IsCreating mail (events.Begin names) k.now)
         (λ m n. Within m n ⊎ GoesOn IsUnbegun (Holds First (body ∷ [])) m n)
         (λ m n. Within m n ⊎ GoesOn (HoldsBook mail None) (HoldsBook mail (Some (begun names))) m n)
         (λ m p. ⊎_elim (λ w. inl w) (λ i. inr (either_as IsUnbegun (Holds First (body ∷ [])) (HoldsBook mail None)
@@ -107,21 +107,25 @@ module _ (body : List ℕ) (names : List (List ℕ)) (are : AreNames names) (is 
         (HoldsBook mail (Some (begun names))) (λ files f. f) has_begin m n g)) s)
         k l through_one
 
-    pub creates_held : Since (IsCreating names k.now) KeepsActions k l
+    pub creates_held : Since (IsCreating mail (events.Begin names) k.now) KeepsActions k l
     creates_held =
-        since_weaker (IsCreating names k.now) (IsCreating names k.now)
+        since_weaker (IsCreating mail (events.Begin names) k.now) (IsCreating mail (events.Begin names) k.now)
         (λ m n. Within m n ⊎ GoesOn (HoldsBook mail None) (HoldsBook mail (Some (begun names))) m n) KeepsActions
         (λ m p. p) (λ m n s. ⊎_elim (λ w. within_keeps_actions m n w) (λ g. begins_keeps (begun names) m n g) s) k l creates
 
-  module _ (k l : Clock) (seen : Files) (leaves : MayLeave k.now seen) (books : Books) (has : HasBooks books k.now)
+  module _ (k l : Clock) (seen : Files) (leaves : MayLeave k.now seen) (books : Books mail) (has : HasBooks mail books k.now)
       (bodies : List (List ℕ)) (one : bodies ≡ body ∷ []) (behind : CreatesBehind bodies k l seen) where
     takes_begin : Takes mail None (events.Begin names) behind.at l
     takes_begin =
         passes_as IsUnbegun (Holds First (body ∷ [])) (HoldsBook mail None) (HoldsBook mail (Some (begun names))) (λ files f. f) has_begin behind.at l
         (subst (λ (b : List (List ℕ)). Passes IsUnbegun (Holds First b) behind.at l) one behind.passes)
 
-    pub begins_behind : BeginsBehind names k l
-    begins_behind = record { at = behind.at; chooses = settles_chooses books k seen has leaves behind.at behind.settles behind.narrows; takes = takes_begin }
+    pub begins_behind : BeginsBehind mail (events.Begin names) k l
+    begins_behind = record {
+      at = behind.at;
+      chooses = settles_chooses mail books k seen has leaves behind.at behind.settles behind.narrows;
+      takes = takes_begin;
+    }
 
   pub left_begun : (j : Standing) (m : Moment) (f : Files) (bodies : List (List ℕ)) → bodies ≡ body ∷ [] → j.version ≡ First →
       j.all_read ≡ true → IsStill j bodies m f → (book : Meaning) → book ≡ begun names →
@@ -135,31 +139,32 @@ module _ (body : List ℕ) (names : List (List ℕ)) (are : AreNames names) (is 
   }
 
 -- where nothing was done
-pub begins_none : (names : List (List ℕ)) (k : Clock) → BeginsBehind names k k
+pub begins_none : (names : List (List ℕ)) (k : Clock) → BeginsBehind mail (events.Begin names) k k
 begins_none names k = record {
   at = k;
-  chooses = since_start Any ChoosesStep k;
+  chooses = since_start Any (ChoosesStep mail) k;
   takes = since_start (IsTaking mail None (events.Begin names)) (GoesOn (HoldsBook mail None) (HoldsBook mail (Some (begun names)))) k;
 }
 
-module _ (names : List (List ℕ)) (are : AreNames names) (k l : Clock) (creates : Creates names k l) (b : BeginsBehind names k l) where
+module _ (names : List (List ℕ)) (are : AreNames names) (k l : Clock) (creates : Creates mail (events.Begin names) k l)
+    (b : BeginsBehind mail (events.Begin names) k l) where
   abbrev Goes : Moment → Moment → Type 0
   Goes m n = Within m n ⊎ GoesOn (HoldsBook mail None) (HoldsBook mail (Some (begun names))) m n
 
-  any_steps : Since Any (BeginsStep First names) k l
+  any_steps : Since Any (BeginsStep mail First (events.Begin names)) k l
   any_steps =
-      since_then Any (BeginsStep First names) k b.at l
-      (since_weaker Any Any ChoosesStep (BeginsStep First names) (λ m p. p) (λ m n s. inl s) k b.at b.chooses)
+      since_then Any (BeginsStep mail First (events.Begin names)) k b.at l
+      (since_weaker Any Any (ChoosesStep mail) (BeginsStep mail First (events.Begin names)) (λ m p. p) (λ m n s. inl s) k b.at b.chooses)
       (since_weaker (IsTaking mail None (events.Begin names)) Any (GoesOn (HoldsBook mail None) (HoldsBook mail (Some (begun names))))
-      (BeginsStep First names) (λ m p. tt)
-      (λ m n s. inr (step_of First None (events.Begin names) are m n s)) b.at l b.takes)
+      (BeginsStep mail First (events.Begin names)) (λ m p. tt)
+      (λ m n s. inr (step_of mail First None (events.Begin names) are m n s)) b.at l b.takes)
 
   -- as steps of the books
-  pub begins_steps : Since (IsCreating names k.now) (BeginsStep First names) k l
+  pub begins_steps : Since (IsCreating mail (events.Begin names) k.now) (BeginsStep mail First (events.Begin names)) k l
   begins_steps =
-      since_weaker (λ m. IsCreating names k.now m × Any m) (IsCreating names k.now) (λ m n. Goes m n × BeginsStep First names m n)
-      (BeginsStep First names) (λ m p. p.0) (λ m n s. s.1) k l
-      (since_both (IsCreating names k.now) Any Goes (BeginsStep First names) k l creates any_steps)
+      since_weaker (λ m. IsCreating mail (events.Begin names) k.now m × Any m) (IsCreating mail (events.Begin names) k.now)
+      (λ m n. Goes m n × BeginsStep mail First (events.Begin names) m n) (BeginsStep mail First (events.Begin names)) (λ m p. p.0) (λ m n s. s.1) k l
+      (since_both (IsCreating mail (events.Begin names) k.now) Any Goes (BeginsStep mail First (events.Begin names)) k l creates any_steps)
 
 one_record : (b : List ℕ) → length (records (b ∷ [])) ≡ 5 + length b
 one_record b = omega (arith, length-append (open_record b) [], length-append (to_be_bytes w32 (length b)) b)

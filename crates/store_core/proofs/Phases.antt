@@ -12,10 +12,9 @@ use Rattle.journal_core.specs.Appending.{Appends}
 use Rattle.journal_core.proofs.Aside.{passes_as}
 use Rattle.action_queue.specs.declared.event.Event.{Event}
 use Rattle.action_queue.specs.Book.{Meaning, after}
-use Rattle.action_queue.specs.Events.{next_book}
 use Rattle.store_core.specs.Steps.{Firm, Begun}
 use Rattle.store_core.specs.Keeping.{Keeping}
-use Rattle.store_core.specs.Mail.{mail, MayCome}
+use Rattle.store_core.specs.Mail.{mail}
 use Rattle.store_core.specs.Books.{Make, HoldsBook}
 use Rattle.store_core.specs.Holding.{Holding, IsAsLeft}
 use Rattle.store_core.specs.Taking.{TakesStep, IsTaking, Takes}
@@ -24,13 +23,13 @@ use Rattle.store_core.proofs.Folding.{make_more}
 use Rattle.store_core.proofs.Holds.{takes_keeps}
 
 -- a step by exact phases is one of those on books
-module _ (v : Version) (b : Option Meaning) (e : Event) (may : MayCome v b e) (m n : Moment) (outside : n.outside ≡ m.outside) where
-  by_phase : (from to : ℕ) → from ≤ to → to ≤ from + 1 → AtPhase (HoldsBook mail b) (HoldsBook mail (Some (next_book b e))) from m →
-      AtPhase (HoldsBook mail b) (HoldsBook mail (Some (next_book b e))) to n → TakesStep v e m n
+module _ (K : Keeping) (v : Version) (b : Option K.Book) (e : K.Event) (may : K.MayCome v b e) (m n : Moment) (outside : n.outside ≡ m.outside) where
+  by_phase : (from to : ℕ) → from ≤ to → to ≤ from + 1 → AtPhase (HoldsBook K b) (HoldsBook K (Some (K.next_book b e))) from m →
+      AtPhase (HoldsBook K b) (HoldsBook K (Some (K.next_book b e))) to n → TakesStep K v e m n
   by_phase zero zero le one p q = record { old = Firm b; new = Firm b; at_old = p; at_new = q; step = inl refl; outside = outside }
   by_phase zero (suc zero) le one p q = record {
     old = Firm b;
-    new = Begun b (Some (next_book b e));
+    new = Begun b (Some (K.next_book b e));
     at_old = p;
     at_new = q;
     step =
@@ -40,8 +39,8 @@ module _ (v : Version) (b : Option Meaning) (e : Event) (may : MayCome v b e) (m
   by_phase zero (suc (suc to)) le one p q = absurd (omega arith)
   by_phase (suc zero) zero le one p q = absurd (omega arith)
   by_phase (suc zero) (suc zero) le one p q = record {
-    old = Begun b (Some (next_book b e));
-    new = Begun b (Some (next_book b e));
+    old = Begun b (Some (K.next_book b e));
+    new = Begun b (Some (K.next_book b e));
     at_old =
         p;
     at_new = q;
@@ -49,30 +48,30 @@ module _ (v : Version) (b : Option Meaning) (e : Event) (may : MayCome v b e) (m
     outside = outside;
   }
   by_phase (suc zero) (suc (suc to)) le one p q = record {
-    old = Begun b (Some (next_book b e));
+    old = Begun b (Some (K.next_book b e));
     new =
-        Firm (Some (next_book b e));
+        Firm (Some (K.next_book b e));
     at_old = p;
     at_new = q;
     step = inr
-        (inr (record { before = b; later = Some (next_book b e); begun = refl; becomes = refl }));
+        (inr (record { before = b; later = Some (K.next_book b e); begun = refl; becomes = refl }));
     outside = outside;
   }
   by_phase (suc (suc from)) zero le one p q = absurd (omega arith)
   by_phase (suc (suc from)) (suc zero) le one p q = absurd (omega arith)
   by_phase (suc (suc from)) (suc (suc to)) le one p q = record {
-    old = Firm (Some (next_book b e));
+    old = Firm (Some (K.next_book b e));
     new =
-        Firm (Some (next_book b e));
+        Firm (Some (K.next_book b e));
     at_old = p;
     at_new = q;
     step = inl refl;
     outside = outside;
   }
 
-pub step_of : (v : Version) (b : Option Meaning) (e : Event) → MayCome v b e → (m n : Moment) →
-    GoesOn (HoldsBook mail b) (HoldsBook mail (Some (next_book b e))) m n → TakesStep v e m n
-step_of v b e may m n s = by_phase v b e may m n s.outside s.from s.to s.forward s.one s.at_from s.at_to
+pub step_of : (K : Keeping) (v : Version) (b : Option K.Book) (e : K.Event) → K.MayCome v b e → (m n : Moment) →
+    GoesOn (HoldsBook K b) (HoldsBook K (Some (K.next_book b e))) m n → TakesStep K v e m n
+step_of K v b e may m n s = by_phase K v b e may m n s.outside s.from s.to s.forward s.one s.at_from s.at_to
 
 -- A book that a store keeps, and an event that may come in its journal.
 module _ (K : Keeping) (v : Version) (b : K.Book) (e : K.Event) (may : K.MayCome v (Some b) e) (old new : Clock) where
@@ -107,16 +106,15 @@ module _ (K : Keeping) (now : Holding K) (e : K.Event) (may : K.MayCome now.jour
     all_read = read;
   }
 
--- The moments of a mail event.
-module _ (v : Version) (b : Meaning) (e : Event) (may : MayCome v (Some b) e) (old new : Clock) (t : Takes mail (Some b) e old new) where
-  -- as steps of the event
-  pub steps_of : Since (IsTaking mail (Some b) e) (TakesStep v e) old new
-  steps_of =
-      since_weaker (IsTaking mail (Some b) e) (IsTaking mail (Some b) e) (GoesOn (HoldsBook mail (Some b)) (HoldsBook mail (Some (after b e)))) (TakesStep v e)
-      (λ m p. p) (λ m n s. step_of v (Some b) e may m n s) old new t
+-- The moments of an event, as steps of it.
+pub steps_of : (K : Keeping) (v : Version) (b : K.Book) (e : K.Event) → K.MayCome v (Some b) e → (old new : Clock) → Takes K (Some b) e old new →
+    Since (IsTaking K (Some b) e) (TakesStep K v e) old new
+steps_of K v b e may old new t =
+    since_weaker (IsTaking K (Some b) e) (IsTaking K (Some b) e) (GoesOn (HoldsBook K (Some b)) (HoldsBook K (Some (K.next_book (Some b) e))))
+    (TakesStep K v e) (λ m p. p) (λ m n s. step_of K v (Some b) e may m n s) old new t
 
-  -- as steps that lose no action
-  pub held_of : Since (IsTaking mail (Some b) e) KeepsActions old new
-  held_of =
-      since_weaker (IsTaking mail (Some b) e) (IsTaking mail (Some b) e) (GoesOn (HoldsBook mail (Some b)) (HoldsBook mail (Some (after b e)))) KeepsActions
-      (λ m p. p) (λ m n s. takes_keeps b e m n s) old new t
+-- those of a mail event, as steps that lose no action
+pub held_of : (b : Meaning) (e : Event) (old new : Clock) → Takes mail (Some b) e old new → Since (IsTaking mail (Some b) e) KeepsActions old new
+held_of b e old new t =
+    since_weaker (IsTaking mail (Some b) e) (IsTaking mail (Some b) e) (GoesOn (HoldsBook mail (Some b)) (HoldsBook mail (Some (after b e)))) KeepsActions
+    (λ m p. p) (λ m n s. takes_keeps b e m n s) old new t

@@ -52,7 +52,7 @@ impl Store {
         // the event is begun, or made firm; and no action that all images hold is lost.
         ensures told { D.tells_files → Takes mail (Some self.old.book) event (D.clock disk.old) (D.clock disk.new) }
         ensures steps { D.tells_files → Since (IsTaking mail (Some self.old.book) event)
-            (TakesStep self.old.journal.version event) (D.clock disk.old) (D.clock disk.new) }
+            (TakesStep mail self.old.journal.version event) (D.clock disk.old) (D.clock disk.new) }
         ensures held { D.tells_files → Since (IsTaking mail (Some self.old.book) event) KeepsActions
             (D.clock disk.old) (D.clock disk.new) }
 
@@ -104,7 +104,7 @@ impl Store {
         // As `commit` says it of this event.
         ensures told { D.tells_files → Takes mail (Some self.old.book) (events.Settle id outcome) (D.clock disk.old) (D.clock disk.new) }
         ensures steps { D.tells_files → Since (IsTaking mail (Some self.old.book) (events.Settle id outcome))
-            (TakesStep self.old.journal.version (events.Settle id outcome)) (D.clock disk.old) (D.clock disk.new) }
+            (TakesStep mail self.old.journal.version (events.Settle id outcome)) (D.clock disk.old) (D.clock disk.new) }
         ensures held { D.tells_files → Since (IsTaking mail (Some self.old.book) (events.Settle id outcome)) KeepsActions
             (D.clock disk.old) (D.clock disk.new) }
         ensures value { OnOk result (self.new.book ≡ after self.old.book (events.Settle id outcome)) }

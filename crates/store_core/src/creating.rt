@@ -15,6 +15,7 @@ ghost use Rattle.journal_core.specs.declared.fault.Place9.{Place9};
 ghost use Rattle.journal_core.specs.declared.fault.Place9.TheVariants as places;
 ghost use Rattle.action_queue.specs.Book.{meaning, begun};
 ghost use Rattle.action_queue.specs.Events.{AreNames, IsFirst, first_book};
+ghost use Rattle.action_queue.specs.declared.event.Event.TheVariants as events;
 ghost use Rattle.record_codec.specs.Spelling.{IsKept, Spelled};
 ghost use Rattle.store_core.specs.Mail.{mail};
 ghost use Rattle.store_core.specs.Holding.{IsAsLeft};
@@ -57,18 +58,18 @@ impl Store {
         // At every moment a stop leaves no book, or that of the names, and no action that all images hold is lost. Where one
         // side was at rest the first syncs leave the books or choose one; behind them there is none from one moment to the
         // next, or the Begin is begun, or made firm; and one side is at rest at each moment.
-        ensures told { D.tells_files → Creates names (D.clock disk.old) (D.clock disk.new) }
+        ensures told { D.tells_files → Creates mail (events.Begin names) (D.clock disk.old) (D.clock disk.new) }
         ensures begins { D.tells_files → OneSideAtRest (D.clock disk.old).now →
-            (books : Books) → HasBooks books (D.clock disk.old).now →
-            BeginsBehind names (D.clock disk.old) (D.clock disk.new) }
+            (books : Books mail) → HasBooks mail books (D.clock disk.old).now →
+            BeginsBehind mail (events.Begin names) (D.clock disk.old) (D.clock disk.new) }
         ensures steps { D.tells_files → OneSideAtRest (D.clock disk.old).now →
-            (books : Books) → HasBooks books (D.clock disk.old).now →
-            Since (IsCreating names (D.clock disk.old).now) (BeginsStep First names)
+            (books : Books mail) → HasBooks mail books (D.clock disk.old).now →
+            Since (IsCreating mail (events.Begin names) (D.clock disk.old).now) (BeginsStep mail First (events.Begin names))
             (D.clock disk.old) (D.clock disk.new) }
         ensures one_side { D.tells_files → OneSideAtRest (D.clock disk.old).now → OneSideAtRest (D.clock disk.new).now }
         ensures each_one_side { D.tells_files → OneSideAtRest (D.clock disk.old).now →
             EachOneSide (D.clock disk.old) (D.clock disk.new) }
-        ensures held { D.tells_files → Since (IsCreating names (D.clock disk.old).now) KeepsActions
+        ensures held { D.tells_files → Since (IsCreating mail (events.Begin names) (D.clock disk.old).now) KeepsActions
             (D.clock disk.old) (D.clock disk.new) }
 
         // But after a failure of the disk, an error leaves the files as they were.

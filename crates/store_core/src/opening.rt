@@ -50,13 +50,13 @@ impl Store {
         ensures sound { IfOk result (λ store. store.journal.failed ≡ false) }
 
         // It is one of those that a stop could have left, and from now on each stop leaves it.
-        ensures chosen { D.tells_files → (books : Books) → HasBooks books (D.clock disk.old).now →
-            IfOk result (λ store. IsOneOf (Some store.book) books × HasBooks (Firm (Some store.book)) (D.clock disk.new).now) }
+        ensures chosen { D.tells_files → (books : Books mail) → HasBooks mail books (D.clock disk.old).now →
+            IfOk result (λ store. IsOneOf mail (Some store.book) books × HasBooks mail (Firm (Some store.book)) (D.clock disk.new).now) }
 
         // From moment to moment the books stay, or one is chosen.
         ensures chooses { D.tells_files → OneSideAtRest (D.clock disk.old).now →
-            (books : Books) → HasBooks books (D.clock disk.old).now →
-            Since Any ChoosesStep (D.clock disk.old) (D.clock disk.new) }
+            (books : Books mail) → HasBooks mail books (D.clock disk.old).now →
+            Since Any (ChoosesStep mail) (D.clock disk.old) (D.clock disk.new) }
 
         // It is refused only where the files hold no book; where they hold one it isn't.
         ensures broken { D.tells_files → (why : Place9) → IsErrOf result (faults.NotAJournal why) →

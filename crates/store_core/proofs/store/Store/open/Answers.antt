@@ -74,7 +74,8 @@ pub returns-clause-chosen : goal.returns-clause-chosen
 returns-clause-chosen g c tells books have =
     let reads = c.in_ok-read_later.ensures.value tells (c.in_ok-book.ensures.value tells (c.in_ok-journal.ensures.still tells)) in
     let same = (c.read_later.ensures.told tells).seen_same ∙ (c.read_begin.ensures.told tells).seen_same ∙ c.in_ok-journal.ensures.seen tells (λ e. cc e) in (
-      one_of books _ _ _ (g.met.D.Disk.seen_is c.args.disk.now tells) have (holds_all mail _ _ _ _ _ same reads c.in_ok-read_later.ensures.all_read),
+      one_of mail one_mail_event books _ _ _ (g.met.D.Disk.seen_is c.args.disk.now tells) have
+          (holds_all mail _ _ _ _ _ same reads c.in_ok-read_later.ensures.all_read),
       only_left mail _ _ _ (left_as mail _ _ _ _ reads c.in_ok-read_later.ensures.all_read),
     )
 
@@ -88,24 +89,24 @@ returns-clause-held g c tells = narrows_held _ _ (narrows_look _ _ _ _ _ (c.open
 
 pub returns-in_err-journal-clause-chooses : goal.returns-in_err-journal-clause-chooses
 returns-in_err-journal-clause-chooses g c tells one books have =
-    settles_chooses books _ _ have (g.met.D.Disk.seen_is c.args.disk.now tells) _ (c.open.ensures.exact tells one) (c.open.ensures.told tells)
+    settles_chooses mail books _ _ have (g.met.D.Disk.seen_is c.args.disk.now tells) _ (c.open.ensures.exact tells one) (c.open.ensures.told tells)
 
 pub returns-in_err-book-clause-chooses : goal.returns-in_err-book-clause-chooses
 returns-in_err-book-clause-chooses g c tells one books have =
-    settles_chooses books _ _ have (g.met.D.Disk.seen_is c.args.disk.now tells) _
+    settles_chooses mail books _ _ have (g.met.D.Disk.seen_is c.args.disk.now tells) _
     (settles_look _ _ _ _ _ _ (c.open.ensures.exact tells one) (c.read_begin.ensures.told tells))
     (narrows_look _ _ _ _ _ (c.open.ensures.told tells) (c.read_begin.ensures.told tells))
 
 pub returns-in_err-read_later-clause-chooses : goal.returns-in_err-read_later-clause-chooses
 returns-in_err-read_later-clause-chooses g c tells one books have =
-    settles_chooses books _ _ have (g.met.D.Disk.seen_is c.args.disk.now tells) _
+    settles_chooses mail books _ _ have (g.met.D.Disk.seen_is c.args.disk.now tells) _
     (settles_look _ _ _ _ _ _ (c.open.ensures.exact tells one) (looks_then _ _ _ _ _ _ (c.read_begin.ensures.told tells)
     (c.read_later.ensures.told tells))) (narrows_look _ _ _ _ _ (c.open.ensures.told tells)
     (looks_then _ _ _ _ _ _ (c.read_begin.ensures.told tells) (c.read_later.ensures.told tells)))
 
 pub returns-clause-chooses : goal.returns-clause-chooses
 returns-clause-chooses g c tells one books have =
-    settles_chooses books _ _ have (g.met.D.Disk.seen_is c.args.disk.now tells) _
+    settles_chooses mail books _ _ have (g.met.D.Disk.seen_is c.args.disk.now tells) _
     (settles_look _ _ _ _ _ _ (c.open.ensures.exact tells one) (looks_then _ _ _ _ _ _ (c.read_begin.ensures.told tells)
     (c.read_later.ensures.told tells))) (narrows_look _ _ _ _ _ (c.open.ensures.told tells)
     (looks_then _ _ _ _ _ _ (c.read_begin.ensures.told tells) (c.read_later.ensures.told tells)))

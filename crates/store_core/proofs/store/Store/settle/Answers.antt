@@ -18,14 +18,14 @@ returns-in_err-append-clause-told g c tells =
 
 pub returns-in_err-append-clause-steps : goal.returns-in_err-append-clause-steps
 returns-in_err-append-clause-steps g c tells =
-    steps_of c.args.self.now.journal.version c.args.self.now.book (events.Settle c.args.id c.args.outcome) c.requires.lawful _ _
+    steps_of mail c.args.self.now.journal.version c.args.self.now.book (events.Settle c.args.id c.args.outcome) c.requires.lawful _ _
     (took mail c.args.self.now (events.Settle c.args.id c.args.outcome) c.requires.lawful _ c.encode_outcome-frame.ensures.spelled
     c.encode_outcome-frame.ensures.body _ _ _ _ (c.requires.still tells) _ c.self.view_is
     _ _ (c.deref.ensures.0 ∙ c.encode_outcome-frame.ensures.frame) _ (c.append.ensures.told tells))
 
 pub returns-in_err-append-clause-held : goal.returns-in_err-append-clause-held
 returns-in_err-append-clause-held g c tells =
-    held_of c.args.self.now.journal.version c.args.self.now.book (events.Settle c.args.id c.args.outcome) c.requires.lawful _ _
+    held_of c.args.self.now.book (events.Settle c.args.id c.args.outcome) _ _
     (took mail c.args.self.now (events.Settle c.args.id c.args.outcome) c.requires.lawful _ c.encode_outcome-frame.ensures.spelled
     c.encode_outcome-frame.ensures.body _ _ _ _ (c.requires.still tells) _ c.self.view_is
     _ _ (c.deref.ensures.0 ∙ c.encode_outcome-frame.ensures.frame) _ (c.append.ensures.told tells))
@@ -38,14 +38,14 @@ returns-clause-told g c tells =
 
 pub returns-clause-steps : goal.returns-clause-steps
 returns-clause-steps g c tells =
-    steps_of c.args.self.now.journal.version c.args.self.now.book (events.Settle c.args.id c.args.outcome) c.requires.lawful _ _
+    steps_of mail c.args.self.now.journal.version c.args.self.now.book (events.Settle c.args.id c.args.outcome) c.requires.lawful _ _
     (took mail c.args.self.now (events.Settle c.args.id c.args.outcome) c.requires.lawful _ c.encode_outcome-frame.ensures.spelled
     c.encode_outcome-frame.ensures.body _ _ _ _ (c.requires.still tells) _ c.self.view_is
     _ _ (c.deref.ensures.0 ∙ c.encode_outcome-frame.ensures.frame) _ (c.append.ensures.told tells))
 
 pub returns-clause-held : goal.returns-clause-held
 returns-clause-held g c tells =
-    held_of c.args.self.now.journal.version c.args.self.now.book (events.Settle c.args.id c.args.outcome) c.requires.lawful _ _
+    held_of c.args.self.now.book (events.Settle c.args.id c.args.outcome) _ _
     (took mail c.args.self.now (events.Settle c.args.id c.args.outcome) c.requires.lawful _ c.encode_outcome-frame.ensures.spelled
     c.encode_outcome-frame.ensures.body _ _ _ _ (c.requires.still tells) _ c.self.view_is
     _ _ (c.deref.ensures.0 ∙ c.encode_outcome-frame.ensures.frame) _ (c.append.ensures.told tells))
