@@ -1,6 +1,7 @@
 -- Dialogues, one question behind the other.
-use Rattle.std.proofs.Common.{◌≡◌, inl, inr, ℕ, ◌+◌, Bool, List, [], ◌∷◌, ◌++◌, length, Option, Some, None}
-use Rattle.std.proofs.Common.{Result, Ok, Err, IfOk, OnOk, refl, sym, subst}
+use Rattle.std.proofs.Common.{◌≡◌, inl, inr, ℕ, ◌+◌, Bool, List, [], ◌∷◌, ◌++◌, Option, Some, None}
+use Rattle.std.proofs.Common.{Result, Ok, Err, IfOk, OnOk, refl, sym, ◌∙◌, ap, subst}
+use Rattle.std.proofs.lemmas.Option.{same_Some}
 use Rattle.mail_base.specs.declared.tag.Tag.{Tag}
 use Rattle.literal_feed.specs.Stream.{Stream}
 use Rattle.imap_model.specs.Carrying.{Waiting}
@@ -13,7 +14,8 @@ use Rattle.imap_model.specs.declared.response.Response.TheVariants as responses
 use Rattle.world_traits.specs.Asking.{Asking}
 use Rattle.world_traits.specs.LinkState.{Connection, LinkState}
 use Rattle.world_traits.specs.Moments.{Clock}
-use Rattle.imap_session.specs.Dialogue.{Dialogue, Known, CameToEnd, BrokeOff, SentIn, Talked, TalkedOut, IsReply, Replied, next_tag, next_text}
+use Rattle.imap_session.specs.Dialogue.{Dialogue, Known, Point, CameToEnd, BrokeOff, SentIn, StoodAt, Talked, TalkedOut, IsReply, Replied}
+use Rattle.imap_session.specs.Dialogue.{next_tag, next_text}
 use Rattle.imap_session.specs.Dialogue.Dialogue.{Ends, Lacks, Asks}
 use Rattle.imap_session.specs.Causes.{FailsBehind}
 use Rattle.imap_session.specs.Hearing.{Hears}
@@ -26,65 +28,63 @@ use Rattle.imap_session.specs.declared.fault.SessionFault.{SessionFault}
 use Rattle.imap_session.specs.declared.fault.SessionFault.TheVariants as faults
 
 -- what was answered to its end was talked
-pub talked_out : (d : Dialogue) (count : ℕ) (lacking : Option Item) (old new : Clock) → TalkedOut d count lacking old new → Talked d count old new
+pub talked_out : (d : Dialogue) (count : ℕ) (lacking : Option Item) (old new : Point) → TalkedOut d count lacking old new → Talked d count old new
 talked_out (Ends rev2) count None old new h = h
 talked_out (Ends rev2) count (Some item) old new h = absurd h
 talked_out (Lacks what) count None old new h = absurd h
 talked_out (Lacks what) count (Some item) old new h = h.1
-talked_out (Asks command next) count lacking old new h = inr (h.0, h.1, h.2, talked_out (next h.0) (count + 1) lacking h.1 new h.3)
+talked_out (Asks command next) count lacking old new h = inr (h.0, h.1, h.2, talked_out (next h.0) (count + 1) lacking _ new h.3)
 
 -- a dialogue that came to its end goes on
-pub came_follows : (d : Dialogue) (count : ℕ) (sent : List ℕ) (heard : List Response) (known : Known) (link : LinkState) (feed : Stream)
-    → CameToEnd d count sent heard known link feed → Follows link.connection feed
-came_follows (Ends rev2) count sent heard known link feed h = (heard, h.2)
-came_follows (Lacks item) count sent heard known link feed h = absurd h
-came_follows (Asks command next) count sent heard known link feed h = came_follows (next h.0) (count + 1) _ _ known link feed h.3
+pub came_follows : (d : Dialogue) (count : ℕ) (sent had : List ℕ) (heard : List Response) (known : Known) (link : LinkState) (feed : Stream)
+    → CameToEnd d count sent had heard known link feed → Follows link.connection feed
+came_follows (Ends rev2) count sent had heard known link feed h = (heard, h.1.hears)
+came_follows (Lacks item) count sent had heard known link feed h = absurd h
+came_follows (Asks command next) count sent had heard known link feed h = came_follows (next h.0) (count + 1) _ _ _ known link feed h.4
 
 -- the first question isn't answered
-pub broke_first : (command : Command) (next : Replies
-    → Dialogue) (count : ℕ) (sent : List ℕ) (heard : List Response) (c : Option Connection) (feed : Stream)
-    (link : LinkState) (fault : SessionFault) (h : Hears heard c feed) → SentFront (next_text count command) sent link.sent
-    → FailsBehind heard (next_tag count) command (length h.connection.received + 268435456) link.connection fault → BrokeOff
-    (Asks command next) count sent heard link fault
-broke_first command next count sent heard c feed link fault h text failing = inl (record {
-  text = text;
-  at = h.connection;
-  feed = feed;
-  hears = subst (λ (x : Option Connection). Hears heard x feed) h.there h;
-  failing = failing;
-})
+pub broke_first : (command : Command) (next : Replies → Dialogue) (count : ℕ) (sent had : List ℕ) (heard : List Response) (link : LinkState)
+    (fault : SessionFault)
+    → SentFront (next_text count command) sent link.sent → FailsBehind heard (next_tag count) command had link.connection fault
+    → BrokeOff (Asks command next) count sent had heard link fault
+broke_first command next count sent had heard link fault text failing = inl (record { text = text; failing = failing })
 
 -- a reply that came is one
-abbrev pub lines_of : (heard : List Response) (tag : Tag) (r : Replies) (c : Option Connection) (feed : Stream) → Came heard tag r c feed
-    → List Response
-lines_of heard tag r c feed came = came.told ++ responses.Done tag r.ending r.code ∷ []
+abbrev pub lines_of : (heard : List Response) (tag : Tag) (command : Command) (r : Replies) (old new : LinkState) (feed : Stream)
+    → Came heard tag command r old new feed → List Response
+lines_of heard tag command r old new feed came = came.told ++ responses.Done tag r.ending r.code ∷ []
 
-pub is_reply : (heard : List Response) (tag : Tag) (r : Replies) (c d : Option Connection) (feed after : Stream) (came : Came heard tag r d after)
-    → r.ending ≡ endings.Ok → AreSmall r → (h : Hears heard c feed) → ReceivedAtMost (length h.connection.received + 268435456) d
-    → IsReply heard tag r (lines_of heard tag r d after came)
-is_reply heard tag r c d feed after came ok small h within = record {
-  told = came.told;
-  none = came.none;
-  untagged = came.untagged;
-  whole = refl;
-  accepted = ok;
-  small = small;
-  within = record {
-    before = h.connection;
-    after = within.connection;
+module _ (heard : List Response) (tag : Tag) (command : Command) (r : Replies) (old new : LinkState) (feed : Stream)
+    (came : Came heard tag command r old new feed) (had : List ℕ) (within : ReceivedAtMost had new.connection) where
+  pub is_reply : r.ending ≡ endings.Ok → AreSmall r
+      → IsReply had heard tag command r within.reply (lines_of heard tag command r old new feed came)
+  is_reply ok small = record {
+    told = came.told;
+    none = came.none;
+    untagged = came.untagged;
+    whole = refl;
+    accepted = ok;
+    asked = came.all ok;
+    small = small;
     feed = feed;
-    later_feed = after;
-    hears = subst (λ (x : Option Connection). Hears heard x feed) h.there h;
-    hears_later = subst (λ (x : Option Connection). Hears (heard ++ lines_of heard tag r d after came) x after) within.there came.hears;
+    hears = subst (λ (x : Option Connection). Hears (heard ++ lines_of heard tag command r old new feed came) x feed) within.there came.hears;
     few = within.few;
-  };
-}
+  }
+
+  -- all that was received is what was had before and what came
+  pub had_now : came.hears.connection.received ≡ had ++ within.reply
+  had_now = ap (λ (k : Connection). k.received)
+      (same_Some came.hears.connection (record { received = had ++ within.reply }) (sym came.hears.there ∙ within.there))
+
+  pub stood_at : (sent : List ℕ) → new.sent ≡ sent
+      → StoodAt sent (had ++ within.reply) (heard ++ lines_of heard tag command r old new feed came) new feed
+  stood_at sent same = record { sends = same; has = within.there; hears = came.hears }
 
 -- no question that isn't answered says that a thing is lacking
-pub no_lack : (heard : List Response) (tag : Tag) (command : Command) (most : ℕ) (c : Option Connection) (item : Item)
-    → FailsBehind heard tag command most c (faults.Lacking item) → ⊥
-no_lack heard tag command most c item (inl r) = r
-no_lack heard tag command most c item (inr u) = u.unfit
+pub no_lack : (heard : List Response) (tag : Tag) (command : Command) (had : List ℕ) (c : Option Connection) (item : Item)
+    → FailsBehind heard tag command had c (faults.Lacking item) → ⊥
+no_lack heard tag command had c item (inl r) = r
+no_lack heard tag command had c item (inr u) = u.unfit
 
 pub replied_so : (count : ℕ) (command : Command) (r : Replies) (old new : Clock) (c : Option Connection) (feed : Stream)
     → Answered (waiting_of None (next_tag count) command) r old new c feed → r.ending ≡ endings.Ok → Replied count command r old new
@@ -96,52 +96,74 @@ pub stands_left : (w : Waiting) (r : Replies) (old k : Clock) (c : Option Connec
 stands_left w r old k c feed a keeps = subst (λ (s : Option (List ℕ)). Stands s k c feed) (a.keeps keeps) a.stands
 
 -- the dialogue is at its end
-pub out_end : (d : Dialogue) (count : ℕ) (rev2 : Bool) (k : Clock) → d ≡ Ends rev2 → TalkedOut d count None k k
-out_end d count rev2 k is = subst (λ (x : Dialogue). TalkedOut x count None k k) (sym is) refl
+same_point : (k : Clock) (now sent : List ℕ) → now ≡ sent → ◌≡◌ {A = Point} (record { clock = k; sent = now }) (record { clock = k; sent = sent })
+same_point k now sent is = ap (λ (t : List ℕ). record { clock = k; sent = t }) is
 
-pub out_lack : (d : Dialogue) (count : ℕ) (item : Item) (k : Clock) → d ≡ Lacks item → TalkedOut d count (Some item) k k
-out_lack d count item k is = subst (λ (x : Dialogue). TalkedOut x count (Some item) k k) (sym is) (refl, refl)
+pub out_end : (d : Dialogue) (count : ℕ) (rev2 : Bool) (k : Clock) (sent now : List ℕ) → d ≡ Ends rev2 → now ≡ sent
+    → TalkedOut d count None (record { clock = k; sent = sent }) (record { clock = k; sent = now })
+out_end d count rev2 k sent now is same =
+    subst (λ (x : Dialogue). TalkedOut x count None (record { clock = k; sent = sent }) (record { clock = k; sent = now })) (sym is)
+    (same_point k now sent same)
 
-pub came_end : (d : Dialogue) (count : ℕ) (sent : List ℕ) (heard : List Response) (rev2 : Bool) (link : LinkState) (feed : Stream) → d ≡ Ends rev2
-    → link.sent ≡ sent → Hears heard link.connection feed → CameToEnd d count sent heard (record { count = count; rev2 = rev2 }) link feed
-came_end d count sent heard rev2 link feed is same h =
-    subst (λ (x : Dialogue). CameToEnd x count sent heard (record { count = count; rev2 = rev2 }) link feed) (sym is) (refl, same, h)
+pub out_lack : (d : Dialogue) (count : ℕ) (item : Item) (k : Clock) (sent now : List ℕ) → d ≡ Lacks item → now ≡ sent
+    → TalkedOut d count (Some item) (record { clock = k; sent = sent }) (record { clock = k; sent = now })
+out_lack d count item k sent now is same =
+    subst (λ (x : Dialogue). TalkedOut x count (Some item) (record { clock = k; sent = sent }) (record { clock = k; sent = now })) (sym is)
+    (refl, same_point k now sent same)
 
-pub broke_lack : (d : Dialogue) (count : ℕ) (sent : List ℕ) (heard : List Response) (item : Item) (link : LinkState) (feed : Stream)
+pub came_end : (d : Dialogue) (count : ℕ) (sent had : List ℕ) (heard : List Response) (rev2 : Bool) (link : LinkState) (feed : Stream)
+    → d ≡ Ends rev2 → StoodAt sent had heard link feed
+    → CameToEnd d count sent had heard (record { count = count; rev2 = rev2 }) link feed
+came_end d count sent had heard rev2 link feed is stood =
+    subst (λ (x : Dialogue). CameToEnd x count sent had heard (record { count = count; rev2 = rev2 }) link feed) (sym is) (refl, stood)
+
+pub broke_lack : (d : Dialogue) (count : ℕ) (sent had : List ℕ) (heard : List Response) (item : Item) (link : LinkState) (feed : Stream)
     (fault : SessionFault)
-    → d ≡ Lacks item → fault ≡ faults.Lacking item → link.sent ≡ sent → Hears heard link.connection feed → BrokeOff d count sent heard link fault
-broke_lack d count sent heard item link feed fault is lacks same h =
-    subst (λ (x : Dialogue). BrokeOff x count sent heard link fault) (sym is) (lacks, same, (feed, h))
+    → d ≡ Lacks item → fault ≡ faults.Lacking item → StoodAt sent had heard link feed → BrokeOff d count sent had heard link fault
+broke_lack d count sent had heard item link feed fault is lacks stood =
+    subst (λ (x : Dialogue). BrokeOff x count sent had heard link fault) (sym is) (lacks, (feed, stood))
 
--- the same dialogue, by an equation
-pub came_from : (d : Dialogue) (count : ℕ) (s t : List ℕ) (heard : List Response) (known : Known) (link : LinkState) (feed : Stream) → s ≡ t
-    → CameToEnd d count s heard known link feed → CameToEnd d count t heard known link feed
-came_from d count s t heard known link feed same h = subst (λ (x : List ℕ). CameToEnd d count x heard known link feed) same h
+-- the same dialogue, by equations
+pub came_from : (d : Dialogue) (count : ℕ) (s t had got : List ℕ) (heard : List Response) (known : Known) (link : LinkState) (feed : Stream)
+    → s ≡ t → had ≡ got → CameToEnd d count s had heard known link feed → CameToEnd d count t got heard known link feed
+came_from d count s t had got heard known link feed same more h =
+    subst (λ (x : List ℕ). CameToEnd d count t x heard known link feed) more
+    (subst (λ (x : List ℕ). CameToEnd d count x had heard known link feed) same h)
 
-pub came_count : (d : Dialogue) (count : ℕ) (s : List ℕ) (heard : List Response) (n m : ℕ) (rev2 : Bool) (link : LinkState) (feed : Stream) → n ≡ m
-    → CameToEnd d count s heard (record { count = n; rev2 = rev2 }) link feed → CameToEnd d count s heard
-    (record { count = m; rev2 = rev2 }) link feed
-came_count d count s heard n m rev2 link feed same h = subst
-    (λ (x : ℕ). CameToEnd d count s heard (record { count = x; rev2 = rev2 }) link feed) same h
+pub came_count : (d : Dialogue) (count : ℕ) (s had : List ℕ) (heard : List Response) (n m : ℕ) (rev2 : Bool) (link : LinkState) (feed : Stream)
+    → n ≡ m → CameToEnd d count s had heard (record { count = n; rev2 = rev2 }) link feed
+    → CameToEnd d count s had heard (record { count = m; rev2 = rev2 }) link feed
+came_count d count s had heard n m rev2 link feed same h = subst
+    (λ (x : ℕ). CameToEnd d count s had heard (record { count = x; rev2 = rev2 }) link feed) same h
 
-pub broke_from : (d : Dialogue) (count : ℕ) (s t : List ℕ) (heard : List Response) (link : LinkState) (fault : SessionFault) → s ≡ t
-    → BrokeOff d count s heard link fault → BrokeOff d count t heard link fault
-broke_from d count s t heard link fault same h = subst (λ (x : List ℕ). BrokeOff d count x heard link fault) same h
+pub broke_from : (d : Dialogue) (count : ℕ) (s t had got : List ℕ) (heard : List Response) (link : LinkState) (fault : SessionFault)
+    → s ≡ t → had ≡ got → BrokeOff d count s had heard link fault → BrokeOff d count t got heard link fault
+broke_from d count s t had got heard link fault same more h =
+    subst (λ (x : List ℕ). BrokeOff d count t x heard link fault) more
+    (subst (λ (x : List ℕ). BrokeOff d count x had heard link fault) same h)
 
-pub came_as : (d e : Dialogue) (count : ℕ) (s : List ℕ) (heard : List Response) (known : Known) (link : LinkState) (feed : Stream) → e ≡ d
-    → CameToEnd d count s heard known link feed → CameToEnd e count s heard known link feed
-came_as d e count s heard known link feed same h = subst (λ (x : Dialogue). CameToEnd x count s heard known link feed) (sym same) h
+pub came_as : (d e : Dialogue) (count : ℕ) (s had : List ℕ) (heard : List Response) (known : Known) (link : LinkState) (feed : Stream) → e ≡ d
+    → CameToEnd d count s had heard known link feed → CameToEnd e count s had heard known link feed
+came_as d e count s had heard known link feed same h = subst (λ (x : Dialogue). CameToEnd x count s had heard known link feed) (sym same) h
 
-pub broke_as : (d e : Dialogue) (count : ℕ) (s : List ℕ) (heard : List Response) (link : LinkState) (fault : SessionFault) → e ≡ d
-    → BrokeOff d count s heard link fault → BrokeOff e count s heard link fault
-broke_as d e count s heard link fault same h = subst (λ (x : Dialogue). BrokeOff x count s heard link fault) (sym same) h
+pub broke_as : (d e : Dialogue) (count : ℕ) (s had : List ℕ) (heard : List Response) (link : LinkState) (fault : SessionFault) → e ≡ d
+    → BrokeOff d count s had heard link fault → BrokeOff e count s had heard link fault
+broke_as d e count s had heard link fault same h = subst (λ (x : Dialogue). BrokeOff x count s had heard link fault) (sym same) h
 
-pub talked_as : (d e : Dialogue) (count : ℕ) (old new : Clock) → e ≡ d → Talked d count old new → Talked e count old new
+pub talked_as : (d e : Dialogue) (count : ℕ) (old new : Point) → e ≡ d → Talked d count old new → Talked e count old new
 talked_as d e count old new same h = subst (λ (x : Dialogue). Talked x count old new) (sym same) h
 
-pub out_as : (d e : Dialogue) (count : ℕ) (lacking : Option Item) (old new : Clock) → e ≡ d → TalkedOut d count lacking old new
+pub talked_from : (d : Dialogue) (count : ℕ) (k : Clock) (s t : List ℕ) (new : Point) → s ≡ t
+    → Talked d count (record { clock = k; sent = s }) new → Talked d count (record { clock = k; sent = t }) new
+talked_from d count k s t new same h = subst (λ (x : List ℕ). Talked d count (record { clock = k; sent = x }) new) same h
+
+pub out_as : (d e : Dialogue) (count : ℕ) (lacking : Option Item) (old new : Point) → e ≡ d → TalkedOut d count lacking old new
     → TalkedOut e count lacking old new
 out_as d e count lacking old new same h = subst (λ (x : Dialogue). TalkedOut x count lacking old new) (sym same) h
+
+pub out_from : (d : Dialogue) (count : ℕ) (lacking : Option Item) (k : Clock) (s t : List ℕ) (new : Point) → s ≡ t
+    → TalkedOut d count lacking (record { clock = k; sent = s }) new → TalkedOut d count lacking (record { clock = k; sent = t }) new
+out_from d count lacking k s t new same h = subst (λ (x : List ℕ). TalkedOut d count lacking (record { clock = k; sent = x }) new) same h
 
 -- results
 pub on_ok_from : {T E : Type 0} (r : Result T E) (P : T → Type 0) (Q : Type 0) → ((x : T) → P x → Q) → IfOk r P → OnOk r Q
@@ -156,10 +178,11 @@ pub sent_as_dialogue : (d e : Dialogue) (count : ℕ) (old new : List ℕ) → e
 sent_as_dialogue d e count old new same h = subst (λ (x : Dialogue). SentIn x count old new) (sym same) h
 
 -- nothing happened yet
-pub idle_talked : (d : Dialogue) (count : ℕ) (k : Clock) → Talked d count k k
-idle_talked (Ends rev2) count k = refl
-idle_talked (Lacks item) count k = refl
-idle_talked (Asks command next) count k = inl (linked_start (Asking k.now.outside.talk.told (next_tag count) command) k)
+pub idle_talked : (d : Dialogue) (count : ℕ) (p : Point) → Talked d count p p
+idle_talked (Ends rev2) count p = refl
+idle_talked (Lacks item) count p = refl
+idle_talked (Asks command next) count p = inl
+    (linked_start (Asking p.clock.now.outside.talk.told (next_tag count) command) p.clock, sent_none (next_text count command) p.sent p.sent refl)
 
 pub idle_sent : (d : Dialogue) (count : ℕ) (sent : List ℕ) → SentIn d count sent sent
 idle_sent (Ends rev2) count sent = refl

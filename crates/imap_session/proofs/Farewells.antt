@@ -1,6 +1,6 @@
 -- The end of a session.
 use Rattle.std.proofs.Common.{◌≡◌, ◌≢◌, inr, ℕ, false, IsTrue, List, [], ◌∷◌, ◌++◌, Option, length, codes, decimal}
-use Rattle.std.proofs.Common.{refl, sym, ◌∙◌, ap, subst}
+use Rattle.std.proofs.Common.{refl, sym, ◌∙◌, ap}
 use Rattle.std.proofs.lemmas.List.{append-nil}
 use Rattle.mail_base.specs.declared.frame.Frame.{Frame}
 use Rattle.mail_base.specs.declared.tag.Tag.{Tag}
@@ -19,7 +19,7 @@ use Rattle.world_traits.specs.LinkState.{Connection}
 use Rattle.world_traits.specs.Moments.{Clock}
 use Rattle.imap_session.specs.Causes.{LastLine}
 use Rattle.imap_session.specs.Faults.{Unfit}
-use Rattle.imap_session.specs.Hearing.{Hears, Reads}
+use Rattle.imap_session.specs.Hearing.{Hears}
 use Rattle.imap_session.specs.Knowing.{NoEnd}
 use Rattle.imap_session.specs.Leaving.{IsFarewell, Left, Staying}
 use Rattle.imap_session.specs.Sent.{joined}
@@ -54,20 +54,16 @@ pub logout_sent : (tag : Tag) (parts : List (List ℕ)) (text : List ℕ) → pa
     → text ≡ joined (parts_of tag commands.Logout)
 logout_sent tag parts text is one = sym (append-nil text) ∙ ap joined (sym one ∙ is)
 
-pub reads_at : (heard : List Response) (most left : ℕ) (c d : Option Connection) (feed : Stream) → Reads heard most left c feed → d ≡ c
-    → Reads heard most left d feed
-reads_at heard most left c d feed r same = subst (λ (x : Option Connection). Reads heard most left x feed) (sym same) r
-
 -- what was heard up to the farewell
 pub left_so : (heard rows : List Response) (last : Response) (tag : Tag) (c : Option Connection) (feed : Stream)
     → Hears (heard ++ (rows ++ last ∷ [])) c feed → NoEnd false rows → IsFarewell tag last → Left heard tag c
 left_so heard rows last tag c feed h first farewell = record { rows = rows; last = last; feed = feed; hears = h; first = first; farewell = farewell }
 
 -- a fault of the last line
-pub stays_so : (heard : List Response) (tag : Tag) (most : ℕ) (c : Option Connection) (frame : Frame) (response : Response) (fault : SessionFault)
-    → LastLine heard frame response c
-    → Unfit tag ⊥ frame response fault × (response ≢ responses.Bye) → Staying heard tag most c fault
-stays_so heard tag most c frame response fault line why = inr
+pub stays_so : (heard : List Response) (tag : Tag) (had : List ℕ) (c : Option Connection) (frame : Frame) (response : Response) (fault : SessionFault)
+    → LastLine heard frame response had c
+    → Unfit tag ⊥ frame response fault × (response ≢ responses.Bye) → Staying heard tag had c fault
+stays_so heard tag had c frame response fault line why = inr
     (record { frame = frame; response = response; line = line; unfit = why.0; other = why.1 })
 
 -- the last line isn't BYE and has this tag's OK, or is BYE

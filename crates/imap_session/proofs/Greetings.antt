@@ -1,13 +1,12 @@
 -- The greeting that was read.
-use Rattle.std.proofs.Common.{◌≡◌, [], ◌∷◌, ◌++◌, Bool, Option, sym, subst, ◌∙◌, ap, ℕ, arith, List}
+use Rattle.std.proofs.Common.{◌≡◌, [], ◌∷◌, ◌++◌, Bool, Option, sym, subst, ◌∙◌, ap}
 use Rattle.literal_feed.specs.Stream.{Stream}
 use Rattle.imap_model.specs.Talking.{Peer}
 use Rattle.imap_model.specs.declared.response.Response.{Response}
 use Rattle.world_traits.specs.LinkState.{Connection}
 use Rattle.imap_session.specs.Faults.{IsHello}
 use Rattle.imap_session.specs.Greeting.{Greets, IsBegun, is_preauth}
-use Rattle.imap_session.specs.Hearing.{Hears, Reads}
-use Rattle.imap_session.specs.Replying.{ReceivedAtMost}
+use Rattle.imap_session.specs.Hearing.{Hears}
 
 pub greets_so : (preauth : Bool) (line greeting : Response) (c : Option Connection) (feed : Stream) → greeting ≡ line → IsHello greeting
     → Hears ([] ++ line ∷ []) c feed → preauth ≡ is_preauth greeting → Greets preauth c feed
@@ -26,6 +25,3 @@ begun_so preauth line greeting p same hello told is = record {
   told = told ∙ ap (λ (x : Response). x ∷ []) (sym same);
   is = is;
 }
-
-pub at_most : (heard : List Response) (most left : ℕ) (c : Option Connection) (feed : Stream) → Reads heard most left c feed → ReceivedAtMost most c
-at_most heard most left c feed r = record { connection = r.hears.connection; there = r.hears.there; few = omega (arith, r.room) }

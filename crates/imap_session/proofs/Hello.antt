@@ -1,14 +1,10 @@
 -- A connection that has begun.
-use Rattle.std.proofs.Common.{◌≢◌, ◌≡◌, ℕ, List, [], ◌∷◌, ◌++◌, ◌+◌, ◌-◌, length, Option, None, Result, Ok, Err}
+use Rattle.std.proofs.Common.{◌≢◌, ◌≡◌, ℕ, List, [], ◌∷◌, ◌++◌, Option, None, Result, Ok, Err}
 use Rattle.std.proofs.Common.{IfOk, refl, sym, ◌∙◌, ap, subst, arith}
 use Rattle.std.proofs.lemmas.Option.{none-some}
-use Rattle.mail_base.specs.Frames.{AreFrames, LineFault}
 use Rattle.mail_base.specs.declared.frame.Frame.{Frame}
-use Rattle.mail_base.proofs.Frames.{next_size}
-use Rattle.literal_feed.specs.Stream.{Stream, NoFault, StandsFor}
+use Rattle.literal_feed.specs.Stream.{Stream, StandsFor}
 use Rattle.literal_feed.proofs.Cuts.{nothing_came}
-use Rattle.literal_feed.proofs.Ends.{open_no_fault}
-use Rattle.literal_feed.proofs.Streams.{nothing_open}
 use Rattle.imap_model.specs.Talking.{Peer, Talk, Answering, IsGreeting, greeted}
 use Rattle.imap_model.specs.declared.response.Response.{Response}
 use Rattle.imap_model.specs.declared.ending.Ending.TheVariants as endings
@@ -28,22 +24,11 @@ use Rattle.imap_session.proofs.Reading.{Honest, heard_front, behind_heard}
 use Rattle.imap_session.proofs.Settling.{stands_at_rest}
 use Rattle.imap_session.proofs.Talking.{quiet}
 
-abbrev start : Stream
-start = record { at = 0; bytes = [] }
-
-no_frames : (at : ℕ) (fs : List Frame) (rest : List ℕ) → AreFrames at [] fs rest → rest ≡ []
-no_frames at [] rest is = sym is
-no_frames at (f ∷ fs) rest is = absurd (omega (arith, next_size at [] f is.0 is.1))
-
--- nothing has no fault
-pub nothing_sound : NoFault start
-nothing_sound fault bad =
-    open_no_fault [] (start.at + (length start.bytes - length bad.1)) fault nothing_open
-    (subst (λ (t : List ℕ). LineFault (start.at + (length start.bytes - length bad.1)) t fault) (no_frames 0 bad.0 bad.1 bad.2) bad.3)
-
-pub fresh_reads : (link : LinkState) (feed : Stream) (most : ℕ) → IsFresh link feed → Reads [] most most link.connection feed
-fresh_reads link feed most f = subst (λ (s : Stream). Reads [] most most link.connection s) (sym f.nothing) (record {
-  hears = record { connection = fresh; there = f.there; taken = []; stands = nothing_came; spell = tt; sound = nothing_sound };
+pub fresh_reads : (link : LinkState) (feed : Stream) (most : ℕ) → IsFresh link feed → Reads [] [] most most link.connection feed
+fresh_reads link feed most f = subst (λ (s : Stream). Reads [] [] most most link.connection s) (sym f.nothing) (record {
+  hears = record { connection = fresh; there = f.there; taken = []; stands = nothing_came; spell = tt; limited = tt };
+  reply = [];
+  grown = refl;
   room = omega arith;
 })
 
@@ -124,7 +109,7 @@ only_line (f ∷ g ∷ fs) frame r spell = absurd spell.1
 
 -- the first line that was read
 pub first_line : (frame : Frame) (response : Response) (most left : ℕ) (c : Option Connection) (feed : Stream)
-    → ReadsLast (response ∷ []) frame most left c feed → Spells frame response → FirstLine frame response c
+    → ReadsLast (response ∷ []) frame [] most left c feed → Spells frame response → FirstLine frame response c
 first_line frame response most left c feed r spells =
     let none = only_line r.before frame response (subst (λ (fs : List Frame). Spell fs (response ∷ [])) r.last r.reads.hears.spell) in
     let taken : r.reads.hears.taken ≡ frame ∷ [] = r.last ∙ ap (λ (fs : List Frame). fs ++ frame ∷ []) none in
@@ -133,6 +118,8 @@ first_line frame response most left c feed r spells =
       took = record {
         connection = r.reads.hears.connection;
         there = r.reads.hears.there;
+        reply = r.reads.reply;
+        grown = r.reads.grown;
         stands = subst (λ (fs : List Frame). StandsFor r.reads.hears.connection.received fs feed) taken r.reads.hears.stands;
         spell = (spells, tt);
       };

@@ -1,5 +1,5 @@
 -- Which way in there is, and whether a server serves this client.
-use Rattle.std.proofs.Common.{◌≡◌, inl, inr, ap, sym, ◌∙◌, ◌+◌, ℕ, List, length, codes, if◌then◌else◌, Some, Bool, true, false, IsTrue, refl, subst}
+use Rattle.std.proofs.Common.{◌≡◌, inl, inr, ap, sym, ◌∙◌, ℕ, List, codes, if◌then◌else◌, Some, Bool, true, false, IsTrue, refl, subst}
 use Rattle.literal_feed.specs.Stream.{Stream}
 use Rattle.mail_base.specs.Account.{Credentials}
 use Rattle.imap_model.specs.declared.item.Item.{Item}
@@ -28,20 +28,22 @@ behind_false true account r is = absurd (cc)
 behind_false false account r is = refl
 
 module _ (account : Credentials) (r : Replies) where
-  pub no_way_lacks : (item : Item) (count : ℕ) (k : Clock) → NoWay account r (faults.Lacking item)
-      → TalkedOut (way_in account r) count (Some item) k k
-  no_way_lacks item count k (inl lack) = let same : items.Login ≡ item = cc lack.0 in out_lack (way_in account r) count item k
-      (lack.1 ∙ ap Lacks same)
-  no_way_lacks item count k (inr want) = let e = want.0 in absurd (cc)
+  pub no_way_lacks : (item : Item) (count : ℕ) (k : Clock) (sent : List ℕ) → NoWay account r (faults.Lacking item)
+      → TalkedOut (way_in account r) count (Some item) (record { clock = k; sent = sent }) (record { clock = k; sent = sent })
+  no_way_lacks item count k sent (inl lack) = let same : items.Login ≡ item = cc lack.0 in out_lack (way_in account r) count item k sent sent
+      (lack.1 ∙ ap Lacks same) refl
+  no_way_lacks item count k sent (inr want) = let e = want.0 in absurd (cc)
 
-  pub no_way_broke : (fault : SessionFault) (count : ℕ) (heard : List Response) (link : LinkState) (feed : Stream) → Hears heard link.connection feed
-      → NoWay account r fault → BrokeOff (way_in account r) count link.sent heard link fault
+  pub no_way_broke : (fault : SessionFault) (count : ℕ) (heard : List Response) (link : LinkState) (feed : Stream)
+      → (h : Hears heard link.connection feed)
+      → NoWay account r fault → BrokeOff (way_in account r) count link.sent h.connection.received heard link fault
   no_way_broke fault count heard link feed h (inl lack) = broke_lack
-      (way_in account r) count link.sent heard items.Login link feed fault lack.1 lack.0 refl h
+      (way_in account r) count link.sent h.connection.received heard items.Login link feed fault lack.1 lack.0
+      (record { sends = refl; has = h.there; hears = h })
   no_way_broke fault count heard link feed h (inr want) =
-      broke_as (Asks want.1.0 (λ s. logged_in)) (way_in account r) count link.sent heard link fault want.1.1
-      (broke_first want.1.0 (λ s. logged_in) count link.sent heard link.connection feed link fault h (sent_none _ _ _ refl)
-      (inl (subst (Reading (length h.connection.received + 268435456) link.connection) (sym want.0) tt)))
+      broke_as (Asks want.1.0 (λ s. logged_in)) (way_in account r) count link.sent h.connection.received heard link fault want.1.1
+      (broke_first want.1.0 (λ s. logged_in) count link.sent h.connection.received heard link fault (sent_none _ _ _ refl)
+      (inl (subst (Reading h.connection.received 268435456 link.connection) (sym want.0) tt)))
 
   pub no_way_bad : (at : ℕ) → NoWay account r (faults.BadReply at) → ⊥
   no_way_bad at (inl lack) = let e = lack.0 in absurd (cc)

@@ -1,26 +1,33 @@
 -- A reply as it comes, one part of it behind another.
-use Rattle.std.proofs.Common.{arith, ◌≡◌, ℕ, Bool, true, false, List, [], ◌∷◌, ◌++◌, Option, Some, None, MatchOption, Result, Ok, Err}
+use Rattle.std.proofs.Common.{arith, ◌≡◌, ℕ, ◌+◌, ◌-◌, ◌≤◌, length, take, Bool, true, false, List, [], ◌∷◌, ◌++◌, Option, Some, None, MatchOption}
+use Rattle.std.proofs.Common.{Result, Ok, Err}
 use Rattle.std.proofs.Common.{IfOk, refl, sym, ◌∙◌, ap, subst, append_assoc}
-use Rattle.std.proofs.lemmas.List.{append-nil}
+use Rattle.std.proofs.lemmas.List.{append-nil, take_all}
 use Rattle.mail_base.specs.declared.frame.Frame.{Frame}
 use Rattle.mail_base.specs.declared.tag.Tag.{Tag}
 use Rattle.literal_feed.specs.Stream.{Stream}
 use Rattle.imap_model.specs.Small.{IsSmall, IsSmallCode}
 use Rattle.imap_model.specs.Untagged.{IsBefore, AreBefore}
 use Rattle.imap_model.proofs.Remarking.{all_append}
+use Rattle.imap_model.specs.CommandText.{parts_of}
 use Rattle.imap_model.specs.declared.code.Code.{Code}
+use Rattle.imap_model.specs.declared.command.Command.{Command}
 use Rattle.imap_model.specs.declared.ending.Ending.{Ending}
+use Rattle.imap_model.specs.declared.ending.Ending.TheVariants as endings
 use Rattle.imap_model.specs.declared.replies.Replies.{Replies}
 use Rattle.imap_model.specs.declared.response.Response.{Response}
 use Rattle.imap_model.specs.declared.response.Response.TheVariants as responses
-use Rattle.world_traits.specs.LinkState.{Connection}
+use Rattle.world_traits.specs.LinkState.{Connection, LinkState}
+use Rattle.imap_session.specs.Faults.{more_parts}
 use Rattle.imap_session.specs.Hearing.{Reads, told_by, all_told_by}
-use Rattle.imap_session.specs.Knowing.{IsEnd, NoEnd}
+use Rattle.imap_session.specs.Knowing.{IsEnd, NoEnd, request_of, requests}
 use Rattle.imap_session.specs.Permanent.{behind, behind_all, behind_code, permitted}
 use Rattle.imap_session.specs.Replying.{AllSmall, AreSmall, HeardOn, HeardTo, HeardDone, Came, ReceivedAtMost, read_as}
+use Rattle.imap_session.specs.Sent.{joined}
 use Rattle.imap_session.specs.declared.asking.Completion.{Completion}
 use Rattle.imap_session.specs.declared.permits.Permits.{Permits}
 use Rattle.imap_session.specs.declared.fault.SessionFault.TheVariants as faults
+use Rattle.imap_session.proofs.Hearing.{at_most}
 
 -- what ends a whole reply ends the wait behind a part
 end_weaker : (r : Response) → IsEnd false r → IsEnd true r
@@ -105,18 +112,44 @@ permits_on start p q rows more r is next grown =
     next ∙ ap (λ (x : Option Permits). behind x r) is ∙ sym (behind_told (behind_all start rows) r) ∙ sym (behind_append start rows (told_by r))
     ∙ ap (λ (t : List Response). behind_all start t) (sym grown)
 
-module _ (heard before rows : List Response) (most left : ℕ) (c : Option Connection) (feed : Stream) where
+-- how many parts are asked for
+pub asked_append : (rs qs : List Response) → requests (rs ++ qs) ≡ requests rs + requests qs
+asked_append [] qs = omega arith
+asked_append (r ∷ rs) qs = omega (arith, asked_append rs qs)
+
+pub none_asked : (rs : List Response) → NoEnd true rs → requests rs ≡ 0
+none_asked [] none = refl
+none_asked (r ∷ rs) none = omega (arith, one_asked r none.0, none_asked rs none.1)
+  where
+    one_asked : (r : Response) → (IsEnd true r → ⊥) → request_of r ≡ 0
+    one_asked (responses.Done tag ending code) not = refl
+    one_asked (responses.Untagged ending code) not = refl
+    one_asked responses.Bye not = refl
+    one_asked (responses.Preauth code) not = refl
+    one_asked responses.Go not = absurd (not tt)
+    one_asked (responses.Capability words) not = refl
+    one_asked (responses.Enabled words) not = refl
+    one_asked (responses.Exists count) not = refl
+    one_asked (responses.Fetch fetched) not = refl
+    one_asked (responses.Vanished earlier uids) not = refl
+    one_asked (responses.Found uids) not = refl
+    one_asked responses.Other not = refl
+
+module _ (heard before rows : List Response) (had : List ℕ) (most left : ℕ) (c : Option Connection) (feed : Stream) where
   -- nothing was heard yet
-  pub heard_nothing : rows ≡ before → Reads heard most left c feed → HeardOn false heard before rows most left c feed
+  pub heard_nothing : rows ≡ before → Reads heard had most left c feed → HeardOn false heard before rows 0 had most left c feed
   heard_nothing same r = record {
     told = [];
     none = tt;
     grown = same ∙ sym (append-nil before);
-    reads = subst (λ (h : List Response). Reads h most left c feed) (sym (append-nil heard)) r;
+    asked = refl;
+    reads = subst (λ (h : List Response). Reads h had most left c feed) (sym (append-nil heard)) r;
   }
 
-  pub heard_at : (d : Option Connection) → d ≡ c → HeardOn false heard before rows most left c feed → HeardOn false heard before rows most left d feed
-  heard_at d same h = subst (λ (x : Option Connection). HeardOn false heard before rows most left x feed) (sym same) h
+  pub heard_at : (parts all : ℕ) (d : Option Connection) → d ≡ c → parts ≡ all → HeardOn false heard before rows parts had most left c feed
+      → HeardOn false heard before rows all had most left d feed
+  heard_at parts all d same is h = subst (λ (x : Option Connection). HeardOn false heard before rows all had most left x feed) (sym same)
+      (record { told = h.told; none = h.none; grown = h.grown; asked = h.asked ∙ is; reads = h.reads })
 
 grown_on : (before mid after a b : List Response) → mid ≡ before ++ all_told_by a → after ≡ mid ++ all_told_by b
     → after ≡ before ++ all_told_by (a ++ b)
@@ -124,25 +157,27 @@ grown_on before mid after a b is next =
     next ∙ ap (λ (t : List Response). t ++ all_told_by b) is ∙ append_assoc before (all_told_by a) (all_told_by b)
     ∙ ap (λ (t : List Response). before ++ t) (sym (told_append a b))
 
-module _ (heard before mid after : List Response) (most left l : ℕ) (c d : Option Connection) (feed f : Stream)
-    (h : HeardOn false heard before mid most left c feed) where
+module _ (heard before mid after : List Response) (parts : ℕ) (had : List ℕ) (most left l : ℕ) (c d : Option Connection) (feed f : Stream)
+    (h : HeardOn false heard before mid parts had most left c feed) where
   -- more was heard behind it
-  pub on_on : HeardOn false (heard ++ h.told) mid after most l d f → HeardOn false heard before after most l d f
+  pub on_on : HeardOn false (heard ++ h.told) mid after 1 had most l d f → HeardOn false heard before after (parts + 1) had most l d f
   on_on n = record {
     told = h.told ++ n.told;
     none = none_append false h.told n.told h.none n.none;
     grown = grown_on before mid after h.told n.told h.grown n.grown;
-    reads = subst (λ (t : List Response). Reads t most l d f) (append_assoc heard h.told n.told) n.reads;
+    asked = omega (arith, asked_append h.told n.told, h.asked, n.asked);
+    reads = subst (λ (t : List Response). Reads t had most l d f) (append_assoc heard h.told n.told) n.reads;
   }
 
   -- and the completion
-  pub on_done : (tag : Tag) (e : Ending) (k : Code) → HeardDone (heard ++ h.told) mid after tag e k most l d f
-      → HeardDone heard before after tag e k most l d f
-  on_done tag e k n = record {
+  pub on_done : (tag : Tag) (e : Ending) (k : Code) (more all : ℕ) → all ≡ parts + more
+      → HeardDone (heard ++ h.told) mid after tag e k more had most l d f → HeardDone heard before after tag e k all had most l d f
+  on_done tag e k more all is n = record {
     told = h.told ++ n.told;
     none = none_append false h.told n.told h.none n.none;
     grown = grown_on before mid after h.told n.told h.grown n.grown;
-    reads = subst (λ (t : List Response). Reads t most l d f)
+    asked = omega (arith, asked_append h.told n.told, h.asked, n.asked, is);
+    reads = subst (λ (t : List Response). Reads t had most l d f)
         (append_assoc heard h.told (n.told ++ responses.Done tag e k ∷ [])
         ∙ ap (λ (t : List Response). heard ++ t) (sym (append_assoc h.told n.told (responses.Done tag e k ∷ []))))
         n.reads;
@@ -152,52 +187,80 @@ module _ (heard before mid after : List Response) (most left l : ℕ) (c d : Opt
 abbrev pub TurnedTo : Response → Tag → Option Completion → Type 0
 TurnedTo last tag o = MatchOption o (last ≡ responses.Go) (λ d. last ≡ responses.Done tag d.ending d.code)
 
-module _ (heard before rows : List Response) (frame : Frame) (last : Response) (most left : ℕ) (c : Option Connection) (feed : Stream) where
+module _ (heard before rows : List Response) (frame : Frame) (last : Response) (had : List ℕ) (most left : ℕ) (c : Option Connection)
+    (feed : Stream) where
   -- a `+` goes on
-  to_on : HeardTo true heard before rows frame last most left c feed → last ≡ responses.Go → HeardOn false heard before rows most left c feed
-  to_on h go = record {
-    told = h.told ++ last ∷ [];
-    none = none_append false h.told (last ∷ []) (none_weaker h.told h.none) (subst (λ (r : Response). NoEnd false (r ∷ [])) (sym go) ((λ e. e), tt));
-    grown = h.grown ∙ ap (λ (t : List Response). before ++ t)
-        (sym (append-nil (all_told_by h.told)) ∙ ap (λ (r : Response). all_told_by h.told ++ all_told_by (r ∷ [])) (sym go)
-        ∙ sym (told_append h.told (last ∷ [])));
-    reads = h.reads.reads;
-  }
+  to_on : HeardTo true heard before rows frame last had most left c feed → last ≡ responses.Go
+      → HeardOn false heard before rows 1 had most left c feed
+  to_on h go =
+      let one : requests (last ∷ []) ≡ 1 = ap (λ (r : Response). requests (r ∷ [])) go in
+      record {
+        told = h.told ++ last ∷ [];
+        none = none_append false h.told (last ∷ []) (none_weaker h.told h.none)
+            (subst (λ (r : Response). NoEnd false (r ∷ [])) (sym go) ((λ e. e), tt));
+        grown = h.grown ∙ ap (λ (t : List Response). before ++ t)
+            (sym (append-nil (all_told_by h.told)) ∙ ap (λ (r : Response). all_told_by h.told ++ all_told_by (r ∷ [])) (sym go)
+            ∙ sym (told_append h.told (last ∷ [])));
+        asked = omega (arith, asked_append h.told (last ∷ []), none_asked h.told h.none, one);
+        reads = h.reads.reads;
+      }
 
-  to_done : (part : Bool) → HeardTo part heard before rows frame last most left c feed → ((rs : List Response) → NoEnd part rs → NoEnd false rs)
-      → (tag : Tag) (e : Ending) (k : Code)
-      → last ≡ responses.Done tag e k → HeardDone heard before rows tag e k most left c feed
-  to_done part h weaker tag e k is = record {
+  to_done : HeardTo true heard before rows frame last had most left c feed → (tag : Tag) (e : Ending) (k : Code)
+      → last ≡ responses.Done tag e k → HeardDone heard before rows tag e k 0 had most left c feed
+  to_done h tag e k is = record {
     told = h.told;
-    none = weaker h.told h.none;
+    none = none_weaker h.told h.none;
     grown = h.grown;
-    reads = subst (λ (r : Response). Reads (heard ++ (h.told ++ r ∷ [])) most left c feed) is h.reads.reads;
+    asked = none_asked h.told h.none;
+    reads = subst (λ (r : Response). Reads (heard ++ (h.told ++ r ∷ [])) had most left c feed) is h.reads.reads;
   }
 
-  pub whole_done : HeardTo false heard before rows frame last most left c feed → (tag : Tag) (e : Ending) (k : Code) → last ≡ responses.Done tag e k
-      → HeardDone heard before rows tag e k most left c feed
-  whole_done h tag e k is = to_done false h (λ rs none. none) tag e k is
+  pub whole_done : (h : HeardTo false heard before rows frame last had most left c feed) (tag : Tag) (e : Ending) (k : Code)
+      → last ≡ responses.Done tag e k → HeardDone heard before rows tag e k (requests h.told) had most left c feed
+  whole_done h tag e k is = record {
+    told = h.told;
+    none = h.none;
+    grown = h.grown;
+    asked = refl;
+    reads = subst (λ (r : Response). Reads (heard ++ (h.told ++ r ∷ [])) had most left c feed) is h.reads.reads;
+  }
 
-  turned_one : (o : Option Completion) (tag : Tag) → TurnedTo last tag o → HeardTo true heard before rows frame last most left c feed
-      → MatchOption o (HeardOn false heard before rows most left c feed) (λ d. HeardDone heard before rows tag d.ending d.code most left c feed)
+  turned_one : (o : Option Completion) (tag : Tag) → TurnedTo last tag o → HeardTo true heard before rows frame last had most left c feed
+      → MatchOption o (HeardOn false heard before rows 1 had most left c feed)
+      (λ d. HeardDone heard before rows tag d.ending d.code 0 had most left c feed)
   turned_one None tag go h = to_on h go
-  turned_one (Some d) tag is h = to_done true h none_weaker tag d.ending d.code is
+  turned_one (Some d) tag is h = to_done h tag d.ending d.code is
 
   pub turned_reads : {E : Type 0} (res : Result (Option Completion) E) (tag : Tag) → IfOk res (TurnedTo last tag)
-      → HeardTo true heard before rows frame last most left c feed
+      → HeardTo true heard before rows frame last had most left c feed
       → IfOk res
-      (λ o. MatchOption o (HeardOn false heard before rows most left c feed)
-      (λ d. HeardDone heard before rows tag d.ending d.code most left c feed))
+      (λ o. MatchOption o (HeardOn false heard before rows 1 had most left c feed)
+      (λ d. HeardDone heard before rows tag d.ending d.code 0 had most left c feed))
   turned_reads (Ok o) tag is h = turned_one o tag is h
   turned_reads (Err e) tag is h = tt
 
 -- the whole reply came
-pub done_came : (heard before rows : List Response) (tag : Tag) (r : Replies) (e : Ending) (k : Code) (most left : ℕ) (c : Option Connection)
-    (feed : Stream)
-    → before ≡ [] → r ≡ read_as rows e k → HeardDone heard before rows tag e k most left c feed → Came heard tag r c feed
-done_came heard before rows tag r e k most left c feed none is h =
-    subst (λ (x : Replies). Came heard tag x c feed) (sym is)
-    (record { told = h.told; none = h.none; untagged = h.grown ∙ ap (λ (t : List Response). t ++ all_told_by h.told) none; hears = h.reads.hears })
+module _ (heard before rows : List Response) (tag : Tag) (command : Command) (r : Replies) (e : Ending) (k : Code) (parts : ℕ) (had : List ℕ)
+    (most left : ℕ) (old new : LinkState) (feed : Stream) where
+  pub done_came : before ≡ [] → r ≡ read_as rows e k → new.sent ≡ old.sent ++ joined (take (parts + 1) (parts_of tag command))
+      → (e ≡ endings.Ok → more_parts tag command ≤ parts)
+      → HeardDone heard before rows tag e k parts had most left new.connection feed → Came heard tag command r old new feed
+  done_came none is sent all h =
+      subst (λ (x : Replies). Came heard tag command x old new feed) (sym is)
+      (record {
+        told = h.told;
+        none = h.none;
+        untagged = h.grown ∙ ap (λ (t : List Response). t ++ all_told_by h.told) none;
+        hears = h.reads.hears;
+        sent = sent ∙ ap (λ (n : ℕ). old.sent ++ joined (take (n + 1) (parts_of tag command))) (sym h.asked);
+        all = λ ok. omega (arith, all ok, h.asked);
+      })
+
+-- and where the last part was sent, all were
+pub all_sent : (texts parts : List (List ℕ)) (n : ℕ) (old new : List ℕ) → texts ≡ parts → length texts - 1 ≤ n
+    → new ≡ old ++ joined texts → new ≡ old ++ joined (take (n + 1) parts)
+all_sent texts parts n old new same enough is =
+    is ∙ ap (λ (t : List (List ℕ)). old ++ joined t) (same ∙ sym (take_all (n + 1) parts (omega (arith, enough, ap length same))))
 
 -- the permits that count behind the whole reply
 pub permitted_as : (start p q : Option Permits) (rows : List Response) (e : Ending) (k : Code) (r : Replies) → p ≡ behind_all start rows
@@ -239,10 +302,7 @@ pub small_replies : (r : Replies) (rows : List Response) (e : Ending) (k : Code)
 small_replies r rows e k is all small = subst AreSmall (sym is) (record { untagged = all; code = small })
 
 -- no more was received than may come
-pub done_within : (heard before rows : List Response) (tag : Tag) (e : Ending) (k : Code) (most left : ℕ) (c : Option Connection) (feed : Stream)
-    → HeardDone heard before rows tag e k most left c feed → ReceivedAtMost most c
-done_within heard before rows tag e k most left c feed h = record {
-  connection = h.reads.hears.connection;
-  there = h.reads.hears.there;
-  few = omega (arith, h.reads.room);
-}
+pub done_within : (heard before rows : List Response) (tag : Tag) (ending : Ending) (code : Code) (parts : ℕ) (had : List ℕ) (left : ℕ)
+    (c : Option Connection) (feed : Stream)
+    → HeardDone heard before rows tag ending code parts had 268435456 left c feed → ReceivedAtMost had c
+done_within heard before rows tag ending code parts had left c feed h = at_most _ had left c feed h.reads

@@ -1,5 +1,5 @@
 -- Why reading ends.
-use Rattle.std.specs.Prelude.{◌≡◌, ◌≢◌, ◌⊎◌, ℕ, List, [], ◌∷◌, Option}
+use Rattle.std.specs.Prelude.{◌≡◌, ◌≢◌, ◌⊎◌, ℕ, ◌-◌, List, [], ◌∷◌, length, Option}
 use Rattle.mail_base.specs.declared.frame.Frame.{Frame}
 use Rattle.mail_base.specs.declared.tag.Tag.{Tag}
 use Rattle.mail_base.specs.declared.tag.Tag.TheVariants as tags
@@ -27,14 +27,14 @@ of_feed (feeds.LiteralTooLarge at asked) = faults.TooLarge limits.Literal asked
 of_feed (feeds.LineTooLong at) = faults.TooLarge limits.Line 1048577
 of_feed feeds.Memory = faults.Memory
 
--- what a fault of reading says of the bytes received, of which at most so many are taken
-abbrev pub Reading : ℕ → Option Connection → SessionFault → Type 0
-Reading most c faults.Memory = Unit {0}
-Reading most c faults.Link = Unit {0}
-Reading most c (faults.Refused line) = ⊥
-Reading most c (faults.BadReply at) = Unspelled at c
-Reading most c (faults.Lacking item) = ⊥
-Reading most c (faults.TooLarge limit number) = TooMuch limit number most c
+-- what a fault of reading says of the bytes received behind those that were had, of which at most so many are taken
+abbrev pub Reading : List ℕ → ℕ → Option Connection → SessionFault → Type 0
+Reading had most c faults.Memory = Unit {0}
+Reading had most c faults.Link = Unit {0}
+Reading had most c (faults.Refused line) = ⊥
+Reading had most c (faults.BadReply at) = Unspelled at had c
+Reading had most c (faults.Lacking item) = ⊥
+Reading had most c (faults.TooLarge limit number) = TooMuch limit number had most c
 
 -- what it says of a frame
 abbrev pub LineBad : Frame → SessionFault → Type 0
@@ -51,7 +51,11 @@ IsCount (tags.Play n) = ⊥
 IsCount (tags.Count n) = Unit {0}
 IsCount tags.Strange = ⊥
 
--- the command is sent in several parts
+-- how many parts of the command a server has to ask for
+abbrev pub more_parts : Tag → Command → ℕ
+more_parts tag command = length (parts_of tag command) - 1
+
+-- there are some
 pub record HasParts (tag : Tag) (command : Command) : Type 0 where
   pub first : List ℕ
   pub next : List ℕ
@@ -105,7 +109,7 @@ HelloUnfit frame response (faults.TooLarge limit number) = ⊥
 -- this was the first line of the connection
 pub record FirstLine (frame : Frame) (response : Response) (c : Option Connection) : Type 0 where
   pub left : Stream
-  pub took : Took (response ∷ []) (frame ∷ []) left c
+  pub took : Took (response ∷ []) (frame ∷ []) left [] c
   pub spells : Spells frame response
 
 -- it is no greeting
@@ -115,6 +119,6 @@ pub record IsNoHello (c : Option Connection) (fault : SessionFault) : Type 0 whe
   pub line : FirstLine frame response c
   pub unfit : HelloUnfit frame response fault
 
--- what the fault of reading the greeting says of the bytes received, of which at most so many are taken
-abbrev pub NoHello : ℕ → Option Connection → SessionFault → Type 0
-NoHello most c fault = Reading most c fault ⊎ IsNoHello c fault
+-- what the fault of reading the greeting says of the bytes received
+abbrev pub NoHello : Option Connection → SessionFault → Type 0
+NoHello c fault = Reading [] 268435456 c fault ⊎ IsNoHello c fault

@@ -1,9 +1,9 @@
 -- What was read from a connection, and why nothing more is.
 use Rattle.std.specs.Prelude.{◌≡◌, ◌⊎◌, ℕ, ◌+◌, ◌<◌, List, [], ◌∷◌, ◌++◌, length, Option, Some, Err}
-use Rattle.mail_base.specs.Frames.{FirstFault, IsNext}
+use Rattle.mail_base.specs.Frames.{FirstFault, IsNext, NoWhole}
 use Rattle.mail_base.specs.declared.frame.Frame.{Frame}
 use Rattle.mail_base.specs.declared.frame.FeedFault.TheVariants as feeds
-use Rattle.literal_feed.specs.Stream.{Stream, NoFault, StandsFor}
+use Rattle.literal_feed.specs.Stream.{Stream, StandsFor}
 use Rattle.imap_model.specs.Responses.{Spells}
 use Rattle.imap_model.specs.declared.limit.Limit.{Limit}
 use Rattle.imap_model.specs.declared.limit.Limit.TheVariants as limits
@@ -16,6 +16,13 @@ use Rattle.imap_response.specs.declared.fault.ResponseFault.TheVariants as readi
 use Rattle.imap_response.specs.Heard.{Spell}
 use Rattle.world_traits.specs.LinkState.{Connection}
 
+-- each frame spells its response, and keeps the limits of flags
+abbrev pub KeepLimits : List Frame → List Response → Type 0
+KeepLimits [] [] = Unit {0}
+KeepLimits [] (r ∷ rs) = ⊥
+KeepLimits (f ∷ fs) [] = ⊥
+KeepLimits (f ∷ fs) (r ∷ rs) = SpellsWithin f r × KeepLimits fs rs
+
 -- Of all that was received in the connection these frames were taken, which spell these responses, and the rest stands in the
 -- feed.
 pub record Hears (heard : List Response) (c : Option Connection) (feed : Stream) : Type 0 where
@@ -24,16 +31,19 @@ pub record Hears (heard : List Response) (c : Option Connection) (feed : Stream)
   pub taken : List Frame
   pub stands : StandsFor connection.received taken feed
   pub spell : Spell taken heard
-  pub sound : NoFault feed
+  pub limited : KeepLimits taken heard
 
--- And so many bytes of the reply may still come.
-pub record Reads (heard : List Response) (most left : ℕ) (c : Option Connection) (feed : Stream) : Type 0 where
+-- Behind the bytes that were had, these came of a reply, which has at most so many; and so many may still come.
+pub record Reads (heard : List Response) (had : List ℕ) (most left : ℕ) (c : Option Connection) (feed : Stream) : Type 0 where
   pub hears : Hears heard c feed
-  pub room : length hears.connection.received + left ≡ most
+  pub reply : List ℕ
+  pub grown : hears.connection.received ≡ had ++ reply
+  pub room : length reply + left ≡ most
 
 -- The last of the responses was read from this frame.
-pub record ReadsLast (heard : List Response) (frame : Frame) (most left : ℕ) (c : Option Connection) (feed : Stream) : Type 0 where
-  pub reads : Reads heard most left c feed
+pub record ReadsLast (heard : List Response) (frame : Frame) (had : List ℕ) (most left : ℕ) (c : Option Connection)
+    (feed : Stream) : Type 0 where
+  pub reads : Reads heard had most left c feed
   pub before : List Frame
   pub last : reads.hears.taken ≡ before ++ frame ∷ []
 
@@ -56,10 +66,13 @@ abbrev pub all_told_by : List Response → List Response
 all_told_by [] = []
 all_told_by (r ∷ rs) = told_by r ++ all_told_by rs
 
--- The frames that were taken, and what is left of all that was received.
-pub record Took (heard : List Response) (taken : List Frame) (left : Stream) (c : Option Connection) : Type 0 where
+-- The frames that were taken, and what is left of all that was received: the bytes that were had, and those that came behind
+-- them.
+pub record Took (heard : List Response) (taken : List Frame) (left : Stream) (had : List ℕ) (c : Option Connection) : Type 0 where
   pub connection : Connection
   pub there : c ≡ Some connection
+  pub reply : List ℕ
+  pub grown : connection.received ≡ had ++ reply
   pub stands : StandsFor connection.received taken left
   pub spell : Spell taken heard
 
@@ -71,13 +84,13 @@ pub record SpellsNone (at : ℕ) (left : Stream) : Type 0 where
   pub place : at ≡ frame.at
   pub none : (response : Response) → ¬ (Spells frame response)
 
--- The bytes received don't go on as spelled responses: there is an LF without CR, or a frame spells none.
-pub record Unspelled (at : ℕ) (c : Option Connection) : Type 0 where
+-- The bytes received don't go on as spelled responses: behind all whole frames there is an LF without CR, or a frame spells none.
+pub record Unspelled (at : ℕ) (had : List ℕ) (c : Option Connection) : Type 0 where
   pub heard : List Response
   pub taken : List Frame
   pub left : Stream
-  pub took : Took heard taken left c
-  pub bad : ∥ FirstFault left.at left.bytes (feeds.BareLf at) ∥₁ ⊎ SpellsNone at left
+  pub took : Took heard taken left had c
+  pub bad : (NoWhole left.bytes × ∥ FirstFault left.at left.bytes (feeds.BareLf at) ∥₁) ⊎ SpellsNone at left
 
 -- The frame spells a response, and a list of its flags is the first that passes this limit, or one of its flags.
 pub record PassesLimit (frame : Frame) (limit : Limit) (number : ℕ) : Type 0 where
@@ -98,10 +111,20 @@ FedTooMuch limit number left =
     ((at : ℕ) × (limit ≡ limits.Literal) × ∥ FirstFault left.at left.bytes (feeds.LiteralTooLarge at number) ∥₁)
     ⊎ ((at : ℕ) × (limit ≡ limits.Line) × (number ≡ 1048577) × ∥ FirstFault left.at left.bytes (feeds.LineTooLong at) ∥₁)
 
--- The bytes received pass a limit: those of the reply are too many, or what comes next is too large.
-pub record TooMuch (limit : Limit) (number most : ℕ) (c : Option Connection) : Type 0 where
-  pub connection : Connection
-  pub there : c ≡ Some connection
-  pub why : ((limit ≡ limits.Reply) × (number ≡ 268435457) × (most < length connection.received))
-      ⊎ ((heard : List Response) × (taken : List Frame) × (left : Stream) × Took heard taken left c
-      × (FedTooMuch limit number left ⊎ SpellsTooMuch limit number left))
+-- The reply has more bytes than it may: those that came behind the bytes that were had.
+pub record TooLong (had : List ℕ) (most : ℕ) (c : Option Connection) : Type 0 where
+  pub reply : List ℕ
+  pub there : c ≡ Some (record { received = had ++ reply })
+  pub long : most < length reply
+
+-- What comes next is too large: what stands behind all whole frames, or a frame.
+pub record NextTooLarge (limit : Limit) (number : ℕ) (had : List ℕ) (c : Option Connection) : Type 0 where
+  pub heard : List Response
+  pub taken : List Frame
+  pub left : Stream
+  pub took : Took heard taken left had c
+  pub large : (NoWhole left.bytes × FedTooMuch limit number left) ⊎ SpellsTooMuch limit number left
+
+-- The bytes received pass a limit.
+abbrev pub TooMuch : Limit → ℕ → List ℕ → ℕ → Option Connection → Type 0
+TooMuch limit number had most c = ((limit ≡ limits.Reply) × (number ≡ 268435457) × TooLong had most c) ⊎ NextTooLarge limit number had c

@@ -1,5 +1,5 @@
 -- What is known of a server with its connection while a command is sent and answered.
-use Rattle.std.specs.Prelude.{◌≡◌, ℕ, Bool, true, false, List, [], ◌∷◌, ◌++◌, Option, Some, None}
+use Rattle.std.specs.Prelude.{◌≡◌, ℕ, ◌+◌, Bool, true, false, List, [], ◌∷◌, ◌++◌, Option, Some, None}
 use Rattle.mail_base.specs.declared.tag.Tag.{Tag}
 use Rattle.imap_model.specs.CarriedOut.{CarriesOut, told_in}
 use Rattle.imap_model.specs.Carrying.{Waiting}
@@ -55,6 +55,26 @@ pub record Denies (tag : Tag) (told : List Response) (selected : Option (List �
 abbrev pub AllGo : List Response → Type 0
 AllGo [] = Unit {0}
 AllGo (r ∷ rs) = (r ≡ responses.Go) × AllGo rs
+
+-- 1 where the response asks for a part of a command
+abbrev pub request_of : Response → ℕ
+request_of (responses.Done tag ending code) = 0
+request_of (responses.Untagged ending code) = 0
+request_of responses.Bye = 0
+request_of (responses.Preauth code) = 0
+request_of responses.Go = 1
+request_of (responses.Capability words) = 0
+request_of (responses.Enabled words) = 0
+request_of (responses.Exists count) = 0
+request_of (responses.Fetch fetched) = 0
+request_of (responses.Vanished earlier uids) = 0
+request_of (responses.Found uids) = 0
+request_of responses.Other = 0
+
+-- how many parts are asked for
+abbrev pub requests : List Response → ℕ
+requests [] = 0
+requests (r ∷ rs) = request_of r + requests rs
 
 -- ends a reply; where a text is arriving, a request to go on ends it too
 abbrev pub IsEnd : Bool → Response → Type 0

@@ -29,13 +29,13 @@ pub record Left (heard : List Response) (tag : Tag) (c : Option Connection) : Ty
   pub farewell : IsFarewell tag last
 
 -- the last line that was read is no such line; a BYE is never a fault
-pub record IsNoFarewell (heard : List Response) (tag : Tag) (c : Option Connection) (fault : SessionFault) : Type 0 where
+pub record IsNoFarewell (heard : List Response) (tag : Tag) (had : List ℕ) (c : Option Connection) (fault : SessionFault) : Type 0 where
   pub frame : Frame
   pub response : Response
-  pub line : LastLine heard frame response c
+  pub line : LastLine heard frame response had c
   pub unfit : Unfit tag ⊥ frame response fault
   pub other : response ≢ responses.Bye
 
--- what a fault of leaving says of the bytes received, of which at most so many are taken
-abbrev pub Staying : List Response → Tag → ℕ → Option Connection → SessionFault → Type 0
-Staying heard tag most c fault = Reading most c fault ⊎ IsNoFarewell heard tag c fault
+-- what a fault of leaving says of the bytes received behind those that were had
+abbrev pub Staying : List Response → Tag → List ℕ → Option Connection → SessionFault → Type 0
+Staying heard tag had c fault = Reading had 268435456 c fault ⊎ IsNoFarewell heard tag had c fault

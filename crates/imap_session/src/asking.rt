@@ -1,6 +1,6 @@
 //! One command and its whole reply.
 
-ghost use Rattle.std.specs.Prelude.{◌≡◌, ◌≢◌, ◌≤◌, ◌<◌, ◌++◌, ◌+◌, [], ◌∷◌, ℕ, List, Option, Some, None, IfOk, OnOk, IsErrOf, IsTrue, length, take, drop, MatchOption, IfSome, IfNone, true, false};
+ghost use Rattle.std.specs.Prelude.{◌≡◌, ◌≢◌, ◌≤◌, ◌<◌, ◌++◌, ◌+◌, ◌-◌, [], ◌∷◌, ℕ, List, Option, Some, None, IfOk, OnOk, IsErrOf, IsTrue, length, take, drop, MatchOption, IfSome, IfNone, true, false};
 ghost use Rattle.imap_model.specs.CommandText.{IsWritable, parts_of};
 ghost use Rattle.imap_model.specs.Held.{IsSent};
 ghost use Rattle.imap_model.specs.Small.{IsSmall, IsSmallCode};
@@ -11,12 +11,12 @@ ghost use Rattle.world_traits.specs.Asking.{Asking};
 ghost use Rattle.world_traits.specs.Calls.{Rose};
 ghost use Rattle.world_traits.specs.Links.{Linked, AnyStep};
 ghost use Rattle.world_traits.specs.Moments.{Clock};
-ghost use Rattle.imap_session.specs.Causes.{FailsBehind};
+ghost use Rattle.imap_session.specs.Causes.{Fails, FailsBehind};
 ghost use Rattle.imap_session.specs.Hearing.{Hears, Reads};
-ghost use Rattle.imap_session.specs.Faults.{HasParts, IsCount, Unfit};
+ghost use Rattle.imap_session.specs.Faults.{HasParts, IsCount, Unfit, more_parts};
 ghost use Rattle.imap_session.specs.Knowing.{IsEnd};
 ghost use Rattle.imap_session.specs.Permanent.{behind_all, behind_code, permitted};
-ghost use Rattle.imap_session.specs.Replying.{AllSmall, AreSmall, Came, HeardDone, HeardOn, ReceivedAtMost, read_as};
+ghost use Rattle.imap_session.specs.Replying.{AllSmall, AreSmall, Came, HeardDone, HeardEarly, HeardOn, ReceivedAtMost, read_as};
 ghost use Rattle.imap_session.specs.Sent.{joined, SentFront};
 ghost use Rattle.imap_session.specs.declared.permits.Permits.{Permits};
 ghost use Rattle.imap_session.specs.Session.{Answered, Begun, Follows, IsReady, KeepsSelection, Sending, Stands, waiting_of};
@@ -118,7 +118,6 @@ fn send_on<L: Link>(
         × IsReady (waiting_of selected tag command.now) before part.now (next ∷ behind) old (L.clock link.old)
         (L.link link.old).connection feed.old }
     requires keeps { KeepsSelection command.now }
-    requires several { HasParts tag command.now }
     requires silent { L.tells_server → listener.old.rows ≡ [] }
     ensures files { L.tells_files → Linked AnyStep (L.clock link.old) (L.clock link.new) }
     ensures told { L.tells_server → (selected : Option (List ℕ)) (before : List (List ℕ)) (next : List ℕ)
@@ -139,18 +138,18 @@ fn send_on<L: Link>(
     ensures refused { IfOk result (λ o. IfSome o (λ d. d.ending ≢ endings.Ok)) }
     ensures small { AllSmall listener.old.rows
         → IfOk result (λ o. AllSmall listener.new.rows × IfSome o (λ d. IsSmallCode d.code)) }
-    ensures reads { L.tells_files → (heard : List Response) (most : ℕ)
-        → Reads heard most left.old (L.link link.old).connection feed.old
+    ensures reads { L.tells_files → (heard : List Response) (had : List ℕ) (most : ℕ)
+        → Reads heard had most left.old (L.link link.old).connection feed.old
         → IfOk result (λ o. MatchOption o
-        (HeardOn false heard listener.old.rows listener.new.rows most left.new (L.link link.new).connection feed.new)
-        (λ d. HeardDone heard listener.old.rows listener.new.rows tag d.ending d.code most left.new
+        (HeardOn false heard listener.old.rows listener.new.rows 1 had most left.new (L.link link.new).connection feed.new)
+        (λ d. HeardDone heard listener.old.rows listener.new.rows tag d.ending d.code 0 had most left.new
         (L.link link.new).connection feed.new)) }
     ensures permits { (start : Option Permits) → listener.old.permits ≡ behind_all start listener.old.rows
         → OnOk result (listener.new.permits ≡ behind_all start listener.new.rows) }
-    ensures why { L.tells_files → (heard : List Response) (most : ℕ)
-        → Reads heard most left.old (L.link link.old).connection feed.old → (fault : SessionFault)
+    ensures why { L.tells_files → (heard : List Response) (had : List ℕ) (most : ℕ)
+        → Reads heard had most left.old (L.link link.old).connection feed.old → (fault : SessionFault)
         → IsErrOf result fault
-        → FailsBehind heard tag command.now most (L.link link.new).connection fault }
+        → Fails heard tag 1 had most (L.link link.new).connection fault }
     ensures sent { L.tells_files → SentFront part.now (L.link link.old).sent (L.link link.new).sent }
     ensures sent_all { L.tells_files → OnOk result ((L.link link.new).sent ≡ (L.link link.old).sent ++ part.now) }
     ensures honest { L.tells_server → (selected : Option (List ℕ)) (before : List (List ℕ)) (next : List ℕ)
@@ -199,18 +198,19 @@ fn begin<L: Link>(
     ensures refused { IfOk result (λ o. IfSome o (λ d. d.ending ≢ endings.Ok)) }
     ensures small { AllSmall listener.old.rows
         → IfOk result (λ o. AllSmall listener.new.rows × IfSome o (λ d. IsSmallCode d.code)) }
-    ensures reads { L.tells_files → (heard : List Response) (most : ℕ)
-        → Reads heard most left.old (L.link link.old).connection feed.old
+    ensures reads { L.tells_files → (heard : List Response) (had : List ℕ) (most : ℕ)
+        → Reads heard had most left.old (L.link link.old).connection feed.old
         → IfOk result (λ o. MatchOption o
-        (HeardOn false heard listener.old.rows listener.new.rows most left.new (L.link link.new).connection feed.new)
-        (λ d. HeardDone heard listener.old.rows listener.new.rows tag d.ending d.code most left.new
-        (L.link link.new).connection feed.new)) }
+        (HeardOn false heard listener.old.rows listener.new.rows (length parts.now - 1) had most left.new
+        (L.link link.new).connection feed.new)
+        (λ d. HeardEarly heard listener.old.rows listener.new.rows tag d.ending d.code parts.now had most left.new
+        (L.link link.old) (L.link link.new) feed.new)) }
     ensures permits { (start : Option Permits) → listener.old.permits ≡ behind_all start listener.old.rows
         → OnOk result (listener.new.permits ≡ behind_all start listener.new.rows) }
-    ensures why { L.tells_files → (heard : List Response) (most : ℕ)
-        → Reads heard most left.old (L.link link.old).connection feed.old → (fault : SessionFault)
+    ensures why { L.tells_files → (heard : List Response) (had : List ℕ) (most : ℕ)
+        → Reads heard had most left.old (L.link link.old).connection feed.old → (fault : SessionFault)
         → IsErrOf result fault
-        → FailsBehind heard tag command.now most (L.link link.new).connection fault }
+        → Fails heard tag (more_parts tag command.now) had most (L.link link.new).connection fault }
     ensures sent { L.tells_files → SentFront (joined parts.now) (L.link link.old).sent (L.link link.new).sent }
     ensures sent_all { L.tells_files
         → IfOk result (λ o. IfNone o ((L.link link.new).sent ≡ (L.link link.old).sent ++ joined parts.now)) }
@@ -279,15 +279,15 @@ pub fn exchange<L: Link>(
         (L.link link.new).connection feed.new) }
     ensures accepted { IfOk result (λ a. IsCount tag → a.replies.ending ≡ endings.Ok) }
     ensures came { L.tells_files → (heard : List Response) → Hears heard (L.link link.old).connection feed.old
-        → IfOk result (λ a. Came heard tag a.replies (L.link link.new).connection feed.new) }
+        → IfOk result
+        (λ a. Came heard tag command.now a.replies (L.link link.old) (L.link link.new) feed.new) }
     ensures small { IfOk result (λ a. AreSmall a.replies) }
     ensures within { L.tells_files → (heard : List Response) → (h : Hears heard (L.link link.old).connection feed.old)
-        → OnOk result (ReceivedAtMost (length h.connection.received + 268435456) (L.link link.new).connection) }
+        → OnOk result (ReceivedAtMost h.connection.received (L.link link.new).connection) }
     ensures permits { IfOk result (λ a. a.permits ≡ permitted permits a.replies) }
     ensures why { L.tells_files → (heard : List Response) → (h : Hears heard (L.link link.old).connection feed.old)
         → (fault : SessionFault) → IsErrOf result fault
-        → FailsBehind heard tag command.now (length h.connection.received + 268435456) (L.link link.new).connection
-        fault }
+        → FailsBehind heard tag command.now h.connection.received (L.link link.new).connection fault }
     ensures sent { L.tells_files → SentFront (joined (parts_of tag command.now)) (L.link link.old).sent
         (L.link link.new).sent }
     ensures whole { L.tells_files
@@ -343,15 +343,14 @@ pub fn converse<L: Link>(
         (L.link link.new).connection feed.new) }
     ensures accepted { IfOk result (λ r. IsCount tag → r.ending ≡ endings.Ok) }
     ensures came { L.tells_files → (heard : List Response) → Hears heard (L.link link.old).connection feed.old
-        → IfOk result (λ r. Came heard tag r (L.link link.new).connection feed.new) }
+        → IfOk result (λ r. Came heard tag command.now r (L.link link.old) (L.link link.new) feed.new) }
     ensures small { IfOk result AreSmall }
     ensures within { L.tells_files → (heard : List Response) → (h : Hears heard (L.link link.old).connection feed.old)
-        → OnOk result (ReceivedAtMost (length h.connection.received + 268435456) (L.link link.new).connection) }
+        → OnOk result (ReceivedAtMost h.connection.received (L.link link.new).connection) }
     ensures still { L.tells_files → OnOk result (Follows (L.link link.new).connection feed.new) }
     ensures why { L.tells_files → (heard : List Response) → (h : Hears heard (L.link link.old).connection feed.old)
         → (fault : SessionFault) → IsErrOf result fault
-        → FailsBehind heard tag command.now (length h.connection.received + 268435456) (L.link link.new).connection
-        fault }
+        → FailsBehind heard tag command.now h.connection.received (L.link link.new).connection fault }
     ensures sent { L.tells_files → SentFront (joined (parts_of tag command.now)) (L.link link.old).sent
         (L.link link.new).sent }
     ensures whole { L.tells_files

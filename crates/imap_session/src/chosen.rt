@@ -1,6 +1,6 @@
 //! A connection in which a mailbox is selected.
 
-ghost use Rattle.std.specs.Prelude.{◌≡◌, ◌≤◌, ◌<◌, ◌+◌, ◌++◌, ℕ, List, Option, None, Some, IfOk, OnOk, IsErrOf, length};
+ghost use Rattle.std.specs.Prelude.{◌≡◌, ◌≤◌, ◌<◌, ◌+◌, ◌++◌, ℕ, List, Option, None, Some, IfOk, OnOk, IsErrOf};
 ghost use Rattle.std.specs.List.{list_all};
 ghost use Rattle.mail_base.specs.declared.tag.Tag.TheVariants as tags;
 ghost use Rattle.imap_model.specs.CommandText.{IsCarried, parts_of};
@@ -99,12 +99,12 @@ impl Chosen {
         ensures came { L.tells_files → (heard : List Response)
             → Hears heard (L.link link.old).connection self.conversation.feed
             → IfOk result
-            (λ p. Came heard (tags.Count (self.conversation.count + 1)) p.1 (L.link link.new).connection
-            p.0.conversation.feed) }
+            (λ p. Came heard (tags.Count (self.conversation.count + 1)) (commands.Select name.now since) p.1
+            (L.link link.old) (L.link link.new) p.0.conversation.feed) }
         ensures small { IfOk result (λ p. AreSmall p.1) }
         ensures within { L.tells_files → (heard : List Response)
             → (h : Hears heard (L.link link.old).connection self.conversation.feed)
-            → OnOk result (ReceivedAtMost (length h.connection.received + 268435456) (L.link link.new).connection) }
+            → OnOk result (ReceivedAtMost h.connection.received (L.link link.new).connection) }
 
         // How the connection stands then.
         ensures stands { L.tells_server
@@ -121,7 +121,7 @@ impl Chosen {
             → (h : Hears heard (L.link link.old).connection self.conversation.feed)
             → (fault : SessionFault) → IsErrOf result fault
             → FailsBehind heard (tags.Count (self.conversation.count + 1)) (commands.Select name.now since)
-            (length h.connection.received + 268435456) (L.link link.new).connection fault }
+            h.connection.received (L.link link.new).connection fault }
         ensures honest { L.tells_server → (at : ℕ) → IsErrOf result (faults.BadReply at) → ⊥ }
         ensures sent { L.tells_files
             → SentFront (joined
@@ -172,11 +172,12 @@ impl Chosen {
         ensures accepted { IfOk result (λ p. IsCount tag → p.1.ending ≡ endings.Ok) }
         ensures came { L.tells_files → (heard : List Response)
             → Hears heard (L.link link.old).connection self.conversation.feed
-            → IfOk result (λ p. Came heard tag p.1 (L.link link.new).connection p.0.conversation.feed) }
+            → IfOk result (λ p. Came heard tag command.now p.1 (L.link link.old) (L.link link.new)
+            p.0.conversation.feed) }
         ensures small { IfOk result (λ p. AreSmall p.1) }
         ensures within { L.tells_files → (heard : List Response)
             → (h : Hears heard (L.link link.old).connection self.conversation.feed)
-            → OnOk result (ReceivedAtMost (length h.connection.received + 268435456) (L.link link.new).connection) }
+            → OnOk result (ReceivedAtMost h.connection.received (L.link link.new).connection) }
 
         // How the connection stands then.
         ensures stands { L.tells_server
@@ -193,7 +194,7 @@ impl Chosen {
         ensures why { L.tells_files → (heard : List Response)
             → (h : Hears heard (L.link link.old).connection self.conversation.feed)
             → (fault : SessionFault) → IsErrOf result fault
-            → FailsBehind heard tag command.now (length h.connection.received + 268435456)
+            → FailsBehind heard tag command.now h.connection.received
             (L.link link.new).connection fault }
         ensures honest { L.tells_server → (at : ℕ) → IsErrOf result (faults.BadReply at) → ⊥ }
         ensures sent { L.tells_files → SentFront (joined (parts_of tag command.now)) (L.link link.old).sent

@@ -62,7 +62,7 @@ impl Fresh {
         ensures files { L.tells_files → Linked AnyStep (L.clock link.old) (L.clock link.new) }
         ensures told { L.tells_server → Linked Answering (L.clock link.old) (L.clock link.new) }
         ensures within { L.tells_files
-            → OnOk result (ReceivedAtMost 268435456 (L.link link.new).connection) }
+            → OnOk result (ReceivedAtMost [] (L.link link.new).connection) }
         ensures begun { L.tells_server
             → IfOk result (λ s. IsBegun s.preauth (L.clock link.new).now.outside) }
         ensures greeting { L.tells_files
@@ -74,7 +74,7 @@ impl Fresh {
             → IfOk result (λ s. Follows (L.link link.new).connection s.conversation.feed) }
         ensures counted { IfOk result (λ s. s.conversation.count ≡ self.conversation.count) }
         ensures why { L.tells_files → (fault : SessionFault) → IsErrOf result fault
-            → NoHello 268435456 (L.link link.new).connection fault }
+            → NoHello (L.link link.new).connection fault }
         ensures sent { L.tells_files → (L.link link.new).sent ≡ (L.link link.old).sent }
         ensures honest { L.tells_server → (at : ℕ) → IsErrOf result (faults.BadReply at) → ⊥ }
         ensures disk { L.disk_faults link.new ≡ L.disk_faults link.old }

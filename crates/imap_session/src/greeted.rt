@@ -5,7 +5,7 @@ ghost use Rattle.imap_model.specs.declared.item.Item.{Item};
 ghost use Rattle.imap_model.specs.declared.response.Response.{Response};
 ghost use Rattle.world_traits.specs.Calls.{Rose};
 ghost use Rattle.world_traits.specs.Links.{Linked, AnyStep};
-ghost use Rattle.imap_session.specs.Dialogue.{BrokeOff, CameToEnd, SentIn, Talked, TalkedOut, next_tag};
+ghost use Rattle.imap_session.specs.Dialogue.{BrokeOff, CameToEnd, SentIn, Talked, TalkedOut, next_tag, so_far};
 ghost use Rattle.imap_session.specs.Hearing.{Hears};
 ghost use Rattle.imap_session.specs.LogIn.{SwitchedOn, enabling, entering};
 ghost use Rattle.imap_session.specs.Session.{Follows, Stands};
@@ -53,22 +53,25 @@ impl Greeted {
         // Over a link that tells its server, each question was answered at one moment of this call.
         ensures files { L.tells_files → Linked AnyStep (L.clock link.old) (L.clock link.new) }
         ensures told { L.tells_server
-            → Talked (entering self.preauth account.now) self.conversation.count (L.clock link.old)
-            (L.clock link.new) }
+            → Talked (entering self.preauth account.now) self.conversation.count
+            (so_far (L.clock link.old) (L.link link.old))
+            (so_far (L.clock link.new) (L.link link.new)) }
         ensures answered { L.tells_server
             → OnOk result (TalkedOut
-            (entering self.preauth account.now) self.conversation.count None (L.clock link.old)
-            (L.clock link.new)) }
+            (entering self.preauth account.now) self.conversation.count None
+            (so_far (L.clock link.old) (L.link link.old))
+            (so_far (L.clock link.new) (L.link link.new))) }
         ensures lacking { L.tells_server → (item : Item) → IsErrOf result (faults.Lacking item)
             → TalkedOut (entering self.preauth account.now) self.conversation.count (Some item)
-            (L.clock link.old) (L.clock link.new) }
+            (so_far (L.clock link.old) (L.link link.old))
+            (so_far (L.clock link.new) (L.link link.new)) }
 
         // Which bytes were sent and received, and how the connection stands then.
         ensures came { L.tells_files → (heard : List Response)
-            → Hears heard (L.link link.old).connection self.conversation.feed
+            → (h : Hears heard (L.link link.old).connection self.conversation.feed)
             → IfOk result (λ s. CameToEnd
             (entering self.preauth account.now) self.conversation.count
-            (L.link link.old).sent heard (record { count = s.conversation.count; rev2 = s.rev2 })
+            (L.link link.old).sent h.connection.received heard (record { count = s.conversation.count; rev2 = s.rev2 })
             (L.link link.new) s.conversation.feed) }
         ensures sent { L.tells_files
             → SentIn (entering self.preauth account.now) self.conversation.count
@@ -83,10 +86,10 @@ impl Greeted {
 
         // Why it ends otherwise, on the bytes received.
         ensures why { L.tells_files → (heard : List Response)
-            → Hears heard (L.link link.old).connection self.conversation.feed
+            → (h : Hears heard (L.link link.old).connection self.conversation.feed)
             → (fault : SessionFault) → IsErrOf result fault
             → BrokeOff (entering self.preauth account.now) self.conversation.count
-            (L.link link.old).sent heard (L.link link.new) fault }
+            (L.link link.old).sent h.connection.received heard (L.link link.new) fault }
         ensures honest { L.tells_server → (at : ℕ) → IsErrOf result (faults.BadReply at) → ⊥ }
         ensures disk { L.disk_faults link.new ≡ L.disk_faults link.old }
         ensures count { (L.link link.old).faults ≤ (L.link link.new).faults }
@@ -148,23 +151,26 @@ impl Greeted {
         // Over a link that tells its server, each question was answered at one moment of this call.
         ensures files { L.tells_files → Linked AnyStep (L.clock link.old) (L.clock link.new) }
         ensures told { L.tells_server
-            → Talked (enabling self.rev2) self.conversation.count (L.clock link.old)
-            (L.clock link.new) }
+            → Talked (enabling self.rev2) self.conversation.count
+            (so_far (L.clock link.old) (L.link link.old))
+            (so_far (L.clock link.new) (L.link link.new)) }
         ensures answered { L.tells_server
             → OnOk result (TalkedOut (enabling self.rev2) self.conversation.count None
-            (L.clock link.old) (L.clock link.new)) }
+            (so_far (L.clock link.old) (L.link link.old))
+            (so_far (L.clock link.new) (L.link link.new))) }
         ensures enabled { L.tells_server
             → IfOk result (λ s. SwitchedOn self.rev2 (next_tag self.conversation.count)
             (L.clock link.old) (L.clock link.new) (L.link link.new).connection s.conversation.feed) }
         ensures lacking { L.tells_server → (item : Item) → IsErrOf result (faults.Lacking item)
-            → TalkedOut (enabling self.rev2) self.conversation.count (Some item) (L.clock link.old)
-            (L.clock link.new) }
+            → TalkedOut (enabling self.rev2) self.conversation.count (Some item)
+            (so_far (L.clock link.old) (L.link link.old))
+            (so_far (L.clock link.new) (L.link link.new)) }
 
         // Which bytes were sent and received, and how the connection stands then.
         ensures came { L.tells_files → (heard : List Response)
-            → Hears heard (L.link link.old).connection self.conversation.feed
+            → (h : Hears heard (L.link link.old).connection self.conversation.feed)
             → IfOk result (λ s. CameToEnd (enabling self.rev2) self.conversation.count
-            (L.link link.old).sent heard
+            (L.link link.old).sent h.connection.received heard
             (record { count = s.conversation.count; rev2 = self.rev2 })
             (L.link link.new) s.conversation.feed) }
         ensures sent { L.tells_files
@@ -179,9 +185,9 @@ impl Greeted {
 
         // Why it ends otherwise, on the bytes received.
         ensures why { L.tells_files → (heard : List Response)
-            → Hears heard (L.link link.old).connection self.conversation.feed
+            → (h : Hears heard (L.link link.old).connection self.conversation.feed)
             → (fault : SessionFault) → IsErrOf result fault
-            → BrokeOff (enabling self.rev2) self.conversation.count (L.link link.old).sent heard
+            → BrokeOff (enabling self.rev2) self.conversation.count (L.link link.old).sent h.connection.received heard
             (L.link link.new) fault }
         ensures honest { L.tells_server → (at : ℕ) → IsErrOf result (faults.BadReply at) → ⊥ }
         ensures disk { L.disk_faults link.new ≡ L.disk_faults link.old }

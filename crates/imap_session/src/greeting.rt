@@ -11,7 +11,7 @@ use crate::SessionFault;
 use crate::listening::Line;
 use imap_model::{Ending, Response};
 
-// The greeting, where the first line is one.
+/// The greeting, where the first line is one.
 pub fn hello(line: Line) -> Result<Response, SessionFault>
     ensures value { IfOk result (λ r. r ≡ line.response) }
     ensures greets { IfOk result IsHello }

@@ -50,13 +50,13 @@ impl Ready {
             (L.link link.new).connection) }
         ensures within { L.tells_files → (heard : List Response)
             → (h : Hears heard (L.link link.old).connection self.conversation.feed)
-            → OnOk result (ReceivedAtMost (length h.connection.received + 268435456)
+            → OnOk result (ReceivedAtMost h.connection.received
             (L.link link.new).connection) }
         ensures why { L.tells_files → (heard : List Response)
             → (h : Hears heard (L.link link.old).connection self.conversation.feed)
             → (fault : SessionFault) → IsErrOf result fault
             → Staying heard (next_tag self.conversation.count)
-            (length h.connection.received + 268435456) (L.link link.new).connection fault }
+            h.connection.received (L.link link.new).connection fault }
         ensures sent { L.tells_files
             → SentFront (next_text self.conversation.count commands.Logout) (L.link link.old).sent
             (L.link link.new).sent }
@@ -101,13 +101,13 @@ impl Chosen {
             (L.link link.new).connection) }
         ensures within { L.tells_files → (heard : List Response)
             → (h : Hears heard (L.link link.old).connection self.conversation.feed)
-            → OnOk result (ReceivedAtMost (length h.connection.received + 268435456)
+            → OnOk result (ReceivedAtMost h.connection.received
             (L.link link.new).connection) }
         ensures why { L.tells_files → (heard : List Response)
             → (h : Hears heard (L.link link.old).connection self.conversation.feed)
             → (fault : SessionFault) → IsErrOf result fault
             → Staying heard (next_tag self.conversation.count)
-            (length h.connection.received + 268435456) (L.link link.new).connection fault }
+            h.connection.received (L.link link.new).connection fault }
         ensures sent { L.tells_files
             → SentFront (next_text self.conversation.count commands.Logout) (L.link link.old).sent
             (L.link link.new).sent }
@@ -152,12 +152,12 @@ fn log_out<L: Link>(
         → OnOk result (Left heard (next_tag count) (L.link link.new).connection) }
     ensures within { L.tells_files → (heard : List Response)
         → (h : Hears heard (L.link link.old).connection feed.old)
-        → OnOk result (ReceivedAtMost (length h.connection.received + 268435456)
+        → OnOk result (ReceivedAtMost h.connection.received
         (L.link link.new).connection) }
     ensures why { L.tells_files → (heard : List Response)
         → (h : Hears heard (L.link link.old).connection feed.old)
         → (fault : SessionFault) → IsErrOf result fault
-        → Staying heard (next_tag count) (length h.connection.received + 268435456)
+        → Staying heard (next_tag count) h.connection.received
         (L.link link.new).connection fault }
     ensures sent { L.tells_files
         → SentFront (next_text count commands.Logout) (L.link link.old).sent

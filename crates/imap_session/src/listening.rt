@@ -1,8 +1,12 @@
 //! Reads responses.
 
-ghost use Rattle.std.specs.Prelude.{◌≡◌, ◌≤◌, ◌<◌, ◌++◌, ◌+◌, [], ◌∷◌, ℕ, List, Option, Some, IfOk, OnOk, IsErrOf, IsTrue, ◌↔◌, length};
-ghost use Rattle.mail_base.specs.Frames.{NoWhole};
+ghost use Rattle.std.specs.Prelude.{◌≡◌, ◌≢◌, ◌≤◌, ◌<◌, ◌++◌, ◌+◌, [], ◌∷◌, ℕ, List, Option, Some, IfOk, OnOk, IsErrOf, IsTrue, ◌↔◌, length};
+ghost use Rattle.mail_base.specs.Frames.{FirstFault, NoWhole};
+ghost use Rattle.mail_base.specs.declared.frame.FeedFault.{FeedFault};
+ghost use Rattle.mail_base.specs.declared.frame.FeedFault.TheVariants as feeds;
 ghost use Rattle.mail_base.specs.declared.frame.Frame.{Frame};
+ghost use Rattle.literal_feed.specs.Stream.{NoFault};
+ghost use Rattle.imap_response.specs.Within.{SpellsWithin};
 ghost use Rattle.imap_model.specs.Responses.{Spells};
 ghost use Rattle.imap_model.specs.Small.{IsSmall};
 ghost use Rattle.imap_model.specs.Talking.{Answering};
@@ -31,25 +35,53 @@ use world_traits::{Clocked, Link, LinkFailed};
 /// How many bytes the reply to one command may have.
 pub const MOST: u64 = 268_435_456;
 
-// A response, and the line that spells it.
+/// A response, and the line that spells it.
 #[derive(Drop)]
 pub struct Line {
     pub frame: Frame,
     pub response: Response,
 }
 
+// Puts a piece into the feed. A fault of the stream is told by `check`, once the lines in front of it were taken.
+fn put_in(feed: &mut Feed, piece: &[u8]) -> Result<(), SessionFault>
+    requires sound { NoFault feed.old }
+    ensures put { OnOk result (feed.new ≡ record { at = feed.old.at; bytes = feed.old.bytes ++ piece.now }) }
+    ensures why { (fault : SessionFault) → IsErrOf result fault → fault ≡ faults.Memory }
+{
+    match feed.push(piece) {
+        Ok(()) => Ok(()),
+        Err(FeedFault::Memory) => Err(SessionFault::Memory),
+        Err(_) => Ok(()),
+    }
+}
+
+// Tells the fault of what stands in the feed, if there is one.
+fn check(feed: &mut Feed) -> Result<(), SessionFault>
+    ensures kept { feed.new ≡ feed.old }
+    ensures sound { OnOk result (NoFault feed.new) }
+    ensures why { (fault : SessionFault) → IsErrOf result fault
+        → (told : FeedFault) × (fault ≡ of_feed told)
+        × (told ≢ feeds.Memory → ∥ FirstFault feed.new.at feed.new.bytes told ∥₁) }
+{
+    match feed.push(&[]) {
+        Ok(()) => Ok(()),
+        Err(fault) => Err(fed_badly(fault)),
+    }
+}
+
 // Receives a piece.
 fn receive<L: Link>(feed: &mut Feed, left: &mut u64, link: &mut L) -> Result<(), SessionFault>
     requires owed { L.tells_server → Listening (L.clock link.old).now.outside (L.link link.old).connection feed.old }
     requires cut { NoWhole feed.old.bytes }
+    requires sound { NoFault feed.old }
     ensures files { L.tells_files → Linked AnyStep (L.clock link.old) (L.clock link.new) }
     ensures told { L.tells_server → Linked Answering (L.clock link.old) (L.clock link.new) }
-    ensures reads { L.tells_files → (heard : List Response) (most : ℕ)
-        → Reads heard most left.old (L.link link.old).connection feed.old
-        → OnOk result (Reads heard most left.new (L.link link.new).connection feed.new) }
-    ensures why { L.tells_files → (heard : List Response) (most : ℕ)
-        → Reads heard most left.old (L.link link.old).connection feed.old
-        → (fault : SessionFault) → IsErrOf result fault → Reading most (L.link link.new).connection fault }
+    ensures reads { L.tells_files → (heard : List Response) (had : List ℕ) (most : ℕ)
+        → Reads heard had most left.old (L.link link.old).connection feed.old
+        → OnOk result (Reads heard had most left.new (L.link link.new).connection feed.new) }
+    ensures why { L.tells_files → (heard : List Response) (had : List ℕ) (most : ℕ)
+        → Reads heard had most left.old (L.link link.old).connection feed.old
+        → (fault : SessionFault) → IsErrOf result fault → Reading had most (L.link link.new).connection fault }
     ensures sent { L.tells_files → (L.link link.new).sent ≡ (L.link link.old).sent }
     ensures less { OnOk result (left.new < left.old) }
     ensures sum { OnOk result (length feed.new.bytes + left.new ≡ length feed.old.bytes + left.old) }
@@ -67,10 +99,7 @@ fn receive<L: Link>(feed: &mut Feed, left: &mut u64, link: &mut L) -> Result<(),
         });
     }
     *left -= size;
-    match feed.push(&piece[..count]) {
-        Ok(()) => Ok(()),
-        Err(fault) => Err(fed_badly(fault)),
-    }
+    put_in(feed, &piece[..count])
 }
 
 fn fed_badly(fault: FeedFault) -> SessionFault
@@ -93,7 +122,7 @@ fn fed_badly(fault: FeedFault) -> SessionFault
 // The response that a frame spells.
 fn line_of(alloc: Global, frame: Frame) -> Result<Line, SessionFault>
     ensures frame { IfOk result (λ line. line.frame ≡ frame) }
-    ensures spells { IfOk result (λ line. Spells frame line.response) }
+    ensures spells { IfOk result (λ line. Spells frame line.response × SpellsWithin frame line.response) }
     ensures small { IfOk result (λ line. IsSmall line.response) }
     ensures why { (fault : SessionFault) → IsErrOf result fault → LineBad frame fault }
 {
@@ -118,17 +147,17 @@ pub fn next<L: Link>(
     requires owed { L.tells_server → Listening (L.clock link.old).now.outside (L.link link.old).connection feed.old }
     ensures files { L.tells_files → Linked AnyStep (L.clock link.old) (L.clock link.new) }
     ensures told { L.tells_server → Linked Answering (L.clock link.old) (L.clock link.new) }
-    ensures reads { L.tells_files → (heard : List Response) (most : ℕ)
-        → Reads heard most left.old (L.link link.old).connection feed.old
+    ensures reads { L.tells_files → (heard : List Response) (had : List ℕ) (most : ℕ)
+        → Reads heard had most left.old (L.link link.old).connection feed.old
         → IfOk result
-        (λ line. ReadsLast (heard ++ line.response ∷ []) line.frame most left.new (L.link link.new).connection
+        (λ line. ReadsLast (heard ++ line.response ∷ []) line.frame had most left.new (L.link link.new).connection
         feed.new) }
     ensures spells { IfOk result (λ line. Spells line.frame line.response) }
     ensures small { IfOk result (λ line. IsSmall line.response) }
     ensures less { IfOk result (λ _. length feed.new.bytes + left.new < length feed.old.bytes + left.old) }
-    ensures why { L.tells_files → (heard : List Response) (most : ℕ)
-        → Reads heard most left.old (L.link link.old).connection feed.old
-        → (fault : SessionFault) → IsErrOf result fault → Reading most (L.link link.new).connection fault }
+    ensures why { L.tells_files → (heard : List Response) (had : List ℕ) (most : ℕ)
+        → Reads heard had most left.old (L.link link.old).connection feed.old
+        → (fault : SessionFault) → IsErrOf result fault → Reading had most (L.link link.new).connection fault }
     ensures sent { L.tells_files → (L.link link.new).sent ≡ (L.link link.old).sent }
     ensures disk { L.disk_faults link.new ≡ L.disk_faults link.old }
     ensures count { (L.link link.old).faults ≤ (L.link link.new).faults }
@@ -138,6 +167,7 @@ pub fn next<L: Link>(
         if let Some(frame) = feed.take()? {
             return line_of(alloc, frame);
         }
+        check(feed)?;
         receive(feed, left, link)?;
     }
 }
@@ -173,20 +203,20 @@ pub fn listen<L: Link>(
     requires asked { L.tells_server → Asked part (L.clock link.old) (L.link link.old).connection feed.old }
     ensures files { L.tells_files → Linked AnyStep (L.clock link.old) (L.clock link.new) }
     ensures told { L.tells_server → Linked Answering (L.clock link.old) (L.clock link.new) }
-    ensures reads { L.tells_files → (heard : List Response) (most : ℕ)
-        → Reads heard most left.old (L.link link.old).connection feed.old
+    ensures reads { L.tells_files → (heard : List Response) (had : List ℕ) (most : ℕ)
+        → Reads heard had most left.old (L.link link.old).connection feed.old
         → IfOk result
-        (λ line. HeardTo part heard listener.old.rows listener.new.rows line.frame line.response most left.new
-        (L.link link.new).connection feed.new) }
+        (λ line. HeardTo part heard listener.old.rows listener.new.rows line.frame line.response had most
+        left.new (L.link link.new).connection feed.new) }
     ensures ends { IfOk result (λ line. IsEnd part line.response) }
     ensures spells { IfOk result (λ line. Spells line.frame line.response) }
     ensures small { AllSmall listener.old.rows
         → IfOk result (λ line. IsSmall line.response × AllSmall listener.new.rows) }
     ensures permits { (start : Option Permits) → listener.old.permits ≡ behind_all start listener.old.rows
         → OnOk result (listener.new.permits ≡ behind_all start listener.new.rows) }
-    ensures why { L.tells_files → (heard : List Response) (most : ℕ)
-        → Reads heard most left.old (L.link link.old).connection feed.old
-        → (fault : SessionFault) → IsErrOf result fault → Reading most (L.link link.new).connection fault }
+    ensures why { L.tells_files → (heard : List Response) (had : List ℕ) (most : ℕ)
+        → Reads heard had most left.old (L.link link.old).connection feed.old
+        → (fault : SessionFault) → IsErrOf result fault → Reading had most (L.link link.new).connection fault }
     ensures sent { L.tells_files → (L.link link.new).sent ≡ (L.link link.old).sent }
     ensures disk { L.disk_faults link.new ≡ L.disk_faults link.old }
     ensures count { (L.link link.old).faults ≤ (L.link link.new).faults }

@@ -7,7 +7,7 @@ ghost use Rattle.imap_model.specs.declared.item.Item.TheVariants as items;
 ghost use Rattle.imap_model.specs.declared.response.Response.{Response};
 ghost use Rattle.world_traits.specs.Calls.{Rose};
 ghost use Rattle.world_traits.specs.Links.{Linked, AnyStep};
-ghost use Rattle.imap_session.specs.Dialogue.{BrokeOff, CameToEnd, SentIn, Talked, TalkedOut};
+ghost use Rattle.imap_session.specs.Dialogue.{BrokeOff, CameToEnd, SentIn, Talked, TalkedOut, so_far};
 ghost use Rattle.imap_session.specs.Dialogue.Dialogue.{Asks, Ends, Lacks};
 ghost use Rattle.imap_session.specs.Enabled.{is_enabled};
 ghost use Rattle.imap_session.specs.Hearing.{Hears};
@@ -85,7 +85,7 @@ pub fn check_enabled(replies: &Replies) -> Result<(), SessionFault>
     })
 }
 
-// Asks what is offered to the user who is logged in. Tells whether IMAP4rev2 is.
+/// Asks what is offered to the user who is logged in. Tells whether IMAP4rev2 is.
 pub fn check_offer<L: Link>(
     alloc: Global,
     feed: &mut Feed,
@@ -97,21 +97,24 @@ pub fn check_offer<L: Link>(
     requires stands { L.tells_server
         → Stands None (L.clock link.old) (L.link link.old).connection feed.old }
     ensures files { L.tells_files → Linked AnyStep (L.clock link.old) (L.clock link.new) }
-    ensures told { L.tells_server → Talked logged_in count (L.clock link.old) (L.clock link.new) }
+    ensures told { L.tells_server → Talked logged_in count (so_far (L.clock link.old) (L.link link.old))
+        (so_far (L.clock link.new) (L.link link.new)) }
     ensures answered { L.tells_server
-        → OnOk result (TalkedOut logged_in count None (L.clock link.old) (L.clock link.new)) }
+        → OnOk result (TalkedOut logged_in count None (so_far (L.clock link.old) (L.link link.old))
+        (so_far (L.clock link.new) (L.link link.new))) }
     ensures lacking { L.tells_server → (item : Item) → IsErrOf result (faults.Lacking item)
-        → TalkedOut logged_in count (Some item) (L.clock link.old) (L.clock link.new) }
+        → TalkedOut logged_in count (Some item) (so_far (L.clock link.old) (L.link link.old))
+        (so_far (L.clock link.new) (L.link link.new)) }
     ensures stands { L.tells_server
         → OnOk result (Stands None (L.clock link.new) (L.link link.new).connection feed.new) }
     ensures came { L.tells_files → (heard : List Response)
-        → Hears heard (L.link link.old).connection feed.old
-        → IfOk result (λ rev2. CameToEnd logged_in count (L.link link.old).sent heard
+        → (h : Hears heard (L.link link.old).connection feed.old)
+        → IfOk result (λ rev2. CameToEnd logged_in count (L.link link.old).sent h.connection.received heard
         (record { count = count + 1; rev2 = rev2 }) (L.link link.new) feed.new) }
     ensures why { L.tells_files → (heard : List Response)
-        → Hears heard (L.link link.old).connection feed.old
+        → (h : Hears heard (L.link link.old).connection feed.old)
         → (fault : SessionFault) → IsErrOf result fault
-        → BrokeOff logged_in count (L.link link.old).sent heard (L.link link.new) fault }
+        → BrokeOff logged_in count (L.link link.old).sent h.connection.received heard (L.link link.new) fault }
     ensures sent { L.tells_files
         → SentIn logged_in count (L.link link.old).sent (L.link link.new).sent }
     ensures honest { L.tells_server → (at : ℕ) → IsErrOf result (faults.BadReply at) → ⊥ }
@@ -146,24 +149,25 @@ fn log_in_by<L: Link>(
         → Stands None (L.clock link.old) (L.link link.old).connection feed.old }
     ensures files { L.tells_files → Linked AnyStep (L.clock link.old) (L.clock link.new) }
     ensures told { L.tells_server
-        → Talked (Asks command.now (λ s. logged_in)) count (L.clock link.old) (L.clock link.new) }
+        → Talked (Asks command.now (λ s. logged_in)) count (so_far (L.clock link.old) (L.link link.old))
+        (so_far (L.clock link.new) (L.link link.new)) }
     ensures answered { L.tells_server
-        → OnOk result (TalkedOut (Asks command.now (λ s. logged_in)) count None (L.clock link.old)
-        (L.clock link.new)) }
+        → OnOk result (TalkedOut (Asks command.now (λ s. logged_in)) count None
+        (so_far (L.clock link.old) (L.link link.old)) (so_far (L.clock link.new) (L.link link.new))) }
     ensures lacking { L.tells_server → (item : Item) → IsErrOf result (faults.Lacking item)
-        → TalkedOut (Asks command.now (λ s. logged_in)) count (Some item) (L.clock link.old)
-        (L.clock link.new) }
+        → TalkedOut (Asks command.now (λ s. logged_in)) count (Some item)
+        (so_far (L.clock link.old) (L.link link.old)) (so_far (L.clock link.new) (L.link link.new)) }
     ensures stands { L.tells_server
         → OnOk result (Stands None (L.clock link.new) (L.link link.new).connection feed.new) }
     ensures came { L.tells_files → (heard : List Response)
-        → Hears heard (L.link link.old).connection feed.old
+        → (h : Hears heard (L.link link.old).connection feed.old)
         → IfOk result (λ rev2. CameToEnd (Asks command.now (λ s. logged_in)) count
-        (L.link link.old).sent heard (record { count = count + 2; rev2 = rev2 })
+        (L.link link.old).sent h.connection.received heard (record { count = count + 2; rev2 = rev2 })
         (L.link link.new) feed.new) }
     ensures why { L.tells_files → (heard : List Response)
-        → Hears heard (L.link link.old).connection feed.old
+        → (h : Hears heard (L.link link.old).connection feed.old)
         → (fault : SessionFault) → IsErrOf result fault
-        → BrokeOff (Asks command.now (λ s. logged_in)) count (L.link link.old).sent heard
+        → BrokeOff (Asks command.now (λ s. logged_in)) count (L.link link.old).sent h.connection.received heard
         (L.link link.new) fault }
     ensures sent { L.tells_files
         → SentIn (Asks command.now (λ s. logged_in)) count (L.link link.old).sent
@@ -193,24 +197,25 @@ pub fn log_in<L: Link>(
         → Stands None (L.clock link.old) (L.link link.old).connection feed.old }
     ensures files { L.tells_files → Linked AnyStep (L.clock link.old) (L.clock link.new) }
     ensures told { L.tells_server
-        → Talked (way_in account.now offer.now) count (L.clock link.old) (L.clock link.new) }
+        → Talked (way_in account.now offer.now) count (so_far (L.clock link.old) (L.link link.old))
+        (so_far (L.clock link.new) (L.link link.new)) }
     ensures answered { L.tells_server
-        → OnOk result (TalkedOut (way_in account.now offer.now) count None (L.clock link.old)
-        (L.clock link.new)) }
+        → OnOk result (TalkedOut (way_in account.now offer.now) count None
+        (so_far (L.clock link.old) (L.link link.old)) (so_far (L.clock link.new) (L.link link.new))) }
     ensures lacking { L.tells_server → (item : Item) → IsErrOf result (faults.Lacking item)
-        → TalkedOut (way_in account.now offer.now) count (Some item) (L.clock link.old)
-        (L.clock link.new) }
+        → TalkedOut (way_in account.now offer.now) count (Some item)
+        (so_far (L.clock link.old) (L.link link.old)) (so_far (L.clock link.new) (L.link link.new)) }
     ensures stands { L.tells_server
         → OnOk result (Stands None (L.clock link.new) (L.link link.new).connection feed.new) }
     ensures came { L.tells_files → (heard : List Response)
-        → Hears heard (L.link link.old).connection feed.old
+        → (h : Hears heard (L.link link.old).connection feed.old)
         → IfOk result (λ rev2. CameToEnd (way_in account.now offer.now) count
-        (L.link link.old).sent heard (record { count = count + 2; rev2 = rev2 })
+        (L.link link.old).sent h.connection.received heard (record { count = count + 2; rev2 = rev2 })
         (L.link link.new) feed.new) }
     ensures why { L.tells_files → (heard : List Response)
-        → Hears heard (L.link link.old).connection feed.old
+        → (h : Hears heard (L.link link.old).connection feed.old)
         → (fault : SessionFault) → IsErrOf result fault
-        → BrokeOff (way_in account.now offer.now) count (L.link link.old).sent heard
+        → BrokeOff (way_in account.now offer.now) count (L.link link.old).sent h.connection.received heard
         (L.link link.new) fault }
     ensures sent { L.tells_files
         → SentIn (way_in account.now offer.now) count (L.link link.old).sent

@@ -1,6 +1,6 @@
 //! A connection in which QRESYNC is enabled.
 
-ghost use Rattle.std.specs.Prelude.{◌≡◌, ◌≤◌, ◌<◌, ◌+◌, ◌++◌, ℕ, List, Some, None, IfOk, OnOk, IsErrOf, length};
+ghost use Rattle.std.specs.Prelude.{◌≡◌, ◌≤◌, ◌<◌, ◌+◌, ◌++◌, ℕ, List, Some, None, IfOk, OnOk, IsErrOf};
 ghost use Rattle.mail_base.specs.declared.tag.Tag.TheVariants as tags;
 ghost use Rattle.imap_model.specs.CommandText.{parts_of};
 ghost use Rattle.imap_model.specs.declared.command.Command.TheVariants as commands;
@@ -68,12 +68,13 @@ impl Ready {
         ensures came { L.tells_files → (heard : List Response)
             → Hears heard (L.link link.old).connection self.conversation.feed
             → IfOk result
-            (λ p. Came heard (tags.Count (self.conversation.count + 1)) p.1 (L.link link.new).connection
+            (λ p. Came heard (tags.Count (self.conversation.count + 1))
+            (commands.Select name.now since) p.1 (L.link link.old) (L.link link.new)
             p.0.conversation.feed) }
         ensures small { IfOk result (λ p. AreSmall p.1) }
         ensures within { L.tells_files → (heard : List Response)
             → (h : Hears heard (L.link link.old).connection self.conversation.feed)
-            → OnOk result (ReceivedAtMost (length h.connection.received + 268435456)
+            → OnOk result (ReceivedAtMost h.connection.received
             (L.link link.new).connection) }
 
         // How the connection stands then.
@@ -92,7 +93,7 @@ impl Ready {
             → (fault : SessionFault) → IsErrOf result fault
             → FailsBehind heard (tags.Count (self.conversation.count + 1))
             (commands.Select name.now since)
-            (length h.connection.received + 268435456) (L.link link.new).connection fault }
+            h.connection.received (L.link link.new).connection fault }
         ensures honest { L.tells_server → (at : ℕ) → IsErrOf result (faults.BadReply at) → ⊥ }
         ensures sent { L.tells_files
             → SentFront (joined

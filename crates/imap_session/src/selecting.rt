@@ -1,6 +1,6 @@
 //! SELECT and its whole reply (RFC 9051, section 6.3.2; RFC 7162, section 3.2.5).
 
-ghost use Rattle.std.specs.Prelude.{◌≡◌, ◌≤◌, ◌<◌, ◌+◌, ◌++◌, ℕ, List, Option, None, Some, IfOk, OnOk, IsErrOf, length};
+ghost use Rattle.std.specs.Prelude.{◌≡◌, ◌≤◌, ◌<◌, ◌+◌, ◌++◌, ℕ, List, Option, None, Some, IfOk, OnOk, IsErrOf};
 ghost use Rattle.mail_base.specs.BoxName.{IsBoxName};
 ghost use Rattle.mail_base.specs.declared.tag.Tag.TheVariants as tags;
 ghost use Rattle.imap_model.specs.CommandText.{parts_of};
@@ -60,12 +60,12 @@ pub fn select<L: Link>(
     ensures came { L.tells_files → (heard : List Response)
         → Hears heard (L.link link.old).connection conversation.feed
         → IfOk result
-        (λ p. Came heard (tags.Count (conversation.count + 1)) p.1 (L.link link.new).connection
-        p.0.conversation.feed) }
+        (λ p. Came heard (tags.Count (conversation.count + 1)) (commands.Select name.now since) p.1
+        (L.link link.old) (L.link link.new) p.0.conversation.feed) }
     ensures small { IfOk result (λ p. AreSmall p.1) }
     ensures within { L.tells_files → (heard : List Response)
         → (h : Hears heard (L.link link.old).connection conversation.feed)
-        → OnOk result (ReceivedAtMost (length h.connection.received + 268435456) (L.link link.new).connection) }
+        → OnOk result (ReceivedAtMost h.connection.received (L.link link.new).connection) }
     ensures stands { L.tells_server
         → IfOk result
         (λ p. Stands (Some name.now) (L.clock link.new) (L.link link.new).connection p.0.conversation.feed) }
@@ -77,7 +77,7 @@ pub fn select<L: Link>(
         → (h : Hears heard (L.link link.old).connection conversation.feed)
         → (fault : SessionFault) → IsErrOf result fault
         → FailsBehind heard (tags.Count (conversation.count + 1)) (commands.Select name.now since)
-        (length h.connection.received + 268435456) (L.link link.new).connection fault }
+        h.connection.received (L.link link.new).connection fault }
     ensures honest { L.tells_server → (at : ℕ) → IsErrOf result (faults.BadReply at) → ⊥ }
     ensures sent { L.tells_files
         → SentFront (joined (parts_of (tags.Count (conversation.count + 1)) (commands.Select name.now since)))

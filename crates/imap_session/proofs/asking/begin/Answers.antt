@@ -1,8 +1,10 @@
-use Rattle.std.proofs.Common.{◌≡◌, ◌++◌, ◌∷◌, ◌-◌, ◌+◌, [], ◌∙◌, arith, refl, rules, subst, sym, ap, List, ℕ, take, drop, length}
+use Rattle.std.proofs.Common.{◌≡◌, ◌≤◌, ◌++◌, ◌∷◌, ◌-◌, ◌+◌, [], ◌∙◌, arith, refl, rules, subst, sym, ap, List, ℕ, take, drop, length}
 use Rattle.std.proofs.lemmas.Option.{MatchOption-at_some, MatchOption-at_none}
 use Rattle.std.proofs.lemmas.List.{append-nil}
 use Rattle.world_traits.specs.Links.{AnyStep}
 use Rattle.world_traits.specs.Asking.{Asking}
+use Rattle.imap_session.specs.Faults.{more_parts}
+use Rattle.imap_session.specs.Knowing.{requests}
 use Rattle.imap_session.specs.Sent.{joined}
 use Rattle.imap_session.specs.Session.{Sending, waiting_of}
 use Rattle.imap_session.proofs.Sent.{sent_all, sent_more, sent_part}
@@ -18,7 +20,7 @@ loop-index-init g c = record {
   told = λ t. linked_start (Asking _ c.args.tag c.args.command.now) _;
   sending = λ t selected stands. begins_sending (waiting_of selected c.args.tag c.args.command.now) _ _ _ stands;
   silent = λ t. c.requires.silent t;
-  reads = λ t heard most r. heard_nothing heard _ _ most _ _ _ refl r;
+  reads = λ t heard had most r. heard_nothing heard _ _ had most _ _ _ refl r;
   permits = λ start is. is;
   small = λ all. all;
   sent = λ t. sym (append-nil _);
@@ -43,7 +45,6 @@ send_on-requires g c =
           );
       keeps = c.requires.keeps (has_parts c.args.tag c.args.command.now c.args.parts.now c.loop-index.index c.requires.text c.loop-index-test.true);
       silent = λ t. c.loop-index.invariant.silent t;
-      several = has_parts c.args.tag c.args.command.now c.args.parts.now c.loop-index.index c.requires.text c.loop-index-test.true;
     }
 
 pub loop-index-preserved : goal.loop-index-preserved
@@ -74,10 +75,10 @@ loop-index-preserved g c =
           c.part_at-part.ensures.cut n.2 (c.loop-index.invariant.sending t s.0 s.1) in
           (MatchOption-at_none _ _ c.in_default.is
           (c.in_ok-done.ensures.went t s.0 (take c.loop-index.index c.args.parts.now) n.0 n.1 (g.L.Clocked.clock c.args.link.now) ready)).0;
-      reads = λ t heard most r.
-          let h = c.loop-index.invariant.reads t heard most r in
-          on_on heard _ _ _ most _ _ _ _ _ _ h
-          (MatchOption-at_none _ _ c.in_default.is (c.in_ok-done.ensures.reads t (heard ++ h.told) most h.reads));
+      reads = λ t heard had most r.
+          let h = c.loop-index.invariant.reads t heard had most r in
+          on_on heard _ _ _ c.loop-index.index had most _ _ _ _ _ _ h
+          (MatchOption-at_none _ _ c.in_default.is (c.in_ok-done.ensures.reads t (heard ++ h.told) had most h.reads));
       permits = λ start is. c.in_ok-done.ensures.permits start (c.loop-index.invariant.permits start is);
       small = λ all. (c.in_ok-done.ensures.small (c.loop-index.invariant.small all)).0;
       sent = λ t. sent_more (take c.loop-index.index c.args.parts.now) c.part_at-part.result.now _ _ _ _ c.part_at-part.ensures.more
@@ -173,23 +174,33 @@ returns-clause-begun g c = λ t selected stands.
     )
 
 pub returns-clause-reads : goal.returns-clause-reads
-returns-clause-reads g c = λ t heard most r. heard_at heard _ _ most _ _ _ _ (c.in_ok-send.ensures.received t)
-    (c.loop-index.invariant.reads t heard most r)
+returns-clause-reads g c = λ t heard had most r.
+    let at_end : c.loop-index.index ≡ length c.args.parts.now - 1 = omega (arith, c.loop-index-test.false, c.loop-index.auto.index-end) in
+    heard_at heard _ _ had most _ _ _ c.loop-index.index (length c.args.parts.now - 1) _ (c.in_ok-send.ensures.received t) at_end
+    (c.loop-index.invariant.reads t heard had most r)
 
 pub returns-in-Some-clause-reads : goal.returns-in-Some-clause-reads
-returns-in-Some-clause-reads g c = λ t heard most r.
-    let h = c.loop-index.invariant.reads t heard most r in
-    on_done heard _ _ _ most _ _ _ _ _ _ h c.args.tag c.in-Some.done.ending c.in-Some.done.code
-    (MatchOption-at_some _ _ c.in-Some.done c.in-Some.is (c.in_ok-done.ensures.reads t (heard ++ h.told) most h.reads))
+returns-in-Some-clause-reads g c = λ t heard had most r.
+    let h = c.loop-index.invariant.reads t heard had most r in
+    let none_more : c.loop-index.index ≡ c.loop-index.index + 0 = omega arith in
+    record {
+      parts = c.loop-index.index;
+      done = on_done heard _ _ _ c.loop-index.index had most _ _ _ _ _ _ h c.args.tag c.in-Some.done.ending c.in-Some.done.code 0 c.loop-index.index
+          none_more (MatchOption-at_some _ _ c.in-Some.done c.in-Some.is (c.in_ok-done.ensures.reads t (heard ++ h.told) had most h.reads));
+      sent = sent_more (take c.loop-index.index c.args.parts.now) c.part_at-part.result.now _ _ _ _ c.part_at-part.ensures.more
+          (c.loop-index.invariant.sent t) (c.in_ok-done.ensures.sent_all t);
+    }
 
 pub returns-in-Some-clause-permits : goal.returns-in-Some-clause-permits
 returns-in-Some-clause-permits g c = λ start is. c.in_ok-done.ensures.permits start (c.loop-index.invariant.permits start is)
 
 pub returns-in_err-done-clause-why : goal.returns-in_err-done-clause-why
-returns-in_err-done-clause-why g c = λ t heard most r fault is.
-    let h = c.loop-index.invariant.reads t heard most r in
-    fails_on heard h.told h.none _ c.args.tag c.args.command.now most fault
-    (c.send_on.ensures.why t (heard ++ h.told) most h.reads fault (search rules))
+returns-in_err-done-clause-why g c = λ t heard had most r fault is.
+    let h = c.loop-index.invariant.reads t heard had most r in
+    let few : requests h.told + 1 ≤ more_parts c.args.tag c.args.command.now = omega
+    (arith, h.asked, c.loop-index-test.true, ap (λ (xs : List (List ℕ)). length xs) c.requires.text) in
+    fails_on heard h.told h.none had most _ c.args.tag 1 (more_parts c.args.tag c.args.command.now) fault few
+    (c.send_on.ensures.why t (heard ++ h.told) had most h.reads fault (search rules))
 
 pub returns-in_err-done-clause-sent : goal.returns-in_err-done-clause-sent
 returns-in_err-done-clause-sent g c = λ t.

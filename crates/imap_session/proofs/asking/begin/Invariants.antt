@@ -20,8 +20,9 @@ invariant-loop-index g l =
       sending : g.L.Clocked.tells_server → (selected : Option (List ℕ)) → Stands selected (clock l.fn.link) (link l.fn.link).connection l.fn.feed
           → Sending (waiting_of selected l.tag l.command) (take l.index l.parts) (clock l.fn.link) (clock l.link) (link l.link).connection l.feed;
       silent : g.L.Clocked.tells_server → l.listener.rows ≡ [];
-      reads : g.L.Clocked.tells_files → (heard : List Response) (most : ℕ) → Reads heard most l.fn.left (link l.fn.link).connection l.fn.feed
-          → HeardOn false heard l.fn.listener.rows l.listener.rows most l.left (link l.link).connection l.feed;
+      reads : g.L.Clocked.tells_files → (heard : List Response) (had : List ℕ) (most : ℕ)
+          → Reads heard had most l.fn.left (link l.fn.link).connection l.fn.feed
+          → HeardOn false heard l.fn.listener.rows l.listener.rows l.index had most l.left (link l.link).connection l.feed;
       permits : (start : Option Permits) → l.fn.listener.permits ≡ behind_all start l.fn.listener.rows
           → l.listener.permits ≡ behind_all start l.listener.rows;
       small : AllSmall l.fn.listener.rows → AllSmall l.listener.rows;

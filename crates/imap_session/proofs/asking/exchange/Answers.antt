@@ -1,10 +1,11 @@
-use Rattle.std.proofs.Common.{◌≡◌, ◌++◌, ◌∙◌, ◌<◌, ◌+◌, refl, rules, subst, sym, ap, inl, inr, false, IsTrue, List, ℕ, length}
+use Rattle.std.proofs.Common.{◌≡◌, ◌++◌, ◌∙◌, ◌<◌, ◌≤◌, ◌+◌, ◌-◌, arith, take, refl, rules, subst, sym, ap, inl, inr, false, IsTrue, List, ℕ, length}
 use Rattle.std.proofs.lemmas.Option.{MatchOption-at_some, MatchOption-at_none}
 use Rattle.imap_model.specs.declared.replies.Replies.{Replies}
 use Rattle.imap_model.specs.declared.response.Response.{Response}
 use Rattle.world_traits.specs.Links.{AnyStep}
 use Rattle.imap_session.specs.Causes.{FailsBehind}
-use Rattle.imap_session.specs.Faults.{HasParts}
+use Rattle.imap_session.specs.Faults.{more_parts}
+use Rattle.imap_session.specs.Knowing.{requests}
 use Rattle.imap_session.specs.Hearing.{all_told_by}
 use Rattle.imap_session.specs.Replying.{AllSmall, read_as}
 use Rattle.imap_session.specs.Sent.{joined}
@@ -12,12 +13,12 @@ use Rattle.imap_session.specs.Session.{Answered, waiting_of}
 use Rattle.imap_session.specs.declared.asking.Answer.{Answer}
 use Rattle.imap_session.specs.declared.fault.SessionFault.{SessionFault}
 use Rattle.imap_session.specs.declared.fault.SessionFault.TheVariants as faults
-use Rattle.imap_session.proofs.Hearing.{as_reads}
+use Rattle.imap_session.proofs.Hearing.{as_reads, at_most}
 use Rattle.imap_session.proofs.Outcomes.{if_ok_more, if_ok_both, not_true}
-use Rattle.imap_session.proofs.Replying.{on_done, whole_done, done_came, permitted_as, bad_memory, link_memory, small_replies, done_within}
+use Rattle.imap_session.proofs.Replying.{on_done, whole_done, done_came, all_sent, permitted_as, bad_memory, link_memory, small_replies, done_within}
 use Rattle.imap_session.proofs.Sent.{sent_as, sent_none, sent_still}
-use Rattle.imap_session.proofs.Sending.{begun_asked, begun_answered, concluded_as, on_ok_always, some_parts, unfit_weaker, begun_fit}
-use Rattle.imap_session.proofs.NoReply.{last_whole, fails_on}
+use Rattle.imap_session.proofs.Sending.{begun_asked, begun_answered, concluded_as, on_ok_always, some_parts, begun_fit}
+use Rattle.imap_session.proofs.NoReply.{unfit_whole, fails_on}
 use Rattle.imap_session.proofs.Spelled.{all_spelled}
 use Rattle.imap_session.proofs.Talking.{linked_then, answers_asking, asking_then}
 use Rattle.imap_session.proofs.asking.exchange.Goals as goal
@@ -27,7 +28,7 @@ begin-requires-clause-some g c = subst (λ (xs : List (List ℕ)). 0 < length xs
     (some_parts c.args.tag c.args.command.now)
 
 pub returns-in_err-early-clause-why : goal.returns-in_err-early-clause-why
-returns-in_err-early-clause-why g c = λ t heard h fault is. c.begin.ensures.why t heard _ (as_reads heard 268435456 _ _ h) fault (search rules)
+returns-in_err-early-clause-why g c = λ t heard h fault is. c.begin.ensures.why t heard _ _ (as_reads heard 268435456 _ _ h) fault (search rules)
 
 -- refused before the last part
 pub returns-in-Some-clause-answered : goal.returns-in-Some-clause-answered
@@ -47,9 +48,13 @@ returns-in-Some-clause-accepted g c =
 
 pub returns-in-Some-clause-came : goal.returns-in-Some-clause-came
 returns-in-Some-clause-came g c = λ t heard h.
-    let d = MatchOption-at_some _ _ c.in-Some.done c.in-Some.is (c.in_ok-early.ensures.reads t heard _ (as_reads heard 268435456 _ _ h)) in
+    let d = MatchOption-at_some _ _ c.in-Some.done c.in-Some.is (c.in_ok-early.ensures.reads t heard _ _ (as_reads heard 268435456 _ _ h)) in
     if_ok_more c.conclude.result (λ (a : Answer). a.replies ≡ read_as c.begin.new.listener.rows c.in-Some.done.ending c.in-Some.done.code) _
-    (λ a x. done_came heard _ _ c.args.tag a.replies c.in-Some.done.ending c.in-Some.done.code _ _ _ _ c.new-listener.ensures.rows x d)
+    (λ a x. done_came heard _ _ c.args.tag c.args.command.now a.replies c.in-Some.done.ending c.in-Some.done.code d.parts _ _ _ _ _ _
+    c.new-listener.ensures.rows x
+    (d.sent ∙ ap (λ (parts : List (List ℕ)). (g.L.Clocked.link c.args.link.now).sent ++ joined (take (d.parts + 1) parts))
+    (c.as_slice.ensures ∙ c.in_ok-parts.ensures.text))
+    (λ ok. absurd (MatchOption-at_some _ _ c.in-Some.done c.in-Some.is c.in_ok-early.ensures.refused ok)) d.done)
     c.conclude.ensures.replies
 
 pub returns-in-Some-clause-permits : goal.returns-in-Some-clause-permits
@@ -61,7 +66,7 @@ returns-in-Some-clause-permits g c =
 
 pub returns-in-Some-clause-why : goal.returns-in-Some-clause-why
 returns-in-Some-clause-why g c = λ t heard h fault is.
-    subst (λ (f : SessionFault). FailsBehind heard c.args.tag c.args.command.now (length h.connection.received + 268435456)
+    subst (λ (f : SessionFault). FailsBehind heard c.args.tag c.args.command.now h.connection.received
     (g.L.Clocked.link c.begin.new.link).connection f)
     (sym (c.conclude.ensures.why fault is)) (inl tt)
 
@@ -88,8 +93,8 @@ returns-in_err-line-clause-told g c = λ t. asking_then _ c.args.tag c.args.comm
 
 pub returns-in_err-line-clause-why : goal.returns-in_err-line-clause-why
 returns-in_err-line-clause-why g c = λ t heard h fault is.
-    let r = MatchOption-at_none _ _ c.in_default.is (c.in_ok-early.ensures.reads t heard _ (as_reads heard 268435456 _ _ h)) in
-    inl (c.listen.ensures.why t (heard ++ r.told) _ r.reads fault (search rules))
+    let r = MatchOption-at_none _ _ c.in_default.is (c.in_ok-early.ensures.reads t heard _ _ (as_reads heard 268435456 _ _ h)) in
+    inl (c.listen.ensures.why t (heard ++ r.told) _ _ r.reads fault (search rules))
 
 pub returns-in_err-done-clause-files : goal.returns-in_err-done-clause-files
 returns-in_err-done-clause-files g c = λ t. linked_then AnyStep _ _ _ (c.begin.ensures.files t) (c.listen.ensures.files t)
@@ -100,16 +105,12 @@ returns-in_err-done-clause-told g c = λ t. asking_then _ c.args.tag c.args.comm
 
 pub returns-in_err-done-clause-why : goal.returns-in_err-done-clause-why
 returns-in_err-done-clause-why g c = λ t heard h fault is.
-    let r = MatchOption-at_none _ _ c.in_default.is (c.in_ok-early.ensures.reads t heard _ (as_reads heard 268435456 _ _ h)) in
-    let line = last_whole (heard ++ r.told) _ _ c.in_ok-line.line.frame c.in_ok-line.line.response _ _ _ _
-    (c.in_ok-line.ensures.reads t (heard ++ r.told) _ r.reads) c.in_ok-line.ensures.spells in
-    fails_on heard r.told r.none _ c.args.tag c.args.command.now _ fault (inr (record {
-      frame = c.in_ok-line.line.frame;
-      response = c.in_ok-line.line.response;
-      line = line;
-      unfit = unfit_weaker c.args.tag (IsTrue false) (HasParts c.args.tag c.args.command.now) c.in_ok-line.line.frame c.in_ok-line.line.response fault
-          (λ no. absurd (not_true no)) (c.finish.ensures.why fault (search rules));
-    }))
+    let r = MatchOption-at_none _ _ c.in_default.is (c.in_ok-early.ensures.reads t heard _ _ (as_reads heard 268435456 _ _ h)) in
+    let few : requests r.told + 0 ≤ more_parts c.args.tag c.args.command.now = omega
+    (arith, r.asked, ap (λ (xs : List (List ℕ)). length xs) (c.as_slice.ensures ∙ c.in_ok-parts.ensures.text)) in
+    fails_on heard r.told r.none _ _ _ c.args.tag 0 (more_parts c.args.tag c.args.command.now) fault few
+    (inr (unfit_whole (heard ++ r.told) _ _ c.in_ok-line.line.frame c.in_ok-line.line.response _ _ _ _ _ c.args.tag fault
+    (c.in_ok-line.ensures.reads t (heard ++ r.told) _ _ r.reads) c.in_ok-line.ensures.spells (c.finish.ensures.why fault (search rules))))
 
 pub returns-in_err-done-clause-sent : goal.returns-in_err-done-clause-sent
 returns-in_err-done-clause-sent g c = λ t. sent_still _ _ _ _
@@ -123,7 +124,7 @@ returns-in_err-done-clause-honest g c = λ t at is.
     let s = c.requires.stands t in
     let w = waiting_of s.0 c.args.tag c.args.command.now in
     let b = MatchOption-at_none _ _ c.in_default.is (c.in_ok-early.ensures.begun t s.0 s.1) in
-    let h = c.in_ok-line.ensures.reads (g.L.Clocked.server_with_files t) b.1.told _ (as_reads b.1.told c.begin.new.left _ _ b.1.hears) in
+    let h = c.in_ok-line.ensures.reads (g.L.Clocked.server_with_files t) b.1.told _ _ (as_reads b.1.told c.begin.new.left _ _ b.1.hears) in
     begun_fit w _ _ _ _ _ _ _ h.told c.in_ok-line.line.response b.1 (c.listen.ensures.told t) h.reads.reads.hears
     (g.met.L.Link.honest c.listen.new.link t) (IsTrue false) c.in_ok-line.line.frame at not_true
     (c.finish.ensures.why (faults.BadReply at) (search rules))
@@ -140,7 +141,7 @@ pub returns-clause-answered : goal.returns-clause-answered
 returns-clause-answered g c = λ t selected stands.
     let w = waiting_of selected c.args.tag c.args.command.now in
     let b = MatchOption-at_none _ _ c.in_default.is (c.in_ok-early.ensures.begun t selected stands) in
-    let h = c.in_ok-line.ensures.reads (g.L.Clocked.server_with_files t) b.1.told _ (as_reads b.1.told c.begin.new.left _ _ b.1.hears) in
+    let h = c.in_ok-line.ensures.reads (g.L.Clocked.server_with_files t) b.1.told _ _ (as_reads b.1.told c.begin.new.left _ _ b.1.hears) in
     let same = h.grown ∙ ap (λ (rows : List Response). rows ++ all_told_by h.told) b.0 in
     let d = c.in_ok-done.done in
     let all = concluded_as w h.told c.listen.new.listener.rows d.ending d.code _ _ _ _ same
@@ -162,12 +163,20 @@ returns-clause-accepted g c =
 pub returns-clause-came : goal.returns-clause-came
 returns-clause-came g c = λ t heard h.
     let d = c.in_ok-done.done in
-    let r = MatchOption-at_none _ _ c.in_default.is (c.in_ok-early.ensures.reads t heard _ (as_reads heard 268435456 _ _ h)) in
-    let whole = whole_done (heard ++ r.told) _ _ c.in_ok-line.line.frame c.in_ok-line.line.response _ _ _ _
-    (c.in_ok-line.ensures.reads t (heard ++ r.told) _ r.reads) c.args.tag d.ending d.code c.in_ok-done.ensures.value in
+    let r = MatchOption-at_none _ _ c.in_default.is (c.in_ok-early.ensures.reads t heard _ _ (as_reads heard 268435456 _ _ h)) in
+    let line = c.in_ok-line.ensures.reads t (heard ++ r.told) _ _ r.reads in
+    let whole = whole_done (heard ++ r.told) _ _ c.in_ok-line.line.frame c.in_ok-line.line.response _ _ _ _ _ line c.args.tag d.ending d.code
+    c.in_ok-done.ensures.value in
+    let parts : ℕ = length c.as_slice.result.now - 1 + requests line.told in
+    let enough : length c.as_slice.result.now - 1 ≤ parts = omega arith in
+    let all : more_parts c.args.tag c.args.command.now ≤ parts = omega
+    (arith, ap (λ (xs : List (List ℕ)). length xs) (c.as_slice.ensures ∙ c.in_ok-parts.ensures.text)) in
     if_ok_more c.conclude-2.result (λ (a : Answer). a.replies ≡ read_as c.listen.new.listener.rows d.ending d.code) _
-    (λ a x. done_came heard _ _ c.args.tag a.replies d.ending d.code _ _ _ _ c.new-listener.ensures.rows x
-    (on_done heard _ _ _ _ _ _ _ _ _ _ r c.args.tag d.ending d.code whole))
+    (λ a x. done_came heard _ _ c.args.tag c.args.command.now a.replies d.ending d.code parts _ _ _ _ _ _ c.new-listener.ensures.rows x
+    (all_sent c.as_slice.result.now _ parts _ _ (c.as_slice.ensures ∙ c.in_ok-parts.ensures.text) enough
+    (c.listen.ensures.sent t ∙ MatchOption-at_none _ _ c.in_default.is (c.in_ok-early.ensures.sent_all t)))
+    (λ ok. all)
+    (on_done heard _ _ _ _ _ _ _ _ _ _ _ _ r c.args.tag d.ending d.code (requests line.told) parts refl whole))
     c.conclude-2.ensures.replies
 
 pub returns-clause-permits : goal.returns-clause-permits
@@ -180,7 +189,7 @@ returns-clause-permits g c =
 
 pub returns-clause-why : goal.returns-clause-why
 returns-clause-why g c = λ t heard h fault is.
-    subst (λ (f : SessionFault). FailsBehind heard c.args.tag c.args.command.now (length h.connection.received + 268435456)
+    subst (λ (f : SessionFault). FailsBehind heard c.args.tag c.args.command.now h.connection.received
     (g.L.Clocked.link c.listen.new.link).connection f)
     (sym (c.conclude-2.ensures.why fault is)) (inl tt)
 
@@ -215,8 +224,8 @@ pub returns-in_err-line-clause-honest : goal.returns-in_err-line-clause-honest
 returns-in_err-line-clause-honest g c = λ t at is.
     let s = c.requires.stands t in
     let b = MatchOption-at_none _ _ c.in_default.is (c.in_ok-early.ensures.begun t s.0 s.1) in
-    all_spelled at (g.L.Clocked.clock c.listen.new.link).now.outside _
-    (c.listen.ensures.why (g.L.Clocked.server_with_files t) b.1.told _ (as_reads b.1.told c.begin.new.left _ _ b.1.hears) (faults.BadReply at)
+    all_spelled at _ (g.L.Clocked.clock c.listen.new.link).now.outside _
+    (c.listen.ensures.why (g.L.Clocked.server_with_files t) b.1.told _ _ (as_reads b.1.told c.begin.new.left _ _ b.1.hears) (faults.BadReply at)
     (search rules)) (g.met.L.Link.honest c.listen.new.link t)
 
 pub returns-in-Some-clause-whole : goal.returns-in-Some-clause-whole
@@ -251,13 +260,11 @@ returns-clause-small g c =
 
 pub returns-in-Some-clause-within : goal.returns-in-Some-clause-within
 returns-in-Some-clause-within g c = λ t heard h.
-    let d = MatchOption-at_some _ _ c.in-Some.done c.in-Some.is (c.in_ok-early.ensures.reads t heard _ (as_reads heard 268435456 _ _ h)) in
-    on_ok_always c.conclude.result (done_within heard _ _ c.args.tag c.in-Some.done.ending c.in-Some.done.code _ _ _ _ d)
+    let d = MatchOption-at_some _ _ c.in-Some.done c.in-Some.is (c.in_ok-early.ensures.reads t heard _ _ (as_reads heard 268435456 _ _ h)) in
+    on_ok_always c.conclude.result (done_within heard _ _ c.args.tag c.in-Some.done.ending c.in-Some.done.code _ _ _ _ _ d.done)
 
 pub returns-clause-within : goal.returns-clause-within
 returns-clause-within g c = λ t heard h.
-    let d = c.in_ok-done.done in
-    let r = MatchOption-at_none _ _ c.in_default.is (c.in_ok-early.ensures.reads t heard _ (as_reads heard 268435456 _ _ h)) in
-    let whole = whole_done (heard ++ r.told) _ _ c.in_ok-line.line.frame c.in_ok-line.line.response _ _ _ _
-    (c.in_ok-line.ensures.reads t (heard ++ r.told) _ r.reads) c.args.tag d.ending d.code c.in_ok-done.ensures.value in
-    on_ok_always c.conclude-2.result (done_within (heard ++ r.told) _ _ c.args.tag d.ending d.code _ _ _ _ whole)
+    let r = MatchOption-at_none _ _ c.in_default.is (c.in_ok-early.ensures.reads t heard _ _ (as_reads heard 268435456 _ _ h)) in
+    on_ok_always c.conclude-2.result
+    (at_most _ _ _ _ _ (c.in_ok-line.ensures.reads t (heard ++ r.told) _ _ r.reads).reads.reads)

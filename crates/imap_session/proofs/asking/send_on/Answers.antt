@@ -1,6 +1,5 @@
 use Rattle.std.proofs.Common.{IfSome, List, ◌++◌, ◌∷◌, ◌∙◌, rules, ap, inl, inr, true, IsTrue}
 use Rattle.world_traits.specs.Links.{AnyStep}
-use Rattle.imap_session.specs.Faults.{HasParts}
 use Rattle.imap_session.specs.Session.{waiting_of}
 use Rattle.imap_session.specs.declared.fault.SessionFault.TheVariants as faults
 use Rattle.imap_model.specs.declared.response.Response.{Response}
@@ -8,11 +7,11 @@ use Rattle.imap_session.specs.Hearing.{all_told_by}
 use Rattle.imap_session.proofs.Hearing.{as_reads, reads_at}
 use Rattle.imap_model.specs.Small.{IsSmallCode}
 use Rattle.imap_session.proofs.Outcomes.{if_ok_more}
-use Rattle.imap_session.proofs.NoReply.{last_part}
+use Rattle.imap_session.proofs.NoReply.{unfit_part}
 use Rattle.imap_session.proofs.Replying.{turned_reads}
 use Rattle.imap_session.proofs.Sent.{sent_all}
 use Rattle.imap_session.proofs.Sending.{half_sent, half_asked, ready_arrives, ready_failed, turned_went, on_ok_always}
-use Rattle.imap_session.proofs.Sending.{unfit_weaker, half_fit}
+use Rattle.imap_session.proofs.Sending.{half_fit}
 use Rattle.imap_session.proofs.Spelled.{all_spelled}
 use Rattle.imap_session.proofs.Talking.{linked_then, answers_asking, asking_then}
 use Rattle.imap_session.proofs.asking.send_on.Goals as goal
@@ -48,8 +47,8 @@ returns-in_err-line-clause-told g c = λ t selected before next behind old ready
     (answers_asking _ c.args.tag c.args.command.now _ _ (c.listen.ensures.told t))
 
 pub returns-in_err-line-clause-why : goal.returns-in_err-line-clause-why
-returns-in_err-line-clause-why g c = λ t heard most r fault is.
-    inl (c.listen.ensures.why t heard most (reads_at heard most _ _ _ _ (c.in_ok-send.ensures.received t) r) fault (search rules))
+returns-in_err-line-clause-why g c = λ t heard had most r fault is.
+    inl (c.listen.ensures.why t heard had most (reads_at heard had most _ _ _ _ (c.in_ok-send.ensures.received t) r) fault (search rules))
 
 pub returns-clause-files : goal.returns-clause-files
 returns-clause-files g c = λ t. linked_then AnyStep _ _ _ (c.send.ensures.files t) (c.listen.ensures.files t)
@@ -67,29 +66,24 @@ returns-clause-went g c = λ t selected before next behind old ready.
     let half = half_sent w before c.args.part.now old _ _ _ _ _ ready.sending (c.in_ok-send.ensures.received (g.L.Clocked.server_with_files t)) next
     behind ready.part_of
     (c.in_ok-send.ensures.told t c.args.tag c.args.command.now before (next ∷ behind) ready.part_of ready.sending.awaits).done in
-    let h = c.in_ok-line.ensures.reads (g.L.Clocked.server_with_files t) half.told _ (as_reads half.told c.args.left.now _ _ half.hears) in
+    let h = c.in_ok-line.ensures.reads (g.L.Clocked.server_with_files t) half.told _ _ (as_reads half.told c.args.left.now _ _ half.hears) in
     turned_went w before c.args.part.now old _ _ _ _ _ _ h.told _ c.in_ok-line.line.response half (c.listen.ensures.told t) h.reads.reads.hears
     (g.met.L.Link.honest c.listen.new.link t) c.requires.keeps
     (h.grown ∙ ap (λ (rows : List Response). rows ++ all_told_by h.told) (c.requires.silent t)) c.turned.result c.turned.ensures.value
 
 pub returns-clause-reads : goal.returns-clause-reads
-returns-clause-reads g c = λ t heard most r.
-    turned_reads heard _ _ c.in_ok-line.line.frame c.in_ok-line.line.response most _ _ _ c.turned.result c.args.tag c.turned.ensures.value
-    (c.in_ok-line.ensures.reads t heard most (reads_at heard most _ _ _ _ (c.in_ok-send.ensures.received t) r))
+returns-clause-reads g c = λ t heard had most r.
+    turned_reads heard _ _ c.in_ok-line.line.frame c.in_ok-line.line.response had most _ _ _ c.turned.result c.args.tag c.turned.ensures.value
+    (c.in_ok-line.ensures.reads t heard had most (reads_at heard had most _ _ _ _ (c.in_ok-send.ensures.received t) r))
 
 pub returns-clause-permits : goal.returns-clause-permits
 returns-clause-permits g c = λ start is. on_ok_always c.turned.result (c.in_ok-line.ensures.permits start is)
 
 pub returns-clause-why : goal.returns-clause-why
-returns-clause-why g c = λ t heard most r fault is.
-    let h = c.in_ok-line.ensures.reads t heard most (reads_at heard most _ _ _ _ (c.in_ok-send.ensures.received t) r) in
-    inr (record {
-      frame = c.in_ok-line.line.frame;
-      response = c.in_ok-line.line.response;
-      line = last_part heard _ _ c.in_ok-line.line.frame c.in_ok-line.line.response most _ _ _ h c.in_ok-line.ensures.spells;
-      unfit = unfit_weaker c.args.tag (IsTrue true) (HasParts c.args.tag c.args.command.now) c.in_ok-line.line.frame c.in_ok-line.line.response fault
-          (λ _. c.requires.several) (c.turned.ensures.why fault is);
-    })
+returns-clause-why g c = λ t heard had most r fault is.
+    inr (unfit_part heard _ _ c.in_ok-line.line.frame c.in_ok-line.line.response had most _ _ _ c.args.tag fault
+    (c.in_ok-line.ensures.reads t heard had most (reads_at heard had most _ _ _ _ (c.in_ok-send.ensures.received t) r))
+    c.in_ok-line.ensures.spells (c.turned.ensures.why fault is))
 
 pub returns-clause-cause : goal.returns-clause-cause
 returns-clause-cause g c = λ is. absurd (c.turned.ensures.why faults.Link is)
@@ -112,8 +106,8 @@ returns-in_err-line-clause-honest g c = λ t selected before next behind old rea
     let half = half_sent w before c.args.part.now old _ _ _ _ _ ready.sending (c.in_ok-send.ensures.received (g.L.Clocked.server_with_files t)) next
     behind ready.part_of
     (c.in_ok-send.ensures.told t c.args.tag c.args.command.now before (next ∷ behind) ready.part_of ready.sending.awaits).done in
-    all_spelled at (g.L.Clocked.clock c.listen.new.link).now.outside _
-    (c.listen.ensures.why (g.L.Clocked.server_with_files t) half.told _ (as_reads half.told c.args.left.now _ _ half.hears) (faults.BadReply at)
+    all_spelled at _ (g.L.Clocked.clock c.listen.new.link).now.outside _
+    (c.listen.ensures.why (g.L.Clocked.server_with_files t) half.told _ _ (as_reads half.told c.args.left.now _ _ half.hears) (faults.BadReply at)
     (search rules)) (g.met.L.Link.honest c.listen.new.link t)
 
 pub returns-clause-honest : goal.returns-clause-honest
@@ -122,7 +116,7 @@ returns-clause-honest g c = λ t selected before next behind old ready at is.
     let half = half_sent w before c.args.part.now old _ _ _ _ _ ready.sending (c.in_ok-send.ensures.received (g.L.Clocked.server_with_files t)) next
     behind ready.part_of
     (c.in_ok-send.ensures.told t c.args.tag c.args.command.now before (next ∷ behind) ready.part_of ready.sending.awaits).done in
-    let h = c.in_ok-line.ensures.reads (g.L.Clocked.server_with_files t) half.told _ (as_reads half.told c.args.left.now _ _ half.hears) in
+    let h = c.in_ok-line.ensures.reads (g.L.Clocked.server_with_files t) half.told _ _ (as_reads half.told c.args.left.now _ _ half.hears) in
     half_fit w before c.args.part.now old _ _ _ _ _ _ h.told c.in_ok-line.line.response half (c.listen.ensures.told t) h.reads.reads.hears
     (g.met.L.Link.honest c.listen.new.link t) c.requires.keeps (IsTrue true) c.in_ok-line.line.frame at
     (c.turned.ensures.why (faults.BadReply at) is)

@@ -8,9 +8,7 @@ use Rattle.imap_session.specs.Session.{waiting_of}
 use Rattle.imap_session.specs.declared.fault.SessionFault.TheVariants as faults
 use Rattle.imap_session.proofs.Dialogues.{on_ok_then}
 use Rattle.imap_session.proofs.Farewells.{left_so, logout_alone, logout_ready, logout_sent, stays_so}
-use Rattle.imap_session.proofs.Greetings.{at_most}
-use Rattle.imap_session.proofs.Hearing.{as_reads}
-use Rattle.imap_session.proofs.Farewells.{reads_at}
+use Rattle.imap_session.proofs.Hearing.{as_reads, at_most, reads_at}
 use Rattle.imap_session.proofs.NoReply.{last_whole}
 use Rattle.imap_session.proofs.Sending.{begun, begun_asked, begun_fit, on_ok_always, ready_arrives, ready_failed}
 use Rattle.imap_session.proofs.Sent.{sent_all, sent_as, sent_none}
@@ -68,7 +66,7 @@ returns-in_err-line-clause-told g c = λ t.
 
 pub returns-in_err-line-clause-why : goal.returns-in_err-line-clause-why
 returns-in_err-line-clause-why g c = λ t heard h fault is.
-    inl (c.listen.ensures.why t heard _ (reads_at heard _ _ _ _ _ (as_reads heard 268435456 _ _ h) (c.in_ok-send.ensures.received t)) fault
+    inl (c.listen.ensures.why t heard _ _ (reads_at heard _ _ _ _ _ _ (c.in_ok-send.ensures.received t) (as_reads heard 268435456 _ _ h)) fault
     (search rules))
 
 pub returns-in_err-line-clause-sent : goal.returns-in_err-line-clause-sent
@@ -81,8 +79,8 @@ pub returns-in_err-line-clause-honest : goal.returns-in_err-line-clause-honest
 returns-in_err-line-clause-honest g c = λ t at is.
     let f = g.L.Clocked.server_with_files t in
     let s = c.requires.stands t in
-    all_spelled at (g.L.Clocked.clock c.listen.new.link).now.outside _
-    (c.listen.ensures.why f _ _ (reads_at _ _ _ _ _ _ (as_reads _ 268435456 _ _ s.1.hears) (c.in_ok-send.ensures.received f))
+    all_spelled at _ (g.L.Clocked.clock c.listen.new.link).now.outside _
+    (c.listen.ensures.why f _ _ _ (reads_at _ _ _ _ _ _ _ (c.in_ok-send.ensures.received f) (as_reads _ 268435456 _ _ s.1.hears))
     (faults.BadReply at) (search rules)) (g.met.L.Link.honest c.listen.new.link t)
 
 pub returns-clause-files : goal.returns-clause-files
@@ -100,16 +98,18 @@ returns-clause-told g c = λ t.
 
 pub returns-clause-left : goal.returns-clause-left
 returns-clause-left g c = λ t heard h.
-    let r = c.in_ok-line.ensures.reads t heard _ (reads_at heard _ _ _ _ _ (as_reads heard 268435456 _ _ h) (c.in_ok-send.ensures.received t)) in
+    let r = c.in_ok-line.ensures.reads t heard _ _
+    (reads_at heard _ _ _ _ _ _ (c.in_ok-send.ensures.received t) (as_reads heard 268435456 _ _ h)) in
     on_ok_then c.farewell.result (IsFarewell (next_tag c.args.count) c.in_ok-line.line.response) _
     (λ f. left_so heard r.told c.in_ok-line.line.response (next_tag c.args.count) _ _ r.reads.reads.hears r.none f)
     c.farewell.ensures.farewell
 
 pub returns-clause-why : goal.returns-clause-why
 returns-clause-why g c = λ t heard h fault is.
-    let r = c.in_ok-line.ensures.reads t heard _ (reads_at heard _ _ _ _ _ (as_reads heard 268435456 _ _ h) (c.in_ok-send.ensures.received t)) in
+    let r = c.in_ok-line.ensures.reads t heard _ _
+    (reads_at heard _ _ _ _ _ _ (c.in_ok-send.ensures.received t) (as_reads heard 268435456 _ _ h)) in
     stays_so heard (next_tag c.args.count) _ _ c.in_ok-line.line.frame c.in_ok-line.line.response fault
-    (last_whole heard _ _ c.in_ok-line.line.frame c.in_ok-line.line.response _ _ _ _ r c.in_ok-line.ensures.spells) (c.farewell.ensures.why fault is)
+    (last_whole heard _ _ c.in_ok-line.line.frame c.in_ok-line.line.response _ _ _ _ _ r c.in_ok-line.ensures.spells) (c.farewell.ensures.why fault is)
 
 pub returns-clause-sent : goal.returns-clause-sent
 returns-clause-sent g c = λ t.
@@ -133,7 +133,7 @@ returns-clause-honest g c = λ t at is.
     (c.as_slice.ensures ∙ c.in_ok-parts.ensures.text) c.only_part.ensures in
     let started = begun w [] c.only_part.result.now _ _ _ _ _ _ ready.sending (c.in_ok-send.ensures.received f) ready.part_of
     (c.in_ok-send.ensures.told t (next_tag c.args.count) commands.Logout [] [] ready.part_of ready.sending.awaits).done in
-    let reads = c.in_ok-line.ensures.reads f started.told _ (as_reads started.told 268435456 _ _ started.hears) in
+    let reads = c.in_ok-line.ensures.reads f started.told _ _ (as_reads started.told 268435456 _ _ started.hears) in
     begun_fit w _ _ _ _ _ _ _ reads.told c.in_ok-line.line.response started (c.listen.ensures.told t) reads.reads.reads.hears
     (g.met.L.Link.honest c.listen.new.link t) ⊥ c.in_ok-line.line.frame at (λ no. no) (c.farewell.ensures.why (faults.BadReply at) is).0
 
@@ -142,6 +142,6 @@ returns-clause-cause g c = λ is. absurd (c.farewell.ensures.why faults.Link is)
 
 pub returns-clause-within : goal.returns-clause-within
 returns-clause-within g c = λ t heard h.
-    let r = c.in_ok-line.ensures.reads t heard _
-    (reads_at heard _ _ _ _ _ (as_reads heard 268435456 _ _ h) (c.in_ok-send.ensures.received t)) in
+    let r = c.in_ok-line.ensures.reads t heard _ _
+    (reads_at heard _ _ _ _ _ _ (c.in_ok-send.ensures.received t) (as_reads heard 268435456 _ _ h)) in
     on_ok_always c.farewell.result (at_most _ _ _ _ _ r.reads.reads)

@@ -13,7 +13,7 @@ pub loop-line-init : goal.loop-line-init
 loop-line-init g c = record {
   files = λ t. linked_start AnyStep _;
   told = λ t. linked_start Answering _;
-  heard = ([], sym (append-nil _), tt, λ t heard most r. reads_as heard _ most _ _ _ (sym (append-nil heard)) r);
+  heard = ([], sym (append-nil _), tt, λ t heard had most r. reads_as heard _ had most _ _ _ (sym (append-nil heard)) r);
   permits = λ start is. is;
   small = λ all. all;
   sent = λ t. refl;
@@ -26,7 +26,7 @@ next-requires g c = record {
   owed = λ t.
       let asked = c.requires.asked t in
       let i = c.loop-line.invariant.heard in
-      let r = i.3 (g.L.Clocked.server_with_files t) asked.told _ (as_reads asked.told c.args.left.now _ _ asked.hears) in
+      let r = i.3 (g.L.Clocked.server_with_files t) asked.told _ _ (as_reads asked.told c.args.left.now _ _ asked.hears) in
       asked_listens c.args.part _ _ _ _ _ _ i.0 asked (c.loop-line.invariant.told t) r.hears i.2 (g.met.L.Link.honest c.loop-line.link t);
 }
 
@@ -37,9 +37,9 @@ pub returns-in_err-line-clause-told : goal.returns-in_err-line-clause-told
 returns-in_err-line-clause-told g c = λ t. linked_then Answering _ _ _ (c.loop-line.invariant.told t) (c.next.ensures.told t)
 
 pub returns-in_err-line-clause-why : goal.returns-in_err-line-clause-why
-returns-in_err-line-clause-why g c = λ t heard most r fault is.
+returns-in_err-line-clause-why g c = λ t heard had most r fault is.
     let i = c.loop-line.invariant.heard in
-    c.next.ensures.why t (heard ++ i.0) most (i.3 t heard most r) fault (search rules)
+    c.next.ensures.why t (heard ++ i.0) had most (i.3 t heard had most r) fault (search rules)
 
 pub returns-then-ends-clause-files : goal.returns-then-ends-clause-files
 returns-then-ends-clause-files g c = λ t. linked_then AnyStep _ _ _ (c.loop-line.invariant.files t) (c.next.ensures.files t)
@@ -48,14 +48,14 @@ pub returns-then-ends-clause-told : goal.returns-then-ends-clause-told
 returns-then-ends-clause-told g c = λ t. linked_then Answering _ _ _ (c.loop-line.invariant.told t) (c.next.ensures.told t)
 
 pub returns-then-ends-clause-reads : goal.returns-then-ends-clause-reads
-returns-then-ends-clause-reads g c = λ t heard most r.
+returns-then-ends-clause-reads g c = λ t heard had most r.
     let i = c.loop-line.invariant.heard in
     record {
       told = i.0;
       none = i.2;
       grown = i.1;
-      reads = reads_last_as _ _ c.in_ok-line.line.frame most _ _ _ (append_assoc heard i.0 (c.in_ok-line.line.response ∷ []))
-          (c.in_ok-line.ensures.reads t (heard ++ i.0) most (i.3 t heard most r));
+      reads = reads_last_as _ _ c.in_ok-line.line.frame had most _ _ _ (append_assoc heard i.0 (c.in_ok-line.line.response ∷ []))
+          (c.in_ok-line.ensures.reads t (heard ++ i.0) had most (i.3 t heard had most r));
     }
 
 pub returns-in_err-hear-clause-files : goal.returns-in_err-hear-clause-files
@@ -76,8 +76,8 @@ loop-line-preserved g c =
         i.0 ++ r ∷ [],
         told_more _ _ _ i.0 r i.1 c.in_ok-hear.ensures.rows,
         no_end_more c.args.part i.0 r i.2 not,
-        λ t heard most x. reads_as _ _ most _ _ _ (append_assoc heard i.0 (r ∷ []))
-            (c.in_ok-line.ensures.reads t (heard ++ i.0) most (i.3 t heard most x)).reads,
+        λ t heard had most x. reads_as _ _ had most _ _ _ (append_assoc heard i.0 (r ∷ []))
+            (c.in_ok-line.ensures.reads t (heard ++ i.0) had most (i.3 t heard had most x)).reads,
       );
       permits = λ start is. permits_on start _ _ _ _ r (c.loop-line.invariant.permits start is) c.in_ok-hear.ensures.permits
           c.in_ok-hear.ensures.rows;

@@ -17,8 +17,8 @@ invariant-loop-line g l =
       files : g.L.Clocked.tells_files → Linked AnyStep (clock l.fn.link) (clock l.link);
       told : g.L.Clocked.tells_server → Linked Answering (clock l.fn.link) (clock l.link);
       heard : (told : List Response) × (l.listener.rows ≡ l.fn.listener.rows ++ all_told_by told) × NoEnd l.part told
-          × (g.L.Clocked.tells_files → (heard : List Response) (most : ℕ) → Reads heard most l.fn.left (link l.fn.link).connection l.fn.feed
-          → Reads (heard ++ told) most l.left (link l.link).connection l.feed);
+          × (g.L.Clocked.tells_files → (heard : List Response) (had : List ℕ) (most : ℕ)
+          → Reads heard had most l.fn.left (link l.fn.link).connection l.fn.feed → Reads (heard ++ told) had most l.left (link l.link).connection l.feed);
       permits : (start : Option Permits) → l.fn.listener.permits ≡ behind_all start l.fn.listener.rows
           → l.listener.permits ≡ behind_all start l.listener.rows;
       small : AllSmall l.fn.listener.rows → AllSmall l.listener.rows;

@@ -1,49 +1,78 @@
 use Rattle.std.proofs.Common.{ap, length, ◌≡◌, ◌∙◌, arith, rules, subst, sym}
 use Rattle.std.proofs.lemmas.Option.{MatchOption-at_some, MatchOption-at_none}
 use Rattle.literal_feed.specs.Stream.{Stream}
+use Rattle.mail_base.specs.Frames.{NoWhole}
 use Rattle.mail_base.specs.declared.frame.Frame.{Frame}
 use Rattle.mail_base.proofs.Frames.{next_size}
 use Rattle.imap_model.specs.Talking.{Answering}
 use Rattle.imap_model.specs.Responses.{Spells}
+use Rattle.imap_response.specs.Within.{SpellsWithin}
 use Rattle.world_traits.specs.Links.{AnyStep}
 use Rattle.imap_session.specs.declared.fault.SessionFault.TheVariants as faults
-use Rattle.imap_session.proofs.Hearing.{reads_line, line_why, as_reads, reads_same}
+use Rattle.imap_session.specs.Faults.{Reading}
+use Rattle.imap_session.proofs.Hearing.{reads_line, line_why, as_reads, reads_same, fed_why, feed_no_link}
 use Rattle.imap_session.proofs.Outcomes.{if_ok_both, if_ok_more}
 use Rattle.imap_session.proofs.Reading.{listens_on, listens_same}
 use Rattle.imap_session.proofs.Talking.{linked_then}
 use Rattle.imap_session.proofs.listening.next.Goals as goal
 
 pub returns-in-Some-clause-reads : goal.returns-in-Some-clause-reads
-returns-in-Some-clause-reads g c = λ tells heard most r.
+returns-in-Some-clause-reads g c = λ tells heard had most r.
     let took = MatchOption-at_some _ _ c.in-Some.frame c.in-Some.is c.in_ok-frame.ensures.frame in
-    if_ok_both c.line_of.result (λ line. line.frame ≡ c.in-Some.frame) (λ line. Spells c.in-Some.frame line.response) _
-    (λ line same spells. reads_line _ _ c.in-Some.frame took.0 took.1 heard most _ _ line.response line.frame same
-    (c.loop-frame.invariant.reads tells heard most r) spells)
+    if_ok_both c.line_of.result (λ line. line.frame ≡ c.in-Some.frame)
+    (λ line. Spells c.in-Some.frame line.response × SpellsWithin c.in-Some.frame line.response) _
+    (λ line same spells. reads_line _ _ c.in-Some.frame took.0 took.1 heard had most _ _ line.response line.frame same
+    (c.loop-frame.invariant.reads tells heard had most r) spells)
     c.line_of.ensures.frame c.line_of.ensures.spells
 
 pub returns-in-Some-clause-spells : goal.returns-in-Some-clause-spells
 returns-in-Some-clause-spells g c =
-    if_ok_both c.line_of.result (λ line. line.frame ≡ c.in-Some.frame) (λ line. Spells c.in-Some.frame line.response) _
-    (λ line same spells. subst (λ (f : Frame). Spells f line.response) (sym same) spells)
+    if_ok_both c.line_of.result (λ line. line.frame ≡ c.in-Some.frame)
+    (λ line. Spells c.in-Some.frame line.response × SpellsWithin c.in-Some.frame line.response) _
+    (λ line same spells. subst (λ (f : Frame). Spells f line.response) (sym same) spells.0)
     c.line_of.ensures.frame c.line_of.ensures.spells
 
 pub returns-in-Some-clause-why : goal.returns-in-Some-clause-why
-returns-in-Some-clause-why g c = λ tells heard most r fault is.
+returns-in-Some-clause-why g c = λ tells heard had most r fault is.
     let took = MatchOption-at_some _ _ c.in-Some.frame c.in-Some.is c.in_ok-frame.ensures.frame in
-    line_why _ _ c.in-Some.frame took.0 took.1 heard most _ _ fault (c.loop-frame.invariant.reads tells heard most r) (c.line_of.ensures.why fault is)
+    line_why _ _ c.in-Some.frame took.0 took.1 heard had most _ _ fault (c.loop-frame.invariant.reads tells heard had most r)
+    (c.line_of.ensures.why fault is)
+
+pub returns-in_err-check-clause-why : goal.returns-in_err-check-clause-why
+returns-in_err-check-clause-why g c = λ tells heard had most r fault is.
+    let none = MatchOption-at_none _ _ c.in_default.is c.in_ok-frame.ensures.none in
+    let same = c.check.ensures.kept ∙ none.1 in
+    let reads = reads_same heard had most _ _ _ _ (c.loop-frame.invariant.reads tells heard had most r) same in
+    let cut = subst (λ (s : Stream). NoWhole s.bytes) (sym same) none.0 in
+    let bad = c.check.ensures.why fault (search rules) in
+    subst (Reading had most _) (sym bad.1) (fed_why heard had most _ _ _ reads cut bad.0 bad.2)
+
+pub returns-in_err-check-clause-cause : goal.returns-in_err-check-clause-cause
+returns-in_err-check-clause-cause g c = λ is. let bad = c.check.ensures.why faults.Link (search rules) in absurd (feed_no_link bad.0 bad.1)
+
+pub receive-requires : goal.receive-requires
+receive-requires g c =
+    let none = MatchOption-at_none _ _ c.in_default.is c.in_ok-frame.ensures.none in
+    let same = c.check.ensures.kept ∙ none.1 in
+    record {
+      owed = λ t. listens_same _ _ _ _ (c.loop-frame.invariant.owed t) same;
+      cut = subst (λ (s : Stream). NoWhole s.bytes) (sym same) none.0;
+      sound = c.in_ok-check.ensures.sound;
+    }
 
 pub loop-frame-preserved : goal.loop-frame-preserved
 loop-frame-preserved g c =
     let none = MatchOption-at_none _ _ c.in_default.is c.in_ok-frame.ensures.none in
+    let same = c.check.ensures.kept ∙ none.1 in
     record {
       files = λ t. linked_then AnyStep _ _ _ (c.loop-frame.invariant.files t) (c.receive.ensures.files t);
       told = λ t. linked_then Answering _ _ _ (c.loop-frame.invariant.told t) (c.receive.ensures.told t);
-      owed = λ t. listens_on _ _ _ _ _ _ (listens_same _ _ _ _ (c.loop-frame.invariant.owed t) none.1) (c.receive.ensures.told t)
-          (λ heard h. (c.in_ok-receive.ensures.reads (g.L.Clocked.server_with_files t) heard _ (as_reads heard c.loop-frame.left _ _ h)).hears);
-      reads = λ t heard most r. c.in_ok-receive.ensures.reads t heard most
-          (reads_same heard most _ _ _ _ (c.loop-frame.invariant.reads t heard most r) none.1);
+      owed = λ t. listens_on _ _ _ _ _ _ (listens_same _ _ _ _ (c.loop-frame.invariant.owed t) same) (c.receive.ensures.told t)
+          (λ heard h. (c.in_ok-receive.ensures.reads (g.L.Clocked.server_with_files t) heard _ _ (as_reads heard c.loop-frame.left _ _ h)).hears);
+      reads = λ t heard had most r. c.in_ok-receive.ensures.reads t heard had most
+          (reads_same heard had most _ _ _ _ (c.loop-frame.invariant.reads t heard had most r) same);
       sent = λ t. c.receive.ensures.sent t ∙ c.loop-frame.invariant.sent t;
-      sum = omega (arith, c.in_ok-receive.ensures.sum, ap (λ (s : Stream). length s.bytes) none.1, c.loop-frame.invariant.sum);
+      sum = omega (arith, c.in_ok-receive.ensures.sum, ap (λ (s : Stream). length s.bytes) same, c.loop-frame.invariant.sum);
       disk = c.receive.ensures.disk ∙ c.loop-frame.invariant.disk;
       count = omega (arith, c.receive.ensures.count, c.loop-frame.invariant.count);
     }
@@ -55,10 +84,10 @@ pub returns-in_err-receive-clause-told : goal.returns-in_err-receive-clause-told
 returns-in_err-receive-clause-told g c = λ t. linked_then Answering _ _ _ (c.loop-frame.invariant.told t) (c.receive.ensures.told t)
 
 pub returns-in_err-receive-clause-why : goal.returns-in_err-receive-clause-why
-returns-in_err-receive-clause-why g c = λ tells heard most r fault is.
+returns-in_err-receive-clause-why g c = λ tells heard had most r fault is.
     let none = MatchOption-at_none _ _ c.in_default.is c.in_ok-frame.ensures.none in
-    c.receive.ensures.why tells heard most (reads_same heard most _ _ _ _ (c.loop-frame.invariant.reads tells heard most r) none.1) fault
-    (search rules)
+    c.receive.ensures.why tells heard had most
+    (reads_same heard had most _ _ _ _ (c.loop-frame.invariant.reads tells heard had most r) (c.check.ensures.kept ∙ none.1)) fault (search rules)
 
 pub returns-in-Some-clause-cause : goal.returns-in-Some-clause-cause
 returns-in-Some-clause-cause g c = λ is. absurd (c.line_of.ensures.why faults.Link is)

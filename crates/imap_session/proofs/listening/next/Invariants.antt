@@ -14,8 +14,8 @@ invariant-loop-frame g l =
       files : g.L.Clocked.tells_files → Linked AnyStep (clock l.fn.link) (clock l.link);
       told : g.L.Clocked.tells_server → Linked Answering (clock l.fn.link) (clock l.link);
       owed : g.L.Clocked.tells_server → Listening (clock l.link).now.outside (link l.link).connection l.feed;
-      reads : g.L.Clocked.tells_files → (heard : List Response) (most : ℕ) → Reads heard most l.fn.left (link l.fn.link).connection l.fn.feed
-          → Reads heard most l.left (link l.link).connection l.feed;
+      reads : g.L.Clocked.tells_files → (heard : List Response) (had : List ℕ) (most : ℕ)
+          → Reads heard had most l.fn.left (link l.fn.link).connection l.fn.feed → Reads heard had most l.left (link l.link).connection l.feed;
       sent : g.L.Clocked.tells_files → (link l.link).sent ≡ (link l.fn.link).sent;
       sum : length l.feed.bytes + l.left ≡ length l.fn.feed.bytes + l.fn.left;
       disk : g.L.Clocked.disk_faults l.link ≡ g.L.Clocked.disk_faults l.fn.link;

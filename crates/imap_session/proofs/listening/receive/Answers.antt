@@ -1,27 +1,40 @@
-use Rattle.std.proofs.Common.{refl, sym, subst, arith, ◌≤◌, length, ◌∙◌}
+use Rattle.std.proofs.Common.{arith, ◌≤◌, length, refl, sym, subst}
 use Rattle.imap_session.specs.Faults.{Reading}
-use Rattle.imap_session.proofs.Hearing.{reads_piece, fed_why, sum_after}
+use Rattle.imap_session.specs.declared.fault.SessionFault.TheVariants as faults
+use Rattle.imap_session.proofs.Dialogues.{on_ok_then}
+use Rattle.imap_session.proofs.Hearing.{reads_piece, sum_after, too_many}
 use Rattle.imap_session.proofs.Outcomes.{same_err}
 use Rattle.imap_session.proofs.Reading.{due}
+use Rattle.imap_session.proofs.Replying.{link_memory}
+use Rattle.imap_session.proofs.Sending.{on_ok_always}
 use Rattle.imap_session.proofs.listening.receive.Goals as goal
 
 pub recv-requires-clause-due : goal.recv-requires-clause-due
-recv-requires-clause-due g c = λ tells. due _ _ _ (c.requires.owed tells) c.requires.cut
+recv-requires-clause-due g c = λ tells. due _ _ _ (c.requires.owed tells) c.requires.cut c.requires.sound
 
-pub returns-in-Ok-clause-reads : goal.returns-in-Ok-clause-reads
-returns-in-Ok-clause-reads g c = λ tells heard most r.
+pub returns-then-left-size-clause-why : goal.returns-then-left-size-clause-why
+returns-then-left-size-clause-why g c = λ tells heard had most r fault is.
     let fits : c.in_ok-count.count ≤ length c.recv.new.into = omega (arith, c.in_ok-count.ensures.fits) in
-    reads_piece heard most _ c.in_ok-count.count _ _ _ _ _ r (c.in_ok-count.ensures.received tells) fits (omega (arith, c.if-left-size.false))
-    c.in-Ok.ensures.done.0 c.in-Ok.ensures.done.1
+    subst (Reading had most _) (same_err _ _ _ refl is)
+    (too_many heard had most _ c.in_ok-count.count _ _ _ _ r (c.in_ok-count.ensures.received tells) fits c.if-left-size.true)
 
-pub returns-in-Err-clause-why : goal.returns-in-Err-clause-why
-returns-in-Err-clause-why g c = λ tells heard most r fault is.
+pub returns-clause-reads : goal.returns-clause-reads
+returns-clause-reads g c = λ tells heard had most r.
     let fits : c.in_ok-count.count ≤ length c.recv.new.into = omega (arith, c.in_ok-count.ensures.fits) in
-    let why = fed_why heard most _ c.in_ok-count.count _ _ _ _ _ r (c.in_ok-count.ensures.received tells) fits c.in-Err.fault c.in-Err.ensures.fault
-    c.in-Err.ensures.first in
-    subst (Reading most _) (sym c.fed_badly.ensures.value ∙ same_err _ _ _ refl is) why
+    on_ok_then c.put_in.result _ _ (λ put. reads_piece heard had most _ c.in_ok-count.count _ _ _ _ r (c.in_ok-count.ensures.received tells) fits _
+    (omega (arith, c.if-left-size.false)) put)
+    c.put_in.ensures.put
 
-pub returns-in-Ok-clause-sum : goal.returns-in-Ok-clause-sum
-returns-in-Ok-clause-sum g c =
+pub returns-clause-sum : goal.returns-clause-sum
+returns-clause-sum g c =
     let fits : c.in_ok-count.count ≤ length c.recv.new.into = omega (arith, c.in_ok-count.ensures.fits) in
-    sum_after _ _ _ c.in_ok-count.count _ c.in-Ok.ensures.done.0 fits c.if-left-size.false
+    on_ok_then c.put_in.result _ _ (λ put. sum_after _ _ _ c.in_ok-count.count _ put fits c.if-left-size.false) c.put_in.ensures.put
+
+pub returns-clause-why : goal.returns-clause-why
+returns-clause-why g c = λ t heard had most r fault is. subst (Reading had most _) (sym (c.put_in.ensures.why fault is)) tt
+
+pub returns-clause-cause : goal.returns-clause-cause
+returns-clause-cause g c = λ is. absurd (link_memory (c.put_in.ensures.why faults.Link is))
+
+pub returns-clause-less : goal.returns-clause-less
+returns-clause-less g c = on_ok_always c.put_in.result (omega (arith, c.in_ok-count.ensures.some, c.if-left-size.false))

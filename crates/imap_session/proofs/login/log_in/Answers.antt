@@ -10,7 +10,7 @@ pub returns-in_err-command-clause-told : goal.returns-in_err-command-clause-told
 returns-in_err-command-clause-told g c = λ t. idle_talked (way_in c.args.account.now c.args.offer.now) c.args.count _
 
 pub returns-in_err-command-clause-lacking : goal.returns-in_err-command-clause-lacking
-returns-in_err-command-clause-lacking g c = λ t item is. no_way_lacks c.args.account.now c.args.offer.now item c.args.count _
+returns-in_err-command-clause-lacking g c = λ t item is. no_way_lacks c.args.account.now c.args.offer.now item c.args.count _ _
     (c.way.ensures.why (faults.Lacking item) (search rules))
 
 pub returns-in_err-command-clause-why : goal.returns-in_err-command-clause-why
@@ -37,11 +37,11 @@ returns-clause-lacking g c = λ t item is. out_as _ _ c.args.count (Some item) _
 
 pub returns-clause-came : goal.returns-clause-came
 returns-clause-came g c = λ t heard h.
-    if_ok_more c.log_in_by.result _ _ (λ rev2 x. came_as _ _ c.args.count _ _ _ _ _ c.in_ok-command.ensures.way x)
+    if_ok_more c.log_in_by.result _ _ (λ rev2 x. came_as _ _ c.args.count _ _ _ _ _ _ c.in_ok-command.ensures.way x)
     (c.log_in_by.ensures.came t heard h)
 
 pub returns-clause-why : goal.returns-clause-why
-returns-clause-why g c = λ t heard h fault is. broke_as _ _ c.args.count _ _ _ fault c.in_ok-command.ensures.way
+returns-clause-why g c = λ t heard h fault is. broke_as _ _ c.args.count _ _ _ _ fault c.in_ok-command.ensures.way
     (c.log_in_by.ensures.why t heard h fault is)
 
 pub returns-in_err-command-clause-sent : goal.returns-in_err-command-clause-sent

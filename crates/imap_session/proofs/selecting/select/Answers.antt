@@ -1,4 +1,4 @@
-use Rattle.std.proofs.Common.{◌≡◌, ◌<◌, ◌+◌, ◌++◌, ℕ, List, Some, length, rules, arith, sym, subst}
+use Rattle.std.proofs.Common.{◌≡◌, ◌<◌, ◌+◌, ◌++◌, ℕ, List, Some, rules, arith, sym, subst}
 use Rattle.mail_base.specs.BoxName.{IsBoxName}
 use Rattle.mail_base.specs.declared.tag.Tag.TheVariants as tags
 use Rattle.imap_model.specs.CommandText.{parts_of}
@@ -6,6 +6,7 @@ use Rattle.imap_model.specs.declared.command.Command.TheVariants as commands
 use Rattle.world_traits.specs.Asking.{Asking}
 use Rattle.world_traits.specs.Links.{Linked}
 use Rattle.imap_session.specs.Causes.{FailsBehind}
+use Rattle.imap_session.specs.Replying.{Came}
 use Rattle.imap_session.specs.Sent.{joined, SentFront}
 use Rattle.imap_session.specs.Session.{Answered, Stands, waiting_of}
 use Rattle.imap_session.proofs.OnePart.{select_whole}
@@ -31,7 +32,7 @@ returns-in_err-answer-clause-told g c = λ t.
 pub returns-in_err-answer-clause-why : goal.returns-in_err-answer-clause-why
 returns-in_err-answer-clause-why g c = λ t heard h fault is.
     subst (λ (n : List ℕ). FailsBehind heard (tags.Count (c.args.conversation.count + 1)) (commands.Select n c.args.since)
-    (length h.connection.received + 268435456) (g.L.Clocked.link c.exchange.new.link).connection fault)
+    h.connection.received (g.L.Clocked.link c.exchange.new.link).connection fault)
     c.copy.ensures (c.exchange.ensures.why t heard h fault (search rules))
 
 pub returns-in_err-answer-clause-sent : goal.returns-in_err-answer-clause-sent
@@ -57,6 +58,12 @@ returns-clause-answered g c = λ t selected stands.
     c.in_ok-answer.answer.replies
     (g.L.Clocked.clock c.args.link.now) (g.L.Clocked.clock c.exchange.new.link) (g.L.Clocked.link c.exchange.new.link).connection c.exchange.new.feed)
     c.copy.ensures (c.in_ok-answer.ensures.answered t selected stands)
+
+pub returns-clause-came : goal.returns-clause-came
+returns-clause-came g c = λ t heard h.
+    subst (λ (n : List ℕ). Came heard (tags.Count (c.args.conversation.count + 1)) (commands.Select n c.args.since) c.in_ok-answer.answer.replies
+    (g.L.Clocked.link c.args.link.now) (g.L.Clocked.link c.exchange.new.link) c.exchange.new.feed)
+    c.copy.ensures (c.in_ok-answer.ensures.came t heard h)
 
 pub returns-clause-stands : goal.returns-clause-stands
 returns-clause-stands g c = λ t.
