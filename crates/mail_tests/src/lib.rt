@@ -1,6 +1,9 @@
-//! Tests of what a line of data can't say: copies, counts of calls, planned failures, limits that need a large value.
+//! Tests of what a line of data can't say: copies, counts of calls, planned failures, limits that
+//! need a large value, and callers that know no more than a trait.
 #![tactic(auto)]
 
+#[cfg(test)]
+mod any_world;
 #[cfg(test)]
 mod books;
 #[cfg(test)]
@@ -8,6 +11,14 @@ mod carried;
 #[cfg(test)]
 mod large_texts;
 #[cfg(test)]
+mod outside;
+#[cfg(test)]
 mod response_copies;
 #[cfg(test)]
+mod server_copies;
+#[cfg(test)]
+mod silent;
+#[cfg(test)]
 mod small_sets;
+#[cfg(test)]
+mod whole_session;

@@ -1,0 +1,2 @@
+-- What the calls of a caller say together.
+pub mod InOrder

@@ -1,0 +1,2 @@
+-- The definitions that the contracts of callers cite.
+pub mod InOrder
