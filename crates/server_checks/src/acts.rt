@@ -3,10 +3,10 @@
 use crate::changes::foreign_of;
 use crate::counts::{appended, changes};
 use crate::draws::are_drawn;
-use crate::fault::{Fault, differs, same_number};
 use crate::line::{Line, Word};
 use crate::listener::Listener;
 use crate::texts::{flags_of, name_of, number, split};
+use case_files::{Fault, differs, same_number};
 use server_mem::ForeignFault;
 use std::alloc::Global;
 

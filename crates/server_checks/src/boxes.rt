@@ -1,10 +1,9 @@
 //! The mailboxes and the server that a case begins with.
 
-use crate::fault::Fault;
-use crate::line::{Line, Word};
+use crate::line::{Line, Word, told_by};
 use crate::listener::Listener;
-use crate::script::told_by;
-use crate::texts::{flags_of, modseq_of, name_of, small, split, uid_of, unquoted};
+use crate::texts::{bytes_of, flags_of, modseq_of, name_of, small, split, uid_of};
+use case_files::Fault;
 use imap_model::{Gone, Mailbox, Message};
 use mail_base::{Bytes, List, ModSeq, Validity, Words};
 use std::alloc::Global;
@@ -45,7 +44,7 @@ fn message_of(alloc: Global, text: &str) -> Result<Message, Fault> {
     let uid = uid_of(uid)?;
     let modseq = modseq_of(modseq)?;
     let flags = flags_of(alloc, flags)?;
-    let text = Bytes::of(unquoted(alloc, text)?);
+    let text = Bytes::of(bytes_of(alloc, text)?);
     Ok(Message {
         uid,
         flags,
@@ -84,7 +83,7 @@ fn plain_message(alloc: Global, number: u32, text: &[u8]) -> Result<Message, Fau
 fn add_plain(alloc: Global, messages: &mut List<Message>, text: &str) -> Result<(), Fault> {
     let (count, text) = split(text, " text ")?;
     let count = small(count)?;
-    let text = unquoted(alloc, text)?;
+    let text = bytes_of(alloc, text)?;
     for number in 0..count {
         let message = plain_message(alloc, number.saturating_add(1), &text)?;
         messages.push(message)?;
@@ -133,7 +132,8 @@ fn boxes_of(alloc: Global, lines: &[Line<'_>]) -> Result<Vec<Mailbox>, Fault> {
     Ok(boxes)
 }
 
-// The names that lines offer. A line that offers no name makes that none of the shared ones is offered.
+// The names that lines offer. A line that offers no name makes that none of the shared ones is
+// offered.
 fn offers_of(alloc: Global, lines: &[Line<'_>]) -> Result<Words, Fault> {
     let mut offers = Words::new(alloc);
     for line in lines {

@@ -1,7 +1,7 @@
 //! The changes that other clients make.
 
-use crate::fault::Fault;
-use crate::texts::{flags_of, name_of, split, uid_of, unquoted};
+use crate::texts::{bytes_of, flags_of, name_of, split, uid_of};
+use case_files::Fault;
 use imap_model::Change;
 use mail_base::{BoxName, Bytes};
 use std::alloc::Global;
@@ -34,7 +34,7 @@ fn adding_of(alloc: Global, text: &str) -> Result<Change, Fault> {
     let (flags, text) = split(rest, ") text ")?;
     let uid = uid_of(uid)?;
     let flags = flags_of(alloc, flags)?;
-    let text = Bytes::of(unquoted(alloc, text)?);
+    let text = Bytes::of(bytes_of(alloc, text)?);
     Ok(Change::Add { flags, text, uid })
 }
 

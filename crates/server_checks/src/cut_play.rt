@@ -1,17 +1,19 @@
-//! A case played to the server in memory with the client's bytes cut: all that it says between two acts comes as a first piece
-//! of some length and then in pieces of 64 bytes. By the first lengths from 0 to 63 it is cut at each place once.
+//! A case played to the server in memory with the client's bytes cut: all that it says between two
+//! acts comes as a first piece of some length and then in pieces of 64 bytes. By the first lengths
+//! from 0 to 63 it is cut at each place once.
 
 use crate::acts::act;
-use crate::fault::{Fault, Stop, same_bytes};
 use crate::line::{Line, Word, sets_up};
 use crate::listener::Listener;
 use crate::texts::said;
+use case_files::{Fault, Stop, same_bytes};
 use std::alloc::Global;
 
 /// How many bytes each piece has but the first and the last.
 pub const PIECE: usize = 64;
 
-// A server, the length of the first piece, and what the server is to hear, is to tell and told up to the next act.
+// A server, the length of the first piece, and what the server is to hear, is to tell and told up
+// to the next act.
 #[derive(Drop)]
 struct CutPlay {
     alloc: Global,
@@ -110,7 +112,8 @@ pub fn length(alloc: Global, lines: &[Line<'_>]) -> Result<usize, Fault> {
     Ok(length)
 }
 
-/// Plays the lines to a server, with a first piece of this length, and stops at the first act before which anything differs.
+/// Plays the lines to a server, with a first piece of this length, and stops at the first act
+/// before which anything differs.
 pub fn play_cut(
     alloc: Global,
     listener: Listener,

@@ -1,7 +1,7 @@
 //! Numbers that a seed draws.
 
-use crate::fault::{Fault, same_number};
 use crate::texts::{number, small, split};
+use case_files::{Fault, same_number};
 use std::alloc::Global;
 use world_mem::Draws;
 

@@ -1,4 +1,7 @@
-//! The lines of a file of cases.
+//! The lines of a case, each with what its word says.
+
+use case_files::{Fault, Stop};
+use std::alloc::Global;
 
 /// What a line says.
 #[derive(Clone, Copy, Debug, PartialEq, Eq)]
@@ -135,14 +138,51 @@ pub struct Line<'a> {
     pub rest: &'a str,
 }
 
-/// The line of a text, if it is one.
-pub fn line_of(number: usize, text: &str) -> Option<Line<'_>> {
+// The line of a text, if its word is one.
+fn line_of(number: usize, text: &str) -> Option<Line<'_>> {
     let (name, rest) = match text.split_once(':') {
         Some((name, rest)) => (name, rest.strip_prefix(' ').unwrap_or(rest)),
         None => (text, ""),
     };
     let word = word_of(name)?;
     Some(Line { number, word, rest })
+}
+
+/// The lines of these texts.
+pub fn lines_of<'a>(alloc: Global, texts: &[case_files::Line<'a>]) -> Result<Vec<Line<'a>>, Stop> {
+    let mut lines = Vec::new(alloc);
+    for text in texts {
+        let number = text.number;
+        let Some(line) = line_of(number, text.text) else {
+            return Err(Stop {
+                number,
+                fault: Fault::Form,
+            });
+        };
+        if lines.push(line).is_err() {
+            return Err(Stop {
+                number,
+                fault: Fault::Memory,
+            });
+        }
+    }
+    Ok(lines)
+}
+
+/// Those of a case's lines, or of the shared ones, that say what all lines with this word say: the
+/// case's, where it has any.
+pub fn told_by<'b, 'a>(head: &'b [Line<'a>], lines: &'b [Line<'a>], word: Word) -> &'b [Line<'a>] {
+    if has(lines, word) { lines } else { head }
+}
+
+/// Whether one of the lines has this word.
+pub fn has(lines: &[Line<'_>], word: Word) -> bool {
+    for line in lines {
+        if line.word == word {
+            return true;
+        }
+    }
+    false
 }
 
 /// Whether a line sets the case up before it begins.

@@ -1,5 +1,5 @@
-//! The program `server_checks`: plays files of cases to the server in memory and to the world in memory, and tells each line
-//! that differs.
+//! The program `server_checks`: plays files of cases to the server in memory and to the world in
+//! memory, and tells each line that differs.
 #![tactic(auto)]
 
 mod acts;
@@ -9,13 +9,11 @@ mod changes;
 mod counts;
 mod cut_play;
 mod draws;
-mod fault;
 mod line;
 mod listener;
 mod plans;
 mod reading;
 mod report;
-mod script;
 mod server_play;
 mod texts;
 mod world_calls;
@@ -24,7 +22,8 @@ mod world_looks;
 mod world_play;
 mod worlds;
 
-use report::{Tally, check_file};
+use case_files::Tally;
+use report::check_file;
 use std::process::ExitCode;
 use std::rt::{Env, Files};
 use std::{env, fs, io};
@@ -53,9 +52,9 @@ fn checked<R: Files + Env + Input + Print + AllocGlobal>(rt: &R) -> io::Result<T
     let Tally {
         passed,
         failed,
-        cuts,
+        compared,
     } = tally;
-    println!(rt; "{cuts} cuts")?;
+    println!(rt; "{compared} cuts")?;
     println!(rt; "{passed} passed, {failed} failed")?;
     Ok(tally)
 }

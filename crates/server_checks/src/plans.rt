@@ -1,9 +1,9 @@
 //! What befalls a world.
 
 use crate::changes::foreign_of;
-use crate::fault::Fault;
 use crate::line::{Line, Word};
 use crate::texts::{number, small, split};
+use case_files::Fault;
 use mail_base::List;
 use std::alloc::Global;
 use world_mem::{Loss, Plan};

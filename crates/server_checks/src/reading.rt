@@ -1,6 +1,6 @@
 //! What was told, beside what is wanted.
 
-use crate::fault::{Fault, differs, same_bytes};
+use case_files::{Fault, differs, same_bytes};
 use std::alloc::{AllocError, Global};
 
 /// What was told in a case, and how much of it was wanted so far.

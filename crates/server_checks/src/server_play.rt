@@ -1,11 +1,11 @@
 //! A case played to the server in memory, line by line.
 
 use crate::acts::act;
-use crate::fault::{Fault, Stop};
 use crate::line::{Line, Word, sets_up};
 use crate::listener::Listener;
 use crate::reading::Reading;
 use crate::texts::said;
+use case_files::{Fault, Stop};
 use std::alloc::Global;
 
 // A server and what it told.

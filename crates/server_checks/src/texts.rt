@@ -1,61 +1,11 @@
 //! The texts and numbers of a line.
 
-use crate::fault::Fault;
 use crate::line::{Line, Word};
+use case_files::{Fault, unquoted};
 use flag_set::FlagSet;
 use mail_base::{BoxName, ModSeq};
 use std::alloc::Global;
 use uid_sets::Uid;
-
-// What a byte of a quoted text stands behind.
-#[derive(Clone, Copy)]
-enum Behind {
-    // Nothing that counts.
-    Plain,
-    // A backslash.
-    Backslash,
-    // A backslash and `x`.
-    Hex,
-    // These, and this digit.
-    Digit(u8),
-}
-
-// The digit's number.
-fn digit_of(byte: u8) -> Result<u8, Fault> {
-    match byte {
-        b'0'..=b'9' => Ok(byte.wrapping_sub(b'0')),
-        b'a'..=b'f' => Ok(byte.wrapping_sub(b'a').wrapping_add(10)),
-        _ => Err(Fault::Form),
-    }
-}
-
-// The byte that a letter behind a backslash stands for.
-fn escaped(byte: u8) -> Result<u8, Fault> {
-    match byte {
-        b'r' => Ok(b'\r'),
-        b'n' => Ok(b'\n'),
-        b't' => Ok(b'\t'),
-        b'0' => Ok(0),
-        b'\\' | b'"' => Ok(byte),
-        _ => Err(Fault::Form),
-    }
-}
-
-// Takes one byte of a quoted text.
-fn taken(bytes: &mut Vec<u8>, behind: Behind, byte: u8) -> Result<Behind, Fault> {
-    let whole = match behind {
-        Behind::Plain if byte == b'\\' => return Ok(Behind::Backslash),
-        Behind::Plain => byte,
-        Behind::Backslash if byte == b'x' => return Ok(Behind::Hex),
-        Behind::Backslash => escaped(byte)?,
-        Behind::Hex => return Ok(Behind::Digit(digit_of(byte)?)),
-        Behind::Digit(high) => high.wrapping_mul(16).wrapping_add(digit_of(byte)?),
-    };
-    if bytes.push(whole).is_err() {
-        return Err(Fault::Memory);
-    }
-    Ok(Behind::Plain)
-}
 
 // What stands between the quotes.
 fn inner(text: &str) -> Option<&str> {
@@ -63,16 +13,11 @@ fn inner(text: &str) -> Option<&str> {
 }
 
 /// The bytes of a text in quotes.
-pub fn unquoted(alloc: Global, text: &str) -> Result<Vec<u8>, Fault> {
-    let Some(inner) = inner(text) else {
-        return Err(Fault::Form);
-    };
-    let mut bytes = Vec::new(alloc);
-    let mut behind = Behind::Plain;
-    for byte in inner.as_bytes() {
-        behind = taken(&mut bytes, behind, *byte)?;
+pub fn bytes_of(alloc: Global, text: &str) -> Result<Vec<u8>, Fault> {
+    match inner(text) {
+        Some(inner) => unquoted(alloc, inner),
+        None => Err(Fault::Form),
     }
-    Ok(bytes)
 }
 
 // A line with its CRLF.
@@ -85,7 +30,7 @@ fn whole_line(alloc: Global, text: &str) -> Result<Vec<u8>, Fault> {
 /// The bytes that a line of the client or of the server stands for.
 pub fn said(alloc: Global, line: Line<'_>) -> Result<Vec<u8>, Fault> {
     match line.word {
-        Word::ClientBytes | Word::ServerBytes => unquoted(alloc, line.rest),
+        Word::ClientBytes | Word::ServerBytes => bytes_of(alloc, line.rest),
         _ => whole_line(alloc, line.rest),
     }
 }

@@ -1,12 +1,12 @@
 //! An exchange over a world that is cut in one call and made again in full.
 
 use crate::counts::appended;
-use crate::fault::{Fault, Stop, differs, same_number};
 use crate::line::{Line, Word};
 use crate::plans::{losing, loss_of, no_plan};
 use crate::texts::{number, said, split};
 use crate::world_calls::{closes, connects, receives, restarted, sends};
 use crate::worlds::world_of;
+use case_files::{Fault, Stop, differs, same_number};
 use std::alloc::Global;
 use world_mem::MemWorld;
 
@@ -16,7 +16,8 @@ fn answers(world: &mut MemWorld) -> bool {
     receives(world, &mut into).is_some()
 }
 
-// Makes the call of a line. The first of the server's lines behind another line is a call; the next ones come in it.
+// Makes the call of a line. The first of the server's lines behind another line is a call; the next
+// ones come in it.
 fn calls(
     alloc: Global,
     world: &mut MemWorld,
@@ -70,8 +71,8 @@ fn cut(alloc: Global, head: &[Line<'_>], lines: &[Line<'_>], text: &str) -> Resu
 }
 
 /// Cuts the exchange wherever its lines say so, and says how often.
-pub fn play_cuts(alloc: Global, head: &[Line<'_>], lines: &[Line<'_>]) -> Result<usize, Stop> {
-    let mut count = 0usize;
+pub fn play_cuts(alloc: Global, head: &[Line<'_>], lines: &[Line<'_>]) -> Result<u64, Stop> {
+    let mut count = 0u64;
     for line in lines {
         if line.word != Word::Cut {
             continue;

@@ -4,11 +4,11 @@ use crate::acts::is_lawful;
 use crate::changes::foreign_of;
 use crate::counts::{appended, changes};
 use crate::draws::are_drawn;
-use crate::fault::{Fault, differs, same_bytes, same_number};
 use crate::line::{Line, Word};
 use crate::plans::no_plan;
-use crate::texts::{number, split, unquoted};
+use crate::texts::{bytes_of, number, split};
 use crate::world_calls::{foreign, image, moments, plans};
+use case_files::{Fault, differs, same_bytes, same_number};
 use std::alloc::Global;
 use world_mem::{ImageFault, MemWorld};
 
@@ -23,8 +23,8 @@ fn is_image(alloc: Global, world: &MemWorld, text: &str) -> Result<(), Fault> {
     let (moment, rest) = split(text, " pick ")?;
     let (pick, rest) = split(rest, " left ")?;
     let (left, right) = split(rest, " right ")?;
-    let left = unquoted(alloc, left)?;
-    let right = unquoted(alloc, right)?;
+    let left = bytes_of(alloc, left)?;
+    let right = bytes_of(alloc, right)?;
     match image(world, number(moment)?, number(pick)?) {
         Ok(files) => {
             same_bytes(alloc, &left, files.left.as_slice())?;
@@ -45,7 +45,7 @@ fn are_moments(alloc: Global, world: &MemWorld, text: &str) -> Result<(), Fault>
 
 // `"C7 LOGOUT\r\n"`
 fn is_sent(alloc: Global, world: &MemWorld, text: &str) -> Result<(), Fault> {
-    let end = unquoted(alloc, text)?;
+    let end = bytes_of(alloc, text)?;
     if world.sent().ends_with(end.as_slice()) {
         return Ok(());
     }

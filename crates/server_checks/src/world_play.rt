@@ -1,13 +1,13 @@
 //! A case played to the world in memory, line by line.
 
-use crate::fault::{Fault, Stop, differs, same_number};
 use crate::line::{Line, Word, sets_up};
 use crate::plans::{no_plan, plan_of};
 use crate::reading::Reading;
-use crate::texts::{number, said, split, unquoted};
+use crate::texts::{bytes_of, number, said, split};
 use crate::world_calls::{closes, connects, length, receives, restarted, sends, syncs, writes};
 use crate::world_looks::look;
 use crate::worlds::world_of;
+use case_files::{Fault, Stop, differs, same_number};
 use std::alloc::Global;
 use world_mem::MemWorld;
 use world_traits::Side;
@@ -83,7 +83,7 @@ impl WorldPlayer {
         let (at, bytes) = split(rest, " ")?;
         let side = side_of(side)?;
         let at = number(at)?;
-        let bytes = unquoted(self.alloc, bytes)?;
+        let bytes = bytes_of(self.alloc, bytes)?;
         match writes(&mut self.world, side, at, &bytes) {
             Some(holds) => {
                 self.holds = holds;

@@ -1,10 +1,10 @@
 //! The world that a case begins with.
 
 use crate::boxes::listener_of;
-use crate::fault::Fault;
 use crate::line::{Line, Word};
-use crate::texts::unquoted;
+use crate::texts::bytes_of;
 use crate::world_calls::new_world;
+use case_files::Fault;
 use mail_base::Bytes;
 use std::alloc::Global;
 use world_mem::{Files, MemWorld, Plan};
@@ -14,7 +14,7 @@ fn file_of(alloc: Global, lines: &[Line<'_>], word: Word) -> Result<Bytes, Fault
     let mut bytes = Bytes::new(alloc);
     for line in lines {
         if line.word == word {
-            bytes.extend(&unquoted(alloc, line.rest)?)?;
+            bytes.extend(&bytes_of(alloc, line.rest)?)?;
         }
     }
     Ok(bytes)
