@@ -1,2 +1,9 @@
+pub mod Asked
+pub mod Blocks
+pub mod Breaking
+pub mod Cases
 pub mod Metered
+pub mod Names
+pub mod Repeated
 pub mod Settled
+pub mod Texts

@@ -18,7 +18,3 @@ abbrev pub Metered : List ℕ → Meter → Type 0
 Metered all meter =
     (taken : List Frame) × StandsFor all taken meter.feed × AllByRecursion (IsJudged meter.reads) taken
     × (meter.frames ≡ told (length taken)) × (meter.bytes ≡ told (length all))
-
--- so many bytes came, and are counted so
-abbrev pub MeteredSize : ℕ → Meter → Type 0
-MeteredSize size meter = (all : List ℕ) × (length all ≡ size) × Metered all meter

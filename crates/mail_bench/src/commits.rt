@@ -4,6 +4,7 @@ ghost use Rattle.std.specs.Prelude.{◌≡◌, ◌≤◌, false, OnOk};
 ghost use Rattle.world_traits.specs.Memory.{state_of};
 ghost use Rattle.store_core.specs.Mail.{mail};
 ghost use Rattle.store_core.specs.Holding.{IsAsLeft};
+ghost use Rattle.mail_bench.specs.Names.{name_of_told};
 
 use crate::records::{ROWS, learned};
 use mail_base::Status;
@@ -23,7 +24,9 @@ pub enum Told {
 
 impl Told {
     /// The word that names it.
-    pub fn name(&self) -> &'static str {
+    pub fn name(&self) -> &'static str
+        ensures text { result.now ≡ name_of_told self.now }
+    {
         match *self {
             Told::Nothing => "nothing",
             Told::All => "all",

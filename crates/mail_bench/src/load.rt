@@ -1,7 +1,11 @@
 //! What the words of the program ask for: which stream, and how long (RFC 9051, sections 2.2 and 4.3); what is done with a
 //! record, and how often; or with a journal, and how long it is; or what a resynchronisation tells, and how often.
 
-ghost use Rattle.std.specs.Prelude.{◌≡◌, ◌<◌, ◌≤◌, length, IfOk};
+ghost use Rattle.std.specs.Prelude.{◌≡◌, ◌<◌, ◌*◌, length, IfOk, IfSome, IsNone};
+ghost use Rattle.mail_bench.specs.Asked.{AsksFor};
+ghost use Rattle.mail_bench.specs.Cases.{piece_of, unit_of};
+ghost use Rattle.mail_bench.specs.Names.{name_of_case, name_of_direction, name_of_part, name_of_told};
+ghost use Rattle.mail_bench.specs.Texts.{long_line, repeated_text, short_line};
 
 use crate::commits::Told;
 use crate::records::Direction;
@@ -22,7 +26,9 @@ pub enum Case {
 
 impl Case {
     /// The word that names the case.
-    pub fn name(&self) -> &'static str {
+    pub fn name(&self) -> &'static str
+        ensures text { result.now ≡ name_of_case self.now }
+    {
         match *self {
             Case::Lines => "lines",
             Case::Literals => "literals",
@@ -32,8 +38,7 @@ impl Case {
 
     /// How many bytes are pushed at once.
     pub fn piece(&self) -> usize
-        ensures some { 0 < result }
-        ensures at_most { result ≤ 65536 }
+        ensures value { result ≡ piece_of self.now }
     {
         match *self {
             Case::Lines | Case::Literals => 65536,
@@ -43,7 +48,7 @@ impl Case {
 
     // How many bytes one of the words' units has.
     fn unit(&self) -> u64
-        ensures { result ≤ 1000000 }
+        ensures value { result ≡ unit_of self.now }
     {
         match *self {
             Case::Lines | Case::Literals => 1_000_000,
@@ -81,29 +86,28 @@ pub fn task_of(words: &[String]) -> Option<Task> {
         return None;
     };
     let number = read_u32(number.as_bytes()).ok()?;
-    if what.as_str() == "feed" {
-        return Some(Task::Feed(load_for(case_of(case.as_str())?, number, false)));
+    task_for(what.as_str(), case.as_str(), number)
+}
+
+// What two words and a number ask for.
+fn task_for(what: &str, case: &str, number: u32) -> Option<Task>
+    ensures some { IfSome result (AsksFor what.now case.now number) }
+    ensures none { IsNone result → (task : _) → ¬ (AsksFor what.now case.now number task) }
+{
+    match what {
+        "feed" => Some(Task::Feed(load_for(case_of(case)?, number, false))),
+        "read" => Some(Task::Feed(load_for(case_of(case)?, number, true))),
+        "record" => Some(Task::Record(direction_of(case)?, number)),
+        "store" => Some(Task::Store(part_of(case)?, number)),
+        "commit" => Some(Task::Commit(told_of(case)?, number)),
+        _ => None,
     }
-    if what.as_str() == "read" {
-        return Some(Task::Feed(load_for(case_of(case.as_str())?, number, true)));
-    }
-    if what.as_str() == "record" {
-        let direction = direction_of(case.as_str())?;
-        return Some(Task::Record(direction, number));
-    }
-    if what.as_str() == "store" {
-        let part = part_of(case.as_str())?;
-        return Some(Task::Store(part, number));
-    }
-    if what.as_str() == "commit" {
-        let told = told_of(case.as_str())?;
-        return Some(Task::Commit(told, number));
-    }
-    None
 }
 
 // The stream of a case of so many units.
-fn load_for(case: Case, number: u32, reads: bool) -> Load {
+fn load_for(case: Case, number: u32, reads: bool) -> Load
+    ensures value { result ≡ record { case = case; size = number * unit_of case; reads = reads } }
+{
     Load {
         case,
         size: u64::from(number) * case.unit(),
@@ -112,7 +116,10 @@ fn load_for(case: Case, number: u32, reads: bool) -> Load {
 }
 
 // The direction that a word names.
-fn direction_of(word: &str) -> Option<Direction> {
+fn direction_of(word: &str) -> Option<Direction>
+    ensures some { IfSome result (λ direction. word.now ≡ name_of_direction direction) }
+    ensures none { IsNone result → (direction : _) → word.now ≡ name_of_direction direction → ⊥ }
+{
     match word {
         "encode" => Some(Direction::Encode),
         "decode" => Some(Direction::Decode),
@@ -121,7 +128,10 @@ fn direction_of(word: &str) -> Option<Direction> {
 }
 
 // The part that a word names.
-fn part_of(word: &str) -> Option<Part> {
+fn part_of(word: &str) -> Option<Part>
+    ensures some { IfSome result (λ part. word.now ≡ name_of_part part) }
+    ensures none { IsNone result → (part : _) → word.now ≡ name_of_part part → ⊥ }
+{
     match word {
         "make" => Some(Part::Make),
         "open" => Some(Part::Open),
@@ -130,7 +140,10 @@ fn part_of(word: &str) -> Option<Part> {
 }
 
 // What is told, by the word that names it.
-fn told_of(word: &str) -> Option<Told> {
+fn told_of(word: &str) -> Option<Told>
+    ensures some { IfSome result (λ told. word.now ≡ name_of_told told) }
+    ensures none { IsNone result → (told : _) → word.now ≡ name_of_told told → ⊥ }
+{
     match word {
         "nothing" => Some(Told::Nothing),
         "all" => Some(Told::All),
@@ -139,7 +152,10 @@ fn told_of(word: &str) -> Option<Told> {
 }
 
 // The case that a word names.
-fn case_of(word: &str) -> Option<Case> {
+fn case_of(word: &str) -> Option<Case>
+    ensures some { IfSome result (λ case. word.now ≡ name_of_case case) }
+    ensures none { IsNone result → (case : _) → word.now ≡ name_of_case case → ⊥ }
+{
     match word {
         "lines" => Some(Case::Lines),
         "literals" => Some(Case::Literals),
@@ -150,18 +166,33 @@ fn case_of(word: &str) -> Option<Case> {
 
 /// The line with its CRLF that the stream of a case repeats.
 pub fn text_of(alloc: Global, case: Case) -> Result<Vec<u8>, AllocError>
-    ensures { IfOk result (λ text. 0 < length text.items) }
+    ensures value { IfOk result (λ text. text.items ≡ repeated_text case) }
+    ensures some { IfOk result (λ text. 0 < length text.items) }
 {
-    let mut text = Vec::new(alloc);
     match case {
-        Case::Lines | Case::Bytes => {
-            text.extend_from_slice(b"* 1 FETCH (UID 1 FLAGS (\\Seen) MODSEQ (715))\r\n")?;
-        }
-        Case::Literals => {
-            text.extend_from_slice(b"* 1 FETCH (UID 1 BODY[] {1000000}\r\n")?;
-            text.extend_from_slice(&vec![in alloc; b'x'; 1_000_000]?)?;
-            text.extend_from_slice(b")\r\n")?;
-        }
+        Case::Lines | Case::Bytes => short_line(alloc),
+        Case::Literals => long_line(alloc, 1_000_000),
     }
-    Ok(text)
+}
+
+// A message's flags and mod-sequence.
+fn short_line(alloc: Global) -> Result<Vec<u8>, AllocError>
+    ensures value { IfOk result (λ text. text.items ≡ short_line) }
+    ensures some { IfOk result (λ text. 0 < length text.items) }
+{
+    b"* 1 FETCH (UID 1 FLAGS (\\Seen) MODSEQ (715))\r\n".to_vec(alloc)
+}
+
+// A message's text of so many octets.
+#[tactic(auto, unfolding(crate::specs::Texts::long_line))]
+fn long_line(alloc: Global, octets: usize) -> Result<Vec<u8>, AllocError>
+    ensures value { IfOk result (λ text. text.items ≡ long_line octets) }
+    ensures some { IfOk result (λ text. 0 < length text.items) }
+{
+    let text = vec![in alloc; b'x'; octets]?;
+    let mut line = Vec::new(alloc);
+    line.extend_from_slice(b"* 1 FETCH (UID 1 BODY[] {1000000}\r\n")?;
+    line.extend_from_slice(&text)?;
+    line.extend_from_slice(b")\r\n")?;
+    Ok(line)
 }

@@ -1,9 +1,12 @@
 //! Counts the frames and the bytes of a stream that is pushed through a feed, and reads each frame where that is asked for
 //! (RFC 9051, sections 2.2 and 9).
 
-ghost use Rattle.std.specs.Prelude.{◌≡◌, ◌<◌, ◌++◌, [], List, ℕ, length, OnOk, IfOk, IsTrue, IsFalse};
+ghost use Rattle.std.specs.Prelude.{◌≡◌, ◌<◌, ◌++◌, [], List, ℕ, length, OnOk, IfOk, IfErr, IsTrue, IsFalse};
 ghost use Rattle.mail_base.specs.Frames.{NoWhole};
-ghost use Rattle.mail_bench.specs.Metered.{IsJudged, Metered, MeteredSize};
+ghost use Rattle.mail_bench.specs.Blocks.{text_in};
+ghost use Rattle.mail_bench.specs.Breaking.{Breaks, IsSound, Unread};
+ghost use Rattle.mail_bench.specs.Metered.{IsJudged, Metered};
+ghost use Rattle.mail_bench.specs.Repeated.{stretch};
 
 use crate::block::Block;
 use crate::fault::MeterFault;
@@ -44,6 +47,9 @@ impl Meter {
         ensures reads { OnOk result (self.new.reads ≡ self.old.reads) }
         ensures counted { (all : List ℕ) → Metered all self.old → OnOk result (Metered (all ++ piece.now) self.new) }
         ensures taken { OnOk result (NoWhole self.new.feed.bytes) }
+        ensures sound { (all : List ℕ) → Metered all self.old → OnOk result (IsSound (all ++ piece.now)) }
+        ensures why { (all : List ℕ) → Metered all self.old → IsSound all
+            → IfErr result (Breaks self.old.reads (all ++ piece.now)) }
     {
         self.feed.push(piece)?;
         self.bytes = self.bytes.saturating_add(piece.len() as u64);
@@ -55,6 +61,7 @@ impl Meter {
         ensures reads { OnOk result (self.new.reads ≡ self.old.reads) }
         ensures counted { (all : List ℕ) → Metered all self.old → OnOk result (Metered all self.new) }
         ensures taken { OnOk result (NoWhole self.new.feed.bytes) }
+        ensures why { (all : List ℕ) → Metered all self.old → IfErr result (Breaks self.old.reads all) }
     {
         while self.take_one(alloc)? {}
         Ok(())
@@ -66,6 +73,7 @@ impl Meter {
         ensures counted { (all : List ℕ) → Metered all self.old → OnOk result (Metered all self.new) }
         ensures fewer { IfOk result (λ found. IsTrue found → length self.new.feed.bytes < length self.old.feed.bytes) }
         ensures none { IfOk result (λ found. IsFalse found → NoWhole self.new.feed.bytes) }
+        ensures why { (all : List ℕ) → Metered all self.old → IfErr result (Breaks self.old.reads all) }
     {
         let Some(frame) = self.feed.take()? else {
             return Ok(false);
@@ -78,7 +86,8 @@ impl Meter {
 
 // Reads the frame, where that is asked for.
 fn judge(alloc: Global, reads: bool, frame: &Frame) -> Result<(), MeterFault>
-    ensures { OnOk result (IsJudged reads frame.now) }
+    ensures judged { OnOk result (IsJudged reads frame.now) }
+    ensures why { IfErr result (Unread reads frame.now) }
 {
     if reads {
         let _response = read(alloc, frame)?;
@@ -86,13 +95,15 @@ fn judge(alloc: Global, reads: bool, frame: &Frame) -> Result<(), MeterFault>
     Ok(())
 }
 
-/// Pushes a stream of so many bytes, piece by piece, and takes and counts every frame that is whole; where that is asked
-/// for, each of them is read as its response. Fails at the stream's first fault, at the first frame that is no response, and
-/// for want of memory.
+/// Pushes so many bytes of the text that a block repeats, piece by piece, and takes and counts every frame that is whole;
+/// where that is asked for, each of them is read as its response. Fails at the stream's first fault, at the first frame that
+/// is no response, and for want of memory.
 pub fn measure(alloc: Global, block: &Block, size: u64, reads: bool) -> Result<Meter, MeterFault>
     ensures reads { IfOk result (λ meter. meter.reads ≡ reads) }
-    ensures counted { IfOk result (λ meter. MeteredSize size meter) }
+    ensures counted { IfOk result (Metered (stretch (text_in block.now) 0 size)) }
     ensures taken { IfOk result (λ meter. NoWhole meter.feed.bytes) }
+    ensures sound { OnOk result (IsSound (stretch (text_in block.now) 0 size)) }
+    ensures why { IfErr result (Breaks reads (stretch (text_in block.now) 0 size)) }
 {
     let mut meter = Meter::new(alloc, reads);
     let mut left = size;

@@ -4,6 +4,7 @@ ghost use Rattle.std.specs.Prelude.{◌≡◌, ◌≤◌, ◌+◌, ◌*◌, leng
 ghost use Rattle.action_queue.specs.Writable.{IsWritable};
 ghost use Rattle.record_codec.specs.Bodies.{body_of};
 ghost use Rattle.record_codec.specs.Refusing.{WhyRefused};
+ghost use Rattle.mail_bench.specs.Names.{name_of_direction};
 
 use action_queue::Event;
 use record_codec::{RecordFault, decode, encode};
@@ -23,7 +24,9 @@ pub enum Direction {
 
 impl Direction {
     /// The word that names the direction.
-    pub fn name(&self) -> &'static str {
+    pub fn name(&self) -> &'static str
+        ensures text { result.now ≡ name_of_direction self.now }
+    {
         match *self {
             Direction::Encode => "encode",
             Direction::Decode => "decode",

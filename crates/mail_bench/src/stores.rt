@@ -7,6 +7,7 @@ ghost use Rattle.store_core.specs.Mail.{mail};
 ghost use Rattle.store_core.specs.Broken.{IsBroken};
 ghost use Rattle.store_core.specs.declared.fault.StoreFault.TheVariants as faults;
 ghost use Rattle.mail_bench.specs.Settled.{HasSettled, left_alone};
+ghost use Rattle.mail_bench.specs.Names.{name_of_part};
 
 use action_queue::MAX_ACTIONS;
 use std::alloc::{AllocError, Global};
@@ -24,7 +25,9 @@ pub enum Part {
 
 impl Part {
     /// The word that names the part.
-    pub fn name(&self) -> &'static str {
+    pub fn name(&self) -> &'static str
+        ensures text { result.now ≡ name_of_part self.now }
+    {
         match *self {
             Part::Make => "make",
             Part::Open => "open",

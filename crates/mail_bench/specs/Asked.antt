@@ -1,0 +1,20 @@
+-- What two words and a number ask for.
+use Rattle.std.specs.Prelude.{◌≡◌, ◌⊎◌, true, false, ℕ, ◌*◌, List, codes}
+use Rattle.mail_bench.specs.declared.load.Load.{Load}
+use Rattle.mail_bench.specs.declared.load.Task.{Task}
+use Rattle.mail_bench.specs.declared.load.Task.TheVariants.{Feed, Record, Store, Commit}
+use Rattle.mail_bench.specs.Cases.{unit_of}
+use Rattle.mail_bench.specs.Names.{name_of_case, name_of_direction, name_of_part, name_of_told}
+
+-- `feed` and `read` ask for a stream, whose frames are read for `read`
+abbrev pub AsksLoad : List ℕ → List ℕ → ℕ → Load → Type 0
+AsksLoad what case number load =
+    (((what ≡ codes "feed") × (load.reads ≡ false)) ⊎ ((what ≡ codes "read") × (load.reads ≡ true)))
+    × (case ≡ name_of_case load.case) × (load.size ≡ number * unit_of load.case)
+
+-- what is done, on what, and how long or how often
+abbrev pub AsksFor : List ℕ → List ℕ → ℕ → Task → Type 0
+AsksFor what case number (Feed load) = AsksLoad what case number load
+AsksFor what case number (Record direction times) = (what ≡ codes "record") × (case ≡ name_of_direction direction) × (times ≡ number)
+AsksFor what case number (Store part megabytes) = (what ≡ codes "store") × (case ≡ name_of_part part) × (megabytes ≡ number)
+AsksFor what case number (Commit told times) = (what ≡ codes "commit") × (case ≡ name_of_told told) × (times ≡ number)
