@@ -1,7 +1,8 @@
 //! Finds the module that answers a call.
 
 use crate::{
-    books, caches, commands, flags, frames, headers, numbers, records, responses, sets, tokens,
+    books, caches, commands, flags, frames, headers, numbers, records, responses, resyncs, sets,
+    tokens,
 };
 use case_words::{Answer, CaseFault, Input};
 
@@ -53,6 +54,9 @@ fn is_kept(call: &str, input: &mut Input, answer: &mut Answer) -> Result<bool, C
         return Ok(true);
     }
     if books::answers(call, input, answer)? {
+        return Ok(true);
+    }
+    if resyncs::answers(call, input, answer)? {
         return Ok(true);
     }
     caches::answers(call, input, answer)
