@@ -1,0 +1,14 @@
+pub mod EachOf
+pub mod Kept
+pub mod Steps
+pub mod Files
+pub mod Choices
+pub mod Links
+pub mod Questions
+pub mod Beginnings
+pub mod Parts
+pub mod Calls
+pub mod Learning
+pub mod Untouched
+pub mod Once
+pub mod BooksOn
