@@ -18,29 +18,15 @@ use Rattle.imap_model.specs.declared.mark.Mark.{Mark}
 use Rattle.imap_model.specs.declared.command.Command.{Command}
 use Rattle.imap_model.specs.declared.command.Command.TheVariants as commands
 use Rattle.imap_model.proofs.Joining.{parts_assoc, literal_is}
+use Rattle.imap_model.proofs.OneLine.{IsLine, plain, behind, name_line, tag_line, select_line}
 use Rattle.command_texts.specs.AwaitedParts.{Awaited, Response, User, Password, Id, Message, IsHeldFront, IsFrontOf, front_parts, append_at}
 use Rattle.command_texts.specs.HeardParts.{IsFront, append_of}
 use Rattle.command_texts.proofs.Leading.{cut_behind, behind_three, front_is_led, filled_is, lead, leading, mark_of, end}
 
--- the parts are one part
-record IsLine (parts : List (List ℕ)) : Type 0 where
-  text : List ℕ
-  is : parts ≡ line text
-
-plain : (text : List ℕ) → IsLine (line text)
-plain text = record { text = text; is = refl }
-
+-- two lines are one
 join_lines : (a b : List ℕ) → line a ⌢ line b ≡ line (a ++ b)
 unfolding ◌⌢◌
 join_lines a b = refl
-
-join_none : (a b : List ℕ) → (line a ⌢ (line b ⌢ [])) ⌢ end ≡ line ((a ++ b) ++ crlf)
-unfolding ◌⌢◌
-join_none a b = refl
-
--- one part behind one
-behind : (xs ys : List (List ℕ)) → IsLine xs → IsLine ys → IsLine (xs ⌢ ys)
-behind xs ys x y = record { text = x.text ++ y.text; is = ap (λ p. p ⌢ ys) x.is ∙ ap (λ p. line x.text ⌢ p) y.is ∙ join_lines x.text y.text }
 
 -- behind no part another is awaited
 none_front : (x : List ℕ) (parts : List (List ℕ)) (next : List ℕ) (later : List (List ℕ)) → x ∷ [] ≡ parts ++ next ∷ later → 0 < length parts → ⊥
@@ -79,29 +65,6 @@ shape_from bytes false false some is = counted some is
 shape_of : (bytes : List ℕ) → Shape bytes
 shape_of [] = whole (record { text = quoted []; is = refl })
 shape_of (b ∷ bytes) = shape_from (b ∷ bytes) (is_bare (b ∷ bytes)) (list_all is_quotable (b ∷ bytes)) (omega arith) refl
-
-quotable : (b : ℕ) → IsNameByte b → is_quotable b ≡ true
-quotable b is = grind (arith, nat_tests, is.low, is.high)
-
-name_from : (name : List ℕ) (b : Bool) → list_all is_quotable name ≡ true → is_bare name ≡ b → IsLine (astring_parts name)
-name_from name true all is = record { text = name; is = rw is refl }
-name_from name false all is = record { text = quoted name; is = rw (is, all) refl }
-
--- a mailbox's name is one part
-name_line : (name : List ℕ) → IsBoxName name → IsLine (astring_parts name)
-name_line name is = name_from name (is_bare name) (list_all-from_AllPass is_quotable name (λ k d within. quotable _ (is.text.bytes k d within))) refl
-
-tag_line : (tag : Tag) → IsCommandTag tag → IsLine (tag_parts tag)
-tag_line (Play n) is = behind _ _ (plain _) (plain _)
-tag_line (Count n) is = behind _ _ (plain _) (plain _)
-tag_line Strange is = absurd is
-
-select_line : (name : List ℕ) (since : Option Mark) → IsLine (astring_parts name) → IsLine (command_parts (commands.Select name since) ⌢ end)
-select_line name None is =
-    record { text = (codes "SELECT " ++ is.text) ++ crlf; is = ap (λ p. (words "SELECT " ⌢ (p ⌢ [])) ⌢ end) is.is ∙ join_none (codes "SELECT ") is.text }
-select_line name (Some mark) is =
-    behind _ _ (behind _ _ (plain _) (behind _ _ is (behind _ _ (plain _)
-    (behind _ _ (plain _) (behind _ _ (plain _) (behind _ _ (plain _) (plain _))))))) (plain crlf)
 
 -- the parts are such a front, and an APPEND's names its mailbox
 abbrev Found : Tag → Command → List (List ℕ) → Type 0

@@ -15,7 +15,8 @@ use Rattle.imap_model.specs.CommandText.{parts_of}
 use Rattle.imap_model.specs.TagText.{IsCommandTag}
 use Rattle.imap_model.specs.Held.{IsSent}
 use Rattle.imap_model.specs.declared.command.Command.{Command}
-use Rattle.imap_model.proofs.Cutting.{all_digits, length_same}
+use Rattle.mail_base.proofs.SameFront.{length_same}
+use Rattle.imap_model.proofs.Cutting.{all_digits}
 use Rattle.command_texts.specs.AwaitedParts.{Awaited, Response, User, Password, Id, Message, IsHeldFront, IsFrontOf, front_parts, append_at}
 use Rattle.command_texts.specs.Renumbered.{digit_part, IsDigit, Announcing, as_it_is, announced, IsRenumbered}
 use Rattle.command_texts.specs.HeardParts.{IsFront, append_of}

@@ -9,7 +9,7 @@ use Rattle.std.specs.Cmp.Lexicographic.{pointwise}
 use Rattle.std.proofs.lemmas.List.{length-append}
 use Rattle.mail_base.specs.Frames.{header}
 use Rattle.imap_model.specs.CommandParts.{crlf}
-use Rattle.imap_model.proofs.Cutting.{length_same}
+use Rattle.mail_base.proofs.SameFront.{length_same}
 use Rattle.command_texts.specs.Renumbered.{HasNone, IsDigit, Announcing, as_it_is, announced, IsRenumbered, digit_part}
 
 -- a part without either header has none

@@ -48,20 +48,20 @@ record IsWord (word : List ℕ) : Type 0 where
   plain : list_all (λ byte. not (is_space byte)) word ≡ true
   some : 0 < length word
 
-not_true : (b : Bool) → not b ≡ true → b ≡ false
+pub not_true : (b : Bool) → not b ≡ true → b ≡ false
 not_true true h = cc
 not_true false h = refl
 
 onto_word : (b : ℕ) (rest : List ℕ) → not (is_space b) ≡ true → pieces (b ∷ rest) ≡ onto_first b (pieces rest)
 onto_word b rest h = ap (λ t. cond t (cond (begins_with_space rest) (pieces rest) ([] ∷ pieces rest)) (onto_first b (pieces rest))) (not_true _ h)
 
-pieces_word : (word : List ℕ) → list_all (λ byte. not (is_space byte)) word ≡ true → pieces word ≡ word ∷ []
+pub pieces_word : (word : List ℕ) → list_all (λ byte. not (is_space byte)) word ≡ true → pieces word ≡ word ∷ []
 pieces_word [] h = refl
 pieces_word (b ∷ rest) h =
     let both = and_parts (not (is_space b)) (list_all (λ byte. not (is_space byte)) rest) h in
     onto_word b rest both.0 ∙ ap (onto_first b) (pieces_word rest both.1)
 
-pieces_words : (word rest : List ℕ) → list_all (λ byte. not (is_space byte)) word ≡ true → begins_with_space rest ≡ false →
+pub pieces_words : (word rest : List ℕ) → list_all (λ byte. not (is_space byte)) word ≡ true → begins_with_space rest ≡ false →
     pieces (word ++ (32 ∷ rest)) ≡ word ∷ pieces rest
 pieces_words [] rest h e = ap (λ t. cond t (pieces rest) ([] ∷ pieces rest)) e
 pieces_words (b ∷ more) rest h e =

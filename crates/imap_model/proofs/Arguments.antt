@@ -12,7 +12,8 @@ use Rattle.imap_model.specs.Tagged.{is_astring_byte}
 use Rattle.imap_model.specs.Astring.{is_bare, is_quotable, escaped, quoted, literal, astring_parts}
 use Rattle.imap_model.specs.CommandParts.{line, crlf, wait, ◌⌢◌}
 use Rattle.imap_model.proofs.Joining.{parts_assoc, literal_is}
-use Rattle.imap_model.proofs.Cutting.{StopsAt, byte_at, byte_of_line, cut_run, run_same, length_same, all_digits}
+use Rattle.imap_model.proofs.Cutting.{StopsAt, byte_at, byte_of_line, cut_run, run_same, all_digits}
+use Rattle.mail_base.proofs.SameFront.{length_same}
 
 -- the three forms of an argument
 data Form (bytes : List ℕ) : Type 0 where

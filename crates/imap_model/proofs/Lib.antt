@@ -9,6 +9,7 @@ pub mod Forming
 pub mod Going
 pub mod Joining
 pub mod Listed
+pub mod OneLine
 pub mod PlainCase
 pub mod Possible
 pub mod Remarking

@@ -6,5 +6,6 @@ pub mod Headers
 pub mod Lf
 pub mod MoreBytes
 pub mod Openings
+pub mod SameFront
 pub mod Stopping
 pub mod ToldLines

@@ -4,19 +4,8 @@ use Rattle.std.specs.Int.{w16, w32, w64, to_be_bytes, from_be_bytes}
 use Rattle.std.specs.List.{flat_map, AllByRecursion}
 use Rattle.std.proofs.lemmas.List.Concat.{flat_map-cons}
 use Rattle.std.proofs.lemmas.Nat.{from_be_bytes-to_be_bytes_2, from_be_bytes-to_be_bytes_4, from_be_bytes-to_be_bytes_8}
+use Rattle.mail_base.proofs.SameFront.{length_same}
 use Rattle.record_codec.specs.Fields.{counted, flag_field}
-
--- two texts of one length, in front of others
-pub length_same : (xs ys r s : List ℕ) → length xs ≡ length ys → xs ++ r ≡ ys ++ s → (xs ≡ ys) × (r ≡ s)
-length_same [] [] r s len same = (refl, same)
-length_same [] (y ∷ ys) r s len same = absurd (omega arith)
-length_same (x ∷ xs) [] r s len same = absurd (omega arith)
-length_same (x ∷ xs) (y ∷ ys) r s len same =
-    let first : x ≡ y = cc in
-    let rest : xs ++ r ≡ ys ++ s = cc in
-    let both = length_same xs ys r s (omega arith) rest in
-    let tails : xs ≡ ys = both.0 in
-    (cc, both.1)
 
 pub byte_same : (b c : ℕ) (r s : List ℕ) → b ∷ r ≡ c ∷ s → (b ≡ c) × (r ≡ s)
 byte_same b c r s same = (cc, cc)

@@ -12,7 +12,7 @@ use Rattle.flag_set.specs.FlagList.{begins_with_space, flags_alone, flags_of, is
 use Rattle.flag_set.specs.FlagSet.{AllKeys, IsFlagSet}
 use Rattle.flag_set.specs.FlagText.{list_text}
 use Rattle.flag_set.proofs.Keys.{accepted}
-use Rattle.flag_set.proofs.Texts.{flags_again, spelling_accepted, text_again}
+use Rattle.flag_set.proofs.Texts.{flags_again, not_true, pieces_word, pieces_words, spelling_accepted, text_again}
 use Rattle.imap_model.specs.FlagLists.{IsFlags, ArePermanent}
 use Rattle.response_lines.specs.Bracketed.{is_inner_byte}
 use Rattle.response_lines.specs.LineTexts.{◌⌢◌, flags_with, flags_text, permanent_text}
@@ -28,26 +28,6 @@ join_push c x (z ∷ zs) y = ap (λ t. x ++ (c ∷ t)) (join_push c z zs y) ∙ 
 record IsPiece (word : List ℕ) : Type 0 where
   plain : list_all (λ byte. not (is_space byte)) word ≡ true
   some : word ≢ []
-
-not_true : (b : Bool) → not b ≡ true → b ≡ false
-not_true true h = cc
-not_true false h = refl
-
-onto_word : (b : ℕ) (rest : List ℕ) → not (is_space b) ≡ true → pieces (b ∷ rest) ≡ onto_first b (pieces rest)
-onto_word b rest h = ap (λ t. cond t (cond (begins_with_space rest) (pieces rest) ([] ∷ pieces rest)) (onto_first b (pieces rest))) (not_true _ h)
-
-pieces_word : (word : List ℕ) → list_all (λ byte. not (is_space byte)) word ≡ true → pieces word ≡ word ∷ []
-pieces_word [] h = refl
-pieces_word (b ∷ rest) h =
-    let both = and_parts (not (is_space b)) (list_all (λ byte. not (is_space byte)) rest) h in
-    onto_word b rest both.0 ∙ ap (onto_first b) (pieces_word rest both.1)
-
-pieces_words : (word rest : List ℕ) → list_all (λ byte. not (is_space byte)) word ≡ true → begins_with_space rest ≡ false →
-    pieces (word ++ (32 ∷ rest)) ≡ word ∷ pieces rest
-pieces_words [] rest h e = ap (λ t. cond t (pieces rest) ([] ∷ pieces rest)) e
-pieces_words (b ∷ more) rest h e =
-    let both = and_parts (not (is_space b)) (list_all (λ byte. not (is_space byte)) more) h in
-    onto_word b (more ++ (32 ∷ rest)) both.0 ∙ ap (onto_first b) (pieces_words more rest both.1 e)
 
 begins_word : (word : List ℕ) (words : List (List ℕ)) → IsPiece word → begins_with_space (join_with_byte 32 (word ∷ words)) ≡ false
 begins_word [] words w = absurd (w.some refl)

@@ -19,15 +19,10 @@ use Rattle.world_traits.specs.Connected.{IsGreeted, IsReplyDue}
 use Rattle.world_traits.specs.LinkState.{Connection}
 use Rattle.world_traits.specs.Links.{Any, LinkStep, Linked, becomes}
 use Rattle.world_traits.specs.Moments.{Moment, Clock}
+use Rattle.world_traits.specs.Owing.{Owes}
 use Rattle.world_traits.specs.Sends.{Arrives}
 use Rattle.world_traits.proofs.Keeping.{since_now}
 use Rattle.world_traits.proofs.OneLine.{no_more}
-
--- the server has told more than these responses, or a command waits or a part isn't answered
-pub record Owes (heard : List Response) (p : Peer) : Type 0 where
-  pub more : List Response
-  pub told : p.talk.told ≡ heard ++ more
-  pub owed : more ≡ [] → p.waiting ≡ None → ¬ (Unanswered p) → ⊥
 
 last_some : (rs : List Response) (r : Response) → rs ++ r ∷ [] ≡ [] → ⊥
 last_some [] r e = cc

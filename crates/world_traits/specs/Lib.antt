@@ -6,6 +6,7 @@ pub mod Calls
 pub mod LinkState
 pub mod Links
 pub mod Sends
+pub mod Owing
 pub mod Connected
 pub mod Sound
 pub mod Counts

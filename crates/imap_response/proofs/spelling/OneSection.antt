@@ -10,7 +10,8 @@ use Rattle.mail_base.specs.declared.span.Span.{Span}
 use Rattle.imap_model.specs.Parts.{Part, Literal, part_text, literals_from, bytes}
 use Rattle.imap_model.specs.Strings.{Character, IsCharacter, character_text, quoted_text}
 use Rattle.imap_model.specs.Values.{Piece, Open, Close, Single, Quoted, Octets, IsPiece, piece_parts, NotBracket, IsSection}
-use Rattle.imap_model.proofs.Cutting.{run_same, length_same}
+use Rattle.mail_base.proofs.SameFront.{length_same}
+use Rattle.imap_model.proofs.Cutting.{run_same}
 use Rattle.imap_response.specs.Left.{Left}
 use Rattle.imap_response.proofs.spelling.Names.{from_all}
 use Rattle.imap_response.proofs.spelling.Numbers.{digits_pass}
