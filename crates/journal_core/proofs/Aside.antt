@@ -97,7 +97,7 @@ module _ (B A C D : Files → Type 0) (bc : (files : Files) → B files → C fi
   phase_as (suc zero) m o = record { each = either_as m o.each; before = occurs_as B C bc m o.before; after = occurs_as A D ad m o.after }
   phase_as (suc (suc n)) m o = only_as A D ad m o
 
-  goes_as : (m n : Moment) → GoesOn B A m n → GoesOn C D m n
+  pub goes_as : (m n : Moment) → GoesOn B A m n → GoesOn C D m n
   goes_as m n s = record {
     outside = s.outside;
     from = s.from;

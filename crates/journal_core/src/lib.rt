@@ -13,8 +13,6 @@ mod reading;
 mod setting_up;
 mod settling;
 mod several;
-#[cfg(test)]
-mod tests;
 mod version;
 
 pub use appending::AppendFault;

@@ -29,7 +29,7 @@ use Rattle.mail_top.specs.Reading.{IsRead}
 use Rattle.mail_top.specs.declared.accepting.AcceptFault.{AcceptFault}
 use Rattle.mail_top.specs.declared.accepting.AcceptFault.TheVariants as accepting
 use Rattle.mail_top.specs.declared.flag_action.FlagAction.{FlagAction}
-use Rattle.mail_top.proofs.OneByOne.{up_to_here}
+use Rattle.journal_core.proofs.UpTo.{up_to_here}
 
 module _ (body : List ℕ) (entry : Clock) (seen : Files) where
   -- the moments of reading

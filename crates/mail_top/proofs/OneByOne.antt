@@ -9,12 +9,13 @@ use Rattle.journal_core.specs.declared.fault.Place9.{Place9}
 use Rattle.journal_core.specs.declared.fault.Place9.TheVariants as places
 use Rattle.journal_core.specs.declared.fault.OpenFault.{OpenFault}
 use Rattle.journal_core.specs.declared.fault.OpenFault.TheVariants as faults
-use Rattle.journal_core.specs.Broken.{StandUpTo, IsNotDue, torn, other, missing}
+use Rattle.journal_core.specs.Broken.{IsNotDue, torn, other, missing}
 use Rattle.journal_core.specs.Records.{records}
 use Rattle.journal_core.specs.Sides.{head_of}
 use Rattle.journal_core.specs.Standing.{Standing, IsStill}
 use Rattle.journal_core.specs.Reading.{HasClosedGate, StandsAt, NextIs, IsNoJournal}
 use Rattle.journal_core.proofs.Presence.{head_long}
+use Rattle.journal_core.proofs.UpTo.{up_to_here}
 use Rattle.mail_top.specs.Begin.{IsBegin}
 use Rattle.mail_top.specs.Book.{IsAction, IsBroken, IsUndue, BrokenBehind}
 use Rattle.mail_top.specs.Reading.{ReadsBody, ReadsOne, ReadsActions, BrokenRecord, BrokenLater, IsRead}
@@ -24,17 +25,6 @@ use Rattle.mail_top.specs.declared.reading.Due.TheVariants as due
 pub all_more : (actions : List (List ℕ)) (a : List ℕ) → AllByRecursion IsAction actions → IsAction a → AllByRecursion IsAction (actions ++ a ∷ [])
 all_more [] a all here = (here, tt)
 all_more (b ∷ bs) a all here = (all.0, all_more bs a all.1 here)
-
--- the records of the bodies stand up to the journal's place
-pub up_to_here : (bodies : List (List ℕ)) (j : Standing) (m : Moment) (f : Files) → IsStill j bodies m f → StandUpTo j.place bodies (file_of j.side f)
-up_to_here bodies j m f still = record {
-  sizes = still.sizes;
-  rest = still.gate ∷ still.rest;
-  is = ap (drop 13) (still.is ∙ append_assoc (head_of j.version j.generation) (records bodies) (still.gate ∷ still.rest))
-      ∙ drop_at (head_of j.version j.generation) (records bodies ++ still.gate ∷ still.rest) 13 (head_long j.version j.generation);
-  there = still.next ∙ length-append (head_of j.version j.generation) (records bodies)
-      ∙ ap (λ (n : ℕ). n + length (records bodies)) (head_long j.version j.generation);
-}
 
 module _ (kind : Due) (bodies : List (List ℕ)) (j : Standing) (m : Moment) (f : Files) where
   -- what one read says, by whether there was a record

@@ -9,9 +9,6 @@ ghost use Rattle.mail_top.specs.Begin.{name_of, AreApart, WriteNames, HoldNames,
 use mail_base::{BoxName, Bytes};
 use std::alloc::{AllocError, Global};
 
-#[cfg(test)]
-mod tests;
-
 /// The most mailboxes that one journal is for (this client's profile).
 pub const MAX_NAMES: usize = 32;
 

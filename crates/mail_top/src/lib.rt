@@ -11,8 +11,6 @@ mod flag_action;
 mod reading;
 mod running;
 mod runs;
-#[cfg(test)]
-mod tests;
 mod words;
 
 pub use accepting::{AcceptFault, MAX_JOURNAL};

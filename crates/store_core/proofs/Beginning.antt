@@ -18,7 +18,7 @@ use Rattle.journal_core.specs.Holds.{Holds}
 use Rattle.journal_core.specs.Creating.{IsUnbegun, CreatesThrough, CreatesBehind, end_of}
 use Rattle.journal_core.specs.Standing.{Standing, IsStill}
 use Rattle.journal_core.specs.Gates.{Passes}
-use Rattle.journal_core.proofs.Aside.{either_as, passes_as}
+use Rattle.journal_core.proofs.Aside.{either_as, goes_as, passes_as}
 use Rattle.mail_base.specs.BoxName.{IsBoxName}
 use Rattle.action_queue.specs.declared.event.Event.{Event}
 use Rattle.action_queue.specs.declared.event.Event.TheVariants as events
@@ -56,31 +56,6 @@ fits_first (events.Accept id action) are kept = absurd are
 fits_first (events.Intend id intent) are kept = absurd are
 fits_first (events.Settle id outcome) are kept = absurd are
 fits_first (events.Learn name delta) are kept = absurd are
-
--- a step with other words for both kinds of files
-module _ (B A C D : Files → Type 0) (bc : (files : Files) → B files → C files) (ad : (files : Files) → A files → D files) where
-  occurs_as : (P Q : Files → Type 0) → ((files : Files) → P files → Q files) → (m : Moment) → Occurs P m → Occurs Q m
-  occurs_as P Q pq m o = record { files = o.files; leaves = o.leaves; has = pq o.files o.has }
-
-  only_as : (P Q : Files → Type 0) → ((files : Files) → P files → Q files) → (m : Moment) → Only P m → Only Q m
-  only_as P Q pq m o = record { each = record { each = λ files h. pq files (o.each.each files h) }; some = occurs_as P Q pq m o.some }
-
-  phase_as : (n : ℕ) (m : Moment) → AtPhase B A n m → AtPhase C D n m
-  phase_as zero m o = only_as B C bc m o
-  phase_as (suc zero) m o = record { each = either_as B A C D bc ad m o.each; before = occurs_as B C bc m o.before; after = occurs_as A D ad m o.after }
-  phase_as (suc (suc n)) m o = only_as A D ad m o
-
-  goes_as : (m n : Moment) → GoesOn B A m n → GoesOn C D m n
-  goes_as m n s = record {
-    outside = s.outside;
-    from = s.from;
-    to = s.to;
-    at_from = phase_as s.from m s.at_from;
-    at_to =
-        phase_as s.to n s.at_to;
-    forward = s.forward;
-    one = s.one;
-  }
 
 module _ (body : List ℕ) (names : List (List ℕ)) (are : AreNames names) (is : Spelled body (events.Begin names)) where
   pub make_begin : Make mail First (body ∷ []) (Some (begun names))

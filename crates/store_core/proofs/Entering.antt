@@ -16,11 +16,11 @@ use Rattle.journal_core.specs.Records.{open_record, records}
 use Rattle.journal_core.specs.Appending.{told_end}
 use Rattle.journal_core.specs.Sides.{head_of}
 use Rattle.journal_core.specs.Standing.{Standing, IsStill}
-use Rattle.journal_core.specs.Broken.{StandUpTo, IsNotDue, torn, other, missing}
+use Rattle.journal_core.specs.Broken.{IsNotDue, torn, other, missing}
 use Rattle.journal_core.specs.Reading.{HasClosedGate, StandsAt, NextIs, IsNoJournal}
 use Rattle.journal_core.specs.Several.{StandFrom, behind_all}
 use Rattle.journal_core.proofs.Few.{longer, stand_split, still_here}
-use Rattle.journal_core.proofs.Presence.{head_long}
+use Rattle.journal_core.proofs.UpTo.{up_to_here}
 use Rattle.journal_core.proofs.HeldBodies.{still_holds}
 use Rattle.action_queue.specs.declared.event.Event.{Event}
 use Rattle.action_queue.specs.declared.book.Book.{Book}
@@ -98,17 +98,6 @@ module _ (K : Keeping) (v : Version) where
           (drop_more few index body within ∙ ap (λ (x : List ℕ). x ∷ drop (index + 1) few) here);
       there = told ∙ ap (λ (n : ℕ). places.Record n) is;
     }
-
--- the records of the bodies stand up to the journal's place
-pub up_to_here : (bodies : List (List ℕ)) (j : Standing) (m : Moment) (f : Files) → IsStill j bodies m f → StandUpTo j.place bodies (file_of j.side f)
-up_to_here bodies j m f still = record {
-  sizes = still.sizes;
-  rest = still.gate ∷ still.rest;
-  is = ap (drop 13) (still.is ∙ append_assoc (head_of j.version j.generation) (records bodies) (still.gate ∷ still.rest))
-      ∙ drop_at (head_of j.version j.generation) (records bodies ++ still.gate ∷ still.rest) 13 (head_long j.version j.generation);
-  there = still.next ∙ length-append (head_of j.version j.generation) (records bodies)
-      ∙ ap (λ (n : ℕ). n + length (records bodies)) (head_long j.version j.generation);
-}
 
 module _ (K : Keeping) (book : Option K.Book) (bodies : List (List ℕ)) (j : Standing) (make : Make K j.version bodies book) (m : Moment)
     (f : Files) (still : IsStill j bodies m f) where

@@ -7,8 +7,6 @@ mod fault;
 mod opening;
 mod rules;
 mod store;
-#[cfg(test)]
-mod tests;
 
 pub use committing::MAX_ACCEPTED;
 pub use fault::{CommitFault, StoreFault};

@@ -1,0 +1,162 @@
+//! The commands of a case, and what they answer.
+
+use crate::bodies::fault_text;
+use crate::bytes::Names;
+use crate::fate::{Fate, FateDisk};
+use crate::files::Files;
+use crate::journals::{Unappended, append, create, created_text, framed};
+use crate::runs::{run_on, status_text};
+use crate::stores::{Recorded, init, init_and_record, record, recorded_text};
+use crate::texts::{Phrase, number, owned, split};
+use case_files::Fault;
+use journal_core::AppendFault;
+use mail_base::Bytes;
+use std::alloc::Global;
+use world_traits::FaultySink;
+
+/// What a command came to: its answer, what it printed, its calls of the disk, the files that it
+/// left, and those that a stop may leave behind it.
+#[derive(Drop)]
+pub struct Told {
+    pub answer: String,
+    pub printed: Vec<u8>,
+    pub cost: String,
+    pub files: Files,
+    pub images: Vec<Files>,
+}
+
+impl Told {
+    /// No command, over two empty files.
+    pub fn nothing(alloc: Global) -> Told {
+        Told {
+            answer: String::new(alloc),
+            printed: Vec::new(alloc),
+            cost: String::new(alloc),
+            files: Files::empty(alloc),
+            images: Vec::new(alloc),
+        }
+    }
+
+    /// Whether the command is done.
+    pub fn is_done(&self) -> bool {
+        self.answer.as_str() == "done"
+    }
+}
+
+/// Carries out a command over these files. The disk ends here.
+pub fn carried_out(
+    alloc: Global,
+    names: &Names<'_>,
+    command: Phrase<'_>,
+    files: &Files,
+    fate: Fate,
+) -> Result<Told, Fault> {
+    let mut fails = Vec::new(alloc);
+    if let Fate::Output(write) = fate {
+        fails.push(write)?;
+    }
+    let mut disk = FateDisk::new(alloc, files, fate)?;
+    let mut out = FaultySink::new(alloc, fails);
+    told_on(alloc, names, command, &mut disk, &mut out)
+}
+
+// What a command comes to on a disk.
+fn told_on(
+    alloc: Global,
+    names: &Names<'_>,
+    command: Phrase<'_>,
+    disk: &mut FateDisk,
+    out: &mut FaultySink,
+) -> Result<Told, Fault> {
+    let answer = answer_of(alloc, names, command, disk, out)?;
+    let printed = out.bytes().to_vec(alloc)?;
+    let cost = disk.cost()?;
+    let files = disk.files()?;
+    let images = disk.images()?;
+    Ok(Told {
+        answer,
+        printed,
+        cost,
+        files,
+        images,
+    })
+}
+
+// Carries out a command, and says what it answers.
+fn answer_of(
+    alloc: Global,
+    names: &Names<'_>,
+    command: Phrase<'_>,
+    disk: &mut FateDisk,
+    out: &mut FaultySink,
+) -> Result<String, Fault> {
+    match command.word {
+        "run" => owned(alloc, status_text(run_on(alloc, command.rest, disk, out)?)),
+        "create" => create_on(alloc, &names.bytes(command.rest)?, disk),
+        "append" => append_on(alloc, names, command.rest, disk),
+        "init" => recorded_text(alloc, init_on(alloc, names, command.rest, disk)?),
+        "record" => {
+            let body = names.bytes(command.rest)?;
+            recorded_text(alloc, record_on(alloc, &body, disk))
+        }
+        _ => Err(Fault::Form),
+    }
+}
+
+// Creates a journal of this body.
+fn create_on(alloc: Global, body: &[u8], disk: &mut FateDisk) -> Result<String, Fault> {
+    if body.is_empty() {
+        return Err(Fault::Form);
+    }
+    let created = create(alloc, disk, Bytes::of(body.to_vec(alloc)?));
+    created_text(alloc, created)
+}
+
+// `"abc" under 43`
+fn append_on(
+    alloc: Global,
+    names: &Names<'_>,
+    text: &str,
+    disk: &mut FateDisk,
+) -> Result<String, Fault> {
+    let (body, limit) = split(text, " under ")?;
+    let body = names.bytes(body)?;
+    let limit = number(limit)?;
+    if body.is_empty() || body.len() > 65_536 || limit > 1_073_741_824 {
+        return Err(Fault::Form);
+    }
+    let frame = framed(alloc, &body)?;
+    match append(alloc, disk, &frame, limit) {
+        Ok(()) => owned(alloc, "done"),
+        Err(Unappended::Long) => Err(Fault::Form),
+        Err(Unappended::Unread(fault)) => fault_text(alloc, fault),
+        Err(Unappended::Unwritten(AppendFault::Disk)) => owned(alloc, "disk"),
+        Err(Unappended::Unwritten(AppendFault::Full { end, wanted })) => {
+            Ok(format!(in alloc; "full {end} wanted {wanted}")?)
+        }
+    }
+}
+
+// `BEGIN`, or `BEGIN ; EVENT`
+fn init_on(
+    alloc: Global,
+    names: &Names<'_>,
+    text: &str,
+    disk: &mut FateDisk,
+) -> Result<Recorded, Fault> {
+    match text.split_once(" ; ") {
+        Some((begin, event)) => {
+            let begin = names.bytes(begin)?;
+            let event = names.bytes(event)?;
+            Ok(init_and_record(alloc, disk, &begin, &event))
+        }
+        None => {
+            let begin = names.bytes(text)?;
+            Ok(init(alloc, disk, &begin))
+        }
+    }
+}
+
+fn record_on(alloc: Global, body: &[u8], disk: &mut FateDisk) -> Recorded {
+    record(alloc, disk, body)
+}

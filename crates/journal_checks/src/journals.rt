@@ -1,0 +1,103 @@
+//! A journal is created, and records are appended to it.
+
+ghost use Rattle.std.specs.Prelude.{◌≡◌, ◌<◌, ◌≤◌, ◌^◌, IfOk, length};
+ghost use Rattle.mail_base.specs.Bodies.{frame_of};
+ghost use Rattle.journal_core.specs.Appending.{IsFrame};
+
+use crate::bodies::place_text;
+use crate::texts::owned;
+use case_files::Fault;
+use journal_core::{AppendFault, CreateFault, Journal, OpenFault};
+use mail_base::Bytes;
+use std::alloc::{AllocError, Global};
+use world_traits::Disk;
+
+/// Creates a journal with this body.
+pub fn create<D: Disk>(alloc: Global, disk: &mut D, body: Bytes) -> Result<(), CreateFault>
+    requires { 0 < length body }
+{
+    match Journal::create(alloc, disk, &[body]) {
+        Ok(_journal) => Ok(()),
+        Err(fault) => Err(fault),
+    }
+}
+
+/// What became of a creation, as a text.
+pub fn created_text(alloc: Global, created: Result<(), CreateFault>) -> Result<String, Fault> {
+    match created {
+        Ok(()) => owned(alloc, "done"),
+        Err(CreateFault::Memory) => Err(Fault::Memory),
+        Err(CreateFault::Disk) => owned(alloc, "disk"),
+        Err(CreateFault::NotAJournal { why }) => place_text(alloc, why),
+        Err(CreateFault::Already) => owned(alloc, "already"),
+        Err(CreateFault::Full { end, wanted }) => {
+            Ok(format!(in alloc; "full {end} wanted {wanted}")?)
+        }
+    }
+}
+
+/// Why a record isn't appended: the journal isn't read, or it isn't written.
+#[derive(Clone, Copy, Drop)]
+pub enum Unappended {
+    /// The journal has too many records to read here.
+    Long,
+    /// The journal isn't read to its end.
+    Unread(OpenFault),
+    /// The record isn't written.
+    Unwritten(AppendFault),
+}
+
+// The length of a body, the body, and a closed gate.
+fn frame_bytes(alloc: Global, body: &[u8]) -> Result<Vec<u8>, AllocError>
+    requires { length body.now < 2 ^ 32 }
+    ensures { IfOk result (λ frame. frame.items ≡ frame_of body.now) }
+{
+    let mut frame = Vec::new(alloc);
+    frame.extend_from_slice(&(body.len() as u32).to_be_bytes())?;
+    frame.extend_from_slice(body)?;
+    frame.push(0)?;
+    Ok(frame)
+}
+
+/// The frame of a body.
+pub fn framed(alloc: Global, body: &[u8]) -> Result<Vec<u8>, AllocError>
+    requires some { 0 < length body.now }
+    requires fits { length body.now ≤ 65536 }
+    ensures { IfOk result (λ frame. IsFrame frame.items) }
+{
+    let bytes = frame_bytes(alloc, body)?;
+    Ok(bytes)
+}
+
+/// Appends a frame behind the last record, under this limit.
+pub fn append<D: Disk>(
+    alloc: Global,
+    disk: &mut D,
+    frame: &[u8],
+    limit: u64,
+) -> Result<(), Unappended>
+    requires frame { IsFrame frame.now }
+    requires limit { limit ≤ 2 ^ 30 }
+{
+    let mut journal = match Journal::open(disk) {
+        Ok(journal) => journal,
+        Err(fault) => return Err(Unappended::Unread(fault)),
+    };
+    for _ in 0..1_000u16 {
+        let next = match journal.next(alloc, disk) {
+            Ok(next) => next,
+            Err(fault) => return Err(Unappended::Unread(fault)),
+        };
+        if next.is_none() {
+            return written(journal.append(disk, frame, limit));
+        }
+    }
+    Err(Unappended::Long)
+}
+
+fn written(appended: Result<(), AppendFault>) -> Result<(), Unappended> {
+    match appended {
+        Ok(()) => Ok(()),
+        Err(fault) => Err(Unappended::Unwritten(fault)),
+    }
+}

@@ -1,0 +1,168 @@
+//! A case played on journals, line by line.
+
+use crate::actions::spells;
+use crate::begins::{is_one, no_front, no_longer, refused, spell};
+use crate::bytes::Names;
+use crate::commands::{Told, carried_out};
+use crate::cuts::{each_change, each_cut, each_flip};
+use crate::fate::Fate;
+use crate::looks::{all_bodies, file, first_piece, prints, whole_book};
+use crate::loops::each_call;
+use crate::pieces::each_length;
+use crate::texts::{Phrase, number, phrase_of, split};
+use case_files::{Fault, Line, Stop, differs, same_text};
+use std::alloc::Global;
+
+// What the last command came to and whether it left the files, what is to befall the next one, and
+// how much was compared.
+#[derive(Drop)]
+struct Player {
+    alloc: Global,
+    told: Told,
+    stays: bool,
+    fate: Fate,
+    compared: u64,
+}
+
+impl Player {
+    fn new(alloc: Global) -> Player {
+        Player {
+            alloc,
+            told: Told::nothing(alloc),
+            stays: false,
+            fate: Fate::Calm,
+            compared: 0,
+        }
+    }
+
+    // `left BYTES`
+    fn give(&mut self, names: &Names<'_>, text: &str) -> Result<(), Fault> {
+        let (side, bytes) = split(text, " ")?;
+        let bytes = names.bytes(bytes)?;
+        match side {
+            "left" => self.told.files.left = bytes,
+            "right" => self.told.files.right = bytes,
+            _ => return Err(Fault::Form),
+        }
+        Ok(())
+    }
+
+    // Carries out a command, and goes on with the files that it leaves.
+    fn carry_out(&mut self, names: &Names<'_>, command: Phrase<'_>) -> Result<(), Fault> {
+        let files = &self.told.files;
+        let told = carried_out(self.alloc, names, command, files, self.fate)?;
+        self.stays = told.files.are(files);
+        self.told = told;
+        self.fate = Fate::Calm;
+        Ok(())
+    }
+
+    // The last command left the files.
+    fn stays(&self) -> Result<u64, Fault> {
+        if self.stays {
+            return Ok(1);
+        }
+        Err(differs(self.alloc, b"the files as before", b"others"))
+    }
+
+    // `call ..`, `stop ..`, `cut left`, `change left ..`, `length ..` or `flip left ..`
+    fn each(&self, names: &Names<'_>, lines: &[Line<'_>], text: &str) -> Result<u64, Fault> {
+        let alloc = self.alloc;
+        let files = &self.told.files;
+        let (what, rest) = split(text, " ")?;
+        match what {
+            "call" => each_call(alloc, names, lines, files, false, rest),
+            "stop" => each_call(alloc, names, lines, files, true, rest),
+            "cut" => each_cut(alloc, files, rest),
+            "change" => each_change(alloc, files, rest),
+            "length" => each_length(alloc, names, files, rest),
+            "flip" => each_flip(alloc, names, lines, files, rest),
+            _ => Err(Fault::Form),
+        }
+    }
+
+    // What the last command came to.
+    fn ask(&self, names: &Names<'_>, phrase: Phrase<'_>) -> Result<u64, Fault> {
+        let alloc = self.alloc;
+        let told = &self.told;
+        match phrase.word {
+            "gives" => same_text(alloc, phrase.rest, told.answer.as_str())?,
+            "costs" => same_text(alloc, phrase.rest, told.cost.as_str())?,
+            "prints" => prints(alloc, &told.printed, phrase.rest)?,
+            "piece" => first_piece(alloc, &told.files, phrase.rest)?,
+            "book" => whole_book(alloc, &told.files, phrase.rest)?,
+            _ => file(alloc, names, &told.files, phrase.word, phrase.rest)?,
+        }
+        Ok(1)
+    }
+
+    // What the line compares.
+    fn look(
+        &self,
+        names: &Names<'_>,
+        lines: &[Line<'_>],
+        phrase: Phrase<'_>,
+    ) -> Result<u64, Fault> {
+        match phrase.word {
+            "stays" => self.stays(),
+            "bodies" => all_bodies(self.alloc, &self.told.files, phrase.rest),
+            "each" => self.each(names, lines, phrase.rest),
+            "names" => spell(self.alloc, names, phrase.rest),
+            "action" => spells(self.alloc, names, phrase.rest),
+            "begin" => is_one(self.alloc, &names.bytes(phrase.rest)?, true),
+            "no" => self.none(names, phrase.rest),
+            _ => self.ask(names, phrase),
+        }
+    }
+
+    // `names a b a`, `begin BYTES`, `front BYTES` or `longer BYTES`
+    fn none(&self, names: &Names<'_>, text: &str) -> Result<u64, Fault> {
+        let Phrase { word, rest } = phrase_of(text);
+        match word {
+            "names" => refused(self.alloc, rest),
+            "begin" => is_one(self.alloc, &names.bytes(rest)?, false),
+            "front" => no_front(self.alloc, &names.bytes(rest)?),
+            "longer" => no_longer(self.alloc, &names.bytes(rest)?),
+            _ => Err(Fault::Form),
+        }
+    }
+
+    fn step(
+        &mut self,
+        names: &Names<'_>,
+        lines: &[Line<'_>],
+        phrase: Phrase<'_>,
+    ) -> Result<(), Fault> {
+        match phrase.word {
+            "command" | "before" | "after" => {}
+            "given" => self.give(names, phrase.rest)?,
+            "fails" => self.fate = Fate::Call(number(phrase.rest)?),
+            "output" => self.fate = Fate::Output(number(phrase.rest)?),
+            "run" | "create" | "append" | "init" | "record" => {
+                self.carry_out(names, phrase)?;
+            }
+            _ => {
+                let compared = self.look(names, lines, phrase)?;
+                self.compared = self.compared.saturating_add(compared);
+            }
+        }
+        Ok(())
+    }
+}
+
+// Plays the lines.
+fn play_all(player: &mut Player, names: &Names<'_>, lines: &[Line<'_>]) -> Result<u64, Stop> {
+    for line in lines {
+        if let Err(fault) = player.step(names, lines, phrase_of(line.text)) {
+            let number = line.number;
+            return Err(Stop { number, fault });
+        }
+    }
+    Ok(player.compared)
+}
+
+/// Plays the lines, and stops at the first that differs. Says how much was compared.
+pub fn play(alloc: Global, names: &Names<'_>, lines: &[Line<'_>]) -> Result<u64, Stop> {
+    let mut player = Player::new(alloc);
+    play_all(&mut player, names, lines)
+}
