@@ -83,7 +83,7 @@ module _ (heard : List Response) (tag : Tag) (command : Command) (r : Replies) (
 -- no question that isn't answered says that a thing is lacking
 pub no_lack : (heard : List Response) (tag : Tag) (command : Command) (had : List ℕ) (c : Option Connection) (item : Item)
     → FailsBehind heard tag command had c (faults.Lacking item) → ⊥
-no_lack heard tag command had c item (inl r) = r
+no_lack heard tag command had c item (inl r) = r.reading
 no_lack heard tag command had c item (inr u) = u.unfit
 
 pub replied_so : (count : ℕ) (command : Command) (r : Replies) (old new : Clock) (c : Option Connection) (feed : Stream)

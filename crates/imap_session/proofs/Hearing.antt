@@ -47,6 +47,19 @@ module _ (heard : List Response) (c d : Option Connection) (feed after : Stream)
     limited = h.limited;
   }
 
+-- what was taken of all that was received
+module _ (heard : List Response) (had : List ℕ) (most left : ℕ) (c : Option Connection) (feed : Stream)
+    (r : Reads heard had most left c feed) where
+  took_all : Took heard r.hears.taken feed had c
+  took_all = record {
+    connection = r.hears.connection;
+    there = r.hears.there;
+    reply = r.reply;
+    grown = r.grown;
+    stands = r.hears.stands;
+    spell = r.hears.spell;
+  }
+
 module _ (heard : List Response) (had : List ℕ) (most left n : ℕ) (c d : Option Connection) (feed : Stream) (into : List ℕ)
     (r : Reads heard had most left c feed) (received : Received c d (take n into)) (fits : n ≤ length into) where
   more_is : length (r.reply ++ take n into) ≡ length r.reply + n
@@ -66,16 +79,25 @@ module _ (heard : List Response) (had : List ℕ) (most left n : ℕ) (c d : Opt
         room = room;
       }
 
-  pub too_many : left < n → TooMuch limits.Reply 268435457 had most d
-  too_many many =
+  pub too_many : NoWhole feed.bytes → n ≤ 4096 → left < n → TooMuch heard limits.Reply 268435457 had most d
+  unfolding took_all
+  too_many none few many =
       let over : most < length (r.reply ++ take n into) = omega (arith, more_is, r.room, many) in
+      let within : length r.reply ≤ most = omega (arith, r.room) in
+      let last : length (take n into) ≤ 4096 = omega (arith, length-take n into, fits, few) in
       inl (
         refl,
         refl,
         record {
-          reply = r.reply ++ take n into;
-          there = is_longer heard c d feed feed (take n into) r.hears received
-              ∙ ap (λ (t : List ℕ). Some (record { received = t })) grown_more;
+          before = c;
+          taken = r.hears.taken;
+          left = feed;
+          took = took_all heard had most left c feed r;
+          none = none;
+          within = within;
+          last = take n into;
+          few = last;
+          there = is_longer heard c d feed feed (take n into) r.hears received;
           long = over;
         },
       )
@@ -83,25 +105,15 @@ module _ (heard : List Response) (had : List ℕ) (most left n : ℕ) (c d : Opt
 -- what stands in the feed has this fault
 module _ (heard : List Response) (had : List ℕ) (most left : ℕ) (c : Option Connection) (feed : Stream)
     (r : Reads heard had most left c feed) where
-  took_all : Took heard r.hears.taken feed had c
-  took_all = record {
-    connection = r.hears.connection;
-    there = r.hears.there;
-    reply = r.reply;
-    grown = r.grown;
-    stands = r.hears.stands;
-    spell = r.hears.spell;
-  }
-
   pub fed_why : NoWhole feed.bytes → (fault : FeedFault) → (fault ≢ feeds.Memory → ∥ FirstFault feed.at feed.bytes fault ∥₁)
-      → Reading had most c (of_feed fault)
+      → Reading heard had most c (of_feed fault)
   fed_why cut feeds.Memory bad = tt
   fed_why cut (feeds.BareLf at) bad =
-      record { heard = heard; taken = r.hears.taken; left = feed; took = took_all; bad = inl (cut, bad (λ e. cc)) }
+      record { taken = r.hears.taken; left = feed; took = took_all heard had most left c feed r; bad = inl (cut, bad (λ e. cc)) }
   fed_why cut (feeds.LiteralTooLarge at asked) bad = inr
-      (record { heard = heard; taken = r.hears.taken; left = feed; took = took_all; large = inl (cut, inl (at, refl, bad (λ e. cc))) })
+      (record { taken = r.hears.taken; left = feed; took = took_all heard had most left c feed r; large = inl (cut, inl (at, refl, bad (λ e. cc))) })
   fed_why cut (feeds.LineTooLong at) bad = inr
-      (record { heard = heard; taken = r.hears.taken; left = feed; took = took_all; large = inl (cut, inr (at, refl, refl, bad (λ e. cc))) })
+      (record { taken = r.hears.taken; left = feed; took = took_all heard had most left c feed r; large = inl (cut, inr (at, refl, refl, bad (λ e. cc))) })
 
 -- a frame is taken
 pub spell_more : (fs : List Frame) (rs : List Response) (f : Frame) (r : Response) → Spell fs rs → Spells f r → Spell (fs ++ f ∷ []) (rs ++ r ∷ [])
@@ -145,12 +157,11 @@ module _ (old new : Stream) (frame : Frame) (next : IsNext old.at old.bytes fram
       (reads_frame heard had most left c r is spells)
 
   pub line_why : (heard : List Response) (had : List ℕ) (most left : ℕ) (c : Option Connection) (fault : SessionFault)
-      → Reads heard had most left c old → LineBad frame fault → Reading had most c fault
+      → Reads heard had most left c old → LineBad frame fault → Reading heard had most c fault
   line_why heard had most left c faults.Memory is bad = tt
   line_why heard had most left c faults.Link is bad = tt
   line_why heard had most left c (faults.Refused line) is bad = bad
   line_why heard had most left c (faults.BadReply at) is bad = record {
-    heard = heard;
     taken = is.hears.taken;
     left = old;
     took = took_all heard had most left c old is;
@@ -158,7 +169,6 @@ module _ (old new : Stream) (frame : Frame) (next : IsNext old.at old.bytes fram
   }
   line_why heard had most left c (faults.Lacking item) is bad = bad
   line_why heard had most left c (faults.TooLarge limit number) is bad = inr (record {
-    heard = heard;
     taken = is.hears.taken;
     left = old;
     took = took_all heard had most left c old is;

@@ -19,3 +19,4 @@ pub mod LoggingIn
 pub mod Greetings
 pub mod Offering
 pub mod Farewells
+pub mod Talks

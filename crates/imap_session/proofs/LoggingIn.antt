@@ -1,5 +1,5 @@
 -- Which way in there is, and whether a server serves this client.
-use Rattle.std.proofs.Common.{◌≡◌, inl, inr, ap, sym, ◌∙◌, ℕ, List, codes, if◌then◌else◌, Some, Bool, true, false, IsTrue, refl, subst}
+use Rattle.std.proofs.Common.{◌≡◌, inl, inr, ap, ◌∙◌, ℕ, List, codes, if◌then◌else◌, Some, Bool, true, false, IsTrue, refl}
 use Rattle.literal_feed.specs.Stream.{Stream}
 use Rattle.mail_base.specs.Account.{Credentials}
 use Rattle.imap_model.specs.declared.item.Item.{Item}
@@ -10,13 +10,13 @@ use Rattle.world_traits.specs.LinkState.{LinkState}
 use Rattle.world_traits.specs.Moments.{Clock}
 use Rattle.imap_session.specs.Dialogue.{Dialogue, BrokeOff, TalkedOut}
 use Rattle.imap_session.specs.Dialogue.Dialogue.{Ends, Lacks, Asks}
-use Rattle.imap_session.specs.Faults.{Reading}
 use Rattle.imap_session.specs.Hearing.{Hears}
 use Rattle.imap_session.specs.Enabled.{is_enabled}
 use Rattle.imap_session.specs.LogIn.{NoWay, behind_offer, logged_in, switched_on, way_in}
 use Rattle.imap_session.specs.declared.fault.SessionFault.{SessionFault}
 use Rattle.imap_session.specs.declared.fault.SessionFault.TheVariants as faults
 use Rattle.imap_session.proofs.Dialogues.{broke_as, broke_first, broke_lack, out_lack}
+use Rattle.imap_session.proofs.NoReply.{memory_fails}
 use Rattle.imap_session.proofs.Sent.{sent_none}
 
 pub behind_true : (preauth : Bool) (account : Credentials) (r : Replies) → IsTrue preauth → behind_offer preauth account r ≡ logged_in
@@ -43,7 +43,7 @@ module _ (account : Credentials) (r : Replies) where
   no_way_broke fault count heard link feed h (inr want) =
       broke_as (Asks want.1.0 (λ s. logged_in)) (way_in account r) count link.sent h.connection.received heard link fault want.1.1
       (broke_first want.1.0 (λ s. logged_in) count link.sent h.connection.received heard link fault (sent_none _ _ _ refl)
-      (inl (subst (Reading h.connection.received 268435456 link.connection) (sym want.0) tt)))
+      (inl (memory_fails _ heard h.connection.received 268435456 link.connection fault want.0)))
 
   pub no_way_bad : (at : ℕ) → NoWay account r (faults.BadReply at) → ⊥
   no_way_bad at (inl lack) = let e = lack.0 in absurd (cc)

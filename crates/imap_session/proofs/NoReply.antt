@@ -1,5 +1,5 @@
 -- The line that ended a reply, and what it says of a fault.
-use Rattle.std.proofs.Common.{inl, inr, ℕ, ◌+◌, ◌<◌, ◌≤◌, Bool, true, false, IsTrue, List, [], ◌∷◌, ◌++◌, Option, sym, ◌∙◌, ap, subst}
+use Rattle.std.proofs.Common.{◌≡◌, inl, inr, ℕ, ◌+◌, ◌<◌, ◌≤◌, Bool, true, false, IsTrue, List, [], ◌∷◌, ◌++◌, Option, sym, ◌∙◌, ap, subst}
 use Rattle.std.proofs.Common.{append_assoc, arith}
 use Rattle.mail_base.specs.declared.frame.Frame.{Frame}
 use Rattle.mail_base.specs.declared.tag.Tag.{Tag}
@@ -8,12 +8,13 @@ use Rattle.imap_model.specs.Responses.{Spells}
 use Rattle.imap_model.specs.declared.response.Response.{Response}
 use Rattle.imap_response.specs.Heard.{Spell}
 use Rattle.world_traits.specs.LinkState.{Connection}
-use Rattle.imap_session.specs.Causes.{LastLine, IsNoReply, Fails}
-use Rattle.imap_session.specs.Faults.{Unfit}
+use Rattle.imap_session.specs.Causes.{ReadingFails, LastLine, IsNoReply, Fails}
+use Rattle.imap_session.specs.Faults.{Reading, Unfit}
 use Rattle.imap_session.specs.Hearing.{Took}
 use Rattle.imap_session.specs.Knowing.{NoEnd, requests}
 use Rattle.imap_session.specs.Replying.{HeardTo}
 use Rattle.imap_session.specs.declared.fault.SessionFault.{SessionFault}
+use Rattle.imap_session.specs.declared.fault.SessionFault.TheVariants as faults
 use Rattle.imap_session.proofs.Outcomes.{not_true}
 use Rattle.imap_session.proofs.Replying.{none_weaker, none_append, none_asked, asked_append}
 use Rattle.imap_session.proofs.Sending.{unfit_weaker}
@@ -66,6 +67,31 @@ module _ (heard before rows : List Response) (frame : Frame) (response : Respons
     unfit = unfit_weaker tag (IsTrue false) (requests h.told < 0) frame response fault (λ early. absurd (not_true early)) unfit;
   }
 
+-- reading fails: for want of memory, or of the link,
+pub memory_fails : (part : Bool) (heard : List Response) (had : List ℕ) (most : ℕ) (c : Option Connection) (fault : SessionFault)
+    → fault ≡ faults.Memory → ReadingFails part heard had most c fault
+memory_fails part heard had most c fault is =
+    subst (λ (f : SessionFault). ReadingFails part heard had most c f) (sym is) (record { told = []; none = tt; reading = tt })
+
+pub link_fails : (part : Bool) (heard : List Response) (had : List ℕ) (most : ℕ) (c : Option Connection) (fault : SessionFault)
+    → fault ≡ faults.Link → ReadingFails part heard had most c fault
+link_fails part heard had most c fault is =
+    subst (λ (f : SessionFault). ReadingFails part heard had most c f) (sym is) (record { told = []; none = tt; reading = tt })
+
+-- behind a part,
+pub part_fails : (heard : List Response) (had : List ℕ) (most : ℕ) (c : Option Connection) (fault : SessionFault)
+    → ReadingFails true heard had most c fault → ReadingFails false heard had most c fault
+part_fails heard had most c fault f = record { told = f.told; none = none_weaker f.told f.none; reading = f.reading }
+
+-- and behind more
+pub reading_on : (heard more : List Response) → NoEnd false more → (had : List ℕ) (most : ℕ) (c : Option Connection) (fault : SessionFault)
+    → ReadingFails false (heard ++ more) had most c fault → ReadingFails false heard had most c fault
+reading_on heard more none had most c fault f = record {
+  told = more ++ f.told;
+  none = none_append false more f.told none f.none;
+  reading = subst (λ (rs : List Response). Reading rs had most c fault) (append_assoc heard more f.told) f.reading;
+}
+
 module _ (heard more : List Response) (none : NoEnd false more) (had : List ℕ) (most : ℕ) (c : Option Connection) (tag : Tag) where
   line_on : (frame : Frame) (response : Response) → LastLine (heard ++ more) frame response had c → LastLine heard frame response had c
   line_on frame response l = record {
@@ -83,7 +109,7 @@ module _ (heard more : List Response) (none : NoEnd false more) (had : List ℕ)
   pub fails_on : (parts all : ℕ) (fault : SessionFault) → requests more + parts ≤ all → Fails (heard ++ more) tag parts had most c fault
       → Fails heard tag all had most c fault
   unfolding line_on
-  fails_on parts all fault few (inl reading) = inl reading
+  fails_on parts all fault few (inl reading) = inl (reading_on heard more none had most c fault reading)
   fails_on parts all fault few (inr n) = inr (record {
     frame = n.frame;
     response = n.response;

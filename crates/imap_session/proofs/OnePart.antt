@@ -1,66 +1,13 @@
 -- The text of a SELECT is one part: no name of a mailbox is written as a literal (RFC 9051, sections 4.3 and 6.3.2).
-use Rattle.std.proofs.Common.{◌≡◌, ℕ, Option, Some, None, Bool, true, false, List, [], ◌∷◌, ◌++◌, codes, refl, ap, sym, ◌∙◌, arith}
-use Rattle.std.specs.List.{list_all}
-use Rattle.std.proofs.lemmas.Bool.Decides.{nat_tests}
-use Rattle.std.proofs.lemmas.List.Sums.{list_all-from_AllPass}
-use Rattle.mail_base.specs.BoxName.{IsNameByte, IsBoxName}
+use Rattle.std.proofs.Common.{◌≡◌, ℕ, Option, List, [], ◌∷◌, sym, ◌∙◌}
+use Rattle.mail_base.specs.BoxName.{IsBoxName}
 use Rattle.mail_base.specs.declared.tag.Tag.{Tag}
-use Rattle.mail_base.specs.declared.tag.Tag.TheVariants.{Play, Count, Strange}
-use Rattle.imap_model.specs.Astring.{is_bare, is_quotable, quoted, astring_parts}
-use Rattle.imap_model.specs.CommandParts.{line, words, crlf, ◌⌢◌}
-use Rattle.imap_model.specs.CommandText.{command_parts, parts_of}
-use Rattle.imap_model.specs.TagText.{tag_parts, IsCommandTag}
+use Rattle.imap_model.specs.CommandText.{parts_of}
+use Rattle.imap_model.specs.TagText.{IsCommandTag}
 use Rattle.imap_model.specs.declared.mark.Mark.{Mark}
 use Rattle.imap_model.specs.declared.command.Command.TheVariants as commands
+use Rattle.imap_model.proofs.OneLine.{IsLine, plain, behind, name_line, tag_line, select_line}
 use Rattle.imap_session.specs.Faults.{HasParts}
-
--- the parts are one part
-record IsLine (parts : List (List ℕ)) : Type 0 where
-  text : List ℕ
-  is : parts ≡ line text
-
-plain : (text : List ℕ) → IsLine (line text)
-plain text = record { text = text; is = refl }
-
-join_lines : (a b : List ℕ) → line a ⌢ line b ≡ line (a ++ b)
-unfolding ◌⌢◌
-join_lines a b = refl
-
-join_none : (a b : List ℕ) → (line a ⌢ (line b ⌢ [])) ⌢ line crlf ≡ line ((a ++ b) ++ crlf)
-unfolding ◌⌢◌
-join_none a b = refl
-
--- one part behind one
-behind : (xs ys : List (List ℕ)) → IsLine xs → IsLine ys → IsLine (xs ⌢ ys)
-behind xs ys x y = record { text = x.text ++ y.text; is = ap (λ p. p ⌢ ys) x.is ∙ ap (λ p. line x.text ⌢ p) y.is ∙ join_lines x.text y.text }
-
-quotable : (b : ℕ) → IsNameByte b → is_quotable b ≡ true
-quotable b is = grind (arith, nat_tests, is.low, is.high)
-
-name_from : (name : List ℕ) (b : Bool) → list_all is_quotable name ≡ true → is_bare name ≡ b
-    → IsLine (astring_parts name)
-name_from name true all is = record { text = name; is = rw is refl }
-name_from name false all is = record { text = quoted name; is = rw (is, all) refl }
-
-name_line : (name : List ℕ) → IsBoxName name → IsLine (astring_parts name)
-name_line name is = name_from name (is_bare name) (list_all-from_AllPass is_quotable name (λ k d within. quotable _ (is.text.bytes k d within))) refl
-
-tag_line : (tag : Tag) → IsCommandTag tag → IsLine (tag_parts tag)
-tag_line (Play n) is = behind _ _ (plain _) (plain _)
-tag_line (Count n) is = behind _ _ (plain _) (plain _)
-tag_line Strange is = absurd is
-
-select_line : (name : List ℕ) (since : Option Mark) → IsLine (astring_parts name)
-    → IsLine (command_parts (commands.Select name since) ⌢ line crlf)
-select_line name None is =
-    record {
-      text = (codes "SELECT " ++ is.text) ++ crlf;
-      is = ap (λ p. (words "SELECT " ⌢ (p ⌢ [])) ⌢ line crlf) is.is
-          ∙ join_none (codes "SELECT ") is.text;
-    }
-select_line name (Some mark) is =
-    behind _ _ (behind _ _ (plain _) (behind _ _ is (behind _ _ (plain _)
-    (behind _ _ (plain _) (behind _ _ (plain _) (behind _ _ (plain _) (plain _))))))) (plain crlf)
 
 one_text : (tag : Tag) (name : List ℕ) (since : Option Mark) → IsCommandTag tag → IsBoxName name
     → IsLine (parts_of tag (commands.Select name since))

@@ -21,10 +21,11 @@ use Rattle.world_traits.specs.Connected.{IsReplyDue}
 use Rattle.world_traits.specs.LinkState.{Connection}
 use Rattle.world_traits.specs.Links.{Linked}
 use Rattle.world_traits.specs.Moments.{Clock}
+use Rattle.world_traits.specs.Owing.{Owes}
 use Rattle.world_traits.proofs.Due.{owes_on}
 use Rattle.imap_session.specs.Hearing.{Hears}
 use Rattle.imap_session.specs.Knowing.{Whole, Partly, Finished, Pending, IsEnd, NoEnd, Tells}
-use Rattle.imap_session.specs.Session.{Owes, Listening, Asked}
+use Rattle.imap_session.specs.Session.{Listening, Asked}
 use Rattle.imap_session.proofs.Talking.{reached, whole_step, finished_step, part_step, after_part_step, AfterPart, Replied, linked_then}
 
 -- what an honest link says of a connection
@@ -67,16 +68,10 @@ due p c feed l none sound = subst (λ (x : Option Connection). IsReplyDue p x) (
         let same : l.owes.more ≡ f.0 = append_cancel_left l.heard l.owes.more f.0 (sym l.owes.told ∙ f.1) in
         l.owes.owed (same ∙ no_lines feed.at feed.bytes f.0 none sound f.2) owes.quiet owes.answered
 
--- what is owed stays owed until it was heard
-owed_on : (heard : List Response) (k l : Clock) → Owes heard k.now.outside → Linked Answering k l → Owes heard l.now.outside
-owed_on heard k l o since =
-    let later = owes_on heard k l (record { more = o.more; told = o.told; owed = o.owed }) since in
-    record { more = later.more; told = later.told; owed = later.owed }
-
 -- what is owed is owed after a piece was received
 pub listens_on : (k l : Clock) (c d : Option Connection) (feed after : Stream) → Listening k.now.outside c feed → Linked Answering k l
     → ((heard : List Response) → Hears heard c feed → Hears heard d after) → Listening l.now.outside d after
-listens_on k l c d feed after h s on = record { heard = h.heard; owes = owed_on h.heard k l h.owes s; hears = on h.heard h.hears }
+listens_on k l c d feed after h s on = record { heard = h.heard; owes = owes_on h.heard k l h.owes s; hears = on h.heard h.hears }
 
 pub listens_same : (p : Peer) (c : Option Connection) (feed after : Stream) → Listening p c feed → after ≡ feed → Listening p c after
 listens_same p c feed after h same = subst (λ (f : Stream). Listening p c f) (sym same) h

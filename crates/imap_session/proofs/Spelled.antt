@@ -93,11 +93,11 @@ ntold_spells at left (s ∷ more) behind n lines =
     let longer = frames_stay left.at left.bytes behind (n.frame ∷ []) n.rest (n.rest, n.next, refl) in
     n.none s (told_spells left.at (left.bytes ++ behind) n.frame longer.0 s lines.0 lines.1 longer.1 lines.2 lines.3).0
 
-pub all_spelled : (at : ℕ) (had : List ℕ) (p : Peer) (c : Option Connection) → Unspelled at had c → Honest p c → ⊥
-all_spelled at had p c u honest =
+pub all_spelled : (heard : List Response) (at : ℕ) (had : List ℕ) (p : Peer) (c : Option Connection) → Unspelled heard at had c → Honest p c → ⊥
+all_spelled heard at had p c u honest =
     ∥∥₁_elim (honest u.took.connection u.took.there) (λ (a b : ⊥). absurd a)
     (λ r.
-    let f = front 0 (u.took.connection.received ++ r.rest) u.taken (u.left.bytes ++ r.rest) u.heard p.talk.told
+    let f = front 0 (u.took.connection.received ++ r.rest) u.taken (u.left.bytes ++ r.rest) heard p.talk.told
     (frames_stay 0 u.took.connection.received r.rest u.taken u.left.bytes u.took.stands.frames) u.took.spell r.lines in
     elim u.bad [
       | inl bare ↦ ∥∥₁_elim bare.1 (λ (a b : ⊥). absurd a) (λ b.

@@ -1,5 +1,5 @@
 -- Why a reply isn't one, by the bytes that came behind what was heard before (RFC 9051, sections 2.2.2 and 7).
-use Rattle.std.specs.Prelude.{◌⊎◌, ℕ, ◌<◌, false, List, [], ◌∷◌, ◌++◌, Option}
+use Rattle.std.specs.Prelude.{◌⊎◌, ℕ, ◌<◌, Bool, false, List, [], ◌∷◌, ◌++◌, Option}
 use Rattle.mail_base.specs.declared.frame.Frame.{Frame}
 use Rattle.mail_base.specs.declared.tag.Tag.{Tag}
 use Rattle.literal_feed.specs.Stream.{Stream}
@@ -11,6 +11,13 @@ use Rattle.imap_session.specs.Faults.{Reading, Unfit, more_parts}
 use Rattle.imap_session.specs.Hearing.{Took}
 use Rattle.imap_session.specs.Knowing.{NoEnd, requests}
 use Rattle.imap_session.specs.declared.fault.SessionFault.{SessionFault}
+
+-- Behind what was heard before, these responses came, none of which ends the reply, and then reading failed.
+pub record ReadingFails (part : Bool) (heard : List Response) (had : List ℕ) (most : ℕ) (c : Option Connection)
+    (fault : SessionFault) : Type 0 where
+  pub told : List Response
+  pub none : NoEnd part told
+  pub reading : Reading (heard ++ told) had most c fault
 
 -- Behind what was heard before, these responses came, none of which ends a reply, and then this line.
 pub record LastLine (heard : List Response) (frame : Frame) (response : Response) (had : List ℕ) (c : Option Connection) : Type 0 where
@@ -30,7 +37,7 @@ pub record IsNoReply (heard : List Response) (tag : Tag) (parts : ℕ) (had : Li
 
 -- What the fault of a command says of the bytes received behind those that were had, of which at most so many are taken.
 abbrev pub Fails : List Response → Tag → ℕ → List ℕ → ℕ → Option Connection → SessionFault → Type 0
-Fails heard tag parts had most c fault = Reading had most c fault ⊎ IsNoReply heard tag parts had c fault
+Fails heard tag parts had most c fault = ReadingFails false heard had most c fault ⊎ IsNoReply heard tag parts had c fault
 
 -- A reply has at most 256 MiB.
 abbrev pub FailsBehind : List Response → Tag → Command → List ℕ → Option Connection → SessionFault → Type 0

@@ -27,14 +27,15 @@ of_feed (feeds.LiteralTooLarge at asked) = faults.TooLarge limits.Literal asked
 of_feed (feeds.LineTooLong at) = faults.TooLarge limits.Line 1048577
 of_feed feeds.Memory = faults.Memory
 
--- what a fault of reading says of the bytes received behind those that were had, of which at most so many are taken
-abbrev pub Reading : List ℕ → ℕ → Option Connection → SessionFault → Type 0
-Reading had most c faults.Memory = Unit {0}
-Reading had most c faults.Link = Unit {0}
-Reading had most c (faults.Refused line) = ⊥
-Reading had most c (faults.BadReply at) = Unspelled at had c
-Reading had most c (faults.Lacking item) = ⊥
-Reading had most c (faults.TooLarge limit number) = TooMuch limit number had most c
+-- what a fault of reading says of the bytes received behind those that were had, of which at most so many are taken and this
+-- was heard
+abbrev pub Reading : List Response → List ℕ → ℕ → Option Connection → SessionFault → Type 0
+Reading heard had most c faults.Memory = Unit {0}
+Reading heard had most c faults.Link = Unit {0}
+Reading heard had most c (faults.Refused line) = ⊥
+Reading heard had most c (faults.BadReply at) = Unspelled heard at had c
+Reading heard had most c (faults.Lacking item) = ⊥
+Reading heard had most c (faults.TooLarge limit number) = TooMuch heard limit number had most c
 
 -- what it says of a frame
 abbrev pub LineBad : Frame → SessionFault → Type 0
@@ -121,4 +122,4 @@ pub record IsNoHello (c : Option Connection) (fault : SessionFault) : Type 0 whe
 
 -- what the fault of reading the greeting says of the bytes received
 abbrev pub NoHello : Option Connection → SessionFault → Type 0
-NoHello c fault = Reading [] 268435456 c fault ⊎ IsNoHello c fault
+NoHello c fault = Reading [] [] 268435456 c fault ⊎ IsNoHello c fault

@@ -1,5 +1,5 @@
 -- What was read from a connection, and why nothing more is.
-use Rattle.std.specs.Prelude.{◌≡◌, ◌⊎◌, ℕ, ◌+◌, ◌<◌, List, [], ◌∷◌, ◌++◌, length, Option, Some, Err}
+use Rattle.std.specs.Prelude.{◌≡◌, ◌⊎◌, ℕ, ◌+◌, ◌≤◌, ◌<◌, List, [], ◌∷◌, ◌++◌, length, Option, Some, Err}
 use Rattle.mail_base.specs.Frames.{FirstFault, IsNext, NoWhole}
 use Rattle.mail_base.specs.declared.frame.Frame.{Frame}
 use Rattle.mail_base.specs.declared.frame.FeedFault.TheVariants as feeds
@@ -84,9 +84,9 @@ pub record SpellsNone (at : ℕ) (left : Stream) : Type 0 where
   pub place : at ≡ frame.at
   pub none : (response : Response) → ¬ (Spells frame response)
 
--- The bytes received don't go on as spelled responses: behind all whole frames there is an LF without CR, or a frame spells none.
-pub record Unspelled (at : ℕ) (had : List ℕ) (c : Option Connection) : Type 0 where
-  pub heard : List Response
+-- Behind all that was heard the bytes received don't go on as spelled responses: no whole frame is left and there is an LF
+-- without CR, or the next frame spells none.
+pub record Unspelled (heard : List Response) (at : ℕ) (had : List ℕ) (c : Option Connection) : Type 0 where
   pub taken : List Frame
   pub left : Stream
   pub took : Took heard taken left had c
@@ -111,20 +111,28 @@ FedTooMuch limit number left =
     ((at : ℕ) × (limit ≡ limits.Literal) × ∥ FirstFault left.at left.bytes (feeds.LiteralTooLarge at number) ∥₁)
     ⊎ ((at : ℕ) × (limit ≡ limits.Line) × (number ≡ 1048577) × ∥ FirstFault left.at left.bytes (feeds.LineTooLong at) ∥₁)
 
--- The reply has more bytes than it may: those that came behind the bytes that were had.
-pub record TooLong (had : List ℕ) (most : ℕ) (c : Option Connection) : Type 0 where
-  pub reply : List ℕ
-  pub there : c ≡ Some (record { received = had ++ reply })
-  pub long : most < length reply
+-- With the last bytes that came, of which there are at most 4,096, the reply has more than it may. Before them this was heard,
+-- no whole frame was left, and the reply had no more than it may.
+pub record TooLong (heard : List Response) (had : List ℕ) (most : ℕ) (c : Option Connection) : Type 0 where
+  pub before : Option Connection
+  pub taken : List Frame
+  pub left : Stream
+  pub took : Took heard taken left had before
+  pub none : NoWhole left.bytes
+  pub within : length took.reply ≤ most
+  pub last : List ℕ
+  pub few : length last ≤ 4096
+  pub there : c ≡ Some (record { received = took.connection.received ++ last })
+  pub long : most < length (took.reply ++ last)
 
--- What comes next is too large: what stands behind all whole frames, or a frame.
-pub record NextTooLarge (limit : Limit) (number : ℕ) (had : List ℕ) (c : Option Connection) : Type 0 where
-  pub heard : List Response
+-- Behind all that was heard, what comes next is too large: what stands there where no whole frame is left, or the next frame.
+pub record NextTooLarge (heard : List Response) (limit : Limit) (number : ℕ) (had : List ℕ) (c : Option Connection) : Type 0 where
   pub taken : List Frame
   pub left : Stream
   pub took : Took heard taken left had c
   pub large : (NoWhole left.bytes × FedTooMuch limit number left) ⊎ SpellsTooMuch limit number left
 
--- The bytes received pass a limit.
-abbrev pub TooMuch : Limit → ℕ → List ℕ → ℕ → Option Connection → Type 0
-TooMuch limit number had most c = ((limit ≡ limits.Reply) × (number ≡ 268435457) × TooLong had most c) ⊎ NextTooLarge limit number had c
+-- Behind all that was heard, the bytes received pass a limit.
+abbrev pub TooMuch : List Response → Limit → ℕ → List ℕ → ℕ → Option Connection → Type 0
+TooMuch heard limit number had most c =
+    ((limit ≡ limits.Reply) × (number ≡ 268435457) × TooLong heard had most c) ⊎ NextTooLarge heard limit number had c

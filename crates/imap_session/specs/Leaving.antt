@@ -9,8 +9,8 @@ use Rattle.imap_model.specs.declared.ending.Ending.TheVariants as endings
 use Rattle.imap_model.specs.declared.response.Response.{Response}
 use Rattle.imap_model.specs.declared.response.Response.TheVariants as responses
 use Rattle.world_traits.specs.LinkState.{Connection}
-use Rattle.imap_session.specs.Causes.{LastLine}
-use Rattle.imap_session.specs.Faults.{Reading, Unfit}
+use Rattle.imap_session.specs.Causes.{LastLine, ReadingFails}
+use Rattle.imap_session.specs.Faults.{Unfit}
 use Rattle.imap_session.specs.Hearing.{Hears}
 use Rattle.imap_session.specs.Knowing.{NoEnd}
 use Rattle.imap_session.specs.declared.fault.SessionFault.{SessionFault}
@@ -19,7 +19,7 @@ use Rattle.imap_session.specs.declared.fault.SessionFault.{SessionFault}
 abbrev pub IsFarewell : Tag → Response → Type 0
 IsFarewell tag response = (response ≡ responses.Bye) ⊎ ((code : Code) × (response ≡ responses.Done tag endings.Ok code))
 
--- Behind what was heard before, the first such line is the last one that was read.
+-- Behind what was heard before, such a line was read last, and before it neither a BYE nor any completion.
 pub record Left (heard : List Response) (tag : Tag) (c : Option Connection) : Type 0 where
   pub rows : List Response
   pub last : Response
@@ -38,4 +38,4 @@ pub record IsNoFarewell (heard : List Response) (tag : Tag) (had : List ℕ) (c 
 
 -- what a fault of leaving says of the bytes received behind those that were had
 abbrev pub Staying : List Response → Tag → List ℕ → Option Connection → SessionFault → Type 0
-Staying heard tag had c fault = Reading had 268435456 c fault ⊎ IsNoFarewell heard tag had c fault
+Staying heard tag had c fault = ReadingFails false heard had 268435456 c fault ⊎ IsNoFarewell heard tag had c fault

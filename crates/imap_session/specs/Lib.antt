@@ -13,3 +13,4 @@ pub mod Dialogue
 pub mod LogIn
 pub mod Greeting
 pub mod Leaving
+pub mod Enquiring

@@ -3,7 +3,7 @@ use Rattle.std.specs.Prelude.{◌≡◌, ℕ, Bool, false, List, [], ◌∷◌, 
 use Rattle.mail_base.specs.declared.tag.Tag.{Tag}
 use Rattle.literal_feed.specs.Stream.{Stream}
 use Rattle.imap_model.specs.Carrying.{Waiting}
-use Rattle.imap_model.specs.Talking.{Peer, Answering, Awaits, IsPartOf, Unanswered}
+use Rattle.imap_model.specs.Talking.{Peer, Answering, Awaits, IsPartOf}
 use Rattle.imap_model.specs.declared.command.Command.{Command}
 use Rattle.imap_model.specs.declared.command.Command.TheVariants as commands
 use Rattle.imap_model.specs.declared.replies.Replies.{Replies}
@@ -12,14 +12,9 @@ use Rattle.world_traits.specs.Asking.{Asking}
 use Rattle.world_traits.specs.LinkState.{Connection, LinkState, fresh}
 use Rattle.world_traits.specs.Links.{Linked, LinkStep, Any}
 use Rattle.world_traits.specs.Moments.{Clock, Became}
+use Rattle.world_traits.specs.Owing.{Owes}
 use Rattle.imap_session.specs.Hearing.{Hears}
 use Rattle.imap_session.specs.Knowing.{Whole, Partly, Pending, Tells, AllGo}
-
--- The server has told more than was heard, or a command waits, or a part isn't answered.
-pub record Owes (heard : List Response) (p : Peer) : Type 0 where
-  pub more : List Response
-  pub told : p.talk.told ≡ heard ++ more
-  pub owed : more ≡ [] → p.waiting ≡ None → ¬ (Unanswered p) → ⊥
 
 -- the server owes more than was heard
 pub record Listening (p : Peer) (c : Option Connection) (feed : Stream) : Type 0 where

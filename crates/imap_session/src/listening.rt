@@ -13,6 +13,7 @@ ghost use Rattle.imap_model.specs.Talking.{Answering};
 ghost use Rattle.imap_model.specs.declared.response.Response.{Response};
 ghost use Rattle.world_traits.specs.Calls.{Rose};
 ghost use Rattle.world_traits.specs.Links.{Linked, AnyStep};
+ghost use Rattle.imap_session.specs.Causes.{ReadingFails};
 ghost use Rattle.imap_session.specs.Hearing.{Reads, ReadsLast};
 ghost use Rattle.imap_session.specs.Faults.{Reading, LineBad, of_feed};
 ghost use Rattle.imap_session.specs.Knowing.{IsEnd};
@@ -81,7 +82,8 @@ fn receive<L: Link>(feed: &mut Feed, left: &mut u64, link: &mut L) -> Result<(),
         → OnOk result (Reads heard had most left.new (L.link link.new).connection feed.new) }
     ensures why { L.tells_files → (heard : List Response) (had : List ℕ) (most : ℕ)
         → Reads heard had most left.old (L.link link.old).connection feed.old
-        → (fault : SessionFault) → IsErrOf result fault → Reading had most (L.link link.new).connection fault }
+        → (fault : SessionFault) → IsErrOf result fault
+        → Reading heard had most (L.link link.new).connection fault }
     ensures sent { L.tells_files → (L.link link.new).sent ≡ (L.link link.old).sent }
     ensures less { OnOk result (left.new < left.old) }
     ensures sum { OnOk result (length feed.new.bytes + left.new ≡ length feed.old.bytes + left.old) }
@@ -157,7 +159,8 @@ pub fn next<L: Link>(
     ensures less { IfOk result (λ _. length feed.new.bytes + left.new < length feed.old.bytes + left.old) }
     ensures why { L.tells_files → (heard : List Response) (had : List ℕ) (most : ℕ)
         → Reads heard had most left.old (L.link link.old).connection feed.old
-        → (fault : SessionFault) → IsErrOf result fault → Reading had most (L.link link.new).connection fault }
+        → (fault : SessionFault) → IsErrOf result fault
+        → Reading heard had most (L.link link.new).connection fault }
     ensures sent { L.tells_files → (L.link link.new).sent ≡ (L.link link.old).sent }
     ensures disk { L.disk_faults link.new ≡ L.disk_faults link.old }
     ensures count { (L.link link.old).faults ≤ (L.link link.new).faults }
@@ -216,7 +219,8 @@ pub fn listen<L: Link>(
         → OnOk result (listener.new.permits ≡ behind_all start listener.new.rows) }
     ensures why { L.tells_files → (heard : List Response) (had : List ℕ) (most : ℕ)
         → Reads heard had most left.old (L.link link.old).connection feed.old
-        → (fault : SessionFault) → IsErrOf result fault → Reading had most (L.link link.new).connection fault }
+        → (fault : SessionFault) → IsErrOf result fault
+        → ReadingFails part heard had most (L.link link.new).connection fault }
     ensures sent { L.tells_files → (L.link link.new).sent ≡ (L.link link.old).sent }
     ensures disk { L.disk_faults link.new ≡ L.disk_faults link.old }
     ensures count { (L.link link.old).faults ≤ (L.link link.new).faults }

@@ -1,4 +1,4 @@
-use Rattle.std.proofs.Common.{◌≡◌, ◌≤◌, ◌++◌, ◌∷◌, ◌-◌, ◌+◌, [], ◌∙◌, arith, refl, rules, subst, sym, ap, List, ℕ, take, drop, length}
+use Rattle.std.proofs.Common.{◌≡◌, ◌≤◌, ◌++◌, ◌∷◌, ◌-◌, ◌+◌, [], ◌∙◌, arith, refl, rules, subst, sym, ap, List, ℕ, take, drop, length, inl}
 use Rattle.std.proofs.lemmas.Option.{MatchOption-at_some, MatchOption-at_none}
 use Rattle.std.proofs.lemmas.List.{append-nil}
 use Rattle.world_traits.specs.Links.{AnyStep}
@@ -10,7 +10,7 @@ use Rattle.imap_session.specs.Session.{Sending, waiting_of}
 use Rattle.imap_session.proofs.Sent.{sent_all, sent_more, sent_part}
 use Rattle.imap_session.proofs.Sending.{begins_sending, begun, next_of, ready_at, end_ready, ready_arrives, ready_failed, has_parts, last_of_at}
 use Rattle.imap_session.proofs.Replying.{heard_nothing, heard_at, on_on, on_done}
-use Rattle.imap_session.proofs.NoReply.{fails_on}
+use Rattle.imap_session.proofs.NoReply.{fails_on, link_fails}
 use Rattle.imap_session.proofs.Talking.{linked_start, linked_then, asking_then}
 use Rattle.imap_session.proofs.asking.begin.Goals as goal
 
@@ -201,6 +201,9 @@ returns-in_err-done-clause-why g c = λ t heard had most r fault is.
     (arith, h.asked, c.loop-index-test.true, ap (λ (xs : List (List ℕ)). length xs) c.requires.text) in
     fails_on heard h.told h.none had most _ c.args.tag 1 (more_parts c.args.tag c.args.command.now) fault few
     (c.send_on.ensures.why t (heard ++ h.told) had most h.reads fault (search rules))
+
+pub returns-in_err-send-clause-why : goal.returns-in_err-send-clause-why
+returns-in_err-send-clause-why g c = λ t heard had most r fault is. inl (link_fails _ heard _ _ _ fault (search rules))
 
 pub returns-in_err-done-clause-sent : goal.returns-in_err-done-clause-sent
 returns-in_err-done-clause-sent g c = λ t.

@@ -3,7 +3,6 @@ use Rattle.std.proofs.lemmas.Option.{MatchOption-at_some, MatchOption-at_none}
 use Rattle.imap_model.specs.declared.replies.Replies.{Replies}
 use Rattle.imap_model.specs.declared.response.Response.{Response}
 use Rattle.world_traits.specs.Links.{AnyStep}
-use Rattle.imap_session.specs.Causes.{FailsBehind}
 use Rattle.imap_session.specs.Faults.{more_parts}
 use Rattle.imap_session.specs.Knowing.{requests}
 use Rattle.imap_session.specs.Hearing.{all_told_by}
@@ -11,14 +10,13 @@ use Rattle.imap_session.specs.Replying.{AllSmall, read_as}
 use Rattle.imap_session.specs.Sent.{joined}
 use Rattle.imap_session.specs.Session.{Answered, waiting_of}
 use Rattle.imap_session.specs.declared.asking.Answer.{Answer}
-use Rattle.imap_session.specs.declared.fault.SessionFault.{SessionFault}
 use Rattle.imap_session.specs.declared.fault.SessionFault.TheVariants as faults
 use Rattle.imap_session.proofs.Hearing.{as_reads, at_most}
 use Rattle.imap_session.proofs.Outcomes.{if_ok_more, if_ok_both, not_true}
 use Rattle.imap_session.proofs.Replying.{on_done, whole_done, done_came, all_sent, permitted_as, bad_memory, link_memory, small_replies, done_within}
 use Rattle.imap_session.proofs.Sent.{sent_as, sent_none, sent_still}
 use Rattle.imap_session.proofs.Sending.{begun_asked, begun_answered, concluded_as, on_ok_always, some_parts, begun_fit}
-use Rattle.imap_session.proofs.NoReply.{unfit_whole, fails_on}
+use Rattle.imap_session.proofs.NoReply.{unfit_whole, fails_on, memory_fails, reading_on}
 use Rattle.imap_session.proofs.Spelled.{all_spelled}
 use Rattle.imap_session.proofs.Talking.{linked_then, answers_asking, asking_then}
 use Rattle.imap_session.proofs.asking.exchange.Goals as goal
@@ -26,6 +24,9 @@ use Rattle.imap_session.proofs.asking.exchange.Goals as goal
 pub begin-requires-clause-some : goal.begin-requires-clause-some
 begin-requires-clause-some g c = subst (λ (xs : List (List ℕ)). 0 < length xs) (sym (c.as_slice.ensures ∙ c.in_ok-parts.ensures.text))
     (some_parts c.args.tag c.args.command.now)
+
+pub returns-in_err-parts-clause-why : goal.returns-in_err-parts-clause-why
+returns-in_err-parts-clause-why g c = λ t heard h fault is. inl (memory_fails _ heard _ _ _ fault (search rules))
 
 pub returns-in_err-early-clause-why : goal.returns-in_err-early-clause-why
 returns-in_err-early-clause-why g c = λ t heard h fault is. c.begin.ensures.why t heard _ _ (as_reads heard 268435456 _ _ h) fault (search rules)
@@ -66,9 +67,7 @@ returns-in-Some-clause-permits g c =
 
 pub returns-in-Some-clause-why : goal.returns-in-Some-clause-why
 returns-in-Some-clause-why g c = λ t heard h fault is.
-    subst (λ (f : SessionFault). FailsBehind heard c.args.tag c.args.command.now h.connection.received
-    (g.L.Clocked.link c.begin.new.link).connection f)
-    (sym (c.conclude.ensures.why fault is)) (inl tt)
+    inl (memory_fails _ heard _ _ _ fault (c.conclude.ensures.why fault is))
 
 pub returns-in-Some-clause-honest : goal.returns-in-Some-clause-honest
 returns-in-Some-clause-honest g c = λ t at is. bad_memory at (c.conclude.ensures.why (faults.BadReply at) is)
@@ -94,7 +93,7 @@ returns-in_err-line-clause-told g c = λ t. asking_then _ c.args.tag c.args.comm
 pub returns-in_err-line-clause-why : goal.returns-in_err-line-clause-why
 returns-in_err-line-clause-why g c = λ t heard h fault is.
     let r = MatchOption-at_none _ _ c.in_default.is (c.in_ok-early.ensures.reads t heard _ _ (as_reads heard 268435456 _ _ h)) in
-    inl (c.listen.ensures.why t (heard ++ r.told) _ _ r.reads fault (search rules))
+    inl (reading_on heard r.told r.none _ _ _ fault (c.listen.ensures.why t (heard ++ r.told) _ _ r.reads fault (search rules)))
 
 pub returns-in_err-done-clause-files : goal.returns-in_err-done-clause-files
 returns-in_err-done-clause-files g c = λ t. linked_then AnyStep _ _ _ (c.begin.ensures.files t) (c.listen.ensures.files t)
@@ -189,9 +188,7 @@ returns-clause-permits g c =
 
 pub returns-clause-why : goal.returns-clause-why
 returns-clause-why g c = λ t heard h fault is.
-    subst (λ (f : SessionFault). FailsBehind heard c.args.tag c.args.command.now h.connection.received
-    (g.L.Clocked.link c.listen.new.link).connection f)
-    (sym (c.conclude-2.ensures.why fault is)) (inl tt)
+    inl (memory_fails _ heard _ _ _ fault (c.conclude-2.ensures.why fault is))
 
 pub returns-clause-cause : goal.returns-clause-cause
 returns-clause-cause g c = λ is. absurd (link_memory (c.conclude-2.ensures.why faults.Link is))
@@ -224,9 +221,9 @@ pub returns-in_err-line-clause-honest : goal.returns-in_err-line-clause-honest
 returns-in_err-line-clause-honest g c = λ t at is.
     let s = c.requires.stands t in
     let b = MatchOption-at_none _ _ c.in_default.is (c.in_ok-early.ensures.begun t s.0 s.1) in
-    all_spelled at _ (g.L.Clocked.clock c.listen.new.link).now.outside _
+    all_spelled _ at _ (g.L.Clocked.clock c.listen.new.link).now.outside _
     (c.listen.ensures.why (g.L.Clocked.server_with_files t) b.1.told _ _ (as_reads b.1.told c.begin.new.left _ _ b.1.hears) (faults.BadReply at)
-    (search rules)) (g.met.L.Link.honest c.listen.new.link t)
+    (search rules)).reading (g.met.L.Link.honest c.listen.new.link t)
 
 pub returns-in-Some-clause-whole : goal.returns-in-Some-clause-whole
 returns-in-Some-clause-whole g c = λ t.

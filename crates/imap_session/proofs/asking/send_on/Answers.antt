@@ -7,7 +7,7 @@ use Rattle.imap_session.specs.Hearing.{all_told_by}
 use Rattle.imap_session.proofs.Hearing.{as_reads, reads_at}
 use Rattle.imap_model.specs.Small.{IsSmallCode}
 use Rattle.imap_session.proofs.Outcomes.{if_ok_more}
-use Rattle.imap_session.proofs.NoReply.{unfit_part}
+use Rattle.imap_session.proofs.NoReply.{link_fails, part_fails, unfit_part}
 use Rattle.imap_session.proofs.Replying.{turned_reads}
 use Rattle.imap_session.proofs.Sent.{sent_all}
 use Rattle.imap_session.proofs.Sending.{half_sent, half_asked, ready_arrives, ready_failed, turned_went, on_ok_always}
@@ -46,9 +46,13 @@ returns-in_err-line-clause-told g c = λ t selected before next behind old ready
     (c.in_ok-send.ensures.told t c.args.tag c.args.command.now before (next ∷ behind) ready.part_of ready.sending.awaits).done)
     (answers_asking _ c.args.tag c.args.command.now _ _ (c.listen.ensures.told t))
 
+pub returns-in_err-send-clause-why : goal.returns-in_err-send-clause-why
+returns-in_err-send-clause-why g c = λ t heard had most r fault is. inl (link_fails _ heard _ _ _ fault (search rules))
+
 pub returns-in_err-line-clause-why : goal.returns-in_err-line-clause-why
 returns-in_err-line-clause-why g c = λ t heard had most r fault is.
-    inl (c.listen.ensures.why t heard had most (reads_at heard had most _ _ _ _ (c.in_ok-send.ensures.received t) r) fault (search rules))
+    inl (part_fails heard had most _ fault
+    (c.listen.ensures.why t heard had most (reads_at heard had most _ _ _ _ (c.in_ok-send.ensures.received t) r) fault (search rules)))
 
 pub returns-clause-files : goal.returns-clause-files
 returns-clause-files g c = λ t. linked_then AnyStep _ _ _ (c.send.ensures.files t) (c.listen.ensures.files t)
@@ -106,9 +110,9 @@ returns-in_err-line-clause-honest g c = λ t selected before next behind old rea
     let half = half_sent w before c.args.part.now old _ _ _ _ _ ready.sending (c.in_ok-send.ensures.received (g.L.Clocked.server_with_files t)) next
     behind ready.part_of
     (c.in_ok-send.ensures.told t c.args.tag c.args.command.now before (next ∷ behind) ready.part_of ready.sending.awaits).done in
-    all_spelled at _ (g.L.Clocked.clock c.listen.new.link).now.outside _
+    all_spelled _ at _ (g.L.Clocked.clock c.listen.new.link).now.outside _
     (c.listen.ensures.why (g.L.Clocked.server_with_files t) half.told _ _ (as_reads half.told c.args.left.now _ _ half.hears) (faults.BadReply at)
-    (search rules)) (g.met.L.Link.honest c.listen.new.link t)
+    (search rules)).reading (g.met.L.Link.honest c.listen.new.link t)
 
 pub returns-clause-honest : goal.returns-clause-honest
 returns-clause-honest g c = λ t selected before next behind old ready at is.

@@ -9,12 +9,18 @@ use Rattle.imap_session.specs.declared.fault.SessionFault.TheVariants as faults
 use Rattle.imap_session.proofs.Dialogues.{on_ok_then}
 use Rattle.imap_session.proofs.Farewells.{left_so, logout_alone, logout_ready, logout_sent, stays_so}
 use Rattle.imap_session.proofs.Hearing.{as_reads, at_most, reads_at}
-use Rattle.imap_session.proofs.NoReply.{last_whole}
+use Rattle.imap_session.proofs.NoReply.{last_whole, link_fails, memory_fails}
 use Rattle.imap_session.proofs.Sending.{begun, begun_asked, begun_fit, on_ok_always, ready_arrives, ready_failed}
 use Rattle.imap_session.proofs.Sent.{sent_all, sent_as, sent_none}
 use Rattle.imap_session.proofs.Spelled.{all_spelled}
 use Rattle.imap_session.proofs.Talking.{answers_asking, asking_then, linked_then}
 use Rattle.imap_session.proofs.leaving.log_out.Goals as goal
+
+pub returns-in_err-parts-clause-why : goal.returns-in_err-parts-clause-why
+returns-in_err-parts-clause-why g c = λ t heard h fault is. inl (memory_fails _ heard _ _ _ fault (search rules))
+
+pub returns-in_err-send-clause-why : goal.returns-in_err-send-clause-why
+returns-in_err-send-clause-why g c = λ t heard h fault is. inl (link_fails _ heard _ _ _ fault (search rules))
 
 pub returns-in_err-parts-clause-sent : goal.returns-in_err-parts-clause-sent
 returns-in_err-parts-clause-sent g c = λ t. sent_none _ _ _ refl
@@ -79,9 +85,9 @@ pub returns-in_err-line-clause-honest : goal.returns-in_err-line-clause-honest
 returns-in_err-line-clause-honest g c = λ t at is.
     let f = g.L.Clocked.server_with_files t in
     let s = c.requires.stands t in
-    all_spelled at _ (g.L.Clocked.clock c.listen.new.link).now.outside _
+    all_spelled _ at _ (g.L.Clocked.clock c.listen.new.link).now.outside _
     (c.listen.ensures.why f _ _ _ (reads_at _ _ _ _ _ _ _ (c.in_ok-send.ensures.received f) (as_reads _ 268435456 _ _ s.1.hears))
-    (faults.BadReply at) (search rules)) (g.met.L.Link.honest c.listen.new.link t)
+    (faults.BadReply at) (search rules)).reading (g.met.L.Link.honest c.listen.new.link t)
 
 pub returns-clause-files : goal.returns-clause-files
 returns-clause-files g c = λ t. linked_then AnyStep _ _ _ (c.send.ensures.files t) (c.listen.ensures.files t)

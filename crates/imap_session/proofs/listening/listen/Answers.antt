@@ -4,6 +4,7 @@ use Rattle.imap_model.specs.Talking.{Answering}
 use Rattle.world_traits.specs.Links.{AnyStep}
 use Rattle.imap_session.specs.Knowing.{IsEnd}
 use Rattle.imap_session.proofs.Hearing.{as_reads, reads_as, reads_last_as}
+use Rattle.imap_session.proofs.NoReply.{memory_fails}
 use Rattle.imap_session.proofs.Reading.{asked_listens, no_end_more}
 use Rattle.imap_session.proofs.Replying.{told_more, permits_on, small_on}
 use Rattle.imap_session.proofs.Talking.{linked_start, linked_then}
@@ -39,7 +40,10 @@ returns-in_err-line-clause-told g c = λ t. linked_then Answering _ _ _ (c.loop-
 pub returns-in_err-line-clause-why : goal.returns-in_err-line-clause-why
 returns-in_err-line-clause-why g c = λ t heard had most r fault is.
     let i = c.loop-line.invariant.heard in
-    c.next.ensures.why t (heard ++ i.0) had most (i.3 t heard had most r) fault (search rules)
+    record { told = i.0; none = i.2; reading = c.next.ensures.why t (heard ++ i.0) had most (i.3 t heard had most r) fault (search rules) }
+
+pub returns-in_err-hear-clause-why : goal.returns-in_err-hear-clause-why
+returns-in_err-hear-clause-why g c = λ t heard had most r fault is. memory_fails _ heard _ _ _ fault (search rules)
 
 pub returns-then-ends-clause-files : goal.returns-then-ends-clause-files
 returns-then-ends-clause-files g c = λ t. linked_then AnyStep _ _ _ (c.loop-line.invariant.files t) (c.next.ensures.files t)

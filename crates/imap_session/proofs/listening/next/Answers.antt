@@ -45,7 +45,7 @@ returns-in_err-check-clause-why g c = λ tells heard had most r fault is.
     let reads = reads_same heard had most _ _ _ _ (c.loop-frame.invariant.reads tells heard had most r) same in
     let cut = subst (λ (s : Stream). NoWhole s.bytes) (sym same) none.0 in
     let bad = c.check.ensures.why fault (search rules) in
-    subst (Reading had most _) (sym bad.1) (fed_why heard had most _ _ _ reads cut bad.0 bad.2)
+    subst (Reading heard had most _) (sym bad.1) (fed_why heard had most _ _ _ reads cut bad.0 bad.2)
 
 pub returns-in_err-check-clause-cause : goal.returns-in_err-check-clause-cause
 returns-in_err-check-clause-cause g c = λ is. let bad = c.check.ensures.why faults.Link (search rules) in absurd (feed_no_link bad.0 bad.1)

@@ -15,8 +15,9 @@ recv-requires-clause-due g c = λ tells. due _ _ _ (c.requires.owed tells) c.req
 pub returns-then-left-size-clause-why : goal.returns-then-left-size-clause-why
 returns-then-left-size-clause-why g c = λ tells heard had most r fault is.
     let fits : c.in_ok-count.count ≤ length c.recv.new.into = omega (arith, c.in_ok-count.ensures.fits) in
-    subst (Reading had most _) (same_err _ _ _ refl is)
-    (too_many heard had most _ c.in_ok-count.count _ _ _ _ r (c.in_ok-count.ensures.received tells) fits c.if-left-size.true)
+    let few : c.in_ok-count.count ≤ 4096 = omega (arith, c.in_ok-count.ensures.fits) in
+    subst (Reading heard had most _) (same_err _ _ _ refl is)
+    (too_many heard had most _ c.in_ok-count.count _ _ _ _ r (c.in_ok-count.ensures.received tells) fits c.requires.cut few c.if-left-size.true)
 
 pub returns-clause-reads : goal.returns-clause-reads
 returns-clause-reads g c = λ tells heard had most r.
@@ -31,7 +32,7 @@ returns-clause-sum g c =
     on_ok_then c.put_in.result _ _ (λ put. sum_after _ _ _ c.in_ok-count.count _ put fits c.if-left-size.false) c.put_in.ensures.put
 
 pub returns-clause-why : goal.returns-clause-why
-returns-clause-why g c = λ t heard had most r fault is. subst (Reading had most _) (sym (c.put_in.ensures.why fault is)) tt
+returns-clause-why g c = λ t heard had most r fault is. subst (Reading heard had most _) (sym (c.put_in.ensures.why fault is)) tt
 
 pub returns-clause-cause : goal.returns-clause-cause
 returns-clause-cause g c = λ is. absurd (link_memory (c.put_in.ensures.why faults.Link is))

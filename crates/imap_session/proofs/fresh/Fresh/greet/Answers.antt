@@ -16,7 +16,7 @@ returns-in_err-line-clause-why g c = λ t fault is. inl (c.next.ensures.why t []
 pub returns-in_err-line-clause-honest : goal.returns-in_err-line-clause-honest
 returns-in_err-line-clause-honest g c = λ t at is.
     let f = g.L.Clocked.server_with_files t in
-    all_spelled at _ (g.L.Clocked.clock c.next.new.link).now.outside _
+    all_spelled [] at _ (g.L.Clocked.clock c.next.new.link).now.outside _
     (c.next.ensures.why f [] _ _ (fresh_reads _ _ 268435456 (c.requires.fresh f)) (faults.BadReply at) (search rules))
     (g.met.L.Link.honest c.next.new.link t)
 
