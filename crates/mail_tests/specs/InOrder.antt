@@ -10,7 +10,7 @@ use Rattle.world_traits.specs.Links.{AnyStep, Any, LinkStep}
 use Rattle.world_traits.specs.Moments.{Clock, Became}
 use Rattle.imap_session.specs.Session.{waiting_of}
 
--- At one moment of the time between the server did what was asked while this was selected, and said so with OK.
+-- At one moment of the time between the server carried out this command, while this was selected, and answered OK.
 pub record Answers (selected : Option (List ℕ)) (command : Command) (r : Replies) (old new : Clock) : Type 0 where
   pub tag : Tag
   pub after : Option (List ℕ)

@@ -1,5 +1,5 @@
-//! Tests of what a line of data can't say: copies, counts of calls, planned failures, limits that
-//! need a large value, and callers that know no more than a trait.
+//! Tests of what a line of data can't say: copies, limits that need a large value, and callers that know no more than a
+//! trait.
 #![tactic(auto)]
 
 #[cfg(test)]
@@ -10,8 +10,6 @@ mod books;
 mod carried;
 #[cfg(test)]
 mod large_texts;
-#[cfg(test)]
-mod outside;
 #[cfg(test)]
 mod response_copies;
 #[cfg(test)]

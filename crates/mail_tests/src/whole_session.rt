@@ -1,7 +1,10 @@
 //! A caller that knows of a link that it is one, and no more, reads a mailbox in one session.
 
-ghost use Rattle.std.specs.Prelude.{IfOk};
+ghost use Rattle.std.specs.Prelude.{IfOk, OnOk};
+ghost use Rattle.imap_session.specs.Enquiring.{Enquiring};
 ghost use Rattle.mail_tests.specs.InOrder.{AreInOrder};
+ghost use Rattle.mail_tests.specs.SentInOrder.{AreSentInOrder};
+ghost use Rattle.world_traits.specs.Links.{Linked};
 
 use imap_model::{Command, Mailbox, Replies};
 use imap_session::{Fresh, SessionFault};
@@ -13,7 +16,7 @@ use uid_sets::Uid;
 use world_mem::{Files, MemWorld, Plan};
 use world_traits::Link;
 
-// Connects, logs in, selects the mailbox, asks for all of it, and leaves.
+// Connects, logs in, selects the mailbox, asks for all of it, and leaves. Only questions are asked.
 fn read_mailbox<L: Link>(
     alloc: Global,
     link: &mut L,
@@ -22,6 +25,9 @@ fn read_mailbox<L: Link>(
 ) -> Result<(Replies, Replies), SessionFault>
     ensures in_order { L.tells_server
         → IfOk result (λ p. AreInOrder name.now p.0 p.1 (L.clock link.old) (L.clock link.new)) }
+    ensures told { L.tells_server → Linked Enquiring (L.clock link.old) (L.clock link.new) }
+    ensures sent { L.tells_files
+        → OnOk result (AreSentInOrder account.now name.now (L.link link.new).sent) }
 {
     let fresh = Fresh::connect(alloc, link)?;
     let greeted = fresh.greet(link)?;
