@@ -17,7 +17,7 @@ use Rattle.store_core.specs.Steps.{Books, Firm}
 use Rattle.store_core.specs.Taking.{HasBooks}
 use Rattle.play_driver.specs.Machine.{Relation, Machine, Withstands}
 use Rattle.play_driver.specs.Joining.{Relates, IsKept, Joined, IsFair, AllFair, StaysJoined, AnyTwo, Grows}
-use Rattle.play_driver.specs.Enquiring.{Enquiring}
+use Rattle.imap_session.specs.Enquiring.{Enquiring}
 use Rattle.play_driver.specs.SentOnce.{AsksOnce}
 use Rattle.play_driver.specs.Laws.{RecordingJoins, OpeningJoins, LinkJoins, EnquiryJoins, SendingJoins, ChoosingJoins, BeginningJoins}
 use Rattle.play_driver.specs.Laws.{RecordingKeeps, OpeningKeeps, StopKeeps, LinkKeeps}

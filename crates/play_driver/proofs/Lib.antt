@@ -12,3 +12,7 @@ pub mod Learning
 pub mod Untouched
 pub mod Once
 pub mod BooksOn
+pub mod Gathers
+pub mod Meanwhile
+pub mod Answering
+pub mod Learned

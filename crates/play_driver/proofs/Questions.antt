@@ -10,7 +10,7 @@ use Rattle.store_core.specs.Steps.{Books}
 use Rattle.play_driver.specs.States.{state_of}
 use Rattle.play_driver.specs.Machine.{Machine, Step}
 use Rattle.play_driver.specs.Machine.Step.{rests, asks, carries_out, foreign, connects}
-use Rattle.play_driver.specs.Enquiring.{Enquiring, connecting, asking}
+use Rattle.imap_session.specs.Enquiring.{Enquiring, connecting, asking}
 use Rattle.play_driver.specs.Joining.{SparesAt}
 
 pub awaits_quiet : (tag : Tag) (before : List (List ℕ)) (p : Peer) → Awaits tag before p → p.waiting ≡ None

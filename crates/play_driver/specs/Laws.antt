@@ -18,7 +18,7 @@ use Rattle.play_driver.specs.States.{state_of}
 use Rattle.play_driver.specs.Machine.{Machine, Relation, Step}
 use Rattle.play_driver.specs.Joining.{IsKept, Joined, StaysJoined, SparesAt, AnyTwo}
 use Rattle.play_driver.specs.BookSteps.{BooksJoined, OfBook}
-use Rattle.play_driver.specs.Enquiring.{Enquiring}
+use Rattle.imap_session.specs.Enquiring.{Enquiring}
 use Rattle.play_driver.specs.SentOnce.{AsksOnce}
 
 -- The disk is called, and the link stands still: where the relation holds for the book before an event and for the one after it,

@@ -1,8 +1,12 @@
 pub mod States
 pub mod Machine
 pub mod Joining
-pub mod Enquiring
 pub mod Unplayed
 pub mod BookSteps
 pub mod Laws
 pub mod SentOnce
+pub mod Sessions
+pub mod Exchanges
+pub mod Resynchronising
+pub mod Synced
+pub mod Levelling

@@ -3,7 +3,6 @@
 use Rattle.std.specs.Prelude.{◌≡◌, ℕ, false, List, Option, Some, None, ⊤}
 use Rattle.std.specs.List.{AllByRecursion}
 use Rattle.imap_model.specs.Carrying.{Waiting}
-use Rattle.imap_model.specs.Evolving.{GoesOn}
 use Rattle.imap_model.specs.Lookups.{box_at, validity_of}
 use Rattle.imap_model.specs.Mutating.{is_mutating}
 use Rattle.imap_model.specs.Talking.{Peer}
@@ -18,13 +17,9 @@ use Rattle.action_queue.specs.declared.event.Event.TheVariants as events
 use Rattle.action_queue.specs.declared.queued.Queued.{Queued}
 use Rattle.action_queue.specs.Book.{Meaning, cache_at, learned}
 use Rattle.action_queue.specs.Writable.{IsWritable}
+use Rattle.qresync_core.specs.Fresh.{IsFresh}
 use Rattle.store_core.specs.Mail.{mail}
 use Rattle.play_driver.specs.Machine.{Machine}
-
--- When a cache is fresh for its mailbox; and it stays so whatever changes the mailbox later, under the same UIDVALIDITY.
-pub record Freshness : Type 1 where
-  pub Fresh : Cache → Mailbox → Type 0
-  pub stays : (cache : Cache) (old new : Mailbox) → Fresh cache old → new.validity ≡ old.validity → GoesOn old.highest old new → Fresh cache new
 
 -- no change in the history is this client's
 abbrev pub NoneOurs : List Deed → Type 0
@@ -42,33 +37,33 @@ pub record IsUntouched (s : Server) (w : Option Waiting) : Type 0 where
   pub no_change : NoChangeWaits w
 
 -- the mailbox of the name is there, and the cache is fresh for it
-pub record IsFreshAt (F : Freshness) (s : Server) (name : List ℕ) (cache : Cache) : Type 0 where
+pub record IsFreshAt (s : Server) (name : List ℕ) (cache : Cache) : Type 0 where
   pub box : Mailbox
   pub there : box_at name s.boxes ≡ Some box
-  pub fresh : F.Fresh cache box
+  pub fresh : IsFresh cache box
 
 -- no action has an intent or an outcome, and each cache is fresh
-pub record IsUnplayedBook (F : Freshness) (b : Meaning) (s : Server) : Type 0 where
+pub record IsUnplayedBook (b : Meaning) (s : Server) : Type 0 where
   pub no_intent : b.pending ≡ None
   pub no_outcome : AllByRecursion (λ (q : Queued). q.outcome ≡ None) b.queue
-  pub fresh : (name : List ℕ) (cache : Cache) → cache_at name b.boxes ≡ Some cache → IsFreshAt F s name cache
+  pub fresh : (name : List ℕ) (cache : Cache) → cache_at name b.boxes ≡ Some cache → IsFreshAt s name cache
 
 -- the relation of a book, or of none, with a server and the command that waits there
-abbrev pub Unplayed : Freshness → Option Meaning → Server → Option Waiting → Type 0
-Unplayed F None s w = IsUntouched s w
-Unplayed F (Some b) s w = IsUntouched s w × IsUnplayedBook F b s
+abbrev pub Unplayed : Option Meaning → Server → Option Waiting → Type 0
+Unplayed None s w = IsUntouched s w
+Unplayed (Some b) s w = IsUntouched s w × IsUnplayedBook b s
 
 -- A book begins where this client changed nothing and is about to change nothing. An action is accepted that can be written. A
 -- delta is learned where the new cache is fresh. No intent and no outcome comes yet.
-abbrev pub MayLearn : Freshness → Option Meaning → Event → Server → Option Waiting → Type 0
-MayLearn F None (events.Begin names) s w = NoneOurs s.history × NoChangeWaits w
-MayLearn F (Some b) (events.Begin names) s w = ⊥
-MayLearn F None (events.Accept id action) s w = ⊥
-MayLearn F (Some b) (events.Accept id action) s w = IsWritable (events.Accept id action)
-MayLearn F b (events.Intend id intent) s w = ⊥
-MayLearn F b (events.Settle id outcome) s w = ⊥
-MayLearn F None (events.Learn name delta) s w = ⊥
-MayLearn F (Some b) (events.Learn name delta) s w = IsFreshAt F s name (learned (cache_at name b.boxes) delta)
+abbrev pub MayLearn : Option Meaning → Event → Server → Option Waiting → Type 0
+MayLearn None (events.Begin names) s w = NoneOurs s.history × NoChangeWaits w
+MayLearn (Some b) (events.Begin names) s w = ⊥
+MayLearn None (events.Accept id action) s w = ⊥
+MayLearn (Some b) (events.Accept id action) s w = IsWritable (events.Accept id action)
+MayLearn b (events.Intend id intent) s w = ⊥
+MayLearn b (events.Settle id outcome) s w = ⊥
+MayLearn None (events.Learn name delta) s w = ⊥
+MayLearn (Some b) (events.Learn name delta) s w = IsFreshAt s name (learned (cache_at name b.boxes) delta)
 
 -- no command that changes a mailbox is sent
 abbrev pub SendsNone : Meaning → Server → Waiting → Type 0
@@ -78,5 +73,5 @@ SendsNone b s w = ⊥
 abbrev pub LeavesValidities : Option Meaning → Peer → Server → Type 0
 LeavesValidities b p t = (name : List ℕ) → validity_of (box_at name t.boxes) ≡ validity_of (box_at name p.server.boxes)
 
-abbrev pub unplayed : Freshness → Machine mail
-unplayed F = record { Permits = MayLearn F; MaySend = SendsNone; Spares = LeavesValidities }
+abbrev pub unplayed : Machine mail
+unplayed = record { Permits = MayLearn; MaySend = SendsNone; Spares = LeavesValidities }

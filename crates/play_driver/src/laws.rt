@@ -8,6 +8,7 @@ ghost use Rattle.play_driver.specs.Laws.{RecordingKeeps, OpeningKeeps, StopKeeps
 ghost use Rattle.play_driver.specs.Laws.{RecordingJoins, OpeningJoins, StopJoins, LinkJoins, EnquiryJoins, SendingJoins};
 ghost use Rattle.play_driver.specs.Laws.{RecordingGoesOn, OpeningGoesOn, StopGoesOn, LinkStays, BooksKeep};
 ghost use Rattle.play_driver.specs.Laws.{ChoosingJoins, BeginningJoins, ChoosingGoesOn, BeginningGoesOn};
+ghost use Rattle.play_driver.specs.Levelling.{ResyncsLevel};
 ghost use Rattle.play_driver.specs.Machine.{Machine, Relation, Withstands};
 
 /// A ledger on a journal, a relation of its book, or of none, with a server and the command that waits there, and how a server
@@ -89,4 +90,10 @@ pub fn books_go_on<R: Related>()
     ensures stopping { StopGoesOn R.ledger }
     ensures linking { LinkStays R.ledger R.moves }
     ensures keeping { BooksKeep R.ledger R.property }
+{}
+
+/// As long as no action is played and others leave UIDVALIDITY, the cache that a resynchronisation makes is the server's at a
+/// moment of it, and fresh at its end.
+pub fn resyncs_level()
+    ensures { ResyncsLevel }
 {}
