@@ -1,5 +1,6 @@
--- What two words and a number ask for.
-use Rattle.std.specs.Prelude.{◌≡◌, ◌⊎◌, true, false, ℕ, ◌*◌, List, codes}
+-- What the words of the program ask for.
+use Rattle.std.specs.Prelude.{◌≡◌, ◌⊎◌, true, false, ℕ, ◌*◌, ◌-◌, ◌^◌, List, [], ◌∷◌, codes}
+use Rattle.mail_base.specs.Number.{IsNumberUpTo}
 use Rattle.mail_bench.specs.declared.load.Load.{Load}
 use Rattle.mail_bench.specs.declared.load.Task.{Task}
 use Rattle.mail_bench.specs.declared.load.Task.TheVariants.{Feed, Record, Store, Commit}
@@ -18,3 +19,13 @@ AsksFor what case number (Feed load) = AsksLoad what case number load
 AsksFor what case number (Record direction times) = (what ≡ codes "record") × (case ≡ name_of_direction direction) × (times ≡ number)
 AsksFor what case number (Store part megabytes) = (what ≡ codes "store") × (case ≡ name_of_part part) × (megabytes ≡ number)
 AsksFor what case number (Commit told times) = (what ≡ codes "commit") × (case ≡ name_of_told told) × (times ≡ number)
+
+-- Three words ask for it, and the third is a number in decimal digits.
+pub record Asks (words : List (List ℕ)) (task : Task) : Type 0 where
+  pub what : List ℕ
+  pub case : List ℕ
+  pub digits : List ℕ
+  pub number : ℕ
+  pub are : words ≡ what ∷ case ∷ digits ∷ []
+  pub is : IsNumberUpTo (2 ^ 32 - 1) digits number
+  pub asks : AsksFor what case number task

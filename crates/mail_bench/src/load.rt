@@ -1,8 +1,8 @@
 //! What the words of the program ask for: which stream, and how long (RFC 9051, sections 2.2 and 4.3); what is done with a
 //! record, and how often; or with a journal, and how long it is; or what a resynchronisation tells, and how often.
 
-ghost use Rattle.std.specs.Prelude.{◌≡◌, ◌<◌, ◌*◌, length, IfOk, IfSome, IsNone};
-ghost use Rattle.mail_bench.specs.Asked.{AsksFor};
+ghost use Rattle.std.specs.Prelude.{◌≡◌, ◌<◌, ◌*◌, length, map, string_bytes, IfOk, IfSome, IsNone};
+ghost use Rattle.mail_bench.specs.Asked.{Asks, AsksFor};
 ghost use Rattle.mail_bench.specs.Cases.{piece_of, unit_of};
 ghost use Rattle.mail_bench.specs.Names.{name_of_case, name_of_direction, name_of_part, name_of_told};
 ghost use Rattle.mail_bench.specs.Texts.{long_line, repeated_text, short_line};
@@ -81,7 +81,10 @@ pub enum Task {
 
 /// What `feed CASE NUMBER`, `read CASE NUMBER`, `record DIRECTION NUMBER`, `store PART NUMBER` or `commit TOLD NUMBER` asks for.
 /// A number counts 1,000,000 bytes each, or 1,000 for the case `bytes`; that of a record or a commit says how often.
-pub fn task_of(words: &[String]) -> Option<Task> {
+pub fn task_of(words: &[String]) -> Option<Task>
+    ensures some { IfSome result (Asks (map string_bytes words.now)) }
+    ensures none { IsNone result → (task : _) → ¬ (Asks (map string_bytes words.now) task) }
+{
     let [what, case, number] = words else {
         return None;
     };

@@ -1,7 +1,7 @@
 //! A journal of many settled actions, with a resynchronisation before each of them, which is made in memory and opened as a
 //! store.
 
-ghost use Rattle.std.specs.Prelude.{◌≡◌, ◌≤◌, ◌+◌, ◌*◌, length, IfOk, OnOk, IsErrOf};
+ghost use Rattle.std.specs.Prelude.{◌≡◌, ◌≤◌, ◌+◌, ◌*◌, ◌/◌, min, length, IfOk, OnOk, IsErrOf};
 ghost use Rattle.journal_core.specs.declared.fault.Place9.{Place9};
 ghost use Rattle.store_core.specs.Mail.{mail};
 ghost use Rattle.store_core.specs.Broken.{IsBroken};
@@ -43,7 +43,7 @@ const ROUND: u64 = 2_124;
 
 /// How many actions a journal of so many times 1,000,000 bytes has: at most as many as a book has.
 pub fn actions_in(megabytes: u32) -> u32
-    ensures { result ≤ 1000000 }
+    ensures { result ≡ min (megabytes * 1000000 / 2124) 1000000 }
 {
     let actions = u64::from(megabytes) * 1_000_000 / ROUND;
     actions.min(MAX_ACTIONS as u64) as u32

@@ -9,6 +9,9 @@ mod streams;
 mod tests;
 mod top_calls;
 
+ghost use Rattle.std.specs.Prelude.{◌≡◌, ◌⊎◌, option_map, string_bytes};
+ghost use Rattle.mail_base.specs.declared.status.Status.TheVariants as statuses;
+
 use mail_base::{Line, Status};
 use mail_top::run;
 use notices::{IN_USE, NO_NULL, notice_for};
@@ -78,7 +81,9 @@ where
 }
 
 // The text of a setting, where it is one.
-fn as_text(setting: &Option<String>) -> Option<&str> {
+fn as_text(setting: &Option<String>) -> Option<&str>
+    ensures { option_map (λ text. text.now) result ≡ option_map string_bytes setting.now }
+{
     match setting {
         Some(text) => Some(text.as_str()),
         None => None,
@@ -86,14 +91,18 @@ fn as_text(setting: &Option<String>) -> Option<&str> {
 }
 
 // Prints the line of a refusal that comes before the top call.
-fn refused<R: Print>(rt: &R, status: Status, line: &Line) -> Status {
+fn refused<R: Print>(rt: &R, status: Status, line: &Line) -> Status
+    ensures { result ≡ status }
+{
     let mut out = OutputSink::new(io::writer(rt));
     let _ = out.write(line.as_bytes());
     status
 }
 
 // Prints a notice. A failed write is told by the status, as that of any command's line.
-fn told<R: Print>(rt: &R, notice: &str) -> Status {
+fn told<R: Print>(rt: &R, notice: &str) -> Status
+    ensures { (result ≡ statuses.Done) ⊎ (result ≡ statuses.Output) }
+{
     let mut out = OutputSink::new(io::writer(rt));
     match out.write(notice.as_bytes()) {
         Ok(()) => Status::Done,

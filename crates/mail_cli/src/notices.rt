@@ -1,6 +1,9 @@
 //! What `--help` and `--version` print, which are no commands (no top call knows them), and the notices on standard
 //! error.
 
+ghost use Rattle.std.specs.Prelude.{◌≡◌, IsNone, IfSome, map, string_bytes};
+ghost use Rattle.mail_cli.specs.Notices.{AsksHelp, AsksVersion, OneOf};
+
 /// The text of `--help`.
 pub const HELP: &str = "\
 usage: mowerbean init BOX ..            sets up a journal for 1 to 32 mailboxes
@@ -22,7 +25,10 @@ pub const IN_USE: &str = "mowerbean: another run uses the journal\n";
 pub const NO_NULL: &str = "mowerbean: /dev/null can't be opened; nothing was done\n";
 
 /// The text that the words ask for, where they are one of the two alone.
-pub fn notice_for(words: &[String]) -> Option<&'static str> {
+pub fn notice_for(words: &[String]) -> Option<&'static str>
+    ensures some { IfSome result (λ text. OneOf (map string_bytes words.now) HELP.now VERSION.now text.now) }
+    ensures none { IsNone result → (AsksHelp (map string_bytes words.now) → ⊥) × (AsksVersion (map string_bytes words.now) → ⊥) }
+{
     match words {
         [word] => match word.as_str() {
             "--help" => Some(HELP),

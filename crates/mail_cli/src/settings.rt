@@ -1,5 +1,8 @@
 //! What the environment and the arguments say.
 
+ghost use Rattle.std.specs.Prelude.{◌≡◌, []};
+ghost use Rattle.std.specs.List.{Contains};
+
 use mail_base::{Account, AccountFault};
 use std::alloc::AllocError;
 use std::env;
@@ -44,7 +47,10 @@ pub fn account<R: Env + AllocGlobal>(rt: &R) -> Result<Account, AllocError> {
 }
 
 // The text, or nothing where it holds a NUL.
-fn plain(text: &str) -> &str {
+fn plain(text: &str) -> &str
+    ensures same { (Contains text.now 0 → ⊥) → result.now ≡ text.now }
+    ensures nothing { Contains text.now 0 → result.now ≡ [] }
+{
     if text.as_bytes().contains(&0) {
         ""
     } else {

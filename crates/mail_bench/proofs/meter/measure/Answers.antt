@@ -1,4 +1,4 @@
-use Rattle.std.proofs.Common.{◌≡◌, ◌∙◌, ◌+◌, ◌-◌, ◌%◌, ◌≤◌, ◌++◌, Bool, List, ℕ, ap, arith, rules, subst, sym}
+use Rattle.std.proofs.Common.{◌≡◌, ◌∙◌, ◌-◌, ◌%◌, ◌≤◌, ◌++◌, Bool, List, ℕ, ap, arith, rules, subst, sym}
 use Rattle.std.proofs.Math.Nat.{zero-mod}
 use Rattle.mail_bench.specs.Blocks.{text_in}
 use Rattle.mail_bench.specs.Breaking.{Breaks, IsSound}
