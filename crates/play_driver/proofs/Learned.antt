@@ -1,5 +1,5 @@
 -- What a resynchronisation tells makes the cache the server's at a moment of it, and fresh from then on.
-use Rattle.std.proofs.Common.{◌≡◌, ◌≤◌, ℕ, ◌+◌, Bool, true, false, not, List, Option, Some, None, is_some, Ok, refl, sym, ◌∙◌, ap, subst, arith}
+use Rattle.std.proofs.Common.{◌≡◌, inl, inr, ◌≤◌, ℕ, ◌+◌, Bool, true, false, not, List, Option, Some, None, is_some, Ok, Err, refl, sym, ◌∙◌, ap, subst, arith}
 use Rattle.std.proofs.lemmas.Option.{same_Some}
 use Rattle.mail_base.specs.declared.tag.Tag.{Tag}
 use Rattle.imap_model.specs.CarriedOut.{CarriesOut, Decides, Selects}
@@ -20,24 +20,34 @@ use Rattle.mailbox_cache.specs.declared.cache.Cache.{Cache}
 use Rattle.mailbox_cache.specs.declared.delta.Delta.{Delta}
 use Rattle.action_queue.specs.Book.{Meaning, cache_at, learned}
 use Rattle.qresync_core.specs.Fresh.{IsFresh}
-use Rattle.qresync_core.specs.Laws.{AnswersSelect, AnswersFetch, Mirrors}
+use Rattle.qresync_core.specs.Laws.{AnswersSelect, AnswersFetch, Faultless, Mirrors, codes_of_box}
 use Rattle.qresync_core.specs.Resync.{is_told_empty, TellsDelta}
-use Rattle.qresync_core.proofs.Leveling.{kept_levels, first_mirrors, empty_mirrors, fresh_later as still_fresh}
+use Rattle.qresync_core.specs.declared.fault.ResyncFault.{ResyncFault}
+use Rattle.qresync_core.specs.declared.fault.ResyncFault.TheVariants as resyncs
+use Rattle.qresync_core.proofs.Judging.{memory_alone}
+use Rattle.qresync_core.proofs.Leveling.{kept_judged, kept_levels, first_judged, first_mirrors, empty_judged, empty_mirrors, fresh_later as still_fresh}
 use Rattle.qresync_core.proofs.Replying.{select_box, fetch_box}
 use Rattle.world_traits.specs.Links.{Any, LinkStep, Linked}
-use Rattle.world_traits.specs.Moments.{Clock}
-use Rattle.world_traits.proofs.Passing.{since_then}
+use Rattle.world_traits.specs.Moments.{Moment, Clock, tick}
+use Rattle.world_traits.proofs.Passing.{since_then, since_weaker}
+use Rattle.world_traits.proofs.Traces.{since_both, since_carry}
 use Rattle.imap_session.specs.Dialogue.{next_tag}
 use Rattle.imap_session.specs.Enquiring.{Enquiring}
 use Rattle.imap_session.specs.Session.{waiting_of}
 use Rattle.store_core.specs.Mail.{mail}
+use Rattle.store_core.specs.Steps.{Firm}
+use Rattle.store_core.specs.Taking.{HasBooks}
+use Rattle.store_core.proofs.MailBook.{one_mail_event}
 use Rattle.play_driver.specs.Exchanges.{Exchange, AnsweredAll, IsAnswered}
-use Rattle.play_driver.specs.Joining.{AllFair}
+use Rattle.play_driver.specs.Joining.{AllFair, IsFair, IsKept}
 use Rattle.play_driver.specs.Resynchronising.{exchanged, fetches, mark_kept, select_of, Resyncs}
-use Rattle.play_driver.specs.Levelling.{IsLevelled}
-use Rattle.play_driver.specs.Unplayed.{IsFreshAt, unplayed}
-use Rattle.play_driver.proofs.Answering.{AnsweredAt, IsFirm, answered_at, answered_through, fair_first, fair_second, stays_firm, stays_kept, unplayed_now}
-use Rattle.play_driver.proofs.Meanwhile.{meanwhile, SameValidities}
+use Rattle.play_driver.specs.Levelling.{IsCalm, IsKeptFresh, IsLevelled, LeavesValidity, LinkFaultless, LinkLevels, SameValidity, ValidityStays}
+use Rattle.play_driver.specs.Synced.{IsLevel, IsReadAt}
+use Rattle.play_driver.specs.Unplayed.{IsFreshAt, Unplayed, unplayed}
+use Rattle.play_driver.proofs.Answering.{AnsweredAt, answered_at, answered_through}
+use Rattle.play_driver.proofs.Calm.{calm_now, held_now, stays_first, stays_second}
+use Rattle.play_driver.proofs.Kept.{kept_books}
+use Rattle.play_driver.proofs.Links.{books_there, fair_books}
 use Rattle.play_driver.proofs.Parts.{grows}
 
 -- a mailbox goes on through changes by others that leave its UIDVALIDITY
@@ -47,11 +57,11 @@ record GoneOn (name : List ℕ) (box : Mailbox) (t : Server) : Type 0 where
   pub validity : later.validity ≡ box.validity
   pub goes : GoesOn box.highest box later
 
-goes_on : (name : List ℕ) (box : Mailbox) (s t : Server) → IsWellFormed s.boxes → Batch s.boxes s t → SameValidities s t → box_at name s.boxes ≡ Some box →
+goes_on : (name : List ℕ) (box : Mailbox) (s t : Server) → IsWellFormed s.boxes → Batch s.boxes s t → SameValidity name s t → box_at name s.boxes ≡ Some box →
     GoneOn name box t
 goes_on name box s t well batch same there =
     let found : FindsEvolved (floor_of s.boxes name) name box t.boxes = (batches_stay s t well batch).1.each name box there in
-    let validity : found.box.validity ≡ box.validity = ap validity_of (sym found.there) ∙ same name ∙ ap validity_of there in
+    let validity : found.box.validity ≡ box.validity = ap validity_of (sym found.there) ∙ same ∙ ap validity_of there in
     record {
       later = found.box;
       there = found.there;
@@ -63,7 +73,7 @@ goes_on name box s t well batch same there =
 abbrev Freshly : List ℕ → Cache → Server → Type 0
 Freshly name cache s = IsFreshAt s name cache
 
-freshly_on : (name : List ℕ) (cache : Cache) (s t : Server) → IsWellFormed s.boxes → Batch s.boxes s t → SameValidities s t → Freshly name cache s →
+freshly_on : (name : List ℕ) (cache : Cache) (s t : Server) → IsWellFormed s.boxes → Batch s.boxes s t → SameValidity name s t → Freshly name cache s →
     Freshly name cache t
 freshly_on name cache s t well batch same f =
     let g = goes_on name f.box s t well batch same f.there in
@@ -76,25 +86,28 @@ record IsPast (name : List ℕ) (validity highest : ℕ) (s : Server) : Type 0 w
   pub same : box.validity ≡ validity
   pub higher : highest ≤ box.highest
 
-past_on : (name : List ℕ) (validity highest : ℕ) (s t : Server) → IsWellFormed s.boxes → Batch s.boxes s t → SameValidities s t →
+past_on : (name : List ℕ) (validity highest : ℕ) (s t : Server) → IsWellFormed s.boxes → Batch s.boxes s t → SameValidity name s t →
     IsPast name validity highest s → IsPast name validity highest t
 past_on name validity highest s t well batch same p =
     let g = goes_on name p.box s t well batch same p.there in
     record { box = g.later; there = g.there; same = g.validity ∙ p.same; higher = omega (arith, p.higher, g.goes.highest) }
 
-module _ (b : Meaning) (name : List ℕ) where
+module _ (name : List ℕ) where
   -- a cache that mirrors the mailbox at some clock
-  mirrored : (cache : Cache) (old at new : Clock) (box : Mailbox) → IsFirm b at → Linked Enquiring old at → Linked Enquiring at new →
-      AllFair mail unplayed at new → box_at name at.now.outside.server.boxes ≡ Some box → Mirrors cache box → IsLevelled name cache old new
-  mirrored cache old at new box firm before after fair there mirrors = record {
+  mirrored : (cache : Cache) (old at new : Clock) (to : Moment) (box : Mailbox) → IsCalm at.now.outside → Linked Enquiring old at →
+      Linked Enquiring at new → Linked Enquiring (tick at to) new → (IsLevel name cache at.now → IsReadAt name cache at.now to) →
+      ValidityStays name at new → box_at name at.now.outside.server.boxes ≡ Some box → Mirrors cache box → IsLevelled name cache old new
+  mirrored cache old at new to box calm before after behind read fair there mirrors = record {
     level = record {
       at = at;
+      to = to;
       before = grows Any (LinkStep Enquiring) old at before;
-      after = grows Any (LinkStep Enquiring) at new after;
-      is = record { box = box; there = there; validity = mirrors.fresh.validity; rows = mirrors.rows };
+      has = tt;
+      step = tt;
+      after = grows Any (LinkStep Enquiring) (tick at to) new behind;
+      is = read (record { box = box; there = there; validity = mirrors.fresh.validity; rows = mirrors.rows });
     };
-    fresh = meanwhile (Freshly name cache) (freshly_on name cache) at new firm.kept (stays_kept b at new firm after fair)
-        (record { box = box; there = there; fresh = mirrors.fresh });
+    fresh = (held_now name (Freshly name cache) (freshly_on name cache) at new after fair (calm, record { box = box; there = there; fresh = mirrors.fresh })).1;
   }
 
   -- SELECT, answered by OK
@@ -103,62 +116,85 @@ module _ (b : Meaning) (name : List ℕ) where
       (box : Mailbox) × (there : box_at name a.at.now.outside.server.boxes ≡ Some box) × AnswersSelect name (mark_kept kept) box r
   selects kept selected tag r old new ok a =
       let w = waiting_of selected tag (select_of name kept) in
-      let found = select_box name (mark_kept kept) w a.at.now.outside.server a.later r a.selects refl ok a.carried in (
+      let found = select_box name (mark_kept kept) w a.at.now.outside.server a.to.outside.server r a.selects refl ok a.carried in (
         found.0,
         found.1,
         record {
           waiting = w;
           command = refl;
-          answers = record { server = a.at.now.outside.server; later = a.later; after = a.selects; carried = a.carried; ok = ok; there = found.1 };
+          answers = record { server = a.at.now.outside.server; later = a.to.outside.server; after = a.selects; carried = a.carried; ok = ok; there = found.1 };
         },
       )
 
+  -- the cache is the server's as SELECT was carried out
+  select_read : (cache : Cache) (kept : Option Cache) (selected : Option (List ℕ)) (tag : Tag) (r : Replies) (old new : Clock) → r.ending ≡ endings.Ok →
+      (a : AnsweredAt selected tag (record { asked = select_of name kept; replies = r }) old new) → IsLevel name cache a.at.now →
+      IsReadAt name cache a.at.now a.to
+  select_read cache kept selected tag r old new ok a level = record {
+    asked = waiting_of selected tag (select_of name kept);
+    rows = inl (mark_kept kept, refl);
+    replies = r;
+    accepted = ok;
+    selects = a.selects;
+    carried = a.carried;
+    level = level;
+  }
+
+  -- the replies have no fault, and make a cache that is level
+  abbrev Comes : Option Cache → Replies → Option Replies → Clock → Clock → Type 0
+  Comes kept r all old new = Faultless kept r all × ((delta : Delta) → TellsDelta kept r all delta → IsLevelled name (learned kept delta) old new)
+
   -- where a cache is kept
-  with_cache : (cache : Cache) (selected : Option (List ℕ)) (tag : Tag) (r : Replies) (delta : Delta) (old new : Clock) → IsFirm b old →
-      AllFair mail unplayed old new → cache_at name b.boxes ≡ Some cache → r.ending ≡ endings.Ok →
-      AnsweredAt selected tag (record { asked = select_of name (Some cache); replies = r }) old new → TellsDelta (Some cache) r None delta →
-      IsLevelled name (learned (Some cache) delta) old new
-  with_cache cache selected tag r delta old new firm fair has ok a tells =
-      let fair_before = fair_first old a.at new a.before a.after fair in
-      let then = stays_firm b old a.at firm a.before fair_before in
-      let f = (unplayed_now b a.at then).1.fresh name cache has in
+  with_cache : (cache : Cache) (selected : Option (List ℕ)) (tag : Tag) (r : Replies) (old new : Clock) → IsCalm old.now.outside →
+      Freshly name cache old.now.outside.server → ValidityStays name old new → r.ending ≡ endings.Ok →
+      AnsweredAt selected tag (record { asked = select_of name (Some cache); replies = r }) old new → Comes (Some cache) r None old new
+  with_cache cache selected tag r old new calm kept fair ok a =
+      let then =
+      held_now name (Freshly name cache) (freshly_on name cache) old a.at a.before (stays_first name old a.at new a.before a.after fair) (calm, kept) in
       let s = selects (Some cache) selected tag r old new ok a in
-      let same : f.box ≡ s.0 = same_Some f.box s.0 (sym f.there ∙ s.1) in
-      let fresh = subst (IsFresh cache) same f.fresh in
-      mirrored (learned (Some cache) delta) old a.at new s.0 then a.before a.after (fair_second old a.at new a.before a.after fair) s.1
-      (kept_levels name cache s.0 r s.2 fresh.validity fresh.facts delta tells).mirrors
+      let same : then.1.box ≡ s.0 = same_Some then.1.box s.0 (sym then.1.there ∙ s.1) in
+      let fresh = subst (IsFresh cache) same then.1.fresh in (
+        (codes_of_box s.0, kept_judged name cache s.0 r s.2 fresh.validity fresh.facts),
+        λ delta tells.
+            mirrored (learned (Some cache) delta) old a.at new a.to s.0 then.0 a.before a.after a.behind
+            (select_read (learned (Some cache) delta) (Some cache) selected tag r old new ok a)
+            (stays_second name old a.at new a.before a.after fair) s.1
+            (kept_levels name cache s.0 r s.2 fresh.validity fresh.facts delta tells).mirrors,
+      )
 
   -- where none is kept, and the mailbox is told to be empty
-  without_rows : (selected : Option (List ℕ)) (tag : Tag) (r : Replies) (delta : Delta) (old new : Clock) → IsFirm b old →
-      AllFair mail unplayed old new → is_told_empty r ≡ true → r.ending ≡ endings.Ok →
-      AnsweredAt selected tag (record { asked = select_of name None; replies = r }) old new → TellsDelta None r None delta →
-      IsLevelled name (first delta) old new
-  without_rows selected tag r delta old new firm fair empty ok a tells =
-      let then = stays_firm b old a.at firm a.before (fair_first old a.at new a.before a.after fair) in
-      let s = selects None selected tag r old new ok a in
-      mirrored (first delta) old a.at new s.0 then a.before a.after (fair_second old a.at new a.before a.after fair) s.1
-      (empty_mirrors name None s.0 r s.2 empty delta tells).1
+  without_rows : (selected : Option (List ℕ)) (tag : Tag) (r : Replies) (old new : Clock) → IsCalm old.now.outside → ValidityStays name old new →
+      is_told_empty r ≡ true → r.ending ≡ endings.Ok → AnsweredAt selected tag (record { asked = select_of name None; replies = r }) old new →
+      Comes None r None old new
+  without_rows selected tag r old new calm fair empty ok a =
+      let then = calm_now name old a.at a.before (stays_first name old a.at new a.before a.after fair) calm in
+      let s = selects None selected tag r old new ok a in (
+        (codes_of_box s.0, empty_judged name None s.0 r s.2 empty),
+        λ delta tells.
+            mirrored (first delta) old a.at new a.to s.0 then a.before a.after a.behind
+            (select_read (first delta) None selected tag r old new ok a) (stays_second name old a.at new a.before a.after fair) s.1
+            (empty_mirrors name None s.0 r s.2 empty delta tells).1,
+      )
 
   -- where none is kept, and the rows are fetched
-  with_rows : (selected : Option (List ℕ)) (tag again : Tag) (r all : Replies) (delta : Delta) (old mid new : Clock) → IsFirm b old →
-      AllFair mail unplayed old new → r.ending ≡ endings.Ok → all.ending ≡ endings.Ok →
+  with_rows : (selected : Option (List ℕ)) (tag again : Tag) (r all : Replies) (old mid new : Clock) → IsCalm old.now.outside →
+      ValidityStays name old new → r.ending ≡ endings.Ok → all.ending ≡ endings.Ok →
       AnsweredAt selected tag (record { asked = select_of name None; replies = r }) old mid →
-      AnsweredAt (Some name) again (record { asked = commands.FetchAll; replies = all }) mid new → TellsDelta None r (Some all) delta →
-      IsLevelled name (first delta) old new
-  with_rows selected tag again r all delta old mid new firm fair ok fine a f tells =
+      AnsweredAt (Some name) again (record { asked = commands.FetchAll; replies = all }) mid new → Comes None r (Some all) old new
+  with_rows selected tag again r all old mid new calm fair ok fine a f =
       let y : Exchange = record { asked = commands.FetchAll; replies = all } in
       let to_end : Linked Enquiring a.at new = since_then Any (LinkStep Enquiring) a.at mid new a.after (answered_through (Some name) again y mid new f) in
       let between : Linked Enquiring a.at f.at = since_then Any (LinkStep Enquiring) a.at mid f.at a.after f.before in
       let from_start : Linked Enquiring old f.at = since_then Any (LinkStep Enquiring) old a.at f.at a.before between in
-      let then = stays_firm b old a.at firm a.before (fair_first old a.at new a.before to_end fair) in
-      let fair_on = fair_second old a.at new a.before to_end fair in
-      let fair_between = fair_first a.at f.at new between f.after fair_on in
-      let later = stays_firm b a.at f.at then between fair_between in
+      let then = calm_now name old a.at a.before (stays_first name old a.at new a.before to_end fair) calm in
+      let fair_on = stays_second name old a.at new a.before to_end fair in
       let s = selects None selected tag r old mid ok a in
       let w = waiting_of (Some name) again commands.FetchAll in
-      let g = fetch_box name w f.at.now.outside.server f.later all f.selects refl refl fine f.carried in
-      let past = meanwhile (IsPast name s.0.validity s.0.highest) (past_on name s.0.validity s.0.highest) a.at f.at then.kept
-      (stays_kept b a.at f.at then between fair_between) (record { box = s.0; there = s.1; same = refl; higher = omega arith }) in
+      let g = fetch_box name w f.at.now.outside.server f.to.outside.server all f.selects refl refl fine f.carried in
+      let later =
+      held_now name (IsPast name s.0.validity s.0.highest) (past_on name s.0.validity s.0.highest) a.at f.at between
+      (stays_first name a.at f.at new between f.after fair_on) (then, record { box = s.0; there = s.1; same = refl; higher = omega arith }) in
+      let past = later.1 in
       let same : past.box ≡ g.0 = same_Some past.box g.0 (sym past.there ∙ g.1) in
       let validity : g.0.validity ≡ s.0.validity = ap (λ (m : Mailbox). m.validity) (sym same) ∙ past.same in
       let higher : s.0.highest ≤ g.0.highest = subst (λ (m : Mailbox). s.0.highest ≤ m.highest) same past.higher in
@@ -166,10 +202,23 @@ module _ (b : Meaning) (name : List ℕ) where
         waiting = w;
         command = refl;
         selected = refl;
-        answers = record { server = f.at.now.outside.server; later = f.later; after = f.selects; carried = f.carried; ok = fine; there = g.1 };
+        answers = record { server = f.at.now.outside.server; later = f.to.outside.server; after = f.selects; carried = f.carried; ok = fine; there = g.1 };
       } in
-      mirrored (first delta) old f.at new g.0 later from_start f.after (fair_second a.at f.at new between f.after fair_on) g.1
-      (first_mirrors name None s.0 g.0 r all s.2 fetched validity higher delta tells)
+      let fetch_read : ((cache : Cache) → IsLevel name cache f.at.now → IsReadAt name cache f.at.now f.to) = λ cache level. record {
+        asked = w;
+        rows = inr (refl, refl);
+        replies = all;
+        accepted = fine;
+        selects = f.selects;
+        carried = f.carried;
+        level = level;
+      } in (
+        (codes_of_box s.0, first_judged name None s.0 g.0 r all s.2 fetched),
+        λ delta tells.
+            mirrored (first delta) old f.at new f.to g.0 later.0 from_start f.after f.behind (fetch_read (first delta))
+            (stays_second name a.at f.at new between f.after fair_on) g.1
+            (first_mirrors name None s.0 g.0 r all s.2 fetched validity higher delta tells),
+      )
 
   -- what was answered, up to the end
   ends_at : (selected : Option (List ℕ)) (tag : Tag) (x : Exchange) (old at new : Clock) → new ≡ at → IsAnswered selected tag x old at →
@@ -188,19 +237,19 @@ module _ (b : Meaning) (name : List ℕ) where
       let done : Selects name since w s r t after = subst (λ (e : Ending). Decides e w.command w s r t after) ok carried in
       done.selection
 
-  by_exchanges : (kept : Option Cache) (r : Replies) (all : Option Replies) (delta : Delta) (selected : Option (List ℕ)) (count : ℕ) (old new : Clock) →
-      cache_at name b.boxes ≡ kept → IsFirm b old → AllFair mail unplayed old new → is_some all ≡ fetches kept r → TellsDelta kept r all delta →
-      AnsweredAll (exchanged name kept (record { selected = r; all = all })) selected count old new → IsLevelled name (learned kept delta) old new
-  by_exchanges (Some cache) r None delta selected count old new has firm fair due tells a =
+  by_exchanges : (kept : Option Cache) (r : Replies) (all : Option Replies) (selected : Option (List ℕ)) (count : ℕ) (old new : Clock) →
+      IsCalm old.now.outside → IsKeptFresh old.now.outside.server name kept → ValidityStays name old new → is_some all ≡ fetches kept r →
+      AnsweredAll (exchanged name kept (record { selected = r; all = all })) selected count old new → Comes kept r all old new
+  by_exchanges (Some cache) r None selected count old new calm fresh fair due a =
       let x : Exchange = record { asked = select_of name (Some cache); replies = r } in
-      with_cache cache selected (next_tag count) r delta old new firm fair has a.1.accepted
-      (answered_at selected (next_tag count) x old new refl (ends_at selected (next_tag count) x old a.0 new a.2 a.1)) tells
-  by_exchanges (Some cache) r (Some all) delta selected count old new has firm fair due tells a = absurd cc
-  by_exchanges None r None delta selected count old new has firm fair due tells a =
+      with_cache cache selected (next_tag count) r old new calm fresh fair a.1.accepted
+      (answered_at selected (next_tag count) x old new refl (ends_at selected (next_tag count) x old a.0 new a.2 a.1))
+  by_exchanges (Some cache) r (Some all) selected count old new calm fresh fair due a = absurd cc
+  by_exchanges None r None selected count old new calm fresh fair due a =
       let x : Exchange = record { asked = select_of name None; replies = r } in
-      without_rows selected (next_tag count) r delta old new firm fair (told_empty (is_told_empty r) due) a.1.accepted
-      (answered_at selected (next_tag count) x old new refl (ends_at selected (next_tag count) x old a.0 new a.2 a.1)) tells
-  by_exchanges None r (Some all) delta selected count old new has firm fair due tells a =
+      without_rows selected (next_tag count) r old new calm fair (told_empty (is_told_empty r) due) a.1.accepted
+      (answered_at selected (next_tag count) x old new refl (ends_at selected (next_tag count) x old a.0 new a.2 a.1))
+  by_exchanges None r (Some all) selected count old new calm fresh fair due a =
       let x : Exchange = record { asked = select_of name None; replies = r } in
       let y : Exchange = record { asked = commands.FetchAll; replies = all } in
       let first_at = answered_at selected (next_tag count) x old a.0 refl a.1 in
@@ -208,11 +257,64 @@ module _ (b : Meaning) (name : List ℕ) where
       select_after None selected (next_tag count) r _ _ a.1.answered.after a.1.accepted a.1.answered.became.is.is in
       let fetched : IsAnswered (Some name) (next_tag (count + 1)) y a.0 a.2.0 =
       subst (λ (s : Option (List ℕ)). IsAnswered s (next_tag (count + 1)) y a.0 a.2.0) after a.2.1 in
-      with_rows selected (next_tag count) (next_tag (count + 1)) r all delta old a.0 new firm fair a.1.accepted fetched.accepted first_at
-      (answered_at (Some name) (next_tag (count + 1)) y a.0 new refl (ends_at (Some name) (next_tag (count + 1)) y a.0 a.2.0 new a.2.2 fetched)) tells
+      with_rows selected (next_tag count) (next_tag (count + 1)) r all old a.0 new calm fair a.1.accepted fetched.accepted first_at
+      (answered_at (Some name) (next_tag (count + 1)) y a.0 new refl (ends_at (Some name) (next_tag (count + 1)) y a.0 a.2.0 new a.2.2 fetched))
 
-  -- so it is with what a resynchronisation tells
-  pub learns_level : (kept : Option Cache) (delta : Delta) (selected : Option (List ℕ)) (count after : ℕ) (old new : Clock) → cache_at name b.boxes ≡ kept →
-      IsFirm b old → AllFair mail unplayed old new → Resyncs selected count after name kept (Ok delta) old new → IsLevelled name (learned kept delta) old new
-  learns_level kept delta selected count after old new has firm fair r =
-      by_exchanges kept r.gathered.selected r.gathered.all delta selected count old new has firm fair r.makes.fetched r.makes.value r.answered
+  -- what was asked, up to the end
+  asked_through : (kept : Option Cache) (r : Replies) (all : Option Replies) (selected : Option (List ℕ)) (count : ℕ) (old new : Clock) →
+      AnsweredAll (exchanged name kept (record { selected = r; all = all })) selected count old new → Linked Enquiring old new
+  asked_through kept r None selected count old new a =
+      let x : Exchange = record { asked = select_of name kept; replies = r } in
+      answered_through selected (next_tag count) x old new
+      (answered_at selected (next_tag count) x old new refl (ends_at selected (next_tag count) x old a.0 new a.2 a.1))
+  asked_through kept r (Some all) selected count old new a =
+      let x : Exchange = record { asked = select_of name kept; replies = r } in
+      let y : Exchange = record { asked = commands.FetchAll; replies = all } in
+      let s = a.1.answered.after in
+      since_then Any (LinkStep Enquiring) old a.0 new
+      (answered_through selected (next_tag count) x old a.0 (answered_at selected (next_tag count) x old a.0 refl a.1))
+      (answered_through s (next_tag (count + 1)) y a.0 new
+      (answered_at s (next_tag (count + 1)) y a.0 new refl (ends_at s (next_tag (count + 1)) y a.0 a.2.0 new a.2.2 a.2.1)))
+
+-- so it is with what a resynchronisation tells
+pub link_levels : LinkLevels
+link_levels name kept delta selected count after old new calm fresh fair r =
+    (by_exchanges name kept r.gathered.selected r.gathered.all selected count old new calm fresh fair r.makes.fetched r.answered).1 delta r.makes.value
+
+pub link_faultless : LinkFaultless
+link_faultless name kept fault selected count after old new calm fresh fair r =
+    memory_alone kept r.gathered.selected r.gathered.all fault
+    (by_exchanges name kept r.gathered.selected r.gathered.all selected count old new calm fresh fair r.makes.fetched r.answered).0 r.makes.fault
+
+-- Beside a book that is firm and kept.
+module _ (b : Meaning) (name : List ℕ) (kept : Option Cache) (old new : Clock) (has : cache_at name b.boxes ≡ kept)
+    (books : HasBooks mail (Firm (Some b)) old.now) (good : IsKept mail Unplayed old.now) (fair : AllFair mail unplayed old new) where
+  related : Unplayed (Some b) old.now.outside.server old.now.outside.waiting
+  related = kept_books mail Unplayed one_mail_event (Firm (Some b)) old.now good books
+
+  calm : IsCalm old.now.outside
+  calm = record { well = related.0.well; no_change = related.0.no_change }
+
+  fresh_in : (k : Option Cache) → cache_at name b.boxes ≡ k → IsKeptFresh old.now.outside.server name k
+  fresh_in None is = tt
+  fresh_in (Some cache) is = related.1.fresh name cache is
+
+  stays : Linked Enquiring old new → ValidityStays name old new
+  stays linked =
+      since_weaker (λ m. (Any m × Any m) × HasBooks mail (Firm (Some b)) m) Any
+      (λ m n. HasBooks mail (Firm (Some b)) m × (LinkStep Enquiring m n × IsFair mail unplayed m n)) (LeavesValidity name) (λ m p. tt)
+      (λ m n s. record { same = λ batch. fair_books mail unplayed (Firm (Some b)) m n s.0 s.1.1 batch name }) old new
+      (since_carry (λ m. Any m × Any m) (HasBooks mail (Firm (Some b))) (λ m n. LinkStep Enquiring m n × IsFair mail unplayed m n)
+      (λ m n any s h. books_there Enquiring m n s.0 mail (Firm (Some b)) h) old books new
+      (since_both Any Any (LinkStep Enquiring) (IsFair mail unplayed) old new linked fair))
+
+  module _ (selected : Option (List ℕ)) (count after : ℕ) where
+    pub learns_level : (delta : Delta) → Resyncs selected count after name kept (Ok delta) old new → IsLevelled name (learned kept delta) old new
+    learns_level delta r =
+        link_levels name kept delta selected count after old new calm (fresh_in kept has)
+        (stays (asked_through name kept r.gathered.selected r.gathered.all selected count old new r.answered)) r
+
+    pub learns_faultless : (fault : ResyncFault) → Resyncs selected count after name kept (Err fault) old new → fault ≡ resyncs.Memory
+    learns_faultless fault r =
+        link_faultless name kept fault selected count after old new calm (fresh_in kept has)
+        (stays (asked_through name kept r.gathered.selected r.gathered.all selected count old new r.answered)) r

@@ -30,7 +30,7 @@ use Rattle.qresync_core.proofs.Leveling.{fresh_later as still_fresh}
 use Rattle.store_core.specs.Mail.{mail, MayCome}
 use Rattle.play_driver.specs.Machine.{Withstands}
 use Rattle.play_driver.specs.Unplayed.{NoneOurs, NoChangeWaits, IsUntouched, IsFreshAt, Unplayed}
-use Rattle.play_driver.specs.Unplayed.{MayLearn, LeavesValidities, unplayed}
+use Rattle.play_driver.specs.Unplayed.{MayBegin, LeavesValidities, unplayed}
 use Rattle.play_driver.proofs.Learning.{none_begun, put_or_before, all_push}
 
 -- a question changes nothing
@@ -64,7 +64,7 @@ others_not_ours base s t (more {s = s'} {m = m} {t = t'} name change changes res
     (all_push (λ (d : Deed). d.author ≡ Other) s.history (deed_of Other name change m.boxes) all refl))
 
 -- an event
-learns : (version : Version) (b : Option Meaning) (event : Event) (s : Server) (w : Option Waiting) → MayCome version b event → MayLearn b event s w →
+learns : (version : Version) (b : Option Meaning) (event : Event) (s : Server) (w : Option Waiting) → MayCome version b event → MayBegin b event s w →
     Unplayed b s w → Unplayed (Some (next_book b event)) s w
 learns version None (events.Begin names) s w may permits u =
     (u, record { no_intent = refl; no_outcome = tt; fresh = λ name cache is. absurd (none_begun name cache names is) })

@@ -46,7 +46,7 @@ abbrev pub RecordingJoins : (K : Keeping) → Relation K → Machine K → Type 
 RecordingJoins K R M = (version : Version) (b : Option K.Book) (e : K.Event) (old new : Clock) → K.MayCome version b e →
     M.Permits b e old.now.outside.server old.now.outside.waiting → IsKept K R old.now → Takes K b e old new → StaysJoined K R M old new
 
--- A journal is opened, where one side was on the disk.
+-- A journal is opened, where one side is at rest.
 abbrev pub OpeningJoins : (K : Keeping) → Relation K → Machine K → Type 0
 OpeningJoins K R M = (x : Books K) (old new : Clock) (seen : Files) → HasBooks K x old.now → MayLeave old.now seen → IsKept K R old.now →
     Settles old new seen → Narrows old new → StaysJoined K R M old new

@@ -1,26 +1,71 @@
--- What a resynchronisation makes of a cache, as long as no action is played (RFC 7162, section 3.2.5).
-use Rattle.std.specs.Prelude.{◌≡◌, ℕ, List, Option, Some, Ok}
+-- What a resynchronisation makes of a cache, as long as no command that changes a mailbox waits (RFC 7162, section 3.2.5).
+use Rattle.std.specs.Prelude.{◌≡◌, ℕ, List, Option, Some, None, Ok, Err, ⊤}
+use Rattle.imap_model.specs.Changes.{Batch}
+use Rattle.imap_model.specs.Lookups.{box_at, validity_of}
+use Rattle.imap_model.specs.Talking.{Peer}
+use Rattle.imap_model.specs.WellFormed.{IsWellFormed}
+use Rattle.imap_model.specs.declared.server.Server.{Server}
 use Rattle.mailbox_cache.specs.declared.cache.Cache.{Cache}
 use Rattle.mailbox_cache.specs.declared.delta.Delta.{Delta}
 use Rattle.action_queue.specs.Book.{Meaning, cache_at, learned}
+use Rattle.qresync_core.specs.declared.fault.ResyncFault.{ResyncFault}
+use Rattle.qresync_core.specs.declared.fault.ResyncFault.TheVariants as resyncs
 use Rattle.world_traits.specs.Links.{Any}
-use Rattle.world_traits.specs.Moments.{Clock, Saw}
+use Rattle.world_traits.specs.Moments.{Moment, Clock, Became, Since}
 use Rattle.store_core.specs.Mail.{mail}
 use Rattle.store_core.specs.Steps.{Firm}
 use Rattle.store_core.specs.Taking.{HasBooks}
 use Rattle.play_driver.specs.Joining.{AllFair, AnyTwo, IsKept}
 use Rattle.play_driver.specs.Resynchronising.{Resyncs}
-use Rattle.play_driver.specs.Synced.{IsLevel}
-use Rattle.play_driver.specs.Unplayed.{IsFreshAt, Unplayed, unplayed}
+use Rattle.play_driver.specs.Synced.{IsReadAt}
+use Rattle.play_driver.specs.Unplayed.{IsFreshAt, NoChangeWaits, Unplayed, unplayed}
 
--- the cache is the server's at a moment of this time, and fresh at its end
+-- the server is well formed, and no command that changes a mailbox waits
+pub record IsCalm (p : Peer) : Type 0 where
+  pub well : IsWellFormed p.server.boxes
+  pub no_change : NoChangeWaits p.waiting
+
+-- the mailbox of this name has one UIDVALIDITY in both servers
+abbrev pub SameValidity : List ℕ → Server → Server → Type 0
+SameValidity name s t = validity_of (box_at name t.boxes) ≡ validity_of (box_at name s.boxes)
+
+-- where others change something from one moment to the next, they leave the UIDVALIDITY of this mailbox; so it is all the time
+pub record LeavesValidity (name : List ℕ) (m n : Moment) : Type 0 where
+  pub same : Batch m.outside.server.boxes m.outside.server n.outside.server → SameValidity name m.outside.server n.outside.server
+
+abbrev pub ValidityStays : List ℕ → Clock → Clock → Type 0
+ValidityStays name old new = Since Any (LeavesValidity name) old new
+
+-- what is kept of a mailbox, if anything is, is fresh
+abbrev pub IsKeptFresh : Server → List ℕ → Option Cache → Type 0
+IsKeptFresh s name None = ⊤
+IsKeptFresh s name (Some cache) = IsFreshAt s name cache
+
+-- the cache is the server's as it answered for its rows at a moment of this time, and fresh at its end
 pub record IsLevelled (name : List ℕ) (cache : Cache) (old new : Clock) : Type 0 where
-  pub level : Saw Any AnyTwo (IsLevel name cache) old new
+  pub level : Became Any AnyTwo (IsReadAt name cache) old new
   pub fresh : IsFreshAt new.now.outside.server name cache
 
--- So it is with the cache that a delta makes which a resynchronisation told: at first a stop leaves this book, which is kept, and
--- others leave each UIDVALIDITY.
+-- So it is with the cache that a delta makes which a resynchronisation told. At first the server is calm, and what is kept of
+-- the mailbox is fresh; and others leave its UIDVALIDITY.
+abbrev pub LinkLevels : Type 0
+LinkLevels = (name : List ℕ) (kept : Option Cache) (delta : Delta) (selected : Option (List ℕ)) (count after : ℕ) (old new : Clock)
+    → IsCalm old.now.outside → IsKeptFresh old.now.outside.server name kept → ValidityStays name old new
+    → Resyncs selected count after name kept (Ok delta) old new → IsLevelled name (learned kept delta) old new
+
+-- Then the replies have no fault: a resynchronisation tells no delta for want of memory alone.
+abbrev pub LinkFaultless : Type 0
+LinkFaultless = (name : List ℕ) (kept : Option Cache) (fault : ResyncFault) (selected : Option (List ℕ)) (count after : ℕ) (old new : Clock)
+    → IsCalm old.now.outside → IsKeptFresh old.now.outside.server name kept → ValidityStays name old new
+    → Resyncs selected count after name kept (Err fault) old new → fault ≡ resyncs.Memory
+
+-- The same beside a book: at first a stop leaves this book, which is kept, and others leave each UIDVALIDITY.
 abbrev pub ResyncsLevel : Type 0
 ResyncsLevel = (b : Meaning) (name : List ℕ) (kept : Option Cache) (delta : Delta) (selected : Option (List ℕ)) (count after : ℕ) (old new : Clock)
     → cache_at name b.boxes ≡ kept → HasBooks mail (Firm (Some b)) old.now → IsKept mail Unplayed old.now → AllFair mail unplayed old new
     → Resyncs selected count after name kept (Ok delta) old new → IsLevelled name (learned kept delta) old new
+
+abbrev pub ResyncsFaultless : Type 0
+ResyncsFaultless = (b : Meaning) (name : List ℕ) (kept : Option Cache) (fault : ResyncFault) (selected : Option (List ℕ)) (count after : ℕ)
+    (old new : Clock) → cache_at name b.boxes ≡ kept → HasBooks mail (Firm (Some b)) old.now → IsKept mail Unplayed old.now → AllFair mail unplayed old new
+    → Resyncs selected count after name kept (Err fault) old new → fault ≡ resyncs.Memory

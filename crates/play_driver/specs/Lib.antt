@@ -10,3 +10,10 @@ pub mod Exchanges
 pub mod Resynchronising
 pub mod Synced
 pub mod Levelling
+pub mod Faults
+pub mod Learning
+pub mod Stages
+pub mod Questioning
+pub mod Entering
+pub mod Visiting
+pub mod Playing

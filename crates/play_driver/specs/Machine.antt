@@ -43,8 +43,9 @@ pub data Step (K : Keeping) (M : Machine K) (x : State K) : State K → Type 0 w
   connects : Step K M x (record x { waiting = None })
 
 -- What a relation must stand: an event that is permitted, with the same server and waiting command; a command of the book, or a
--- question, that waits from now on; the table's answer to what waits; that what waits is dropped; changes by others, which leave
--- a command of this connection, or one that waits, one that may be sent. And others that change nothing spare every book.
+-- question, that waits from now on; the table's answer to what waits; that what waits is dropped; changes by others. Behind
+-- these a command may still be sent if it might before, where what is selected is as it was for it, or where it waits
+-- (`sendable`). And others that change nothing spare every book.
 pub record Withstands (K : Keeping) (M : Machine K) (R : Relation K) : Type 0 where
   pub event : (version : Version) (b : Option K.Book) (e : K.Event) (s : Server) (w : Option Waiting) → K.MayCome version b e → M.Permits b e s w →
       R b s w → R (Some (K.next_book b e)) s w

@@ -1,11 +1,20 @@
 -- A cache that is the server's at a moment (RFC 7162, section 3.2.5).
-use Rattle.std.specs.Prelude.{◌≡◌, ℕ, List, Some}
+use Rattle.std.specs.Prelude.{◌≡◌, ◌⊎◌, ℕ, List, Option, Some}
+use Rattle.imap_model.specs.CarriedOut.{CarriesOut}
+use Rattle.imap_model.specs.Carrying.{Waiting}
 use Rattle.imap_model.specs.Lookups.{box_at}
+use Rattle.imap_model.specs.declared.command.Command.TheVariants as commands
+use Rattle.imap_model.specs.declared.ending.Ending.TheVariants as endings
+use Rattle.imap_model.specs.declared.mark.Mark.{Mark}
+use Rattle.imap_model.specs.declared.replies.Replies.{Replies}
 use Rattle.imap_model.specs.declared.server.Mailbox.{Mailbox}
 use Rattle.mailbox_cache.specs.Rows.{row_at}
 use Rattle.mailbox_cache.specs.declared.cache.Cache.{Cache}
+use Rattle.action_queue.specs.Book.{Meaning, cache_at}
 use Rattle.qresync_core.specs.Fresh.{server_row}
-use Rattle.world_traits.specs.Moments.{Moment}
+use Rattle.world_traits.specs.Links.{Any}
+use Rattle.world_traits.specs.Moments.{Moment, Clock, Became}
+use Rattle.play_driver.specs.Joining.{AnyTwo}
 
 -- the cache has the UIDVALIDITY and the rows that the mailbox of this name has at this moment
 pub record IsLevel (name : List ℕ) (cache : Cache) (m : Moment) : Type 0 where
@@ -13,3 +22,23 @@ pub record IsLevel (name : List ℕ) (cache : Cache) (m : Moment) : Type 0 where
   pub there : box_at name m.outside.server.boxes ≡ Some box
   pub validity : cache.validity ≡ box.validity
   pub rows : (uid : ℕ) → row_at uid cache.rows ≡ server_row uid box
+
+-- the command asks for the rows of the mailbox of this name: SELECT, or the FETCH of all rows while it is selected
+abbrev pub AsksRows : List ℕ → Waiting → Type 0
+AsksRows name w = ((since : Option Mark) × (w.command ≡ commands.Select name since)) ⊎ ((w.selected ≡ Some name) × (w.command ≡ commands.FetchAll))
+
+-- From one moment to the next such a command was carried out and answered by OK; and the cache is the server's as it was then.
+pub record IsReadAt (name : List ℕ) (cache : Cache) (m n : Moment) : Type 0 where
+  pub asked : Waiting
+  pub rows : AsksRows name asked
+  pub replies : Replies
+  pub accepted : replies.ending ≡ endings.Ok
+  pub selects : Option (List ℕ)
+  pub carried : CarriesOut asked m.outside.server replies n.outside.server selects
+  pub level : IsLevel name cache m
+
+-- the book has a cache of this name, which is the server's as it answered for its rows at a moment of this time
+pub record IsSynced (name : List ℕ) (b : Meaning) (old new : Clock) : Type 0 where
+  pub cache : Cache
+  pub there : cache_at name b.boxes ≡ Some cache
+  pub level : Became Any AnyTwo (IsReadAt name cache) old new

@@ -55,15 +55,15 @@ Unplayed (Some b) s w = IsUntouched s w × IsUnplayedBook b s
 
 -- A book begins where this client changed nothing and is about to change nothing. An action is accepted that can be written. A
 -- delta is learned where the new cache is fresh. No intent and no outcome comes yet.
-abbrev pub MayLearn : Option Meaning → Event → Server → Option Waiting → Type 0
-MayLearn None (events.Begin names) s w = NoneOurs s.history × NoChangeWaits w
-MayLearn (Some b) (events.Begin names) s w = ⊥
-MayLearn None (events.Accept id action) s w = ⊥
-MayLearn (Some b) (events.Accept id action) s w = IsWritable (events.Accept id action)
-MayLearn b (events.Intend id intent) s w = ⊥
-MayLearn b (events.Settle id outcome) s w = ⊥
-MayLearn None (events.Learn name delta) s w = ⊥
-MayLearn (Some b) (events.Learn name delta) s w = IsFreshAt s name (learned (cache_at name b.boxes) delta)
+abbrev pub MayBegin : Option Meaning → Event → Server → Option Waiting → Type 0
+MayBegin None (events.Begin names) s w = NoneOurs s.history × NoChangeWaits w
+MayBegin (Some b) (events.Begin names) s w = ⊥
+MayBegin None (events.Accept id action) s w = ⊥
+MayBegin (Some b) (events.Accept id action) s w = IsWritable (events.Accept id action)
+MayBegin b (events.Intend id intent) s w = ⊥
+MayBegin b (events.Settle id outcome) s w = ⊥
+MayBegin None (events.Learn name delta) s w = ⊥
+MayBegin (Some b) (events.Learn name delta) s w = IsFreshAt s name (learned (cache_at name b.boxes) delta)
 
 -- no command that changes a mailbox is sent
 abbrev pub SendsNone : Meaning → Server → Waiting → Type 0
@@ -74,4 +74,4 @@ abbrev pub LeavesValidities : Option Meaning → Peer → Server → Type 0
 LeavesValidities b p t = (name : List ℕ) → validity_of (box_at name t.boxes) ≡ validity_of (box_at name p.server.boxes)
 
 abbrev pub unplayed : Machine mail
-unplayed = record { Permits = MayLearn; MaySend = SendsNone; Spares = LeavesValidities }
+unplayed = record { Permits = MayBegin; MaySend = SendsNone; Spares = LeavesValidities }

@@ -14,6 +14,7 @@ ghost use Rattle.imap_session.specs.declared.fault.SessionFault.{SessionFault};
 ghost use Rattle.imap_session.specs.declared.fault.SessionFault.TheVariants as faults;
 ghost use Rattle.imap_session.specs.Enquiring.{Enquiring};
 ghost use Rattle.play_driver.specs.Exchanges.{AnsweredAll, CameAll};
+ghost use Rattle.play_driver.specs.Questioning.{Questioning};
 ghost use Rattle.play_driver.specs.Resynchronising.{exchanged, fetches, mark_kept, resync, then_all};
 ghost use Rattle.play_driver.specs.Sessions.{selected_in, count_of, feed_of};
 
@@ -45,6 +46,7 @@ pub fn gather<L: Link>(
     requires stands { L.tells_server → Stands (selected_in session) (L.clock link.old) (L.link link.old).connection (feed_of session) }
     ensures files { L.tells_files → Linked AnyStep (L.clock link.old) (L.clock link.new) }
     ensures told { L.tells_server → Linked Enquiring (L.clock link.old) (L.clock link.new) }
+    ensures asks { L.tells_server → Linked Questioning (L.clock link.old) (L.clock link.new) }
     ensures answered { L.tells_server
         → IfOk result (λ p. AnsweredAll (exchanged name.now (option_copied kept.entry) p.1) (selected_in session)
         (count_of session) (L.clock link.old) (L.clock link.new)) }

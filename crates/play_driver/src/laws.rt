@@ -8,7 +8,7 @@ ghost use Rattle.play_driver.specs.Laws.{RecordingKeeps, OpeningKeeps, StopKeeps
 ghost use Rattle.play_driver.specs.Laws.{RecordingJoins, OpeningJoins, StopJoins, LinkJoins, EnquiryJoins, SendingJoins};
 ghost use Rattle.play_driver.specs.Laws.{RecordingGoesOn, OpeningGoesOn, StopGoesOn, LinkStays, BooksKeep};
 ghost use Rattle.play_driver.specs.Laws.{ChoosingJoins, BeginningJoins, ChoosingGoesOn, BeginningGoesOn};
-ghost use Rattle.play_driver.specs.Levelling.{ResyncsLevel};
+ghost use Rattle.play_driver.specs.Levelling.{LinkFaultless, LinkLevels, ResyncsFaultless, ResyncsLevel};
 ghost use Rattle.play_driver.specs.Machine.{Machine, Relation, Withstands};
 
 /// A ledger on a journal, a relation of its book, or of none, with a server and the command that waits there, and how a server
@@ -92,8 +92,13 @@ pub fn books_go_on<R: Related>()
     ensures keeping { BooksKeep R.ledger R.property }
 {}
 
-/// As long as no action is played and others leave UIDVALIDITY, the cache that a resynchronisation makes is the server's at a
-/// moment of it, and fresh at its end.
+/// What a resynchronisation makes of a cache. At first the server is well formed, no command that changes a mailbox waits, and
+/// what is kept of the mailbox is fresh; and others leave its UIDVALIDITY. Then the cache is the server's at a moment of the
+/// resynchronisation, and fresh at its end; and none fails to make a delta but for want of memory. Beside a book it is so as
+/// long as no action is played.
 pub fn resyncs_level()
-    ensures { ResyncsLevel }
+    ensures over_link { LinkLevels }
+    ensures faultless { LinkFaultless }
+    ensures beside_book { ResyncsLevel }
+    ensures faultless_beside_book { ResyncsFaultless }
 {}

@@ -1,14 +1,23 @@
-//! What joins a ledger's calls of the disk with a session's calls of the link, and how a mailbox is resynchronised.
+//! What joins a ledger's calls of the disk with a session's calls of the link, how a mailbox is resynchronised, and a run.
 #![tactic(auto)]
 
+mod entering;
+mod fault;
 mod gathering;
 mod laws;
+mod played;
+mod plays;
+mod recording;
 mod resync;
 mod session;
+mod visiting;
 
+pub use fault::{PlayFault, Why};
 pub use gathering::Gathered;
 pub use laws::{
     Related, Steady, books_go_on, calls_keep_relations, calls_stay_joined, resyncs_level,
 };
+pub use played::Played;
+pub use plays::{MAX_BOXES, play};
 pub use resync::resynchronise;
 pub use session::Session;

@@ -11,6 +11,7 @@ ghost use Rattle.imap_session.specs.Session.{Follows, Stands};
 ghost use Rattle.imap_session.specs.declared.fault.SessionFault.{SessionFault};
 ghost use Rattle.imap_session.specs.declared.fault.SessionFault.TheVariants as faults;
 ghost use Rattle.imap_session.specs.Enquiring.{Enquiring};
+ghost use Rattle.play_driver.specs.Questioning.{Questioning};
 ghost use Rattle.play_driver.specs.Resynchronising.{resync, Resyncs, DeltaCame, IsLearnable};
 ghost use Rattle.play_driver.specs.Sessions.{selected_in, count_of, feed_of};
 
@@ -43,6 +44,7 @@ pub fn resynchronise<L: Link>(
     // Over a link that tells its server, the delta is that of the server's answers, each at one moment of this call.
     ensures files { L.tells_files → Linked AnyStep (L.clock link.old) (L.clock link.new) }
     ensures told { L.tells_server → Linked Enquiring (L.clock link.old) (L.clock link.new) }
+    ensures asks { L.tells_server → Linked Questioning (L.clock link.old) (L.clock link.new) }
     ensures value { L.tells_server
         → IfOk result (λ p. Resyncs (selected_in session) (count_of session) p.0.conversation.count name.now (option_copied kept.entry) p.1
         (L.clock link.old) (L.clock link.new)) }

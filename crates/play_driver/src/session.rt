@@ -16,7 +16,9 @@ ghost use Rattle.imap_session.specs.Sent.{SentFront};
 ghost use Rattle.imap_session.specs.Session.{Answered, Follows, Stands, waiting_of};
 ghost use Rattle.imap_session.specs.declared.fault.SessionFault.{SessionFault};
 ghost use Rattle.imap_session.specs.declared.fault.SessionFault.TheVariants as faults;
+ghost use Rattle.play_driver.specs.Playing.{HasLeft, NotLeft};
 ghost use Rattle.play_driver.specs.Sessions.{selected_in, count_of, feed_of};
+ghost use Rattle.play_driver.specs.Stages.{stage_of};
 
 use imap_model::{Mark, Replies};
 use imap_session::{Chosen, Ready, SessionFault};
@@ -81,6 +83,29 @@ impl Session {
         match self {
             Session::Ready(ready) => ready.select(link, name, since),
             Session::Chosen(chosen) => chosen.select(link, name, since),
+        }
+    }
+
+    /// Ends the session, as `Ready::leave` and `Chosen::leave` do: LOGOUT is sent, and a BYE or its completion is read.
+    pub fn leave<L: Link>(self, link: &mut L) -> Result<(), SessionFault>
+        requires room { count_of self + 1 < 4294967295 }
+        requires follows { L.tells_files → Follows (L.link link.old).connection (feed_of self) }
+        requires stands { L.tells_server → Stands (selected_in self) (L.clock link.old) (L.link link.old).connection (feed_of self) }
+        ensures files { L.tells_files → Linked AnyStep (L.clock link.old) (L.clock link.new) }
+        ensures told { L.tells_server
+            → Linked (Asking (L.clock link.old).now.outside.talk.told (next_tag (count_of self)) commands.Logout)
+            (L.clock link.old) (L.clock link.new) }
+        ensures left { L.tells_files → OnOk result (HasLeft (stage_of (L.link link.old) self) (L.link link.new)) }
+        ensures why { L.tells_files → (fault : SessionFault) → IsErrOf result fault
+            → NotLeft (stage_of (L.link link.old) self) (L.link link.new) fault }
+        ensures honest { L.tells_server → (at : ℕ) → IsErrOf result (faults.BadReply at) → ⊥ }
+        ensures disk { L.disk_faults link.new ≡ L.disk_faults link.old }
+        ensures count { (L.link link.old).faults ≤ (L.link link.new).faults }
+        ensures cause { IsErrOf result faults.Link → Rose (L.link link.old).faults (L.link link.new).faults }
+    {
+        match self {
+            Session::Ready(ready) => ready.leave(link),
+            Session::Chosen(chosen) => chosen.leave(link),
         }
     }
 }

@@ -6,6 +6,7 @@ use Rattle.imap_session.specs.Faults.{IsCount}
 use Rattle.imap_session.proofs.Talking.{linked_then}
 use Rattle.play_driver.specs.Sessions.{selected_in, count_of}
 use Rattle.play_driver.proofs.Gathers.{answered_two, both_told, came_one, came_two, select_told, sent_two, why_two}
+use Rattle.play_driver.proofs.OverOne.{both_over, select_over}
 use Rattle.play_driver.proofs.gathering.gather.Goals as goal
 
 pub returns-in_err-answer-clause-told : goal.returns-in_err-answer-clause-told
@@ -73,3 +74,17 @@ returns-clause-sent g c = λ t next.
     sent_two c.args.name.now (option_copied c.args.kept) c.mark_kept.result c.mark_kept.ensures (count_of c.args.session) next c.next_tag-tag.result
     c.in_ok-answer.answer.1 _ _ _ (c.next_tag-tag.ensures ∙ ap (λ (k : ℕ). tags.Count (k + 1)) c.in_ok-answer.ensures.counted)
     (sym c.if-not-is_fetch_due.false ∙ c.is_fetch_due.ensures) (c.in_ok-answer.ensures.whole t) (c.ask.ensures.sent t)
+
+pub returns-in_err-answer-clause-asks : goal.returns-in_err-answer-clause-asks
+returns-in_err-answer-clause-asks g c = λ t. select_over c.args.name.now c.mark_kept.result (count_of c.args.session) _ _ (c.select.ensures.told t)
+
+pub returns-then-not-is_fetch_due-clause-asks : goal.returns-then-not-is_fetch_due-clause-asks
+returns-then-not-is_fetch_due-clause-asks g c = λ t. select_over c.args.name.now c.mark_kept.result (count_of c.args.session) _ _ (c.select.ensures.told t)
+
+pub returns-in_err-fetched-clause-asks : goal.returns-in_err-fetched-clause-asks
+returns-in_err-fetched-clause-asks g c = λ t.
+    both_over c.args.name.now c.mark_kept.result (count_of c.args.session) c.next_tag-tag.result _ _ _ (c.select.ensures.told t) (c.ask.ensures.told t)
+
+pub returns-clause-asks : goal.returns-clause-asks
+returns-clause-asks g c = λ t.
+    both_over c.args.name.now c.mark_kept.result (count_of c.args.session) c.next_tag-tag.result _ _ _ (c.select.ensures.told t) (c.ask.ensures.told t)

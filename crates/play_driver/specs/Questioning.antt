@@ -1,0 +1,26 @@
+-- How a server with its connection goes on while a session asks over the connection that it has (RFC 9051, section 3).
+use Rattle.std.specs.Prelude.{◌≡◌, ◌⊎◌, false, List}
+use Rattle.mail_base.specs.declared.tag.Tag.{Tag}
+use Rattle.imap_model.specs.Mutating.{is_mutating}
+use Rattle.imap_model.specs.Talking.{Peer, Answering, Connecting}
+use Rattle.imap_model.specs.declared.command.Command.{Command}
+use Rattle.imap_model.specs.declared.response.Response.{Response}
+use Rattle.world_traits.specs.Asking.{Asking}
+use Rattle.world_traits.specs.Links.{Any, Linked, LinkStep}
+use Rattle.world_traits.specs.Moments.{Moment, Clock, Since}
+
+-- the server answers, or a question is asked that changes no mailbox; no connection is made
+pub data Questioning (p : Peer) : Peer → Type 0 where
+  answering : {q : Peer} → Answering p q → Questioning p q
+  asking : {q : Peer} (told : List Response) (tag : Tag) (command : Command) → is_mutating command ≡ false → Asking told tag command p q →
+      Questioning p q
+
+-- what isn't on the disk stays, or so it goes on
+abbrev pub TalkStep : Moment → Moment → Type 0
+TalkStep m n = (n.outside ≡ m.outside) ⊎ LinkStep Questioning m n
+
+-- up to a clock between the two a connection is made, and behind it there are such steps alone
+pub record ConnectsFirst (S : Moment → Moment → Type 0) (old new : Clock) : Type 0 where
+  pub at : Clock
+  pub connects : Linked Connecting old at
+  pub behind : Since Any S at new

@@ -1,0 +1,46 @@
+//! A run enters: it connects, reads the greeting, logs the user in and enables QRESYNC.
+
+ghost use Rattle.std.specs.Prelude.{◌≡◌, ◌≤◌, ℕ, None, IfOk, IsErrOf};
+ghost use Rattle.world_traits.specs.Calls.{Rose};
+ghost use Rattle.world_traits.specs.Links.{Linked, LinkStep, AnyStep};
+ghost use Rattle.imap_session.specs.Enquiring.{Enquiring};
+ghost use Rattle.imap_session.specs.Session.{Follows, Stands};
+ghost use Rattle.imap_session.specs.declared.fault.SessionFault.{SessionFault};
+ghost use Rattle.imap_session.specs.declared.fault.SessionFault.TheVariants as faults;
+ghost use Rattle.play_driver.specs.Entering.{HasEntered, NotEntered};
+ghost use Rattle.play_driver.specs.Questioning.{ConnectsFirst, Questioning};
+ghost use Rattle.play_driver.specs.Stages.{stage_of};
+ghost use Rattle.play_driver.specs.declared.session.Session.TheVariants as sessions;
+
+use imap_session::{Fresh, Ready, SessionFault};
+use mail_base::Account;
+use std::alloc::Global;
+use world_traits::{Clocked, Link};
+
+/// Makes a connection, reads its greeting, logs the user in and enables QRESYNC. The faults are those of the session's calls;
+/// after one the connection isn't used again.
+pub(crate) fn enter<L: Link>(
+    alloc: Global,
+    link: &mut L,
+    account: &Account,
+) -> Result<Ready, SessionFault>
+    ensures files { L.tells_files → Linked AnyStep (L.clock link.old) (L.clock link.new) }
+    ensures told { L.tells_server → Linked Enquiring (L.clock link.old) (L.clock link.new) }
+    ensures once { L.tells_server → ConnectsFirst (LinkStep Questioning) (L.clock link.old) (L.clock link.new) }
+    ensures entered { L.tells_files → IfOk result (λ s. HasEntered account.now (stage_of (L.link link.new) (sessions.Ready s))) }
+    ensures stands { L.tells_server
+        → IfOk result (λ s. Stands None (L.clock link.new) (L.link link.new).connection s.conversation.feed) }
+    ensures still { L.tells_files → IfOk result (λ s. Follows (L.link link.new).connection s.conversation.feed) }
+    ensures counted { IfOk result (λ s. s.conversation.count ≤ 4) }
+    ensures why { L.tells_files → (fault : SessionFault) → IsErrOf result fault
+        → NotEntered account.now (L.link link.old) (L.link link.new) fault }
+    ensures honest { L.tells_server → (at : ℕ) → IsErrOf result (faults.BadReply at) → ⊥ }
+    ensures disk { L.disk_faults link.new ≡ L.disk_faults link.old }
+    ensures count { (L.link link.old).faults ≤ (L.link link.new).faults }
+    ensures cause { IsErrOf result faults.Link → Rose (L.link link.old).faults (L.link link.new).faults }
+{
+    let fresh = Fresh::connect(alloc, link)?;
+    let greeted = fresh.greet(link)?;
+    let known = greeted.authenticate(link, account)?;
+    known.enable(link)
+}

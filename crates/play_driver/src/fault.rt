@@ -1,0 +1,102 @@
+//! Why a run ended early.
+
+use imap_model::{Item, Limit};
+use imap_session::SessionFault;
+use mail_base::{BoxName, Bytes, ModSeq, Validity};
+use std::alloc::AllocError;
+use store_core::CommitFault;
+
+/// Why a run ended early.
+#[derive(Drop)]
+pub enum PlayFault {
+    /// Memory is wanting.
+    Memory,
+    /// The disk failed. What was to be recorded last is there or not.
+    Disk,
+    /// The link failed.
+    Link,
+    /// The server said BYE, or NO or BAD to a question: its line.
+    Refused {
+        line: Bytes,
+    },
+    /// What came is no reply, or lacks what the server owes.
+    BadReply {
+        why: Why,
+    },
+    /// The server lacks a thing that this client needs.
+    Lacking {
+        what: Item,
+    },
+    /// The mailbox of this name has another UIDVALIDITY than its cache (RFC 9051, section 2.3.1.1).
+    Validity {
+        name: BoxName,
+        kept: Validity,
+        told: Validity,
+    },
+    /// A limit is passed: by how much is told.
+    Limit {
+        which: Limit,
+        number: u64,
+    },
+}
+
+/// What is wrong with a reply.
+#[derive(Clone, Copy, Debug, PartialEq, Eq)]
+pub enum Why {
+    /// The bytes that came in the connection don't go on as a reply at this place, counted from 0.
+    At(u64),
+    /// The reply lacks this.
+    Lacks(Item),
+    /// HIGHESTMODSEQ is below that of the cache (RFC 7162, section 3.1.2.1).
+    Lower { kept: ModSeq, told: ModSeq },
+}
+
+impl From<AllocError> for PlayFault {
+    ghost use Rattle.std.specs.Prelude.{◌≡◌};
+    ghost use Rattle.play_driver.specs.declared.fault.PlayFault.TheVariants as faults;
+
+    ghost from_gives = { λ _ fault. fault ≡ faults.Memory };
+
+    fn from(_wanting: AllocError) -> PlayFault {
+        PlayFault::Memory
+    }
+}
+
+impl From<SessionFault> for PlayFault {
+    ghost use Rattle.std.specs.Prelude.{◌≡◌};
+    ghost use Rattle.play_driver.specs.Faults.{of_session};
+
+    ghost from_gives = { λ session fault. fault ≡ of_session session };
+
+    fn from(fault: SessionFault) -> PlayFault {
+        match fault {
+            SessionFault::Memory => PlayFault::Memory,
+            SessionFault::Link => PlayFault::Link,
+            SessionFault::Refused { line } => PlayFault::Refused { line },
+            SessionFault::BadReply { at } => PlayFault::BadReply { why: Why::At(at) },
+            SessionFault::Lacking { what } => PlayFault::Lacking { what },
+            SessionFault::TooLarge { limit, number } => PlayFault::Limit {
+                which: limit,
+                number,
+            },
+        }
+    }
+}
+
+impl From<CommitFault> for PlayFault {
+    ghost use Rattle.std.specs.Prelude.{◌≡◌};
+    ghost use Rattle.play_driver.specs.Faults.{of_commit};
+
+    ghost from_gives = { λ commit fault. fault ≡ of_commit commit };
+
+    fn from(fault: CommitFault) -> PlayFault {
+        match fault {
+            CommitFault::Memory => PlayFault::Memory,
+            CommitFault::Disk => PlayFault::Disk,
+            CommitFault::Full { wanted, .. } => PlayFault::Limit {
+                which: Limit::Journal,
+                number: wanted,
+            },
+        }
+    }
+}
