@@ -26,7 +26,7 @@ use std::rt::Env;
 use streams::{InputSource, OutputSink};
 use top_calls::{TopCall, top_call};
 use world_real::{RealWorld, StandardNumbers};
-use world_traits::Sink;
+use world_traits::{Link, Sink};
 
 fn main(rt: HostRuntime) -> ExitCode {
     // Before any file is opened, so that none gets the number of a closed stream. They are held up to the end.
@@ -59,7 +59,7 @@ where
     }
 }
 
-// Hands the words to a top call, with the user's settings.
+// Hands the words to a top call, with the user's settings, and closes the connection that it leaves.
 fn carried_out<R>(rt: &R, call: TopCall, words: &[String]) -> Result<Status, AllocError>
 where
     R: Files<File = File> + Net<Stream = TcpStream> + Env + Input + Print + Eprint + AllocGlobal,
@@ -74,6 +74,7 @@ where
     let status = match call {
         TopCall::Run => run(alloc, words, &account, &mut input, &mut world, &mut out),
     };
+    world.close();
     if world.is_in_use() {
         let _ = rt.eprint(IN_USE);
     }

@@ -7,16 +7,24 @@ ghost use Rattle.mail_cli.specs.Notices.{AsksHelp, AsksVersion, OneOf};
 /// The text of `--help`.
 pub const HELP: &str = "\
 usage: mowerbean init BOX ..            sets up a journal for 1 to 32 mailboxes
-       mowerbean flag BOX UID + FLAG    the message is to have the flag
-       mowerbean flag BOX UID - FLAG    the message is to be without it
+       mowerbean flag BOX UID + FLAG .. the message is to have the flags
+       mowerbean flag BOX UID - FLAG .. the message is to be without them
+       mowerbean list BOX               shows the cached messages
+       mowerbean play                   fetches what is new of each mailbox
        mowerbean --help | --version
 
-FLAG is \\Answered, \\Flagged, \\Deleted, \\Seen or \\Draft. The journal is kept in
-journal.0 and journal.1 of the folder MAIL_DIR (default: the present one).
+FLAG is \\Answered, \\Flagged, \\Deleted, \\Seen, \\Draft or a keyword. The journal
+is kept in journal.0 and journal.1 of the folder MAIL_DIR (default: the present
+one). The server is MAIL_SERVER, as HOST:PORT (default: localhost:143), the user
+MAIL_USER, and the password MAIL_PASSWORD. What `flag` asks for is kept in the
+journal; playing it back on the server isn't built yet.
+
+mowerbean play          prints `played 0 conflicts 0`
+mowerbean list INBOX    prints UID, mod-sequence and flags: `42 715 \\seen`
 ";
 
 /// The text of `--version`.
-pub const VERSION: &str = "mowerbean 0.1.0\n";
+pub const VERSION: &str = "mowerbean 0.2.0-dev\n";
 
 /// What is told on standard error beside `error disk` where another run uses the journal.
 pub const IN_USE: &str = "mowerbean: another run uses the journal\n";

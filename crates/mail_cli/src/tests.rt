@@ -26,15 +26,19 @@ fn a_record_reaches_the_real_file(rt: HostRuntime) -> Result<(), Fail> {
     let account = Account::new(alloc, "", "")?;
     let mut input = MemSource::new(Vec::new(alloc));
     let mut out = MemSink::new(alloc);
-    for command in ["init INBOX Archive", "flag INBOX 42 + \\Seen"] {
+    for (command, wanted) in [
+        ("init INBOX Archive", Status::Done),
+        ("flag INBOX 42 + \\Seen", Status::Reason),
+        ("list INBOX", Status::Done),
+    ] {
         let words = words_of(alloc, command)?;
         let mut world = RealWorld::new(&rt, Some(path.as_str()), None);
         let status = run(alloc, &words, &account, &mut input, &mut world, &mut out);
-        assert_eq!(rt; (status, world.disk_faults()), (Status::Done, 0));
+        assert_eq!(rt; (status, world.disk_faults()), (wanted, 0));
     }
-    assert_eq!(rt; out.bytes(), b"ready\naccepted 1\n".as_slice());
+    assert_eq!(rt; out.bytes(), b"ready\nrefused no-message\n".as_slice());
     let file = format!(in alloc; "{path}/journal.0")?;
-    assert_eq!(rt; fs::read(&rt, file.as_str())?.len(), 58);
+    assert_eq!(rt; fs::read(&rt, file.as_str())?.len(), 35);
     fs::remove_dir_all(&rt, path.as_str())?;
     Ok(())
 }

@@ -1,167 +1,258 @@
--- What each status says follows from what became of the command, and a lawful command with room ends well.
-use Rattle.std.proofs.Common.{◌≡◌, ◌⊎◌, inl, inr, ⊎_elim, ℕ, List, [], ◌∷◌, slice_index, refl, sym, ◌∙◌, ap, subst, arith, Result, Ok}
-use Rattle.std.proofs.Common.{Err, IfOk, OnOk, IfErr, IsErr}
+-- What each status says follows from what became of the command; and a lawful command ends well.
+use Rattle.std.proofs.Common.{◌≡◌, ◌⊎◌, inl, inr, ⊎_elim, ℕ, ◌≤◌, List, length, Some, refl, sym, ◌∙◌, ap, subst, arith}
 use Rattle.std.specs.Prelude.{◌↔◌}
+use Rattle.mail_base.specs.Account.{Credentials}
 use Rattle.mail_base.specs.declared.status.Status.{Status}
 use Rattle.mail_base.specs.declared.status.Status.TheVariants as status
 use Rattle.world_traits.specs.Files.{Files, file_of}
-use Rattle.world_traits.specs.Moments.{Moment, Clock, Images, Since, Within}
-use Rattle.world_traits.proofs.Keeping.{since_now}
-use Rattle.world_traits.proofs.Narrowing.{within_self}
-use Rattle.world_traits.proofs.Passing.{since_start, since_weaker}
-use Rattle.journal_core.specs.declared.version.Version.TheVariants.{First}
-use Rattle.journal_core.specs.declared.fault.Place9.{Place9}
-use Rattle.journal_core.specs.declared.fault.Place9.TheVariants as places
-use Rattle.journal_core.specs.declared.creating.CreateFault.{CreateFault}
-use Rattle.journal_core.specs.declared.creating.CreateFault.TheVariants as creates
 use Rattle.journal_core.specs.Creating.{IsTaken, IsUnbegun}
-use Rattle.journal_core.specs.Holds.{Holds}
-use Rattle.journal_core.specs.HeldBodies.{DiskKeepsHeld}
-use Rattle.journal_core.specs.Limits.{max_accepted}
+use Rattle.journal_core.specs.Records.{records}
 use Rattle.journal_core.specs.Reading.{AnyWrong}
 use Rattle.journal_core.proofs.Choice.{open_head}
 use Rattle.journal_core.proofs.Unique.{one_book}
-use Rattle.mail_top.specs.Accepted.{IsAccepted, IsOverfull, IsAdding, IsCreating, begin_of_texts, end_with_action}
-use Rattle.mail_top.specs.Book.{HoldsBook, IsBroken}
-use Rattle.mail_top.specs.Ending.{Ends, SaysBroken, SaysTaken, OnTheWay, kept, adding, creating, HasRoom, line_of, status_of}
-use Rattle.mail_top.specs.Ending.{line_of_flag, status_of_init, line_of_init}
-use Rattle.mail_top.specs.FlagAction.{body_of}
-use Rattle.mail_top.specs.Words.{Asks, AsksInit, AsksNothing}
-use Rattle.mail_top.specs.declared.accepting.AcceptFault.{AcceptFault}
-use Rattle.mail_top.specs.declared.accepting.AcceptFault.TheVariants as faults
-use Rattle.mail_top.specs.declared.flag_action.FlagAction.{FlagAction}
-use Rattle.mail_top.proofs.Wholeness.{never_both}
+use Rattle.action_queue.specs.Book.{Meaning}
+use Rattle.action_queue.specs.Queues.{AllSettled}
+use Rattle.action_queue.specs.declared.event.Event.{Event}
+use Rattle.store_core.specs.Mail.{mail}
+use Rattle.store_core.specs.Books.{HasBook}
+use Rattle.store_core.proofs.Folding.{one_held}
+use Rattle.store_core.proofs.MailBook.{one_mail_event}
+use Rattle.store_core.proofs.Wholeness.{never_both}
+use Rattle.mail_top.specs.Ending.{Ends, EndsInit, EndsFlag, EndsRows, EndsPlay, EndsRequest, IsDone, IsLater, IsTakable, IsListable, HasWaiting}
+use Rattle.mail_top.specs.Saying.{SaysRefused, SaysFull, PassesPlace}
+use Rattle.mail_top.specs.Actions.{action_of, accepts}
+use Rattle.mail_top.specs.Course.{Course, end_behind}
+use Rattle.mail_top.specs.Played.{CameThrough, SaysPlayed, SaysStopped}
+use Rattle.mail_top.specs.Printing.{IsSaid}
+use Rattle.mail_top.specs.Reasons.{reason_of}
+use Rattle.mail_top.specs.Texts.{limit_actions}
+use Rattle.mail_top.specs.Words.{Change, Request, Init, Flag, Rows, Play, Asks, AsksNothing}
+use Rattle.mail_top.proofs.Wording.{one_request}
 
-module _ (words : List (List ℕ)) (k l : Clock) (seen : Files) where
-  -- the moments of an acceptance
-  pub adding_way : (a : FlagAction) → Asks words a → Since (IsAdding (body_of a) seen k.now) DiskKeepsHeld k l
-      → Since (OnTheWay words k.now seen) DiskKeepsHeld k l
-  adding_way a asks s = since_weaker (IsAdding (body_of a) seen k.now) (OnTheWay words k.now seen) DiskKeepsHeld DiskKeepsHeld
-      (λ m p. ⊎_elim (λ w. kept w) (λ i. adding a asks i) p) (λ m n s. s) k l s
+-- a failed output says as much of a request as a printed text
+output_as : (account : Credentials) (request : Request) (k : Course) (text : List ℕ) → EndsRequest account request k status.Done text →
+    EndsRequest account request k status.Output text
+output_as account (Init names) k text ends = ends
+output_as account (Flag change) k text ends = ends
+output_as account (Rows name) k text ends = ends
+output_as account Play k text ends = ends
 
-  -- and of a creation
-  pub creating_way : (texts : List (List ℕ)) → AsksInit words texts → Since (IsCreating (begin_of_texts texts) k.now) DiskKeepsHeld k l →
-      Since (OnTheWay words k.now seen) DiskKeepsHeld k l
-  creating_way texts asks s = since_weaker (IsCreating (begin_of_texts texts) k.now) (OnTheWay words k.now seen) DiskKeepsHeld DiskKeepsHeld
-      (λ m p. ⊎_elim (λ w. kept w) (λ i. creating texts asks i) p) (λ m n s. s) k l s
+module _ (account : Credentials) (words : List (List ℕ)) (k : Course) where
+  output_ends : (text : List ℕ) → Ends account words k status.Done text → Ends account words k status.Output text
+  output_ends text (inl w) = absurd (let told = w.told in cc)
+  output_ends text (inr s) = inr (record { request = s.request; asks = s.asks; ends = output_as account s.request k text s.ends })
 
-  -- what a stop leaves now
-  pub way_now : Since (OnTheWay words k.now seen) DiskKeepsHeld k l → OnTheWay words k.now seen l.now
-  way_now s = since_now (OnTheWay words k.now seen) (OnTheWay words k.now seen) DiskKeepsHeld (λ m n p step q. p) k (kept (within_self k.now)) l s
+  -- no command of these ends with conflicts
+  with_conflicts : (text : List ℕ) → Ends account words k status.Conflicts text → ⊥
+  with_conflicts text (inl s) = absurd (cc s.told)
+  with_conflicts text (inr s) = by_request s.request s.ends
+    where
+      by_request : (request : Request) → EndsRequest account request k status.Conflicts text → ⊥
+      by_request (Init names) ends = ends.says
+      by_request (Flag change) ends = ends.says
+      by_request (Rows name) ends = ends.says
+      by_request Play ends = ends
 
-pub no_way : (words : List (List ℕ)) (k : Clock) (seen : Files) → Since (OnTheWay words k.now seen) DiskKeepsHeld k k
-no_way words k seen = since_start (OnTheWay words k.now seen) DiskKeepsHeld k
+  pub said_ends : (r s : Status) (text : List ℕ) → IsSaid s r → Ends account words k s text → Ends account words k r text
+  said_ends r s text (inl same) ends = subst (λ (t : Status). Ends account words k t text) (sym same) ends
+  said_ends r s text (inr (inl done, is)) ends = subst (λ (t : Status). Ends account words k t text) (sym is)
+      (output_ends text (subst (λ (t : Status). Ends account words k t text) done ends))
+  said_ends r s text (inr (inr conflicts, is)) ends = absurd (with_conflicts text (subst (λ (t : Status). Ends account words k t text) conflicts ends))
 
--- the first byte of the first word
-abbrev first_byte : List (List ℕ) → ℕ
-first_byte [] = 0
-first_byte (w ∷ ws) = slice_index w 0
+  pub no_conflicts : (s : Status) (text : List ℕ) → Ends account words k s text → s ≡ status.Conflicts → ⊥
+  no_conflicts s text ends is = with_conflicts text (subst (λ (t : Status). Ends account words k t text) is ends)
 
--- words ask for one thing
-pub one_command : (words texts : List (List ℕ)) (a : FlagAction) → Asks words a → AsksInit words texts → ⊥
-one_command words texts a flag init = let same : 102 ≡ 105 = ap first_byte (sym flag.are ∙ init.are) in omega (arith, same)
-
-module _ (words : List (List ℕ)) (entry now : Moment) (seen seen_after : Files) where
-  pub ends_of_flag : (a : FlagAction) → Asks words a → (r : Result ℕ AcceptFault)
-      → IfOk r (IsAccepted a max_accepted seen now)
-      → ((why : Place9) → r ≡ Err (faults.NotAJournal why) → IsBroken why seen)
-      → ((end : ℕ) → r ≡ Err (faults.Full end) → IsOverfull a max_accepted seen end)
-      → IfErr r (λ fault. (fault ≡ faults.Disk → ⊥) → Within entry now × (seen_after ≡ seen))
-      → OnTheWay words entry seen now
-      → Ends words entry now seen seen_after (status_of r) (line_of_flag r)
-  ends_of_flag a asks (Ok n) accepts broken full keeps way = inl (record { action = a; asks = asks; number = n; is = accepts; line_is = refl })
-  ends_of_flag a asks (Err faults.Disk) accepts broken full keeps way = (way, refl)
-  ends_of_flag a asks (Err faults.Memory) accepts broken full keeps way =
-      let stays = keeps (λ e. cc e) in (record { leaves = stays.0; reads = stays.1 }, refl)
-  ends_of_flag a asks (Err (faults.NotAJournal why)) accepts broken full keeps way =
-      let stays = keeps (λ e. cc e) in (
-        record { leaves = stays.0; reads = stays.1 },
-        inl (record { action = a; asks = asks; why = why; broken = broken why refl; line_is = refl }),
-      )
-  ends_of_flag a asks (Err (faults.Full end)) accepts broken full keeps way =
-      let stays = keeps (λ e. cc e) in (
-        record { leaves = stays.0; reads = stays.1 },
-        record { action = a; asks = asks; end = end; full = full end refl; line_is = refl },
-      )
-
-  pub ends_of_init : {T : Type 0} (texts : List (List ℕ)) → AsksInit words texts → (r : Result T CreateFault)
-      → OnOk r (IsUnbegun seen)
-      → OnOk r (Images (Holds First (begin_of_texts texts ∷ [])) now)
-      → ((why : Place9) → r ≡ Err (creates.NotAJournal why) → (why ≡ places.Header) × AnyWrong seen)
-      → (r ≡ Err creates.Already → IsTaken seen)
-      → ((end wanted : ℕ) → r ≡ Err (creates.Full end wanted) → ⊥)
-      → (IsErr r → (r ≡ Err creates.Disk → ⊥) → Within entry now × (seen_after ≡ seen))
-      → OnTheWay words entry seen now
-      → Ends words entry now seen seen_after (status_of_init r) (line_of_init r)
-  ends_of_init texts asks (Ok x) unbegun leaves header taken full keeps way =
-      inr (record { texts = texts; asks = asks; unbegun = unbegun; leaves = leaves; line_is = refl })
-  ends_of_init texts asks (Err creates.Disk) unbegun leaves header taken full keeps way = (way, refl)
-  ends_of_init texts asks (Err creates.Memory) unbegun leaves header taken full keeps way =
-      let stays = keeps refl (λ e. cc e) in (record { leaves = stays.0; reads = stays.1 }, refl)
-  ends_of_init texts asks (Err (creates.NotAJournal why)) unbegun leaves header taken full keeps way =
-      let stays = keeps refl (λ e. cc e) in
-      let wrong = header why refl in
-      (record { leaves = stays.0; reads = stays.1 }, inr (record { texts = texts; asks = asks; taken = inl (wrong.1, ap line_of wrong.0) }))
-  ends_of_init texts asks (Err creates.Already) unbegun leaves header taken full keeps way =
-      let stays = keeps refl (λ e. cc e) in (
-        record { leaves = stays.0; reads = stays.1 },
-        inr (record { texts = texts; asks = asks; taken = inr (taken refl, refl) }),
-      )
-  ends_of_init texts asks (Err (creates.Full end wanted)) unbegun leaves header taken full keeps way = absurd (full end wanted refl)
-
-  -- a failed output says as much of the command as a printed line
-  pub said_ends : (r s : Status) (line : List ℕ) → (r ≡ s) ⊎ ((s ≡ status.Done) × (r ≡ status.Output)) →
-      Ends words entry now seen seen_after s line → Ends words entry now seen seen_after r line
-  said_ends r s line (inl same) ends = subst (λ (t : Status). Ends words entry now seen seen_after t line) (sym same) ends
-  said_ends r s line (inr both) ends = subst (λ (t : Status). Ends words entry now seen seen_after t line) (sym both.1)
-      (subst (λ (t : Status). Ends words entry now seen seen_after t line) both.0 ends)
-
-  -- the other statuses of a command without faults come to nothing
-  completes : (r : Status) (line : List ℕ) → Ends words entry now seen seen_after r line → (r ≡ status.Words → ⊥) → (r ≡ status.Disk → ⊥) →
-      (r ≡ status.Output → ⊥) → ((line : List ℕ) → Ends words entry now seen seen_after status.Journal line → ⊥) →
-      ((line : List ℕ) → Ends words entry now seen seen_after status.Limit line → ⊥) → (r ≡ status.Done) ⊎ (r ≡ status.Memory)
-  completes status.Done line ends no_words no_disk no_output no_journal no_limit = inl refl
-  completes status.Memory line ends no_words no_disk no_output no_journal no_limit = inr refl
-  completes status.Output line ends no_words no_disk no_output no_journal no_limit = absurd (no_output refl)
-  completes status.Words line ends no_words no_disk no_output no_journal no_limit = absurd (no_words refl)
-  completes status.Disk line ends no_words no_disk no_output no_journal no_limit = absurd (no_disk refl)
-  completes status.Journal line ends no_words no_disk no_output no_journal no_limit = absurd (no_journal line ends)
-  completes status.Limit line ends no_words no_disk no_output no_journal no_limit = absurd (no_limit line ends)
-  completes status.Conflicts line ends no_words no_disk no_output no_journal no_limit = absurd ends
-  completes status.Link line ends no_words no_disk no_output no_journal no_limit = absurd ends
-  completes status.Refused line ends no_words no_disk no_output no_journal no_limit = absurd ends
-  completes status.Reply line ends no_words no_disk no_output no_journal no_limit = absurd ends
-  completes status.Lacking line ends no_words no_disk no_output no_journal no_limit = absurd ends
-  completes status.Validity line ends no_words no_disk no_output no_journal no_limit = absurd ends
-  completes status.Reason line ends no_words no_disk no_output no_journal no_limit = absurd ends
-  completes status.Input line ends no_words no_disk no_output no_journal no_limit = absurd ends
-
-  module _ (r : Status) (line : List ℕ) (ends : Ends words entry now seen seen_after r line)
-      (words_cause : r ≡ status.Words → AsksNothing words) (no_disk : r ≡ status.Disk → ⊥) (no_output : r ≡ status.Output → ⊥) where
-    pub completes_flag : (a : FlagAction) → Asks words a → (bodies : List (List ℕ)) → HoldsBook bodies seen → HasRoom words bodies →
-        (r ≡ status.Done) ⊎ (r ≡ status.Memory)
-    completes_flag a asks bodies book room =
-        completes r line ends (λ is. (words_cause is).no_flag a asks) no_disk no_output
-        (λ l e. ⊎_elim (λ (b : SaysBroken words seen l). never_both bodies seen b.why book b.broken)
-        (λ (t : SaysTaken words seen l). one_command words t.texts a asks t.asks) e.1)
-        (λ l e.
-        let full = e.1.full in
-        let same = one_book full.book.version book.version full.bodies bodies seen full.book.holds book.holds in
-        let fits = room e.1.action e.1.asks in
-        omega (arith, full.past, fits, ap (λ (b : List (List ℕ)). end_with_action e.1.action b) same))
-
-    pub completes_init : (texts : List (List ℕ)) → AsksInit words texts → IsUnbegun seen → (r ≡ status.Done) ⊎ (r ≡ status.Memory)
-    completes_init texts asks unbegun =
-        completes r line ends (λ is. (words_cause is).no_init texts asks) no_disk no_output
-        (λ l e. ⊎_elim (λ (b : SaysBroken words seen l). one_command words texts b.action b.asks asks)
-        (λ (t : SaysTaken words seen l). ⊎_elim (λ (w : AnyWrong seen × _). unbegun w.0.side w.0.wrong.begun)
-        (λ (s : IsTaken seen × _). unbegun s.0.side (open_head s.0.version s.0.generation (file_of s.0.side seen) s.0.set_up)) t.taken) e.1)
-        (λ l e. one_command words texts e.1.action e.1.asks asks)
-
-pub said_words : (r s : Status) (Q : Type 0) → (r ≡ s) ⊎ ((s ≡ status.Done) × (r ≡ status.Output)) → ((s ≡ status.Words) ↔ Q) → (r ≡ status.Words) ↔ Q
+pub said_words : (r s : Status) (Q : Type 0) → IsSaid s r → ((s ≡ status.Words) ↔ Q) → (r ≡ status.Words) ↔ Q
 said_words r s Q (inl same) both = (λ is. both.0 (sym same ∙ is), λ q. same ∙ both.1 q)
-said_words r s Q (inr changed) both = (λ is. absurd (cc (is, changed.1)), λ q. let w = both.1 q in absurd (cc (w, changed.0)))
+said_words r s Q (inr (inl done, said)) both = (λ is. absurd (cc (is, said)), λ q. let w = both.1 q in absurd (cc (w, done)))
+said_words r s Q (inr (inr conflicts, said)) both = (λ is. absurd (cc (is, said)), λ q. let w = both.1 q in absurd (cc (w, conflicts)))
 
-pub said_disk : (r s : Status) → (r ≡ s) ⊎ ((s ≡ status.Done) × (r ≡ status.Output)) → r ≡ status.Disk → s ≡ status.Disk
-said_disk r s (inl same) is = sym same ∙ is
-said_disk r s (inr changed) is = absurd (cc (is, changed.1))
+-- a status that no failed output gives is that of the ending
+pub said_as : (t r s : Status) → (t ≡ status.Output → ⊥) → IsSaid s r → r ≡ t → s ≡ t
+said_as t r s other (inl same) is = sym same ∙ is
+said_as t r s other (inr changed) is = absurd (other (sym is ∙ changed.1))
+
+pub said_disk : (r s : Status) → IsSaid s r → r ≡ status.Disk → s ≡ status.Disk
+said_disk r s said is = said_as status.Disk r s (λ e. cc e) said is
+
+pub said_link : (r s : Status) → IsSaid s r → r ≡ status.Link → s ≡ status.Link
+said_link r s said is = said_as status.Link r s (λ e. cc e) said is
+
+pub said_reply : (r s : Status) → IsSaid s r → r ≡ status.Reply → s ≡ status.Reply
+said_reply r s said is = said_as status.Reply r s (λ e. cc e) said is
+
+-- by these statuses alone a command came to its end
+through_as : (s : Status) → CameThrough s → (s ≡ status.Output → ⊥) → (s ≡ status.Conflicts → ⊥) → s ≡ status.Done
+through_as status.Done through other quiet = refl
+through_as status.Conflicts through other quiet = absurd (quiet refl)
+through_as status.Output through other quiet = absurd (other refl)
+through_as status.Words through other quiet = absurd through
+through_as status.Disk through other quiet = absurd through
+through_as status.Link through other quiet = absurd through
+through_as status.Refused through other quiet = absurd through
+through_as status.Reply through other quiet = absurd through
+through_as status.Lacking through other quiet = absurd through
+through_as status.Validity through other quiet = absurd through
+through_as status.Journal through other quiet = absurd through
+through_as status.Reason through other quiet = absurd through
+through_as status.Memory through other quiet = absurd through
+through_as status.Limit through other quiet = absurd through
+through_as status.Input through other quiet = absurd through
+through_as status.Later through other quiet = absurd through
+
+-- a command that came to its end was done, before its text was printed
+pub said_through : (r s : Status) → IsSaid s r → (s ≡ status.Output → ⊥) → (s ≡ status.Conflicts → ⊥) → CameThrough r → s ≡ status.Done
+said_through r s (inl same) other quiet through = through_as s (subst CameThrough same through) other quiet
+said_through r s (inr (inl done, is)) other quiet through = done
+said_through r s (inr (inr conflicts, is)) other quiet through = absurd (quiet conflicts)
+
+-- one book is held
+module _ (files : Files) (b c : Meaning) (holds : HasBook mail b files) (held : HasBook mail c files) where
+  same_book : b ≡ c
+  same_book = one_held mail one_mail_event files b c holds held
+
+  same_end : (e : Event) → end_behind holds e ≡ end_behind held e
+  same_end e = let same = one_book holds.version held.version holds.bodies held.bodies files holds.holds held.holds in
+      omega (arith, ap (λ (l : List (List ℕ)). length (records l)) same)
+
+-- the request of an end is the one that is asked for
+ended_as : (account : Credentials) (words : List (List ℕ)) (k : Course) (r : Status) (text : List ℕ) (request : Request) → Asks words request →
+    Ends account words k r text → (r ≡ status.Words → AsksNothing words) → EndsRequest account request k r text
+ended_as account words k r text request asks (inl w) cause = absurd (w.nothing request asks)
+ended_as account words k r text request asks (inr s) cause =
+    subst (λ (q : Request). EndsRequest account q k r text) (one_request words s.request request s.asks asks) s.ends
+
+module _ (k : Course) (change : Change) (t : IsTakable change k.seen) where
+  never_refused : (text : List ℕ) → SaysRefused (Flag change) k text → ⊥
+  never_refused text s =
+      let same = same_book k.seen s.book t.book s.stays.holds t.holds in
+      let is : reason_of (Flag change) t.book ≡ Some s.reason = subst (λ (b : Meaning). reason_of (Flag change) b ≡ Some s.reason) same s.is in
+      cc (is, t.may)
+
+  never_long : (text : List ℕ) (b : Meaning) (holds : HasBook mail b k.seen) → PassesPlace change k b holds text → ⊥
+  never_long text b holds p =
+      let same = same_book k.seen b t.book holds t.holds in
+      let is = subst (λ (c : Meaning). action_of change c ≡ Some p.action) same p.is in
+      let fits = t.room p.action is in
+      let there = same_end k.seen b t.book holds t.holds (accepts t.book p.action) in
+      let here : end_behind holds (accepts b p.action) ≡ end_behind holds (accepts t.book p.action) =
+      ap (λ (c : Meaning). end_behind holds (accepts c p.action)) same in
+      omega (arith, p.past, fits, there, here)
+
+  never_full : (text : List ℕ) → SaysFull change k text → ⊥
+  never_full text s = by_limit s.past
+    where
+      by_limit : ((1000000 ≤ length s.book.queue) × (text ≡ limit_actions)) ⊎ PassesPlace change k s.book s.stays.holds text → ⊥
+      by_limit (inl many) =
+          let same = same_book k.seen s.book t.book s.stays.holds t.holds in omega (arith, many.0, t.few, ap (λ (b : Meaning). length b.queue) same)
+      by_limit (inr long) = never_long text s.book s.stays.holds long
+
+  flag_done : (r : Status) (text : List ℕ) → EndsFlag change k r text → (r ≡ status.Disk → ⊥) → (r ≡ status.Output → ⊥) → IsDone r
+  flag_done status.Done text ends no_disk no_output = inl refl
+  flag_done status.Memory text ends no_disk no_output = inr refl
+  flag_done status.Output text ends no_disk no_output = absurd (no_output refl)
+  flag_done status.Disk text ends no_disk no_output = absurd (no_disk refl)
+  flag_done status.Journal text ends no_disk no_output = absurd (never_both mail one_mail_event t.book k.seen t.holds ends.why ends.broken)
+  flag_done status.Reason text ends no_disk no_output = absurd (never_refused text ends)
+  flag_done status.Limit text ends no_disk no_output = absurd (never_full text ends)
+  flag_done status.Words text ends no_disk no_output = absurd ends
+  flag_done status.Conflicts text ends no_disk no_output = absurd ends
+  flag_done status.Link text ends no_disk no_output = absurd ends
+  flag_done status.Refused text ends no_disk no_output = absurd ends
+  flag_done status.Reply text ends no_disk no_output = absurd ends
+  flag_done status.Lacking text ends no_disk no_output = absurd ends
+  flag_done status.Validity text ends no_disk no_output = absurd ends
+  flag_done status.Input text ends no_disk no_output = absurd ends
+  flag_done status.Later text ends no_disk no_output = absurd ends
+
+module _ (k : Course) (names : List (List ℕ)) (unbegun : IsUnbegun k.seen) where
+  init_done : (r : Status) (text : List ℕ) → EndsInit names k r text → (r ≡ status.Disk → ⊥) → (r ≡ status.Output → ⊥) → IsDone r
+  init_done status.Done text ends no_disk no_output = inl refl
+  init_done status.Memory text ends no_disk no_output = inr refl
+  init_done status.Output text ends no_disk no_output = absurd (no_output refl)
+  init_done status.Disk text ends no_disk no_output = absurd (no_disk refl)
+  init_done status.Journal text ends no_disk no_output =
+      absurd (⊎_elim (λ (w : AnyWrong k.seen × _). unbegun w.0.side w.0.wrong.begun)
+      (λ (s : IsTaken k.seen × _). unbegun s.0.side (open_head s.0.version s.0.generation (file_of s.0.side k.seen) s.0.set_up)) ends.taken)
+  init_done status.Reason text ends no_disk no_output = absurd ends
+  init_done status.Limit text ends no_disk no_output = absurd ends
+  init_done status.Words text ends no_disk no_output = absurd ends
+  init_done status.Conflicts text ends no_disk no_output = absurd ends
+  init_done status.Link text ends no_disk no_output = absurd ends
+  init_done status.Refused text ends no_disk no_output = absurd ends
+  init_done status.Reply text ends no_disk no_output = absurd ends
+  init_done status.Lacking text ends no_disk no_output = absurd ends
+  init_done status.Validity text ends no_disk no_output = absurd ends
+  init_done status.Input text ends no_disk no_output = absurd ends
+  init_done status.Later text ends no_disk no_output = absurd ends
+
+module _ (k : Course) (name : List ℕ) (t : IsListable name k.seen) where
+  never_unknown : (text : List ℕ) → SaysRefused (Rows name) k text → ⊥
+  never_unknown text s =
+      let same = same_book k.seen s.book t.book s.stays.holds t.holds in
+      let is : reason_of (Rows name) t.book ≡ Some s.reason = subst (λ (b : Meaning). reason_of (Rows name) b ≡ Some s.reason) same s.is in
+      cc (is, t.may)
+
+  rows_done : (r : Status) (text : List ℕ) → EndsRows name k r text → (r ≡ status.Disk → ⊥) → (r ≡ status.Output → ⊥) → IsDone r
+  rows_done status.Done text ends no_disk no_output = inl refl
+  rows_done status.Memory text ends no_disk no_output = inr refl
+  rows_done status.Output text ends no_disk no_output = absurd (no_output refl)
+  rows_done status.Disk text ends no_disk no_output = absurd (no_disk refl)
+  rows_done status.Journal text ends no_disk no_output = absurd (never_both mail one_mail_event t.book k.seen t.holds ends.why ends.broken)
+  rows_done status.Reason text ends no_disk no_output = absurd (never_unknown text ends)
+  rows_done status.Limit text ends no_disk no_output = absurd ends
+  rows_done status.Words text ends no_disk no_output = absurd ends
+  rows_done status.Conflicts text ends no_disk no_output = absurd ends
+  rows_done status.Link text ends no_disk no_output = absurd ends
+  rows_done status.Refused text ends no_disk no_output = absurd ends
+  rows_done status.Reply text ends no_disk no_output = absurd ends
+  rows_done status.Lacking text ends no_disk no_output = absurd ends
+  rows_done status.Validity text ends no_disk no_output = absurd ends
+  rows_done status.Input text ends no_disk no_output = absurd ends
+  rows_done status.Later text ends no_disk no_output = absurd ends
+
+module _ (account : Credentials) (words : List (List ℕ)) (k : Course) (r : Status) (text : List ℕ) (ends : Ends account words k r text)
+    (cause : r ≡ status.Words → AsksNothing words)
+    (no_disk : r ≡ status.Disk → ⊥) (no_output : r ≡ status.Output → ⊥) where
+  pub completes_flag : (change : Change) → Asks words (Flag change) → IsTakable change k.seen → IsDone r
+  completes_flag change asks t = flag_done k change t r text (ended_as account words k r text (Flag change) asks ends cause).says no_disk no_output
+
+  pub completes_init : (names : List (List ℕ)) → Asks words (Init names) → IsUnbegun k.seen → IsDone r
+  completes_init names asks unbegun = init_done k names unbegun r text (ended_as account words k r text (Init names) asks ends cause).says no_disk no_output
+
+  pub completes_rows : (name : List ℕ) → Asks words (Rows name) → IsListable name k.seen → IsDone r
+  completes_rows name asks t = rows_done k name t r text (ended_as account words k r text (Rows name) asks ends cause).says no_disk no_output
+
+-- `play` doesn't come to its end over an action that isn't settled
+module _ (account : Credentials) (k : Course) (w : HasWaiting k.seen) where
+  never_settled : (b : Meaning) → HasBook mail b k.seen → AllSettled b.queue → ⊥
+  never_settled b holds settled = w.waits (subst (λ (c : Meaning). AllSettled c.queue) (same_book k.seen b w.book holds w.holds) settled)
+
+  never_played : (text : List ℕ) → SaysPlayed account k text → ⊥
+  never_played text s = never_settled s.opened.book s.read.holds s.settled
+
+  never_stopped : (r : Status) (text : List ℕ) → SaysStopped account k r text → ⊥
+  never_stopped r text s = never_settled s.opened.book s.read.holds s.settled
+
+  play_waits : (r : Status) (text : List ℕ) → EndsPlay account k r text → (r ≡ status.Disk → ⊥) → IsLater r
+  play_waits status.Later text ends no_disk = inl refl
+  play_waits status.Memory text ends no_disk = inr refl
+  play_waits status.Done text ends no_disk = absurd (never_played text ends)
+  play_waits status.Output text ends no_disk = absurd (never_played text ends)
+  play_waits status.Disk text ends no_disk = absurd (no_disk refl)
+  play_waits status.Link text ends no_disk = absurd (never_stopped status.Link text ends)
+  play_waits status.Refused text ends no_disk = absurd (never_stopped status.Refused text ends)
+  play_waits status.Reply text ends no_disk = absurd (never_stopped status.Reply text ends)
+  play_waits status.Lacking text ends no_disk = absurd (never_stopped status.Lacking text ends)
+  play_waits status.Validity text ends no_disk = absurd (never_stopped status.Validity text ends)
+  play_waits status.Limit text ends no_disk = absurd (never_stopped status.Limit text ends)
+  play_waits status.Journal text ends no_disk = absurd (never_both mail one_mail_event w.book k.seen w.holds ends.says.why ends.says.broken)
+  play_waits status.Words text ends no_disk = absurd ends
+  play_waits status.Conflicts text ends no_disk = absurd ends
+  play_waits status.Reason text ends no_disk = absurd ends
+  play_waits status.Input text ends no_disk = absurd ends
+
+pub completes_later : (account : Credentials) (words : List (List ℕ)) (k : Course) (r : Status) (text : List ℕ) → Ends account words k r text →
+    (r ≡ status.Words → AsksNothing words) → (r ≡ status.Disk → ⊥) → Asks words Play → HasWaiting k.seen → IsLater r
+completes_later account words k r text ends cause no_disk asks w =
+    play_waits account k w r text (ended_as account words k r text Play asks ends cause) no_disk

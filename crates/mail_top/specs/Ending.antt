@@ -1,103 +1,126 @@
--- How a command ends: what each status says of the words, of the journal as read, of what a stop leaves, and of the line.
-use Rattle.std.specs.Prelude.{◌≡◌, ◌⊎◌, ℕ, ◌≤◌, List, [], ◌∷◌, ◌++◌, take, Result, Ok, Err}
-use Rattle.mail_base.specs.Lines.{ready, accepted, error_words, error_disk, error_memory}
-use Rattle.mail_base.specs.Lines.{journal_none, journal_header, journal_generations, journal_record, journal_exists, limit_journal}
+-- How a command ends: what each status says of what was asked for, of the book as read, of what a stop leaves, of the link, and
+-- of the printed text.
+use Rattle.std.specs.Prelude.{◌≡◌, ◌⊎◌, ℕ, ◌≤◌, ◌<◌, List, length, Some, None}
+use Rattle.mail_base.specs.Account.{Credentials}
+use Rattle.mail_base.specs.Lines.{error_words}
 use Rattle.mail_base.specs.declared.status.Status.{Status}
 use Rattle.mail_base.specs.declared.status.Status.TheVariants as status
 use Rattle.world_traits.specs.Files.{Files}
-use Rattle.world_traits.specs.Moments.{Moment, Images, Within}
-use Rattle.world_traits.specs.Calls.{Rose}
-use Rattle.journal_core.specs.declared.version.Version.TheVariants.{First}
-use Rattle.journal_core.specs.declared.fault.Place9.{Place9}
-use Rattle.journal_core.specs.declared.fault.Place9.TheVariants as places
-use Rattle.journal_core.specs.declared.creating.CreateFault.{CreateFault}
-use Rattle.journal_core.specs.declared.creating.CreateFault.TheVariants as creates
-use Rattle.journal_core.specs.Creating.{IsTaken, IsUnbegun}
-use Rattle.journal_core.specs.Holds.{Holds}
+use Rattle.world_traits.specs.Moments.{Within}
 use Rattle.journal_core.specs.Limits.{max_accepted}
-use Rattle.journal_core.specs.Reading.{AnyWrong}
-use Rattle.mail_top.specs.Accepted.{IsAccepted, IsOverfull, HoldsOrAdds, IsUnbegunOrHolds, begin_of_texts, end_with_action}
-use Rattle.mail_top.specs.Book.{IsBroken}
-use Rattle.mail_top.specs.FlagAction.{body_of}
-use Rattle.mail_top.specs.Words.{Asks, AsksInit}
-use Rattle.mail_top.specs.declared.accepting.AcceptFault.{AcceptFault}
-use Rattle.mail_top.specs.declared.accepting.AcceptFault.TheVariants as faults
-use Rattle.mail_top.specs.declared.flag_action.FlagAction.{FlagAction}
+use Rattle.action_queue.specs.Book.{Meaning}
+use Rattle.action_queue.specs.Queues.{AllSettled}
+use Rattle.action_queue.specs.declared.action.Action.{Action}
+use Rattle.store_core.specs.Mail.{mail}
+use Rattle.store_core.specs.Books.{HasBook}
+use Rattle.mail_top.specs.Actions.{action_of, accepts}
+use Rattle.mail_top.specs.Course.{Course, OnFiles, end_behind}
+use Rattle.mail_top.specs.Leaving.{MayBeLeft}
+use Rattle.mail_top.specs.Played.{SaysPlayed, SaysLater, SaysStopped}
+use Rattle.mail_top.specs.Reasons.{reason_of}
+use Rattle.mail_top.specs.Saying.{SaysReady, SaysTaken, SaysAccepted, SaysRows, SaysBroken, SaysRefused, SaysFull, SaysMemory, SaysDisk}
+use Rattle.mail_top.specs.Words.{Change, Request, Init, Flag, Rows, Play, Asks, AsksNothing}
 
--- the line that tells why files are no journal
-abbrev pub line_of : Place9 → List ℕ
-line_of places.Absent = journal_none
-line_of places.Header = journal_header
-line_of places.Generations = journal_generations
-line_of (places.Record at) = journal_record at
+-- What each status says of `init BOX ..`. The others don't come.
+abbrev pub EndsInit : List (List ℕ) → Course → Status → List ℕ → Type 0
+EndsInit names k status.Done text = SaysReady names k text
+EndsInit names k status.Output text = SaysReady names k text
+EndsInit names k status.Disk text = SaysDisk (MayBeLeft (Init names) k.old.now k.seen k.new.now) text
+EndsInit names k status.Journal text = SaysTaken k text
+EndsInit names k status.Memory text = SaysMemory k text
+EndsInit names k status.Words text = ⊥
+EndsInit names k status.Reason text = ⊥
+EndsInit names k status.Limit text = ⊥
+EndsInit names k status.Conflicts text = ⊥
+EndsInit names k status.Link text = ⊥
+EndsInit names k status.Refused text = ⊥
+EndsInit names k status.Reply text = ⊥
+EndsInit names k status.Lacking text = ⊥
+EndsInit names k status.Validity text = ⊥
+EndsInit names k status.Input text = ⊥
+EndsInit names k status.Later text = ⊥
 
--- The words ask for an action; it is accepted, and its number is the line's.
-pub record SaysAccepted (words : List (List ℕ)) (seen : Files) (m : Moment) (line : List ℕ) : Type 0 where
-  pub action : FlagAction
-  pub asks : Asks words action
-  pub number : ℕ
-  pub is : IsAccepted action max_accepted seen m number
-  pub line_is : line ≡ accepted number
+-- What each status says of `flag BOX UID SIGN FLAG ..`.
+abbrev pub EndsFlag : Change → Course → Status → List ℕ → Type 0
+EndsFlag change k status.Done text = SaysAccepted change k text
+EndsFlag change k status.Output text = SaysAccepted change k text
+EndsFlag change k status.Disk text = SaysDisk (MayBeLeft (Flag change) k.old.now k.seen k.new.now) text
+EndsFlag change k status.Journal text = SaysBroken k text
+EndsFlag change k status.Reason text = SaysRefused (Flag change) k text
+EndsFlag change k status.Memory text = SaysMemory k text
+EndsFlag change k status.Limit text = SaysFull change k text
+EndsFlag change k status.Words text = ⊥
+EndsFlag change k status.Conflicts text = ⊥
+EndsFlag change k status.Link text = ⊥
+EndsFlag change k status.Refused text = ⊥
+EndsFlag change k status.Reply text = ⊥
+EndsFlag change k status.Lacking text = ⊥
+EndsFlag change k status.Validity text = ⊥
+EndsFlag change k status.Input text = ⊥
+EndsFlag change k status.Later text = ⊥
 
--- The words ask for a journal; there was none, and now each image holds the Begin of the names.
-pub record SaysReady (words : List (List ℕ)) (seen : Files) (m : Moment) (line : List ℕ) : Type 0 where
-  pub texts : List (List ℕ)
-  pub asks : AsksInit words texts
-  pub unbegun : IsUnbegun seen
-  pub leaves : Images (Holds First (begin_of_texts texts ∷ [])) m
-  pub line_is : line ≡ ready
+-- What each status says of `list BOX`.
+abbrev pub EndsRows : List ℕ → Course → Status → List ℕ → Type 0
+EndsRows name k status.Done text = SaysRows name k text
+EndsRows name k status.Output text = SaysRows name k text
+EndsRows name k status.Disk text = SaysDisk (Within k.old.now k.new.now) text
+EndsRows name k status.Journal text = SaysBroken k text
+EndsRows name k status.Reason text = SaysRefused (Rows name) k text
+EndsRows name k status.Memory text = SaysMemory k text
+EndsRows name k status.Words text = ⊥
+EndsRows name k status.Limit text = ⊥
+EndsRows name k status.Conflicts text = ⊥
+EndsRows name k status.Link text = ⊥
+EndsRows name k status.Refused text = ⊥
+EndsRows name k status.Reply text = ⊥
+EndsRows name k status.Lacking text = ⊥
+EndsRows name k status.Validity text = ⊥
+EndsRows name k status.Input text = ⊥
+EndsRows name k status.Later text = ⊥
 
--- The words ask for an action, and the journal as read isn't one that can take it, for the line's reason.
-pub record SaysBroken (words : List (List ℕ)) (seen : Files) (line : List ℕ) : Type 0 where
-  pub action : FlagAction
-  pub asks : Asks words action
-  pub why : Place9
-  pub broken : IsBroken why seen
-  pub line_is : line ≡ line_of why
+-- What each status says of `play`. The others don't come.
+abbrev pub EndsPlay : Credentials → Course → Status → List ℕ → Type 0
+EndsPlay account k status.Done text = SaysPlayed account k text
+EndsPlay account k status.Output text = SaysPlayed account k text
+EndsPlay account k status.Disk text = OnFiles k (SaysDisk (Within k.old.now k.new.now) text) ⊎ SaysStopped account k status.Disk text
+EndsPlay account k status.Link text = SaysStopped account k status.Link text
+EndsPlay account k status.Refused text = SaysStopped account k status.Refused text
+EndsPlay account k status.Reply text = SaysStopped account k status.Reply text
+EndsPlay account k status.Lacking text = SaysStopped account k status.Lacking text
+EndsPlay account k status.Validity text = SaysStopped account k status.Validity text
+EndsPlay account k status.Journal text = OnFiles k (SaysBroken k text)
+EndsPlay account k status.Memory text = OnFiles k (SaysMemory k text) ⊎ SaysStopped account k status.Memory text
+EndsPlay account k status.Limit text = SaysStopped account k status.Limit text
+EndsPlay account k status.Later text = OnFiles k (SaysLater k text)
+EndsPlay account k status.Conflicts text = ⊥
+EndsPlay account k status.Words text = ⊥
+EndsPlay account k status.Reason text = ⊥
+EndsPlay account k status.Input text = ⊥
 
--- The words ask for a journal, and a side has a wrong header, or else a journal is there already.
-pub record SaysTaken (words : List (List ℕ)) (seen : Files) (line : List ℕ) : Type 0 where
-  pub texts : List (List ℕ)
-  pub asks : AsksInit words texts
-  pub taken : (AnyWrong seen × (line ≡ journal_header)) ⊎ (IsTaken seen × (line ≡ journal_exists))
+-- what each status says of a request
+abbrev pub EndsRequest : Credentials → Request → Course → Status → List ℕ → Type 0
+EndsRequest account (Init names) k s text = OnFiles k (EndsInit names k s text)
+EndsRequest account (Flag change) k s text = OnFiles k (EndsFlag change k s text)
+EndsRequest account (Rows name) k s text = OnFiles k (EndsRows name k s text)
+EndsRequest account Play k s text = EndsPlay account k s text
 
--- The words ask for an action, with which the journal as read would end at the line's place, past the limit.
-pub record SaysFull (words : List (List ℕ)) (seen : Files) (line : List ℕ) : Type 0 where
-  pub action : FlagAction
-  pub asks : Asks words action
-  pub end : ℕ
-  pub full : IsOverfull action max_accepted seen end
-  pub line_is : line ≡ limit_journal end
+-- the words ask for nothing, and nothing was done
+pub record SaysWords (words : List (List ℕ)) (k : Course) (s : Status) (text : List ℕ) : Type 0 where
+  pub nothing : AsksNothing words
+  pub stays : k.new ≡ k.old
+  pub reads : k.seen_after ≡ k.seen
+  pub link : k.link_after ≡ k.link
+  pub told : s ≡ status.Words
+  pub text_is : text ≡ error_words
 
--- a stop leaves what one at entry could have left, and the files read as before
-pub record Keeps (entry m : Moment) (seen seen_after : Files) : Type 0 where
-  pub leaves : Within entry m
-  pub reads : seen_after ≡ seen
+-- the words ask for something, and so it ended
+pub record SaysRequest (account : Credentials) (words : List (List ℕ)) (k : Course) (s : Status) (text : List ℕ) : Type 0 where
+  pub request : Request
+  pub asks : Asks words request
+  pub ends : EndsRequest account request k s text
 
--- What a stop leaves while a command is carried out: what a stop at entry could have left; or the bodies that were read,
--- with the action's behind them or without; or no journal, or one with the Begin alone.
-pub data OnTheWay (words : List (List ℕ)) (entry : Moment) (seen : Files) (m : Moment) : Type 0 where
-  kept : Within entry m → OnTheWay words entry seen m
-  adding : (action : FlagAction) → Asks words action → Images (HoldsOrAdds (body_of action) seen) m → OnTheWay words entry seen m
-  creating : (texts : List (List ℕ)) → AsksInit words texts → Images (IsUnbegunOrHolds (begin_of_texts texts)) m → OnTheWay words entry seen m
-
--- what each status says; the others don't come
-abbrev pub Ends : List (List ℕ) → Moment → Moment → Files → Files → Status → List ℕ → Type 0
-Ends words entry now seen seen_after status.Done line = SaysAccepted words seen now line ⊎ SaysReady words seen now line
-Ends words entry now seen seen_after status.Output line = SaysAccepted words seen now line ⊎ SaysReady words seen now line
-Ends words entry now seen seen_after status.Words line = (now ≡ entry) × (seen_after ≡ seen) × (line ≡ error_words)
-Ends words entry now seen seen_after status.Disk line = OnTheWay words entry seen now × (line ≡ error_disk)
-Ends words entry now seen seen_after status.Journal line = Keeps entry now seen seen_after × (SaysBroken words seen line ⊎ SaysTaken words seen line)
-Ends words entry now seen seen_after status.Memory line = Keeps entry now seen seen_after × (line ≡ error_memory)
-Ends words entry now seen seen_after status.Limit line = Keeps entry now seen seen_after × SaysFull words seen line
-Ends words entry now seen seen_after status.Conflicts line = ⊥
-Ends words entry now seen seen_after status.Link line = ⊥
-Ends words entry now seen seen_after status.Refused line = ⊥
-Ends words entry now seen seen_after status.Reply line = ⊥
-Ends words entry now seen seen_after status.Lacking line = ⊥
-Ends words entry now seen seen_after status.Validity line = ⊥
-Ends words entry now seen seen_after status.Reason line = ⊥
-Ends words entry now seen seen_after status.Input line = ⊥
+abbrev pub Ends : Credentials → List (List ℕ) → Course → Status → List ℕ → Type 0
+Ends account words k s text = SaysWords words k s text ⊎ SaysRequest account words k s text
 
 -- the statuses that come
 abbrev pub Comes : Status → Type 0
@@ -105,75 +128,44 @@ Comes status.Done = Unit {0}
 Comes status.Output = Unit {0}
 Comes status.Words = Unit {0}
 Comes status.Disk = Unit {0}
+Comes status.Link = Unit {0}
+Comes status.Refused = Unit {0}
+Comes status.Reply = Unit {0}
+Comes status.Lacking = Unit {0}
+Comes status.Validity = Unit {0}
 Comes status.Journal = Unit {0}
+Comes status.Reason = Unit {0}
 Comes status.Memory = Unit {0}
 Comes status.Limit = Unit {0}
+Comes status.Later = Unit {0}
 Comes status.Conflicts = ⊥
-Comes status.Link = ⊥
-Comes status.Refused = ⊥
-Comes status.Reply = ⊥
-Comes status.Lacking = ⊥
-Comes status.Validity = ⊥
-Comes status.Reason = ⊥
 Comes status.Input = ⊥
 
--- the line was written; or the sink failed, and a front of it was
-abbrev pub Writes : List ℕ → List ℕ → List ℕ → ℕ → ℕ → Type 0
-Writes line old new faults faults_after = (new ≡ old ++ line) ⊎ (Rose faults faults_after × ((n : ℕ) × (new ≡ old ++ take n line)))
+-- done, or memory is wanting
+abbrev pub IsDone : Status → Type 0
+IsDone s = (s ≡ status.Done) ⊎ (s ≡ status.Memory)
 
--- What was printed at each status: the line; a front of it where the output failed; either where the status tells
--- something else.
-abbrev pub Prints : Status → List ℕ → List ℕ → List ℕ → ℕ → ℕ → Type 0
-Prints status.Done line old new faults faults_after = new ≡ old ++ line
-Prints status.Output line old new faults faults_after = Rose faults faults_after × ((n : ℕ) × (new ≡ old ++ take n line))
-Prints status.Words line old new faults faults_after = Writes line old new faults faults_after
-Prints status.Disk line old new faults faults_after = Writes line old new faults faults_after
-Prints status.Journal line old new faults faults_after = Writes line old new faults faults_after
-Prints status.Memory line old new faults faults_after = Writes line old new faults faults_after
-Prints status.Limit line old new faults faults_after = Writes line old new faults faults_after
-Prints status.Conflicts line old new faults faults_after = Writes line old new faults faults_after
-Prints status.Link line old new faults faults_after = Writes line old new faults faults_after
-Prints status.Refused line old new faults faults_after = Writes line old new faults faults_after
-Prints status.Reply line old new faults faults_after = Writes line old new faults faults_after
-Prints status.Lacking line old new faults faults_after = Writes line old new faults faults_after
-Prints status.Validity line old new faults faults_after = Writes line old new faults faults_after
-Prints status.Reason line old new faults faults_after = Writes line old new faults faults_after
-Prints status.Input line old new faults faults_after = Writes line old new faults faults_after
+-- an action waits, or memory is wanting
+abbrev pub IsLater : Status → Type 0
+IsLater s = (s ≡ status.Later) ⊎ (s ≡ status.Memory)
 
--- each action that the words ask for has room behind these bodies
-abbrev pub HasRoom : List (List ℕ) → List (List ℕ) → Type 0
-HasRoom words bodies = (action : FlagAction) → Asks words action → end_with_action action bodies ≤ max_accepted
+-- The files hold a book that takes the change: no reason is against it, and with its action neither the queue nor the journal
+-- passes a limit.
+pub record IsTakable (change : Change) (seen : Files) : Type 0 where
+  pub book : Meaning
+  pub holds : HasBook mail book seen
+  pub may : reason_of (Flag change) book ≡ None
+  pub few : length book.queue < 1000000
+  pub room : (action : Action) → action_of change book ≡ Some action → end_behind holds (accepts book action) ≤ max_accepted
 
--- the status of what became of an action
-abbrev pub status_of : Result ℕ AcceptFault → Status
-status_of (Ok number) = status.Done
-status_of (Err faults.Disk) = status.Disk
-status_of (Err faults.Memory) = status.Memory
-status_of (Err (faults.NotAJournal why)) = status.Journal
-status_of (Err (faults.Full end)) = status.Limit
+-- The files hold a book that has the mailbox.
+pub record IsListable (name : List ℕ) (seen : Files) : Type 0 where
+  pub book : Meaning
+  pub holds : HasBook mail book seen
+  pub may : reason_of (Rows name) book ≡ None
 
--- and its line
-abbrev pub line_of_flag : Result ℕ AcceptFault → List ℕ
-line_of_flag (Ok number) = accepted number
-line_of_flag (Err faults.Disk) = error_disk
-line_of_flag (Err faults.Memory) = error_memory
-line_of_flag (Err (faults.NotAJournal why)) = line_of why
-line_of_flag (Err (faults.Full end)) = limit_journal end
-
--- the status of what became of a journal to be set up
-abbrev pub status_of_init : {T : Type 0} → Result T CreateFault → Status
-status_of_init (Ok done) = status.Done
-status_of_init (Err creates.Disk) = status.Disk
-status_of_init (Err creates.Memory) = status.Memory
-status_of_init (Err (creates.NotAJournal why)) = status.Journal
-status_of_init (Err creates.Already) = status.Journal
-status_of_init (Err (creates.Full end wanted)) = status.Limit
-
--- and its line
-abbrev pub line_of_init : {T : Type 0} → Result T CreateFault → List ℕ
-line_of_init (Ok done) = ready
-line_of_init (Err creates.Disk) = error_disk
-line_of_init (Err creates.Memory) = error_memory
-line_of_init (Err (creates.NotAJournal why)) = line_of why
-line_of_init (Err creates.Already) = journal_exists
-line_of_init (Err (creates.Full end wanted)) = limit_journal wanted
+-- The files hold a book of which an action isn't settled.
+pub record HasWaiting (seen : Files) : Type 0 where
+  pub book : Meaning
+  pub holds : HasBook mail book seen
+  pub waits : AllSettled book.queue → ⊥

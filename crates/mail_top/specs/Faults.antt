@@ -1,18 +1,30 @@
--- Why an action isn't accepted, as reading and adding tell it.
-use Rattle.journal_core.specs.declared.fault.OpenFault.{OpenFault}
-use Rattle.journal_core.specs.declared.fault.OpenFault.TheVariants as reading
-use Rattle.journal_core.specs.declared.appending.AppendFault.{AppendFault}
-use Rattle.journal_core.specs.declared.appending.AppendFault.TheVariants as adding
-use Rattle.mail_top.specs.declared.accepting.AcceptFault.{AcceptFault}
-use Rattle.mail_top.specs.declared.accepting.AcceptFault.TheVariants as accepting
+-- Why a command isn't carried out, as its parts tell it.
+use Rattle.flag_set.specs.declared.flag_fault.FlagFault.{FlagFault}
+use Rattle.flag_set.specs.declared.flag_fault.FlagFault.TheVariants as flaws
+use Rattle.store_core.specs.declared.fault.StoreFault.{StoreFault}
+use Rattle.store_core.specs.declared.fault.StoreFault.TheVariants as stores
+use Rattle.store_core.specs.declared.fault.CommitFault.{CommitFault}
+use Rattle.store_core.specs.declared.fault.CommitFault.TheVariants as commits
+use Rattle.mail_top.specs.declared.reason.Reason.TheVariants as reasons
+use Rattle.mail_top.specs.declared.refusal.Refusal.{Refusal}
+use Rattle.mail_top.specs.declared.refusal.Refusal.TheVariants as refusals
 
--- the same fault
-abbrev pub of_reading : OpenFault → AcceptFault
-of_reading reading.Disk = accepting.Disk
-of_reading reading.Memory = accepting.Memory
-of_reading (reading.NotAJournal why) = accepting.NotAJournal why
+-- the same fault; of a full journal the end that it would have
+abbrev pub of_store : StoreFault → Refusal
+of_store stores.Memory = refusals.Memory
+of_store stores.Disk = refusals.Disk
+of_store stores.Already = refusals.Already
+of_store (stores.Full end wanted) = refusals.Full wanted
+of_store (stores.NotAJournal why) = refusals.NotAJournal why
 
--- the same fault, and of a full journal the end that it would have
-abbrev pub of_adding : AppendFault → AcceptFault
-of_adding adding.Disk = accepting.Disk
-of_adding (adding.Full end wanted) = accepting.Full wanted
+abbrev pub of_commit : CommitFault → Refusal
+of_commit commits.Memory = refusals.Memory
+of_commit commits.Disk = refusals.Disk
+of_commit (commits.Full end wanted) = refusals.Full wanted
+
+-- want of memory, or a flag that a user can't ask for
+abbrev pub of_flag : FlagFault → Refusal
+of_flag flaws.Memory = refusals.Memory
+of_flag (flaws.TooLong length) = refusals.Reason reasons.BadFlag
+of_flag (flaws.BadFlag at) = refusals.Reason reasons.BadFlag
+of_flag (flaws.TooMany count) = refusals.Reason reasons.BadFlag

@@ -1,18 +1,26 @@
 -- Runs of the program, one behind another, with stops at any of their moments.
-use Rattle.std.specs.Prelude.{◌≡◌, ◌⊎◌, ℕ, List}
+use Rattle.std.specs.Prelude.{◌≡◌, ◌⊎◌, ℕ, List, map, Option, Some, None}
 use Rattle.world_traits.specs.Files.{Files}
-use Rattle.world_traits.specs.Moments.{Moment, MayLeave, Clock, Images, Since, Within, restarted}
+use Rattle.world_traits.specs.Moments.{Moment, MayLeave, Clock, OneSideAtRest, Within, restarted}
 use Rattle.journal_core.specs.Creating.{IsUnbegun}
-use Rattle.journal_core.specs.HeldBodies.{HasHeld, DiskKeepsHeld}
-use Rattle.mail_top.specs.Accepted.{IsAccepted}
-use Rattle.mail_top.specs.Book.{HoldsBook}
-use Rattle.mail_top.specs.Ending.{OnTheWay}
-use Rattle.mail_top.specs.declared.flag_action.FlagAction.{FlagAction}
+use Rattle.journal_core.specs.OneSide.{EachOneSide}
+use Rattle.action_queue.specs.Book.{Meaning}
+use Rattle.action_queue.specs.declared.book.Known.{Known}
+use Rattle.store_core.specs.Mail.{mail}
+use Rattle.store_core.specs.Books.{HasBook}
+use Rattle.store_core.specs.Steps.{Books, EachBook}
+use Rattle.store_core.specs.Taking.{HasBooks}
+use Rattle.mail_top.specs.Course.{Course}
+use Rattle.mail_top.specs.Leaving.{KeepsOn, GoesOnBy}
+use Rattle.mail_top.specs.Saying.{SaysAccepted}
+use Rattle.mail_top.specs.Words.{Change}
 
--- the moments of a run: at each a stop leaves what the words ask for; no step loses what all images hold, and what isn't on
--- the disk stays
-abbrev pub RunsOn : List (List ℕ) → Files → Moment → Clock → Clock → Type 0
-RunsOn words seen entry old new = Since (OnTheWay words entry seen) DiskKeepsHeld old new
+-- The moments of a run, or of a part of one that began at this entry: what a stop leaves at each, that one side is at rest at
+-- each, and how the books go on.
+pub record RunsOn (words : List (List ℕ)) (seen : Files) (entry : Moment) (old new : Clock) : Type 0 where
+  pub keeps : KeepsOn words entry seen old new
+  pub one_side : OneSideAtRest entry → EachOneSide old new
+  pub books : OneSideAtRest entry → (books : Books mail) → HasBooks mail books entry → GoesOnBy words old new
 
 -- a run from one clock to another, and a clock on its way: its last, or one at which the run was cut off
 pub record CutOff (words : List (List ℕ)) (seen : Files) (old at new : Clock) : Type 0 where
@@ -40,25 +48,35 @@ pub record BeginsWith (files : Files) (before m : Moment) : Type 0 where
   pub reads : (seen : Files) → MayLeave m seen → seen ≡ files
   pub within : Within before m
 
--- a run that began at the moment accepted an action under this number
-pub record AcceptsAs (number : ℕ) (m : Moment) : Type 0 where
-  pub action : FlagAction
-  pub limit : ℕ
-  pub seen : Files
-  pub reads : MayLeave m seen
-  pub now : Moment
-  pub is : IsAccepted action limit seen now number
+-- a run that began at the moment accepted an action
+pub record AcceptsAt (m : Moment) : Type 0 where
+  pub change : Change
+  pub course : Course
+  pub text : List ℕ
+  pub reads : MayLeave m course.seen
+  pub is : SaysAccepted change course text
 
--- the files hold a Begin and actions
+-- the files hold a book
 pub record AreBook (files : Files) : Type 0 where
-  pub bodies : List (List ℕ)
-  pub book : HoldsBook bodies files
+  pub book : Meaning
+  pub holds : HasBook mail book files
 
--- no side is begun yet, or the files hold a Begin and actions
+-- no side is begun yet, or the files hold a book
 abbrev pub AreUnbegunOrBook : Files → Type 0
 AreUnbegunOrBook files = IsUnbegun files ⊎ AreBook files
 
--- each image of the moment holds this Begin, and actions
-pub record IsJournalOf (begin : List ℕ) (m : Moment) : Type 0 where
-  pub books : Images AreBook m
-  pub first : HasHeld 0 begin m
+-- the book has these mailboxes
+abbrev pub HasNames : List (List ℕ) → Option Meaning → Type 0
+HasNames names None = ⊥
+HasNames names (Some book) = map (λ (known : Known). known.name) book.boxes ≡ names
+
+-- One side is at rest, and the books of what a stop may leave are these.
+pub record IsReady (P : Option Meaning → Type 0) (m : Moment) : Type 0 where
+  pub one_side : OneSideAtRest m
+  pub books : Books mail
+  pub have : HasBooks mail books m
+  pub each : EachBook mail P books
+
+-- any book, or none
+abbrev pub AnyBook : Option Meaning → Type 0
+AnyBook book = Unit {0}

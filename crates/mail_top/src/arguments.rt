@@ -1,10 +1,12 @@
-//! What single words of a command say: the name of a mailbox, a UID.
+//! What single words of a command say: the name of a mailbox, a UID, a sign.
 
-ghost use Rattle.std.specs.Prelude.{◌≡◌, ◌<◌, ◌^◌, ◌↔◌, IsTrue, IsNone, IfSome, decimal};
+ghost use Rattle.std.specs.Prelude.{◌≡◌, ◌<◌, ◌^◌, ◌↔◌, [], ◌∷◌, IsTrue, IsNone, IfSome, decimal};
 ghost use Rattle.mail_base.specs.BoxName.{IsBoxText, KeptAs};
+ghost use Rattle.mail_top.specs.Words.{sign_of};
 
 use itoa::Buffer;
 use mail_base::{BoxName, read_u32};
+use uid_sets::Uid;
 
 /// The mailbox whose name a word writes, as it is kept.
 pub fn box_of(text: &str) -> Option<BoxName>
@@ -15,17 +17,15 @@ pub fn box_of(text: &str) -> Option<BoxName>
 }
 
 /// The UID that a word writes, from 1 and without leading zeros.
-pub fn uid_of(text: &str) -> Option<u32>
+pub fn uid_of(text: &str) -> Option<Uid>
     ensures some { IfSome result (λ uid. (text.now ≡ decimal uid) × (0 < uid) × (uid < 2 ^ 32)) }
     ensures none { IsNone result → (uid : _) → 0 < uid → uid < 2 ^ 32 → text.now ≡ decimal uid → ⊥ }
 {
-    let Ok(uid) = read_u32(text.as_bytes()) else {
+    let Ok(number) = read_u32(text.as_bytes()) else {
         return None;
     };
-    if uid == 0 {
-        return None;
-    }
-    if is_decimal(text, uid) {
+    let uid = Uid::new(number)?;
+    if is_decimal(text, number) {
         Some(uid)
     } else {
         None
@@ -38,4 +38,16 @@ fn is_decimal(text: &str, number: u32) -> bool
 {
     let mut buffer = Buffer::new();
     buffer.format(number) == text
+}
+
+/// Whether a sign asks for an addition.
+pub fn addition_of(text: &str) -> Option<bool>
+    ensures some { IfSome result (λ add. text.now ≡ sign_of add ∷ []) }
+    ensures none { IsNone result → (add : _) → text.now ≡ sign_of add ∷ [] → ⊥ }
+{
+    match text {
+        "+" => Some(true),
+        "-" => Some(false),
+        _ => None,
+    }
 }

@@ -1,62 +1,60 @@
 //! A journal is set up for some mailboxes.
 
-ghost use Rattle.std.specs.Prelude.{◌≡◌, ◌≤◌, [], ◌∷◌, ℕ, IsErr, IsErrOf, OnOk, map, string_bytes};
+ghost use Rattle.std.specs.Prelude.{◌≡◌, ◌≤◌, map, string_bytes, IsErrOf};
 ghost use Rattle.world_traits.specs.Calls.{Rose};
-ghost use Rattle.world_traits.specs.Moments.{Images, OneSideAtRest, Since, Within};
-ghost use Rattle.journal_core.specs.Creating.{IsTaken, IsUnbegun};
-ghost use Rattle.journal_core.specs.HeldBodies.{DiskKeepsHeld};
-ghost use Rattle.journal_core.specs.Holds.{Holds};
+ghost use Rattle.world_traits.specs.Links.{Any};
+ghost use Rattle.world_traits.specs.Moments.{OneSideAtRest, Since};
+ghost use Rattle.mail_base.specs.Lines.{ready};
 ghost use Rattle.journal_core.specs.OneSide.{EachOneSide};
-ghost use Rattle.journal_core.specs.Reading.{AnyWrong};
-ghost use Rattle.journal_core.specs.declared.creating.CreateFault.TheVariants as faults;
-ghost use Rattle.journal_core.specs.declared.fault.Place9.{Place9};
-ghost use Rattle.journal_core.specs.declared.fault.Place9.TheVariants as places;
-ghost use Rattle.journal_core.specs.declared.version.Version.TheVariants.{First};
-ghost use Rattle.mail_top.specs.Accepted.{IsCreating, begin_of_texts};
-ghost use Rattle.mail_top.specs.Begin.{WriteNames};
+ghost use Rattle.store_core.specs.Mail.{mail};
+ghost use Rattle.store_core.specs.Steps.{Books};
+ghost use Rattle.store_core.specs.Taking.{HasBooks};
+ghost use Rattle.mail_top.specs.Ending.{EndsInit};
+ghost use Rattle.mail_top.specs.Telling.{status_of, text_of};
+ghost use Rattle.mail_top.specs.Leaving.{KeepsStep, MayBeLeft, RequestStep};
+ghost use Rattle.mail_top.specs.Names.{name_of, WriteNames};
+ghost use Rattle.mail_top.specs.Words.{Init};
+ghost use Rattle.mail_top.specs.declared.refusal.Refusal.TheVariants as refusals;
 
-use crate::begin_body;
-use journal_core::{CreateFault, Journal};
+use crate::{Refusal, names_in};
 use std::alloc::Global;
+use store_core::Store;
 use world_traits::{Clocked, Disk};
 
-/// Sets up a journal for the mailboxes that the texts name: its one body is their Begin.
+/// Sets up a journal for the mailboxes that the texts name.
 ///
 /// Both files are synced first; where a side has a wrong header or a journal is there, they stay as they are. Memory is
 /// taken before the first write.
-pub fn init<D: Disk>(alloc: Global, disk: &mut D, texts: &[String]) -> Result<(), CreateFault>
+pub fn init<D: Disk>(alloc: Global, disk: &mut D, texts: &[String]) -> Result<(), Refusal>
     requires { WriteNames (map string_bytes texts.now) }
 
-    // After Ok there was no journal, and each image holds the Begin alone.
-    ensures unbegun { D.tells_files → OnOk result (IsUnbegun (D.seen disk.old)) }
-    ensures ready { D.tells_files → OnOk result
-        (Images (Holds First (begin_of_texts (map string_bytes texts.now) ∷ [])) (D.clock disk.new).now) }
+    // What became of it, as its status says it.
+    ensures ends { D.tells_files → EndsInit (map name_of (map string_bytes texts.now))
+        (record {
+          old = D.clock disk.old;
+          new = D.clock disk.new;
+          seen = D.seen disk.old;
+          seen_after = D.seen disk.new;
+          link = D.link disk.old;
+          link_after = D.link disk.new;
+        })
+        (status_of result) (text_of (λ _. ready) result) }
 
-    // Each fault has its cause in the files as read, and but for the disk's leaves them. A Begin has room.
-    ensures header { D.tells_files → (why : Place9) → IsErrOf result (faults.NotAJournal why) →
-        (why ≡ places.Header) × AnyWrong (D.seen disk.old) }
-    ensures already { D.tells_files → IsErrOf result faults.Already → IsTaken (D.seen disk.old) }
-    ensures not_full { (end wanted : ℕ) → IsErrOf result (faults.Full end wanted) → ⊥ }
-    ensures kept { D.tells_files → IsErr result → (IsErrOf result faults.Disk → ⊥) →
-        Within (D.clock disk.old).now (D.clock disk.new).now × (D.seen disk.new ≡ D.seen disk.old) }
-
-    // At every moment a stop leaves no journal or the Begin; and no step loses what all images hold.
-    ensures every { D.tells_files → Since (IsCreating (begin_of_texts (map string_bytes texts.now)) (D.clock disk.old).now)
-        DiskKeepsHeld (D.clock disk.old) (D.clock disk.new) }
-
-    // Where one side was at rest, one is, at the end and at each moment.
-    ensures one_side { D.tells_files → OneSideAtRest (D.clock disk.old).now →
-        OneSideAtRest (D.clock disk.new).now }
+    // At every moment a stop leaves what one at entry could have left, or no journal, or the book of the names; and no step
+    // loses an action that all images hold.
+    ensures keeps { D.tells_files → Since (MayBeLeft (Init (map name_of (map string_bytes texts.now))) (D.clock disk.old).now (D.seen disk.old))
+        (KeepsStep (Init (map name_of (map string_bytes texts.now)))) (D.clock disk.old) (D.clock disk.new) }
+    ensures books { D.tells_files → OneSideAtRest (D.clock disk.old).now →
+        (books : Books mail) → HasBooks mail books (D.clock disk.old).now →
+        Since Any (RequestStep (Init (map name_of (map string_bytes texts.now)))) (D.clock disk.old) (D.clock disk.new) }
+    ensures one_side { D.tells_files → OneSideAtRest (D.clock disk.old).now → OneSideAtRest (D.clock disk.new).now }
     ensures each_one_side { D.tells_files → OneSideAtRest (D.clock disk.old).now →
         EachOneSide (D.clock disk.old) (D.clock disk.new) }
-
     ensures link { D.link disk.new ≡ D.link disk.old }
     ensures count { D.disk_faults disk.old ≤ D.disk_faults disk.new }
-    ensures cause { IsErrOf result faults.Disk → Rose (D.disk_faults disk.old) (D.disk_faults disk.new) }
+    ensures cause { IsErrOf result refusals.Disk → Rose (D.disk_faults disk.old) (D.disk_faults disk.new) }
 {
-    let Ok(body) = begin_body(alloc, texts) else {
-        return Err(CreateFault::Memory);
-    };
-    let _journal = Journal::create(alloc, disk, &[body])?;
+    let names = names_in(alloc, texts)?;
+    let _store = Store::init(alloc, disk, names)?;
     Ok(())
 }

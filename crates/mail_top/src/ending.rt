@@ -1,62 +1,128 @@
-//! How a command ends: its status and its line.
+//! How a command ends: its status and what it prints.
 
 ghost use Rattle.std.specs.Prelude.{◌≡◌};
-ghost use Rattle.mail_base.specs.Lines.{error_words};
-ghost use Rattle.mail_top.specs.Ending.{line_of, status_of, line_of_flag, status_of_init, line_of_init};
+ghost use Rattle.mail_base.specs.Lines.{accepted, error_words, ready};
+ghost use Rattle.mail_top.specs.Telling.{line_of, printed, status_of, text_of, status_of_refusal, text_of_refusal};
+ghost use Rattle.mail_top.specs.Telling.{status_of_play, text_of_play, status_of_conflicts, status_of_fault, text_of_fault, text_of_why};
 
-use crate::AcceptFault;
-use journal_core::{CreateFault, Place9};
-use mail_base::{Line, Status};
+use crate::printed::{limit_actions_line, refused_line};
+use crate::{Printed, Refusal, Told, Unfinished};
+use journal_core::Place9;
+use mail_base::{Bytes, Line, Status};
+use play_driver::{PlayFault, Played, Why};
 
-/// How a command ends, before its line is printed.
+/// How a command ends, before its text is printed.
 #[derive(Drop)]
 pub struct Ending {
     /// The command's status.
     pub status: Status,
-    /// The line to print.
-    pub line: Line,
+    /// What it prints.
+    pub text: Printed,
 }
 
 /// The ending for words that are no command.
 pub fn ending_of_words() -> Ending
     ensures status { result.status ≡ Status.Words }
-    ensures line { result.line ≡ error_words }
+    ensures text { printed result.text ≡ error_words }
 {
     Ending {
         status: Status::Words,
-        line: Line::error_words(),
+        text: Printed::Line(Line::error_words()),
+    }
+}
+
+/// The ending for what became of a journal to be set up.
+pub fn ending_of_init(created: Result<(), Refusal>) -> Ending
+    ensures status { result.status ≡ status_of created }
+    ensures text { printed result.text ≡ text_of (λ _. ready) created }
+{
+    match created {
+        Ok(()) => done(Printed::Line(Line::ready())),
+        Err(refusal) => ending_of_refusal(refusal),
     }
 }
 
 /// The ending for what became of an action.
-pub fn ending_of_flag(accepted: Result<u64, AcceptFault>) -> Ending
-    ensures status { result.status ≡ status_of accepted }
-    ensures line { result.line ≡ line_of_flag accepted }
+pub fn ending_of_flag(taken: Result<u32, Refusal>) -> Ending
+    ensures status { result.status ≡ status_of taken }
+    ensures text { printed result.text ≡ text_of accepted taken }
 {
-    let (status, line) = match accepted {
-        Ok(number) => (Status::Done, Line::accepted(number)),
-        Err(AcceptFault::Disk) => (Status::Disk, Line::error_disk()),
-        Err(AcceptFault::Memory) => (Status::Memory, Line::error_memory()),
-        Err(AcceptFault::NotAJournal { why }) => (Status::Journal, line_of(why)),
-        Err(AcceptFault::Full { end }) => (Status::Limit, Line::limit_journal(end)),
-    };
-    Ending { status, line }
+    match taken {
+        Ok(number) => done(Printed::Line(Line::accepted(u64::from(number)))),
+        Err(refusal) => ending_of_refusal(refusal),
+    }
 }
 
-/// The ending for what became of a journal to be set up.
-pub fn ending_of_init(created: Result<(), CreateFault>) -> Ending
-    ensures status { result.status ≡ status_of_init created }
-    ensures line { result.line ≡ line_of_init created }
+/// The ending for what became of a list of rows.
+pub fn ending_of_list(listed: Result<Bytes, Refusal>) -> Ending
+    ensures status { result.status ≡ status_of listed }
+    ensures text { printed result.text ≡ text_of (λ text. text) listed }
 {
-    let (status, line) = match created {
-        Ok(()) => (Status::Done, Line::ready()),
-        Err(CreateFault::Disk) => (Status::Disk, Line::error_disk()),
-        Err(CreateFault::Memory) => (Status::Memory, Line::error_memory()),
-        Err(CreateFault::NotAJournal { why }) => (Status::Journal, line_of(why)),
-        Err(CreateFault::Already) => (Status::Journal, Line::journal_exists()),
-        Err(CreateFault::Full { wanted, .. }) => (Status::Limit, Line::limit_journal(wanted)),
+    match listed {
+        Ok(text) => done(Printed::Text(text)),
+        Err(refusal) => ending_of_refusal(refusal),
+    }
+}
+
+/// The ending for what became of a run.
+pub fn ending_of_play(played: Result<Played, Unfinished>) -> Ending
+    ensures status { result.status ≡ status_of_play played }
+    ensures text { printed result.text ≡ text_of_play played }
+{
+    match played {
+        Ok(played) => Ending {
+            status: status_of_conflicts(played.conflicts),
+            text: Printed::Told(Told::played(played.settled, played.conflicts)),
+        },
+        Err(Unfinished::Unopened(fault)) => ending_of_refusal(Refusal::from(fault)),
+        Err(Unfinished::Later(first)) => Ending {
+            status: Status::Later,
+            text: Printed::Told(Told::error_later(first)),
+        },
+        Err(Unfinished::Stopped(fault)) => Ending {
+            status: status_of_fault(&fault),
+            text: text_of_fault(&fault),
+        },
+    }
+}
+
+// The status of a run that came to its end.
+fn status_of_conflicts(conflicts: u32) -> Status
+    ensures { result ≡ status_of_conflicts conflicts }
+{
+    if conflicts == 0 {
+        Status::Done
+    } else {
+        Status::Conflicts
+    }
+}
+
+// The ending of a command that is done.
+fn done(text: Printed) -> Ending
+    ensures status { result.status ≡ Status.Done }
+    ensures text { printed result.text ≡ printed text }
+{
+    Ending {
+        status: Status::Done,
+        text,
+    }
+}
+
+// The ending of a command that isn't carried out.
+fn ending_of_refusal(refusal: Refusal) -> Ending
+    ensures status { result.status ≡ status_of_refusal refusal }
+    ensures text { printed result.text ≡ text_of_refusal refusal }
+{
+    let (status, text) = match refusal {
+        Refusal::Disk => (Status::Disk, Printed::Line(Line::error_disk())),
+        Refusal::Memory => (Status::Memory, Printed::Line(Line::error_memory())),
+        Refusal::Already => (Status::Journal, Printed::Line(Line::journal_exists())),
+        Refusal::NotAJournal { why } => (Status::Journal, Printed::Line(line_of(why))),
+        Refusal::Reason { reason } => (Status::Reason, Printed::Fixed(refused_line(reason))),
+        Refusal::Actions => (Status::Limit, Printed::Fixed(limit_actions_line())),
+        Refusal::Full { end } => (Status::Limit, Printed::Line(Line::limit_journal(end))),
     };
-    Ending { status, line }
+    Ending { status, text }
 }
 
 // The line that tells why files are no journal.
@@ -68,5 +134,50 @@ fn line_of(why: Place9) -> Line
         Place9::Header => Line::journal_header(),
         Place9::Generations => Line::journal_generations(),
         Place9::Record { at } => Line::journal_record(at),
+    }
+}
+
+// The status of a run that ended early.
+fn status_of_fault(fault: &PlayFault) -> Status
+    ensures { result ≡ status_of_fault fault.now }
+{
+    match fault {
+        PlayFault::Memory => Status::Memory,
+        PlayFault::Disk => Status::Disk,
+        PlayFault::Link => Status::Link,
+        PlayFault::Refused { .. } => Status::Refused,
+        PlayFault::BadReply { .. } => Status::Reply,
+        PlayFault::Lacking { .. } => Status::Lacking,
+        PlayFault::Validity { .. } => Status::Validity,
+        PlayFault::Limit { .. } => Status::Limit,
+    }
+}
+
+// The line that tells why a run ended early.
+fn text_of_fault(fault: &PlayFault) -> Printed
+    ensures { printed result ≡ text_of_fault fault.now }
+{
+    match fault {
+        PlayFault::Memory => Printed::Line(Line::error_memory()),
+        PlayFault::Disk => Printed::Line(Line::error_disk()),
+        PlayFault::Link => Printed::Fixed(b"error link\n"),
+        PlayFault::Refused { line } => Printed::Told(Told::error_refused(line.as_slice())),
+        PlayFault::BadReply { why } => Printed::Told(told_why(why)),
+        PlayFault::Lacking { what } => Printed::Told(Told::error_lacking(*what)),
+        PlayFault::Validity { name, kept, told } => Printed::Told(Told::error_validity(
+            name, *kept, *told,
+        )),
+        PlayFault::Limit { which, number } => Printed::Told(Told::error_limit(*which, *number)),
+    }
+}
+
+// The line that tells what is wrong with a reply.
+fn told_why(why: &Why) -> Told
+    ensures { result ≡ text_of_why why.now }
+{
+    match why {
+        Why::At(at) => Told::error_reply_at(*at),
+        Why::Lacks(item) => Told::error_reply_lacks(*item),
+        Why::Lower { kept, told } => Told::error_reply_modseq(*kept, *told),
     }
 }

@@ -1,132 +1,256 @@
 //! The top call.
 
-ghost use Rattle.std.specs.Prelude.{◌≡◌, ◌≢◌, ◌⊎◌, ◌≤◌, ◌++◌, ◌↔◌, ℕ, List, take, map, string_bytes};
+ghost use Rattle.std.specs.Prelude.{◌≡◌, ◌≢◌, ◌⊎◌, ◌≤◌, ◌↔◌, ℕ, List, map, string_bytes};
 ghost use Rattle.world_traits.specs.Calls.{Rose};
+ghost use Rattle.world_traits.specs.Links.{Any};
 ghost use Rattle.world_traits.specs.Moments.{OneSideAtRest, Since};
 ghost use Rattle.journal_core.specs.Creating.{IsUnbegun};
-ghost use Rattle.journal_core.specs.HeldBodies.{StaysHeld, DiskKeepsHeld};
 ghost use Rattle.journal_core.specs.OneSide.{EachOneSide};
-ghost use Rattle.mail_top.specs.Book.{HoldsBook};
-ghost use Rattle.mail_top.specs.Ending.{Ends, OnTheWay, Comes, Prints, HasRoom};
-ghost use Rattle.mail_top.specs.Runs.{RunsOn};
-ghost use Rattle.mail_top.specs.Words.{Asks, AsksInit, AsksNothing};
+ghost use Rattle.store_core.specs.Mail.{mail};
+ghost use Rattle.store_core.specs.Steps.{Books};
+ghost use Rattle.store_core.specs.Taking.{HasBooks};
+ghost use Rattle.play_driver.specs.Joining.{AllFair};
+ghost use Rattle.play_driver.specs.Unplayed.{unplayed};
+ghost use Rattle.mail_top.specs.Connecting.{ConnectsAtFirst};
+ghost use Rattle.mail_top.specs.Ending.{Ends, EndsRequest, Comes, IsDone, IsLater, IsTakable, IsListable, HasWaiting};
+ghost use Rattle.mail_top.specs.Leaving.{KeepsOn, GoesOnBy, KeepsStep, LosesNone, MayBeLeft, RequestStep};
+ghost use Rattle.mail_top.specs.Played.{AreSynced, CameThrough};
+ghost use Rattle.mail_top.specs.Printing.{IsSaid, Prints};
+ghost use Rattle.mail_top.specs.Telling.{printed, TellsNoPlace};
+ghost use Rattle.mail_top.specs.Unplayed.{IsUnplayedYet, StaysUnplayed};
+ghost use Rattle.mail_top.specs.Words.{Asks, AsksNothing, IsLawful, Change, Init, Flag, Rows, Play, request_of};
 
-use crate::accepting::{MAX_JOURNAL, accept};
+use crate::accepting::accept;
 use crate::creating::init;
-use crate::ending::{Ending, ending_of_flag, ending_of_init, ending_of_words};
-use crate::words::{asked, names_asked};
+use crate::ending::{
+    Ending, ending_of_flag, ending_of_init, ending_of_list, ending_of_play, ending_of_words,
+};
+use crate::listing::list;
+use crate::playing::play;
+use crate::{Asked, asked};
 use mail_base::{Account, Status};
 use std::alloc::Global;
-use world_traits::{Clocked, Disk, Sink, Source, World, WriteFailed};
+use world_traits::{Clocked, Disk, Link, Sink, Source, World, WriteFailed};
 
 // Carries out what the words ask for, up to the printing.
-fn carry_out<D: Disk>(alloc: Global, words: &[String], disk: &mut D) -> Ending
-    ensures ends { D.tells_files → Ends (map string_bytes words.now) (D.clock disk.old).now (D.clock disk.new).now
-        (D.seen disk.old) (D.seen disk.new) result.status result.line }
+fn carry_out<W: World>(alloc: Global, words: &[String], account: &Account, world: &mut W) -> Ending
+    ensures ends { W.tells_files → Ends account.now (map string_bytes words.now)
+        (record {
+          old = W.clock world.old;
+          new = W.clock world.new;
+          seen = W.seen world.old;
+          seen_after = W.seen world.new;
+          link = W.link world.old;
+          link_after = W.link world.new;
+        })
+        result.status (printed result.text) }
     ensures comes { Comes result.status }
     ensures not_output { result.status ≢ Status.Output }
     ensures words { (result.status ≡ Status.Words) ↔ AsksNothing (map string_bytes words.now) }
-    ensures disk { result.status ≡ Status.Disk → Rose (D.disk_faults disk.old) (D.disk_faults disk.new) }
-    ensures every { D.tells_files → Since (OnTheWay (map string_bytes words.now) (D.clock disk.old).now (D.seen disk.old))
-        DiskKeepsHeld (D.clock disk.old) (D.clock disk.new) }
-    ensures one_side { D.tells_files → OneSideAtRest (D.clock disk.old).now →
-        OneSideAtRest (D.clock disk.new).now }
-    ensures each_one_side { D.tells_files → OneSideAtRest (D.clock disk.old).now →
-        EachOneSide (D.clock disk.old) (D.clock disk.new) }
-    ensures link { D.link disk.new ≡ D.link disk.old }
-    ensures count { D.disk_faults disk.old ≤ D.disk_faults disk.new }
+    ensures disk { result.status ≡ Status.Disk → Rose (W.disk_faults world.old) (W.disk_faults world.new) }
+    ensures link_fault { result.status ≡ Status.Link → Rose (W.link world.old).faults (W.link world.new).faults }
+    ensures honest { W.tells_server → result.status ≡ Status.Reply → TellsNoPlace (printed result.text) }
+    ensures every { W.tells_files → KeepsOn (map string_bytes words.now) (W.clock world.old).now (W.seen world.old)
+        (W.clock world.old) (W.clock world.new) }
+    ensures books { W.tells_files → OneSideAtRest (W.clock world.old).now →
+        (books : Books mail) → HasBooks mail books (W.clock world.old).now →
+        GoesOnBy (map string_bytes words.now) (W.clock world.old) (W.clock world.new) }
+    ensures joined { W.tells_server → OneSideAtRest (W.clock world.old).now →
+        (books : Books mail) → HasBooks mail books (W.clock world.old).now →
+        IsUnplayedYet (W.clock world.old).now → StaysUnplayed (W.clock world.old) (W.clock world.new) }
+    ensures synced { W.tells_server → Asks (map string_bytes words.now) Play → result.status ≡ Status.Done →
+        IsUnplayedYet (W.clock world.old).now → AllFair mail unplayed (W.clock world.old) (W.clock world.new) →
+        AreSynced (W.seen world.new) (W.clock world.old) (W.clock world.new) }
+    ensures one_side { W.tells_files → OneSideAtRest (W.clock world.old).now → OneSideAtRest (W.clock world.new).now }
+    ensures each_one_side { W.tells_files → OneSideAtRest (W.clock world.old).now →
+        EachOneSide (W.clock world.old) (W.clock world.new) }
+    ensures connects { W.tells_server → ConnectsAtFirst (W.clock world.old) (W.clock world.new) }
+    ensures link { (Asks (map string_bytes words.now) Play → ⊥) → W.link world.new ≡ W.link world.old }
+    ensures count { W.disk_faults world.old ≤ W.disk_faults world.new }
+    ensures link_count { (W.link world.old).faults ≤ (W.link world.new).faults }
 {
-    if let Some(texts) = names_asked(words) {
-        return ending_of_init(init(alloc, disk, texts));
-    }
     match asked(words) {
         None => ending_of_words(),
-        Some(action) => ending_of_flag(accept(alloc, disk, &action, MAX_JOURNAL)),
+        Some(asked) => answer(alloc, &asked, account, world),
     }
 }
 
-// Prints the line of an ending. A write that fails changes the status of a command that is done, and no other.
+// Carries out what was asked for, up to the printing.
+fn answer<W: World>(alloc: Global, asked: &Asked<'_>, account: &Account, world: &mut W) -> Ending
+    requires { IsLawful asked.now }
+    ensures ends { W.tells_files → EndsRequest account.now (request_of asked.now)
+        (record {
+          old = W.clock world.old;
+          new = W.clock world.new;
+          seen = W.seen world.old;
+          seen_after = W.seen world.new;
+          link = W.link world.old;
+          link_after = W.link world.new;
+        })
+        result.status (printed result.text) }
+    ensures comes { Comes result.status }
+    ensures not_output { result.status ≢ Status.Output }
+    ensures not_words { result.status ≢ Status.Words }
+    ensures disk { result.status ≡ Status.Disk → Rose (W.disk_faults world.old) (W.disk_faults world.new) }
+    ensures link_fault { result.status ≡ Status.Link → Rose (W.link world.old).faults (W.link world.new).faults }
+    ensures honest { W.tells_server → result.status ≡ Status.Reply → TellsNoPlace (printed result.text) }
+    ensures keeps { W.tells_files → Since (MayBeLeft (request_of asked.now) (W.clock world.old).now (W.seen world.old))
+        (KeepsStep (request_of asked.now)) (W.clock world.old) (W.clock world.new) }
+    ensures books { W.tells_files → OneSideAtRest (W.clock world.old).now →
+        (books : Books mail) → HasBooks mail books (W.clock world.old).now →
+        Since Any (RequestStep (request_of asked.now)) (W.clock world.old) (W.clock world.new) }
+    ensures joined { W.tells_server → OneSideAtRest (W.clock world.old).now →
+        (books : Books mail) → HasBooks mail books (W.clock world.old).now →
+        IsUnplayedYet (W.clock world.old).now → StaysUnplayed (W.clock world.old) (W.clock world.new) }
+    ensures synced { W.tells_server → request_of asked.now ≡ Play → result.status ≡ Status.Done →
+        IsUnplayedYet (W.clock world.old).now → AllFair mail unplayed (W.clock world.old) (W.clock world.new) →
+        AreSynced (W.seen world.new) (W.clock world.old) (W.clock world.new) }
+    ensures one_side { W.tells_files → OneSideAtRest (W.clock world.old).now → OneSideAtRest (W.clock world.new).now }
+    ensures each_one_side { W.tells_files → OneSideAtRest (W.clock world.old).now →
+        EachOneSide (W.clock world.old) (W.clock world.new) }
+    ensures connects { W.tells_server → ConnectsAtFirst (W.clock world.old) (W.clock world.new) }
+    ensures link { (request_of asked.now ≡ Play → ⊥) → W.link world.new ≡ W.link world.old }
+    ensures count { W.disk_faults world.old ≤ W.disk_faults world.new }
+    ensures link_count { (W.link world.old).faults ≤ (W.link world.new).faults }
+{
+    match asked {
+        Asked::Init(texts) => ending_of_init(init(alloc, world, texts)),
+        Asked::Flag(flags) => ending_of_flag(accept(alloc, world, flags)),
+        Asked::Rows(name) => ending_of_list(list(alloc, world, name)),
+        Asked::Play => ending_of_play(play(alloc, account, world)),
+    }
+}
+
+// Prints the text of an ending. A write that fails changes the status of a command that is done, and no other.
 fn say<S: Sink>(out: &mut S, ending: &Ending) -> Status
     requires { ending.now.status ≢ Status.Output }
-    ensures status { (result ≡ ending.now.status) ⊎ ((ending.now.status ≡ Status.Done) × (result ≡ Status.Output)) }
-    ensures prints { S.tells → Prints result ending.now.line (S.written out.old) (S.written out.new)
+    ensures status { IsSaid ending.now.status result }
+    ensures prints { S.tells → Prints result (printed ending.now.text) (S.written out.old) (S.written out.new)
         (S.sink_faults out.old) (S.sink_faults out.new) }
     ensures output { result ≡ Status.Output → Rose (S.sink_faults out.old) (S.sink_faults out.new) }
     ensures count { S.sink_faults out.old ≤ S.sink_faults out.new }
 {
-    match out.write(ending.line.as_bytes()) {
+    match out.write(ending.text.as_bytes()) {
         Ok(()) => ending.status,
         Err(WriteFailed) => match ending.status {
-            Status::Done => Status::Output,
+            Status::Done | Status::Conflicts => Status::Output,
             status => status,
         },
     }
 }
 
-/// Carries out what the user's words ask for, and prints one line.
+/// Carries out what the user's words ask for, and prints what it came to.
 ///
-/// The words are `init BOX ..`, which sets up a journal for these mailboxes and prints `ready`, or `flag BOX ID SIGN FLAG`,
+/// The words are `init BOX ..`, which sets up a journal for these mailboxes and prints `ready`; `flag BOX UID SIGN FLAG ..`,
 /// which accepts an action: both files are synced and read, the action's record is written behind the journal's last one
-/// and synced, its gate is opened and synced, and only then `accepted n` is printed. The account and the input aren't used
-/// yet.
+/// and synced, its gate is opened and synced, and only then `accepted n` is printed; `list BOX`, which prints the rows
+/// that the book knows of a mailbox; or `play`, which makes each cache the server's in one connection, with the account's
+/// user and password, and prints `played 0 conflicts 0`. While an action isn't settled nothing is sent: `play` ends with
+/// `error later n`, where n is the first one's number. The connection is left as it ended: the caller, who made the world,
+/// closes it. The input isn't read.
 ///
-/// Refusals come in this order: the words, the disk and the journal as read, the limit; want of memory may come in place
-/// of any, before the first write.
+/// Refusals come in this order: the words, the disk and the journal as read, the reasons, the limits, the actions that wait,
+/// and what befalls a session. Want of memory may come in place of any: before the first write, but of `play` also behind what
+/// it recorded of some mailboxes.
 pub fn run<W: World, I: Source, S: Sink>(
     alloc: Global,
     words: &[String],
-    _account: &Account,
+    account: &Account,
     _input: &mut I,
     world: &mut W,
     out: &mut S,
 ) -> Status
-    // What the status says of the words, the files as read, what a stop leaves now, and the line, which is printed. Where
-    // `accepted n` was printed, what a stop leaves has the action at place n.
-    ensures ends { W.tells_files → (line : List ℕ)
-        × Ends (map string_bytes words.now) (W.clock world.old).now (W.clock world.new).now (W.seen world.old) (W.seen world.new) result line
-        × (S.tells → Prints result line (S.written out.old) (S.written out.new) (S.sink_faults out.old) (S.sink_faults out.new)) }
+    // What the status says of the words, the book as read, what a stop leaves now, the link, and the text, which is printed.
+    // Where `accepted n` was printed, what a stop leaves has the action behind n - 1 others. An honest server's bytes go on as
+    // replies: the text isn't `error reply AT`.
+    ensures ends { W.tells_files → (text : List ℕ)
+        × Ends account.now (map string_bytes words.now)
+        (record {
+          old = W.clock world.old;
+          new = W.clock world.new;
+          seen = W.seen world.old;
+          seen_after = W.seen world.new;
+          link = W.link world.old;
+          link_after = W.link world.new;
+        })
+        result text
+        × (W.tells_server → result ≡ Status.Reply → TellsNoPlace text)
+        × (S.tells → Prints result text (S.written out.old) (S.written out.new) (S.sink_faults out.old) (S.sink_faults out.new)) }
 
     // Each answer has its cause, whatever the world tells.
     ensures comes { Comes result }
     ensures words { (result ≡ Status.Words) ↔ AsksNothing (map string_bytes words.now) }
     ensures disk { result ≡ Status.Disk → Rose (W.disk_faults world.old) (W.disk_faults world.new) }
+    ensures link_fault { result ≡ Status.Link → Rose (W.link world.old).faults (W.link world.new).faults }
     ensures output { result ≡ Status.Output → Rose (S.sink_faults out.old) (S.sink_faults out.new) }
 
-    // Lawful words, a journal of a Begin and actions with room, and no fault of disk or sink: the action is accepted, or
-    // memory is wanting.
-    ensures complete_flag { W.tells_files → (action : _) → Asks (map string_bytes words.now) action →
-        (bodies : List (List ℕ)) → HoldsBook bodies (W.seen world.old) → HasRoom (map string_bytes words.now) bodies →
+    // A change that the book takes, and no fault of disk or sink: the action is accepted, or memory is wanting.
+    ensures complete_flag { W.tells_files → (change : Change) → Asks (map string_bytes words.now) (Flag change) →
+        IsTakable change (W.seen world.old) →
         (Rose (W.disk_faults world.old) (W.disk_faults world.new) → ⊥) → (Rose (S.sink_faults out.old) (S.sink_faults out.new) → ⊥) →
-        (result ≡ Status.Done) ⊎ (result ≡ Status.Memory) }
+        IsDone result }
 
     // Lawful names, no side begun, and no fault: the journal is set up, or memory is wanting.
-    ensures complete_init { W.tells_files → (texts : List (List ℕ)) → AsksInit (map string_bytes words.now) texts →
+    ensures complete_init { W.tells_files → (names : List (List ℕ)) → Asks (map string_bytes words.now) (Init names) →
         IsUnbegun (W.seen world.old) →
         (Rose (W.disk_faults world.old) (W.disk_faults world.new) → ⊥) → (Rose (S.sink_faults out.old) (S.sink_faults out.new) → ⊥) →
-        (result ≡ Status.Done) ⊎ (result ≡ Status.Memory) }
+        IsDone result }
+
+    // A mailbox of the book, and no fault: its rows are printed, or memory is wanting.
+    ensures complete_list { W.tells_files → (name : List ℕ) → Asks (map string_bytes words.now) (Rows name) →
+        IsListable name (W.seen world.old) →
+        (Rose (W.disk_faults world.old) (W.disk_faults world.new) → ⊥) → (Rose (S.sink_faults out.old) (S.sink_faults out.new) → ⊥) →
+        IsDone result }
+
+    // A book of which an action isn't settled, and no fault of the disk: `play` waits for it, or memory is wanting.
+    ensures complete_later { W.tells_files → Asks (map string_bytes words.now) Play → HasWaiting (W.seen world.old) →
+        (Rose (W.disk_faults world.old) (W.disk_faults world.new) → ⊥) → IsLater result }
 
     // At every moment a stop leaves what was accepted, and nothing but what the words ask for; no step from one moment to
-    // the next loses a body that all images hold, and so what they hold at entry they hold at the end. Nor does one change
-    // what isn't on the disk.
-    ensures every { W.tells_files → RunsOn (map string_bytes words.now) (W.seen world.old) (W.clock world.old).now
+    // the next loses an action that all images hold, and so what they hold at entry they hold at the end. Nor does one
+    // change what isn't on the disk, but those of `play`.
+    ensures every { W.tells_files → KeepsOn (map string_bytes words.now) (W.clock world.old).now (W.seen world.old)
         (W.clock world.old) (W.clock world.new) }
-    ensures held { W.tells_files → StaysHeld (W.clock world.old).now (W.clock world.new).now }
+    ensures held { W.tells_files → LosesNone (W.clock world.old).now (W.clock world.new).now }
+
+    // From each moment to the next the books that a stop may leave stay, or the event that the words ask for is begun, or
+    // made firm, or one of two books is chosen.
+    ensures books { W.tells_files → OneSideAtRest (W.clock world.old).now →
+        (books : Books mail) → HasBooks mail books (W.clock world.old).now →
+        GoesOnBy (map string_bytes words.now) (W.clock world.old) (W.clock world.new) }
+
+    // As long as nothing was played, and others leave each UIDVALIDITY: each moment stays so, and is joined to the one before
+    // it by one step of the book beside the server.
+    ensures joined { W.tells_server → OneSideAtRest (W.clock world.old).now →
+        (books : Books mail) → HasBooks mail books (W.clock world.old).now →
+        IsUnplayedYet (W.clock world.old).now → StaysUnplayed (W.clock world.old) (W.clock world.new) }
+
+    // And a `play` that came to its end leaves each mailbox with a cache that is the server's as it answered for its rows in
+    // this run.
+    ensures synced { W.tells_server → Asks (map string_bytes words.now) Play → CameThrough result →
+        IsUnplayedYet (W.clock world.old).now → AllFair mail unplayed (W.clock world.old) (W.clock world.new) →
+        AreSynced (W.seen world.new) (W.clock world.old) (W.clock world.new) }
+
+    // Over a link that tells its server a run connects before it asks for anything, and not again; and it asks for no change of a
+    // mailbox.
+    ensures connects { W.tells_server → ConnectsAtFirst (W.clock world.old) (W.clock world.new) }
 
     // Where one side was at rest, one is at the end and at each moment: so a later run's syncs come to what it reads, wherever
     // this one is cut off.
-    ensures one_side { W.tells_files → OneSideAtRest (W.clock world.old).now →
-        OneSideAtRest (W.clock world.new).now }
+    ensures one_side { W.tells_files → OneSideAtRest (W.clock world.old).now → OneSideAtRest (W.clock world.new).now }
     ensures each_one_side { W.tells_files → OneSideAtRest (W.clock world.old).now →
         EachOneSide (W.clock world.old) (W.clock world.new) }
 
-    // No more of the outside is touched: nothing but the files, neither the link nor the input.
-    ensures outside { W.tells_files → (W.clock world.new).now.outside ≡ (W.clock world.old).now.outside }
-    ensures link { W.link world.new ≡ W.link world.old }
+    // Unless it is played no more of the outside is touched: nothing but the files, and not the link. The input isn't read.
+    ensures outside { W.tells_files → (Asks (map string_bytes words.now) Play → ⊥) →
+        (W.clock world.new).now.outside ≡ (W.clock world.old).now.outside }
+    ensures link { (Asks (map string_bytes words.now) Play → ⊥) → W.link world.new ≡ W.link world.old }
     ensures unread { _input.new ≡ _input.old }
 
     ensures count { W.disk_faults world.old ≤ W.disk_faults world.new }
+    ensures link_count { (W.link world.old).faults ≤ (W.link world.new).faults }
     ensures sink_count { S.sink_faults out.old ≤ S.sink_faults out.new }
 {
-    let ending = carry_out(alloc, words, world);
+    let ending = carry_out(alloc, words, account, world);
     say(out, &ending)
 }

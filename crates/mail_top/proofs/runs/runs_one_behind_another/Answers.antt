@@ -1,4 +1,4 @@
-use Rattle.mail_top.proofs.Repeated.{restart_begins, follows_held, accepted_stays, accepted_before, follows_ready, follows_book}
+use Rattle.mail_top.proofs.Repeated.{restart_begins, follows_held, accepted_stays, accepted_before, follows_ready, follows_any, follows_names}
 use Rattle.mail_top.proofs.runs.runs_one_behind_another.Goals as goal
 
 pub returns-clause-begins : goal.returns-clause-begins
@@ -8,13 +8,16 @@ pub returns-clause-held : goal.returns-clause-held
 returns-clause-held c = follows_held
 
 pub returns-clause-accepted : goal.returns-clause-accepted
-returns-clause-accepted c = accepted_stays
+returns-clause-accepted c change k text is last follows = accepted_stays change k text is last follows
 
 pub returns-clause-numbered : goal.returns-clause-numbered
-returns-clause-numbered c = accepted_before
+returns-clause-numbered c change k text is last follows later = accepted_before change k text is last follows later
 
 pub returns-clause-whole : goal.returns-clause-whole
 returns-clause-whole c = follows_ready
 
+pub returns-clause-ready : goal.returns-clause-ready
+returns-clause-ready c = follows_any
+
 pub returns-clause-journal : goal.returns-clause-journal
-returns-clause-journal c = follows_book
+returns-clause-journal c = follows_names

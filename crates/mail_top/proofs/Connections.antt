@@ -1,0 +1,39 @@
+-- How a command connects: at first, or not at all.
+use Rattle.std.proofs.Common.{◌≡◌}
+use Rattle.imap_model.specs.Talking.{Connecting}
+use Rattle.world_traits.specs.Links.{Any, LinkStep}
+use Rattle.world_traits.specs.Moments.{Moment, Clock, Since, Within}
+use Rattle.world_traits.proofs.Passing.{since_start, since_weaker}
+use Rattle.store_core.specs.HeldActions.{KeepsActions}
+use Rattle.play_driver.specs.Questioning.{ConnectsFirst, TalkStep}
+use Rattle.mail_top.specs.Connecting.{ConnectsAtFirst, SameOutside}
+use Rattle.mail_top.specs.Leaving.{KeepsStep}
+use Rattle.mail_top.specs.Words.{Request, Play}
+use Rattle.mail_top.proofs.Repeated.{outside_same}
+
+-- none is made where what isn't on the disk stays
+none_made : (k l : Clock) → Since Any SameOutside k l → ConnectsAtFirst k l
+none_made k l stays = record {
+  first = l;
+  opens = stays;
+  run = record { at = l; connects = since_start Any (LinkStep Connecting) l; behind = since_start Any TalkStep l };
+}
+
+pub nothing_made : (k : Clock) → ConnectsAtFirst k k
+nothing_made k = none_made k k (since_start Any SameOutside k)
+
+-- nor by a command that works with the files alone
+pub request_alone : (request : Request) → (request ≡ Play → ⊥) → (P : Moment → Type 0) (k l : Clock) → Since P (KeepsStep request) k l → ConnectsAtFirst k l
+request_alone request never P k l s =
+    none_made k l (since_weaker P Any (KeepsStep request) SameOutside (λ m p. tt) (λ m n step. outside_same request m n never step.outside) k l s)
+
+-- nor while the journal is opened
+opening : (entry : Moment) (k l : Clock) → Since (Within entry) KeepsActions k l → Since Any SameOutside k l
+opening entry k l s = since_weaker (Within entry) Any KeepsActions SameOutside (λ m p. tt) (λ m n step. step.outside) k l s
+
+pub opens_alone : (entry : Moment) (k l : Clock) → Since (Within entry) KeepsActions k l → ConnectsAtFirst k l
+opens_alone entry k l s = none_made k l (opening entry k l s)
+
+-- behind that the run makes one
+pub opens_then : (entry : Moment) (k l n : Clock) → Since (Within entry) KeepsActions k l → ConnectsFirst TalkStep l n → ConnectsAtFirst k n
+opens_then entry k l n s run = record { first = l; opens = opening entry k l s; run = run }

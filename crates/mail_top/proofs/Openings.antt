@@ -1,0 +1,276 @@
+-- What becomes of a command that opens the journal, at each of its ends.
+use Rattle.std.proofs.Common.{◌≡◌, inl, inr, ℕ, ◌≤◌, ◌<◌, List, [], ◌∷◌, ◌++◌, length, Some, None, Result, Ok, Err, refl, sym}
+use Rattle.std.proofs.Common.{◌∙◌, ap}
+use Rattle.std.proofs.Common.{subst, arith}
+use Rattle.std.specs.Prelude.{slice_get}
+use Rattle.std.specs.Result.{IsErrAnd}
+use Rattle.mail_base.specs.Lines.{accepted, error_disk, error_memory, limit_journal}
+use Rattle.mail_base.specs.declared.status.Status.{Status}
+use Rattle.mail_base.specs.declared.status.Status.TheVariants as status
+use Rattle.world_traits.specs.Calls.{Rose}
+use Rattle.world_traits.specs.Files.{Files}
+use Rattle.world_traits.specs.Moments.{Moment, Within}
+use Rattle.journal_core.specs.declared.fault.Place9.{Place9}
+use Rattle.journal_core.specs.Appending.{told_end}
+use Rattle.journal_core.specs.Holds.{Holds}
+use Rattle.journal_core.specs.Limits.{max_accepted}
+use Rattle.journal_core.proofs.HeldBodies.{still_holds}
+use Rattle.action_queue.specs.Book.{Meaning, after}
+use Rattle.action_queue.specs.Queues.{accepted as queued}
+use Rattle.action_queue.specs.declared.action.Action.{Action}
+use Rattle.action_queue.specs.declared.event.Event.{Event}
+use Rattle.action_queue.specs.declared.queued.Queued.{Queued}
+use Rattle.store_core.specs.Mail.{mail}
+use Rattle.store_core.specs.Books.{HasBook}
+use Rattle.store_core.specs.Broken.{IsBroken}
+use Rattle.store_core.specs.HeldActions.{IsHeld}
+use Rattle.store_core.specs.Holding.{Holding, IsAsLeft}
+use Rattle.store_core.specs.Room.{end_after}
+use Rattle.store_core.specs.Steps.{Firm}
+use Rattle.store_core.specs.Taking.{HasBooks}
+use Rattle.store_core.specs.declared.fault.StoreFault.{StoreFault}
+use Rattle.store_core.specs.declared.fault.StoreFault.TheVariants as stores
+use Rattle.store_core.specs.declared.fault.CommitFault.{CommitFault}
+use Rattle.store_core.specs.declared.fault.CommitFault.TheVariants as commits
+use Rattle.store_core.proofs.Choosing.{only_left}
+use Rattle.journal_core.proofs.UpTo.{up_to_here}
+use Rattle.mail_top.specs.Ending.{EndsFlag, EndsRows}
+use Rattle.mail_top.specs.Saying.{SaysMemory, SaysBroken, SaysAccepted}
+use Rattle.mail_top.specs.Telling.{line_of, status_of, text_of, status_of_refusal, text_of_refusal}
+use Rattle.mail_top.specs.Actions.{accepts}
+use Rattle.mail_top.specs.Course.{Course, Stays, end_behind}
+use Rattle.mail_top.specs.Faults.{of_store, of_commit}
+use Rattle.mail_top.specs.Leaving.{MayBeLeft}
+use Rattle.mail_top.specs.Weighing.{Admits, Weighed, Shown}
+use Rattle.mail_top.specs.Words.{Change, Flag}
+use Rattle.mail_top.specs.declared.refusal.Refusal.{Refusal}
+use Rattle.mail_top.specs.declared.refusal.Refusal.TheVariants as refusals
+
+-- a fault that was handed on is the result
+pub raised : {T : Type 0} (r : Result T Refusal) (x : Refusal) → IsErrAnd r (λ refusal. refusal ≡ x) → r ≡ Err x
+raised (Ok y) x given = absurd given
+raised (Err refusal) x given = ap (λ (f : Refusal). Err f) given
+
+-- what was done is no fault
+pub never_err : {T E : Type 0} (x : T) (e : E) → ◌≡◌ {A = Result T E} (Ok x) (Err e) → ⊥
+never_err x e same = cc same
+
+-- a count that rose later rose
+pub rose_later : (k l m : ℕ) → k ≤ l → Rose l m → Rose k m
+rose_later k l m first rose under = omega (arith, first, rose under)
+
+-- The journal isn't opened. (What an end says is the same for each command at these statuses.)
+module _ (E : Status → List ℕ → Type 0) (k : Course) (on_memory : SaysMemory k error_memory → E status.Memory error_memory)
+    (on_disk : Within k.old.now k.new.now → E status.Disk error_disk)
+    (on_broken : (why : Place9) → SaysBroken k (line_of why) → E status.Journal (line_of why)) where
+  pub unopened : (x : StoreFault) → Within k.old.now k.new.now → ((x ≡ stores.Disk → ⊥) → k.seen_after ≡ k.seen) → (x ≡ stores.Already → ⊥) →
+      ((end wanted : ℕ) → x ≡ stores.Full end wanted → ⊥) → ((why : Place9) → x ≡ stores.NotAJournal why → IsBroken mail why k.seen) →
+      E (status_of_refusal (of_store x)) (text_of_refusal (of_store x))
+  unopened stores.Memory within reads not_there not_full broken =
+      on_memory (record { keeps = record { leaves = within; reads = reads (λ e. cc e) }; text_is = refl })
+  unopened stores.Disk within reads not_there not_full broken = on_disk within
+  unopened stores.Already within reads not_there not_full broken = absurd (not_there refl)
+  unopened (stores.Full end wanted) within reads not_there not_full broken = absurd (not_full end wanted refl)
+  unopened (stores.NotAJournal why) within reads not_there not_full broken =
+      on_broken why (record { keeps = record { leaves = within; reads = reads (λ e. cc e) }; why = why; broken = broken why refl; text_is = refl })
+
+-- the files as read hold the book of a store that was opened on them
+abbrev pub opened_book : (store : Holding mail) (m : Moment) (seen files : Files) → IsAsLeft mail store m seen → seen ≡ files → HasBook mail store.book files
+opened_book store m seen files left same = record {
+  version = store.journal.version;
+  bodies = left.bodies;
+  holds = subst (Holds store.journal.version left.bodies) same (still_holds store.journal left.bodies m seen left.still left.all_read);
+  make = left.make;
+}
+
+-- and from now on each stop leaves it
+pub opened_stays : (k : Course) (store : Holding mail) → IsAsLeft mail store k.new.now k.seen_after → k.seen_after ≡ k.seen → Stays k store.book
+opened_stays k store left same = record {
+  holds = opened_book store k.new.now k.seen_after k.seen left same;
+  leaves = only_left mail store k.new.now k.seen_after left;
+  reads = same;
+}
+
+-- where the journal ends with an event more
+pub end_is : (store : Holding mail) (m : Moment) (seen files : Files) (left : IsAsLeft mail store m seen) (same : seen ≡ files) (e : Event) →
+    end_behind (opened_book store m seen files left same) e ≡ end_after e store
+end_is store m seen files left same e = omega (arith, (up_to_here left.bodies store.journal m seen left.still).there)
+
+-- an action stands behind the others
+last_there : (qs : List Queued) (q : Queued) → slice_get (qs ++ q ∷ []) (length qs) ≡ Some q
+last_there [] q = refl
+last_there (x ∷ qs) q = last_there qs q
+
+pub held_last : (b : Meaning) (action : Action) (m : Moment) → HasBooks mail (Firm (Some (after b (accepts b action)))) m →
+    IsHeld (length b.queue) action None m
+held_last b action m have = record {
+  each = λ files leaves. record {
+    book = after b (accepts b action);
+    holds = have.each.each files leaves;
+    has = record { queued = queued action; there = last_there b.queue (queued action); asked = refl; ended = tt };
+  };
+}
+
+-- what the opened book says of a change
+module _ (change : Change) (k : Course) (b : Meaning) (within : Within k.old.now k.new.now) (stays : Stays k b) where
+  pub weighed_ends : (x : Refusal) → Weighed change b (Err x) → EndsFlag change k (status_of_refusal x) (text_of_refusal x)
+  weighed_ends (refusals.Reason reason) w = record { book = b; stays = stays; reason = reason; is = w; text_is = refl }
+  weighed_ends refusals.Actions w = record { book = b; stays = stays; may = w.0; past = inl (w.1, refl) }
+  weighed_ends refusals.Memory w = record { keeps = record { leaves = within; reads = stays.reads }; text_is = refl }
+  weighed_ends refusals.Disk w = absurd w
+  weighed_ends refusals.Already w = absurd w
+  weighed_ends (refusals.NotAJournal why) w = absurd w
+  weighed_ends (refusals.Full end) w = absurd w
+
+-- what the opened book says of a mailbox
+pub shown_ends : (name : List ℕ) (k : Course) (b : Meaning) → Within k.old.now k.new.now → Stays k b → (r : Result (List ℕ) Refusal) → Shown name b r →
+    EndsRows name k (status_of r) (text_of (λ text. text) r)
+shown_ends name k b within stays (Ok text) s = record { book = b; stays = stays; may = s.0; text_is = s.1 }
+shown_ends name k b within stays (Err (refusals.Reason reason)) s = record { book = b; stays = stays; reason = reason; is = s; text_is = refl }
+shown_ends name k b within stays (Err refusals.Memory) s = record { keeps = record { leaves = within; reads = stays.reads }; text_is = refl }
+shown_ends name k b within stays (Err refusals.Actions) s = absurd s
+shown_ends name k b within stays (Err refusals.Disk) s = absurd s
+shown_ends name k b within stays (Err refusals.Already) s = absurd s
+shown_ends name k b within stays (Err (refusals.NotAJournal why)) s = absurd s
+shown_ends name k b within stays (Err (refusals.Full end)) s = absurd s
+
+-- the action was recorded
+pub recorded : (change : Change) (k : Course) (b : Meaning) (id : ℕ) (action : Action) (holds : HasBook mail b k.seen) → Admits change b id action →
+    end_behind holds (accepts b action) ≤ max_accepted → HasBooks mail (Firm (Some (after b (accepts b action)))) k.new.now →
+    SaysAccepted change k (accepted id)
+recorded change k b id action holds takes within leaves = record {
+  book = b;
+  holds = holds;
+  may = takes.may;
+  few = takes.few;
+  action = action;
+  is = takes.is;
+  within = within;
+  leaves = leaves;
+  held =
+      held_last b action k.new.now leaves;
+  text_is = ap accepted takes.number;
+}
+
+-- The same at a result that handed a store's fault on.
+module _ {S T : Type 0} (o : Result S StoreFault) (r : Result T Refusal) (x : StoreFault) (was : o ≡ Err x) (given : IsErrAnd r
+    (λ refusal. refusal ≡ of_store x))
+    (told : T → List ℕ) (k : Course) (within : Within k.old.now k.new.now) (reads : (o ≡ Err stores.Disk → ⊥) → k.seen_after ≡ k.seen)
+    (only : (o ≡ Err stores.Already → ⊥) × ((end wanted : ℕ) → o ≡ Err (stores.Full end wanted) → ⊥))
+    (broken : (why : Place9) → o ≡ Err (stores.NotAJournal why) → IsBroken mail why k.seen) where
+  at : (y : StoreFault) → x ≡ y → o ≡ Err y
+  at y is = was ∙ ap (λ (f : StoreFault). Err f) is
+
+  back : o ≡ Err stores.Disk → x ≡ stores.Disk
+  back is = cc (was, is)
+
+  pub unopened_flag : (change : Change) → EndsFlag change k (status_of r) (text_of told r)
+  unopened_flag change = subst (λ (q : Result T Refusal). EndsFlag change k (status_of q) (text_of told q)) (sym (raised r (of_store x) given))
+      (unopened (EndsFlag change k) k (λ s. s) (λ w. record { leaves = inl w; text_is = refl }) (λ why s. s) x within
+      (λ other. reads (λ is. other (back is))) (λ is. only.0 (at stores.Already is)) (λ end wanted is. only.1 end wanted (at (stores.Full end wanted) is))
+      (λ why is. broken why (at (stores.NotAJournal why) is)))
+
+  pub unopened_rows : (name : List ℕ) → EndsRows name k (status_of r) (text_of told r)
+  unopened_rows name = subst (λ (q : Result T Refusal). EndsRows name k (status_of q) (text_of told q)) (sym (raised r (of_store x) given))
+      (unopened (EndsRows name k) k (λ s. s) (λ w. record { leaves = w; text_is = refl }) (λ why s. s) x within
+      (λ other. reads (λ is. other (back is))) (λ is. only.0 (at stores.Already is)) (λ end wanted is. only.1 end wanted (at (stores.Full end wanted) is))
+      (λ why is. broken why (at (stores.NotAJournal why) is)))
+
+-- At a result that handed on what the book says of a change.
+pub weighed_flag : {T : Type 0} (change : Change) (k : Course) (b : Meaning) (within : Within k.old.now k.new.now) (stays : Stays k b) (told : T → List ℕ)
+    (w : Result (ℕ × Action) Refusal) (r : Result T Refusal) (x : Refusal) → w ≡ Err x → IsErrAnd r (λ refusal. refusal ≡ x) → Weighed change b w →
+    EndsFlag change k (status_of r) (text_of told r)
+weighed_flag {T} change k b within stays told w r x was given weighs =
+    subst (λ (q : Result T Refusal). EndsFlag change k (status_of q) (text_of told q)) (sym (raised r x given))
+    (weighed_ends change k b within stays x (subst (Weighed change b) was weighs))
+
+-- At a result that handed a fault of the recording on: after a failure of the disk the action may be there or not, and after
+-- another all is as it was.
+module _ {S T : Type 0} (change : Change) (k : Course) (told : T → List ℕ) (o : Result S CommitFault) (r : Result T Refusal) (x : CommitFault) (was : o ≡ Err x)
+    (given : IsErrAnd r (λ refusal. refusal ≡ of_commit x)) (leaves : MayBeLeft (Flag change) k.old.now k.seen k.new.now) where
+  pub unrecorded_flag : (b : Meaning) (id : ℕ) (action : Action) → Admits change b id action →
+      (holds : HasBook mail b k.seen) →
+      ((o ≡ Err commits.Disk → ⊥) → Within k.old.now k.new.now × HasBooks mail (Firm (Some b)) k.new.now × (k.seen_after ≡ k.seen)) →
+      ((end wanted : ℕ) → o ≡ Err (commits.Full end wanted) →
+      (max_accepted < end_behind holds (accepts b action)) × (wanted ≡ told_end (end_behind holds (accepts b action)))) →
+      EndsFlag change k (status_of r) (text_of told r)
+  unrecorded_flag b id action takes holds kept full =
+      subst (λ (q : Result T Refusal). EndsFlag change k (status_of q) (text_of told q)) (sym (raised r (of_commit x) given)) (by_fault x was)
+    where
+      by_fault : (y : CommitFault) → o ≡ Err y → EndsFlag change k (status_of_refusal (of_commit y)) (text_of_refusal (of_commit y))
+      by_fault commits.Disk is = record { leaves = leaves; text_is = refl }
+      by_fault commits.Memory is =
+          let all = kept (λ e. let never : Err commits.Memory ≡ Err commits.Disk = sym is ∙ e in cc) in
+          record { keeps = record { leaves = all.0; reads = all.2 }; text_is = refl }
+      by_fault (commits.Full end wanted) is =
+          let all = kept (λ e. let never : Err (commits.Full end wanted) ≡ Err commits.Disk = sym is ∙ e in cc) in
+          let past = full end wanted is in record {
+            book = b;
+            stays = record { holds = holds; leaves = all.1; reads = all.2 };
+            may = takes.may;
+            past =
+                inr (record { few = takes.few; action = action; is = takes.is; past = past.0; text_is = ap limit_journal past.1 });
+          }
+
+-- which fault of a part it was
+store_disk_back : (x : StoreFault) → of_store x ≡ refusals.Disk → x ≡ stores.Disk
+store_disk_back stores.Memory is = absurd cc
+store_disk_back stores.Disk is = refl
+store_disk_back stores.Already is = absurd cc
+store_disk_back (stores.Full end wanted) is = absurd cc
+store_disk_back (stores.NotAJournal why) is = absurd cc
+
+store_already_back : (x : StoreFault) → of_store x ≡ refusals.Already → x ≡ stores.Already
+store_already_back stores.Memory is = absurd cc
+store_already_back stores.Disk is = absurd cc
+store_already_back stores.Already is = refl
+store_already_back (stores.Full end wanted) is = absurd cc
+store_already_back (stores.NotAJournal why) is = absurd cc
+
+commit_disk_back : (x : CommitFault) → of_commit x ≡ refusals.Disk → x ≡ commits.Disk
+commit_disk_back commits.Memory is = absurd cc
+commit_disk_back commits.Disk is = refl
+commit_disk_back (commits.Full end wanted) is = absurd cc
+
+commit_already_back : (x : CommitFault) → of_commit x ≡ refusals.Already → ⊥
+commit_already_back commits.Memory is = absurd cc
+commit_already_back commits.Disk is = absurd cc
+commit_already_back (commits.Full end wanted) is = absurd cc
+
+module _ {S T : Type 0} (o : Result S StoreFault) (r : Result T Refusal) (x : StoreFault) (was : o ≡ Err x) (given : IsErrAnd r
+    (λ refusal. refusal ≡ of_store x)) where
+  pub store_disk : r ≡ Err refusals.Disk → o ≡ Err stores.Disk
+  store_disk is = let same : of_store x ≡ refusals.Disk = cc (raised r (of_store x) given, is) in was ∙ ap (λ (f : StoreFault). Err f) (store_disk_back x same)
+
+  pub store_already : r ≡ Err refusals.Already → o ≡ Err stores.Already
+  store_already is =
+      let same : of_store x ≡ refusals.Already = cc (raised r (of_store x) given, is) in was ∙ ap (λ (f : StoreFault). Err f) (store_already_back x same)
+
+module _ {S T : Type 0} (o : Result S CommitFault) (r : Result T Refusal) (x : CommitFault) (was : o ≡ Err x)
+    (given : IsErrAnd r (λ refusal. refusal ≡ of_commit x)) where
+  pub commit_disk : r ≡ Err refusals.Disk → o ≡ Err commits.Disk
+  commit_disk is = let same : of_commit x ≡ refusals.Disk = cc (raised r (of_commit x) given, is) in was
+      ∙ ap (λ (f : CommitFault). Err f) (commit_disk_back x same)
+
+  pub commit_already : r ≡ Err refusals.Already → ⊥
+  commit_already is = let same : of_commit x ≡ refusals.Already = cc (raised r (of_commit x) given, is) in commit_already_back x same
+
+-- what the book says of a change is no fault of the disk
+module _ {T : Type 0} (change : Change) (b : Meaning) (w : Result (ℕ × Action) Refusal) (r : Result T Refusal) (x : Refusal) (was : w ≡ Err x)
+    (given : IsErrAnd r (λ refusal. refusal ≡ x)) (weighs : Weighed change b w) where
+  pub weighed_disk : r ≡ Err refusals.Disk → ⊥
+  weighed_disk is =
+      let same : x ≡ refusals.Disk = cc (raised r x given, is) in
+      subst (λ (y : Refusal). Weighed change b (Err y)) same (subst (Weighed change b) was weighs)
+
+  pub weighed_already : r ≡ Err refusals.Already → ⊥
+  weighed_already is =
+      let same : x ≡ refusals.Already = cc (raised r x given, is) in
+      subst (λ (y : Refusal). Weighed change b (Err y)) same (subst (Weighed change b) was weighs)
+
+-- nor is what it says of a mailbox
+pub shown_disk : (name : List ℕ) (b : Meaning) (r : Result (List ℕ) Refusal) → Shown name b r → r ≡ Err refusals.Disk → ⊥
+shown_disk name b r s is = subst (Shown name b) is s
+
+pub shown_already : (name : List ℕ) (b : Meaning) (r : Result (List ℕ) Refusal) → Shown name b r → r ≡ Err refusals.Already → ⊥
+shown_already name b r s is = subst (Shown name b) is s

@@ -1,0 +1,374 @@
+-- How `play` ends at each of its ends, and what its texts tell.
+use Rattle.std.proofs.Common.{◌≡◌, inl, inr, ℕ, zero, suc, ◌+◌, List, Some, Result, Ok, Err, refl, sym, ◌∙◌, ap, subst}
+use Rattle.std.specs.Prelude.{IfOk, OnOk}
+use Rattle.std.specs.Result.{IsErrAnd}
+use Rattle.mail_base.specs.Account.{Credentials}
+use Rattle.mail_base.specs.declared.status.Status.{Status}
+use Rattle.mail_base.specs.declared.status.Status.TheVariants as status
+use Rattle.world_traits.specs.Files.{Files}
+use Rattle.world_traits.specs.LinkState.{LinkState}
+use Rattle.world_traits.specs.Moments.{Moment, Within}
+use Rattle.journal_core.specs.declared.fault.Place9.{Place9}
+use Rattle.mailbox_cache.specs.declared.delta.Delta.{Delta}
+use Rattle.action_queue.specs.Book.{Meaning}
+use Rattle.action_queue.specs.Queues.{AllSettled, due}
+use Rattle.action_queue.specs.declared.event.Event.TheVariants as events
+use Rattle.store_core.specs.Mail.{mail}
+use Rattle.store_core.specs.Broken.{IsBroken}
+use Rattle.store_core.specs.Holding.{Holding, IsAsLeft}
+use Rattle.store_core.specs.Taking.{IsTaking}
+use Rattle.store_core.specs.declared.fault.StoreFault.{StoreFault}
+use Rattle.store_core.specs.declared.fault.StoreFault.TheVariants as stores
+use Rattle.store_core.proofs.Choosing.{only_left}
+use Rattle.play_driver.specs.Learning.{IsLearning}
+use Rattle.play_driver.specs.Playing.{Plays, EndsEarly}
+use Rattle.play_driver.specs.declared.fault.PlayFault.{PlayFault}
+use Rattle.play_driver.specs.declared.fault.PlayFault.TheVariants as faults
+use Rattle.play_driver.specs.declared.fault.Why.TheVariants as whys
+use Rattle.play_driver.specs.declared.played.Played.{Played}
+use Rattle.mail_top.specs.Course.{Course, Stays, OnFiles}
+use Rattle.mail_top.specs.Ending.{Comes, EndsInit, EndsFlag, EndsRows, EndsPlay, EndsRequest}
+use Rattle.mail_top.specs.Faults.{of_store}
+use Rattle.mail_top.specs.Played.{IsOpened, SaysLater, SaysStopped}
+use Rattle.mail_top.specs.Telling.{TellsNoPlace, status_of, status_of_refusal, status_of_fault, text_of_fault}
+use Rattle.mail_top.specs.Telling.{status_of_conflicts, status_of_play, text_of_play}
+use Rattle.mail_top.specs.Texts.{error_later}
+use Rattle.mail_top.specs.Words.{Change, Request, Init, Flag, Rows, Play}
+use Rattle.mail_top.specs.declared.refusal.Refusal.{Refusal}
+use Rattle.mail_top.specs.declared.refusal.Refusal.TheVariants as refusals
+use Rattle.mail_top.specs.declared.unfinished.Unfinished.{Unfinished}
+use Rattle.mail_top.specs.declared.unfinished.Unfinished.TheVariants as ends
+use Rattle.mail_top.proofs.Openings.{opened_book, unopened}
+
+-- what was handed on is the result
+pub ended_by : {T : Type 0} (r : Result T Unfinished) (x : Unfinished) → IsErrAnd r (λ end. end ≡ x) → r ≡ Err x
+ended_by (Ok y) x given = absurd given
+ended_by (Err end) x given = ap (λ (e : Unfinished). Err e) given
+
+-- an end by a result that is known
+pub by_result : (account : Credentials) (k : Course) (r s : Result Played Unfinished) → r ≡ s → EndsPlay account k (status_of_play s) (text_of_play s) →
+    EndsPlay account k (status_of_play r) (text_of_play r)
+by_result account k r s is says = subst (λ (q : Result Played Unfinished). EndsPlay account k (status_of_play q) (text_of_play q)) (sym is) says
+
+-- the journal isn't opened
+pub unopened_play : {S : Type 0} (account : Credentials) (k : Course) (o : Result S StoreFault) (r : Result Played Unfinished) (x : StoreFault) → o ≡ Err x →
+    IsErrAnd r (λ end. end ≡ ends.Unopened x) → k.link_after ≡ k.link → Within k.old.now k.new.now →
+    ((o ≡ Err stores.Disk → ⊥) → k.seen_after ≡ k.seen) →
+    (o ≡ Err stores.Already → ⊥) × ((end wanted : ℕ) → o ≡ Err (stores.Full end wanted) → ⊥) →
+    ((why : Place9) → o ≡ Err (stores.NotAJournal why) → IsBroken mail why k.seen) → EndsPlay account k (status_of_play r) (text_of_play r)
+unopened_play account k o r x was given link within reads only broken =
+    by_result account k r (Err (ends.Unopened x)) (ended_by r (ends.Unopened x) given)
+    (unopened (EndsPlay account k) k (λ s. inl (record { link = link; outside = within.outside; says = s }))
+    (λ w. inl (record { link = link; outside = within.outside; says = record { leaves = w; text_is = refl } }))
+    (λ why s. record { link = link; outside = within.outside; says = s }) x within
+    (λ other. reads (λ is. other (back is))) (λ is. only.0 (at stores.Already is)) (λ end wanted is. only.1 end wanted (at (stores.Full end wanted) is))
+    (λ why is. broken why (at (stores.NotAJournal why) is)))
+  where
+    at : (y : StoreFault) → x ≡ y → o ≡ Err y
+    at y is = was ∙ ap (λ (f : StoreFault). Err f) is
+
+    back : o ≡ Err stores.Disk → x ≡ stores.Disk
+    back is = cc (was, is)
+
+-- an action waits
+pub later_play : (account : Credentials) (k : Course) (b : Meaning) (first : ℕ) → k.link_after ≡ k.link → Within k.old.now k.new.now → Stays k b →
+    (AllSettled b.queue → ⊥) → first ≡ due b.queue + 1 → OnFiles k (SaysLater k (error_later first))
+later_play account k b first link within stays waits is = record {
+  link = link;
+  outside = within.outside;
+  says = record { book = b; stays = stays; waits = waits; text_is = ap error_later is };
+}
+
+-- the store that was opened on the files
+pub is_opened : (k : Course) (store : Holding mail) (m : Moment) (seen : Files) → Within k.old.now m → IsAsLeft mail store m seen → seen ≡ k.seen →
+    IsOpened k store
+is_opened k store m seen within left same = record {
+  holds = opened_book store m seen k.seen left same;
+  at = m;
+  within = within;
+  stood = subst (IsAsLeft mail store m) same left;
+}
+
+-- the run came to its end
+pub played_play : (account : Credentials) (k : Course) (opened store : Holding mail) (p : Played) → IsOpened k opened → AllSettled opened.book.queue →
+    Plays account opened store k.link_after → IsAsLeft mail store k.new.now k.seen_after → p ≡ record { settled = 0; conflicts = 0 } →
+    EndsPlay account k (status_of_play (Ok p)) (text_of_play (Ok p))
+played_play account k opened store p read settled plays left is =
+    subst (λ (q : Played). EndsPlay account k (status_of_play (Ok q)) (text_of_play (Ok q))) (sym is) (record {
+      opened = opened;
+      read = read;
+      settled = settled;
+      store = store;
+      plays = plays;
+      left = left;
+      holds = opened_book store k.new.now k.seen_after k.seen_after left refl;
+      leaves = only_left mail store k.new.now k.seen_after left;
+      text_is = refl;
+    })
+
+-- the run ended early
+module _ (account : Credentials) (k : Course) where
+  by_fault : (x : PlayFault) → SaysStopped account k (status_of_fault x) (text_of_fault x) → EndsPlay account k (status_of_fault x) (text_of_fault x)
+  by_fault faults.Memory s = inr s
+  by_fault faults.Disk s = inr s
+  by_fault faults.Link s = s
+  by_fault (faults.Refused line) s = s
+  by_fault (faults.BadReply why) s = s
+  by_fault (faults.Lacking what) s = s
+  by_fault (faults.Validity name kept told) s = s
+  by_fault (faults.Limit which number) s = s
+
+  pub stopped_play : {T : Type 0} (opened store : Holding mail) (o : Result T PlayFault) (r : Result Played Unfinished) (x : PlayFault) → o ≡ Err x →
+      IsErrAnd r (λ end. end ≡ ends.Stopped x) → IsOpened k opened → AllSettled opened.book.queue →
+      (before : LinkState) → before ≡ k.link → ((fault : PlayFault) → o ≡ Err fault → EndsEarly account opened store before k.link_after fault) →
+      IsLearning opened.book k.new.now →
+      ((o ≡ Err faults.Disk → ⊥) → IsAsLeft mail store k.new.now k.seen_after) →
+      (o ≡ Err faults.Disk → (name : List ℕ) × (delta : Delta) × IsTaking mail (Some store.book) (events.Learn name delta) k.new.now) →
+      EndsPlay account k (status_of_play r) (text_of_play r)
+  stopped_play opened store o r x was given read settled before same early leaves left stops =
+      by_result account k r (Err (ends.Stopped x)) (ended_by r (ends.Stopped x) given)
+      (by_fault x (record {
+        opened = opened;
+        read = read;
+        settled = settled;
+        fault = x;
+        store = store;
+        early = subst (λ (l : LinkState). EndsEarly account opened store l k.link_after x) same (early x was);
+        leaves = leaves;
+        left = λ other. left (λ is. other (cc (was, is)));
+        stopped = λ is. let one = stops (was ∙ ap (λ (f : PlayFault). Err f) is) in record { name = one.0; delta = one.1; taking = one.2 };
+        status_is = refl;
+        text_is = refl;
+      }))
+
+-- which fault it was by its status
+disk_store : (x : StoreFault) → status_of_refusal (of_store x) ≡ status.Disk → x ≡ stores.Disk
+disk_store stores.Memory is = absurd cc
+disk_store stores.Disk is = refl
+disk_store stores.Already is = absurd cc
+disk_store (stores.Full end wanted) is = absurd cc
+disk_store (stores.NotAJournal why) is = absurd cc
+
+link_store : (x : StoreFault) → status_of_refusal (of_store x) ≡ status.Link → ⊥
+link_store stores.Memory is = absurd cc
+link_store stores.Disk is = absurd cc
+link_store stores.Already is = absurd cc
+link_store (stores.Full end wanted) is = absurd cc
+link_store (stores.NotAJournal why) is = absurd cc
+
+reply_store : (x : StoreFault) → status_of_refusal (of_store x) ≡ status.Reply → ⊥
+reply_store stores.Memory is = absurd cc
+reply_store stores.Disk is = absurd cc
+reply_store stores.Already is = absurd cc
+reply_store (stores.Full end wanted) is = absurd cc
+reply_store (stores.NotAJournal why) is = absurd cc
+
+disk_fault : (x : PlayFault) → status_of_fault x ≡ status.Disk → x ≡ faults.Disk
+disk_fault faults.Memory is = absurd cc
+disk_fault faults.Disk is = refl
+disk_fault faults.Link is = absurd cc
+disk_fault (faults.Refused line) is = absurd cc
+disk_fault (faults.BadReply why) is = absurd cc
+disk_fault (faults.Lacking what) is = absurd cc
+disk_fault (faults.Validity name kept told) is = absurd cc
+disk_fault (faults.Limit which number) is = absurd cc
+
+link_fault : (x : PlayFault) → status_of_fault x ≡ status.Link → x ≡ faults.Link
+link_fault faults.Memory is = absurd cc
+link_fault faults.Disk is = absurd cc
+link_fault faults.Link is = refl
+link_fault (faults.Refused line) is = absurd cc
+link_fault (faults.BadReply why) is = absurd cc
+link_fault (faults.Lacking what) is = absurd cc
+link_fault (faults.Validity name kept told) is = absurd cc
+link_fault (faults.Limit which number) is = absurd cc
+
+module _ {S : Type 0} (o : Result S StoreFault) (r : Result Played Unfinished) (x : StoreFault) (was : o ≡ Err x)
+    (given : IsErrAnd r (λ end. end ≡ ends.Unopened x)) where
+  of_opening : (t : Status) → status_of_play r ≡ t → status_of_refusal (of_store x) ≡ t
+  of_opening t is = ap status_of_play (sym (ended_by r (ends.Unopened x) given)) ∙ is
+
+  pub opening_disk : status_of_play r ≡ status.Disk → o ≡ Err stores.Disk
+  opening_disk is = was ∙ ap (λ (f : StoreFault). Err f) (disk_store x (of_opening status.Disk is))
+
+  pub opening_link : status_of_play r ≡ status.Link → ⊥
+  opening_link is = link_store x (of_opening status.Link is)
+
+module _ {S : Type 0} (o : Result S PlayFault) (r : Result Played Unfinished) (x : PlayFault) (was : o ≡ Err x)
+    (given : IsErrAnd r (λ end. end ≡ ends.Stopped x)) where
+  of_run : (t : Status) → status_of_play r ≡ t → status_of_fault x ≡ t
+  of_run t is = ap status_of_play (sym (ended_by r (ends.Stopped x) given)) ∙ is
+
+  pub run_disk : status_of_play r ≡ status.Disk → o ≡ Err faults.Disk
+  run_disk is = was ∙ ap (λ (f : PlayFault). Err f) (disk_fault x (of_run status.Disk is))
+
+  pub run_link : status_of_play r ≡ status.Link → o ≡ Err faults.Link
+  run_link is = was ∙ ap (λ (f : PlayFault). Err f) (link_fault x (of_run status.Link is))
+
+  pub run_place : (at : ℕ) → r ≡ Err (ends.Stopped (faults.BadReply (whys.At at))) → o ≡ Err (faults.BadReply (whys.At at))
+  run_place at is =
+      let same : Err (ends.Stopped x) ≡ Err (ends.Stopped (faults.BadReply (whys.At at))) = sym (ended_by r (ends.Stopped x) given) ∙ is in
+      let fault : x ≡ faults.BadReply (whys.At at) = cc same in
+      was ∙ ap (λ (f : PlayFault). Err f) fault
+
+-- only of an honest server's replies no place is told
+why_told : (x : PlayFault) → ((at : ℕ) → x ≡ faults.BadReply (whys.At at) → ⊥) → status_of_fault x ≡ status.Reply → TellsNoPlace (text_of_fault x)
+why_told faults.Memory honest is = absurd cc
+why_told faults.Disk honest is = absurd cc
+why_told faults.Link honest is = absurd cc
+why_told (faults.Refused line) honest is = absurd cc
+why_told (faults.BadReply why) honest is = record { why = why; text_is = refl; no_place = λ at same. honest at (ap faults.BadReply same) }
+why_told (faults.Lacking what) honest is = absurd cc
+why_told (faults.Validity name kept told) honest is = absurd cc
+why_told (faults.Limit which number) honest is = absurd cc
+
+-- a run that came to its end has one of two statuses
+other_done : (n : ℕ) (t : Status) → status_of_conflicts n ≡ t → (t ≡ status.Done → ⊥) → (t ≡ status.Conflicts → ⊥) → ⊥
+other_done zero t is done conflicts = done (sym is)
+other_done (suc n) t is done conflicts = conflicts (sym is)
+
+no_place : (r : Result Played Unfinished) → ((at : ℕ) → r ≡ Err (ends.Stopped (faults.BadReply (whys.At at))) → ⊥) → status_of_play r ≡ status.Reply →
+    TellsNoPlace (text_of_play r)
+no_place (Ok p) honest is = absurd (other_done p.conflicts status.Reply is (λ e. cc e) (λ e. cc e))
+no_place (Err (ends.Unopened x)) honest is = absurd (reply_store x is)
+no_place (Err (ends.Later number)) honest is = absurd cc
+no_place (Err (ends.Stopped x)) honest is =
+    why_told x (λ at same. honest at (ap (λ (f : PlayFault). Err (ends.Stopped f)) same)) is
+
+pub no_place_told : (r : Result Played Unfinished) (s : Status) (text : List ℕ) → s ≡ status_of_play r → text ≡ text_of_play r →
+    ((at : ℕ) → r ≡ Err (ends.Stopped (faults.BadReply (whys.At at))) → ⊥) → s ≡ status.Reply → TellsNoPlace text
+no_place_told r s text status_is text_is honest is = subst TellsNoPlace (sym text_is) (no_place r honest (sym status_is ∙ is))
+
+-- a command that works with the files alone ends with no status of the link
+reply_refusal : {T : Type 0} (r : Result T Refusal) → status_of r ≡ status.Reply → ⊥
+reply_refusal (Ok x) is = absurd cc
+reply_refusal (Err refusals.Disk) is = absurd cc
+reply_refusal (Err refusals.Memory) is = absurd cc
+reply_refusal (Err refusals.Already) is = absurd cc
+reply_refusal (Err (refusals.NotAJournal why)) is = absurd cc
+reply_refusal (Err (refusals.Reason reason)) is = absurd cc
+reply_refusal (Err refusals.Actions) is = absurd cc
+reply_refusal (Err (refusals.Full end)) is = absurd cc
+
+link_refusal : {T : Type 0} (r : Result T Refusal) → status_of r ≡ status.Link → ⊥
+link_refusal (Ok x) is = absurd cc
+link_refusal (Err refusals.Disk) is = absurd cc
+link_refusal (Err refusals.Memory) is = absurd cc
+link_refusal (Err refusals.Already) is = absurd cc
+link_refusal (Err (refusals.NotAJournal why)) is = absurd cc
+link_refusal (Err (refusals.Reason reason)) is = absurd cc
+link_refusal (Err refusals.Actions) is = absurd cc
+link_refusal (Err (refusals.Full end)) is = absurd cc
+
+pub no_reply : {T : Type 0} (r : Result T Refusal) (s : Status) → s ≡ status_of r → s ≡ status.Reply → ⊥
+no_reply r s status_is is = reply_refusal r (sym status_is ∙ is)
+
+pub no_link : {T : Type 0} (r : Result T Refusal) (s : Status) → s ≡ status_of r → s ≡ status.Link → ⊥
+no_link r s status_is is = link_refusal r (sym status_is ∙ is)
+
+-- it isn't `play`
+pub never_init : (names : List (List ℕ)) → Init names ≡ Play → ⊥
+never_init names is = absurd cc
+
+pub never_flag : (change : Change) → Flag change ≡ Play → ⊥
+never_flag change is = absurd cc
+
+pub never_rows : (name : List ℕ) → Rows name ≡ Play → ⊥
+never_rows name is = absurd cc
+
+-- What is said of what became of a request is said of its ending.
+module _ (account : Credentials) (r : Request) (k : Course) (s t : Status) (x y : List ℕ) (status_is : s ≡ t) (text_is : x ≡ y) where
+  said_so : (q : Request) → r ≡ q → EndsRequest account q k t y → EndsRequest account r k s x
+  said_so q same says = subst (λ (p : Request). EndsRequest account p k s x) (sym same)
+      (subst (λ (u : Status). EndsRequest account q k u x) (sym status_is) (subst (λ (z : List ℕ). EndsRequest account q k t z) (sym text_is) says))
+
+  pub answers_init : (names : List (List ℕ)) → r ≡ Init names → k.link_after ≡ k.link → k.new.now.outside ≡ k.old.now.outside → EndsInit names k t y →
+      EndsRequest account r k s x
+  answers_init names is link outside says = said_so (Init names) is (record { link = link; outside = outside; says = says })
+
+  pub answers_flag : (change : Change) → r ≡ Flag change → k.link_after ≡ k.link → k.new.now.outside ≡ k.old.now.outside → EndsFlag change k t y →
+      EndsRequest account r k s x
+  answers_flag change is link outside says = said_so (Flag change) is (record { link = link; outside = outside; says = says })
+
+  pub answers_rows : (name : List ℕ) → r ≡ Rows name → k.link_after ≡ k.link → k.new.now.outside ≡ k.old.now.outside → EndsRows name k t y →
+      EndsRequest account r k s x
+  answers_rows name is link outside says = said_so (Rows name) is (record { link = link; outside = outside; says = says })
+
+  pub answers_play : r ≡ Play → EndsPlay account k t y → EndsRequest account r k s x
+  answers_play is says = said_so Play is says
+
+-- a run that came to its end is done
+pub played_done : (p : Played) → p ≡ record { settled = 0; conflicts = 0 } → status_of_play (Ok p) ≡ status.Done
+played_done p is = ap (λ (q : Played). status_of_play (Ok q)) is
+
+-- what holds of each status that comes of `play` holds of its ending's
+module _ (P : Status → Type 0) (done : P status.Done) (memory : P status.Memory) (disk : P status.Disk) (journal : P status.Journal)
+    (limit : P status.Limit) (later : P status.Later) (link : P status.Link) (refused : P status.Refused) (reply : P status.Reply)
+    (lacking : P status.Lacking) (validity : P status.Validity) where
+  at_store : (x : StoreFault) → P (status_of_refusal (of_store x))
+  at_store stores.Memory = memory
+  at_store stores.Disk = disk
+  at_store stores.Already = journal
+  at_store (stores.Full end wanted) = limit
+  at_store (stores.NotAJournal why) = journal
+
+  at_fault : (x : PlayFault) → P (status_of_fault x)
+  at_fault faults.Memory = memory
+  at_fault faults.Disk = disk
+  at_fault faults.Link = link
+  at_fault (faults.Refused line) = refused
+  at_fault (faults.BadReply why) = reply
+  at_fault (faults.Lacking what) = lacking
+  at_fault (faults.Validity name kept told) = validity
+  at_fault (faults.Limit which number) = limit
+
+  at_end : (r : Result Played Unfinished) → IfOk r (λ p. p ≡ record { settled = 0; conflicts = 0 }) → P (status_of_play r)
+  at_end (Ok p) is = subst P (sym (played_done p is)) done
+  at_end (Err (ends.Unopened x)) is = at_store x
+  at_end (Err (ends.Later number)) is = later
+  at_end (Err (ends.Stopped x)) is = at_fault x
+
+  pub of_play : (r : Result Played Unfinished) (s : Status) → s ≡ status_of_play r → IfOk r (λ p. p ≡ record { settled = 0; conflicts = 0 }) → P s
+  of_play r s status_is is = subst P (sym status_is) (at_end r is)
+
+pub play_comes : (r : Result Played Unfinished) (s : Status) → s ≡ status_of_play r → IfOk r (λ p. p ≡ record { settled = 0; conflicts = 0 }) → Comes s
+play_comes r s = of_play Comes tt tt tt tt tt tt tt tt tt tt tt r s
+
+pub play_prints : (r : Result Played Unfinished) (s : Status) → s ≡ status_of_play r → IfOk r (λ p. p ≡ record { settled = 0; conflicts = 0 }) →
+    s ≡ status.Output → ⊥
+play_prints r s = of_play (λ (t : Status). t ≡ status.Output → ⊥)
+    (λ e. cc e) (λ e. cc e) (λ e. cc e) (λ e. cc e) (λ e. cc e) (λ e. cc e)
+    (λ e. cc e) (λ e. cc e) (λ e. cc e) (λ e. cc e) (λ e. cc e) r s
+
+pub play_asked : (r : Result Played Unfinished) (s : Status) → s ≡ status_of_play r → IfOk r (λ p. p ≡ record { settled = 0; conflicts = 0 }) →
+    s ≡ status.Words → ⊥
+play_asked r s = of_play (λ (t : Status). t ≡ status.Words → ⊥)
+    (λ e. cc e) (λ e. cc e) (λ e. cc e) (λ e. cc e) (λ e. cc e) (λ e. cc e)
+    (λ e. cc e) (λ e. cc e) (λ e. cc e) (λ e. cc e) (λ e. cc e) r s
+
+-- a run that is done came to its end
+done_store : (x : StoreFault) → status_of_refusal (of_store x) ≡ status.Done → ⊥
+done_store stores.Memory is = absurd cc
+done_store stores.Disk is = absurd cc
+done_store stores.Already is = absurd cc
+done_store (stores.Full end wanted) is = absurd cc
+done_store (stores.NotAJournal why) is = absurd cc
+
+done_fault : (x : PlayFault) → status_of_fault x ≡ status.Done → ⊥
+done_fault faults.Memory is = absurd cc
+done_fault faults.Disk is = absurd cc
+done_fault faults.Link is = absurd cc
+done_fault (faults.Refused line) is = absurd cc
+done_fault (faults.BadReply why) is = absurd cc
+done_fault (faults.Lacking what) is = absurd cc
+done_fault (faults.Validity name kept told) is = absurd cc
+done_fault (faults.Limit which number) is = absurd cc
+
+done_ok : (r : Result Played Unfinished) (P : Type 0) → status_of_play r ≡ status.Done → OnOk r P → P
+done_ok (Ok p) P is came = came
+done_ok (Err (ends.Unopened x)) P is came = absurd (done_store x is)
+done_ok (Err (ends.Later number)) P is came = absurd cc
+done_ok (Err (ends.Stopped x)) P is came = absurd (done_fault x is)
+
+pub came_through : (r : Result Played Unfinished) (s : Status) (P : Type 0) → s ≡ status_of_play r → s ≡ status.Done → OnOk r P → P
+came_through r s P status_is is came = done_ok r P (sym status_is ∙ is) came

@@ -1,0 +1,16 @@
+-- The connection that a command makes (RFC 9051, section 3).
+use Rattle.std.specs.Prelude.{◌≡◌}
+use Rattle.world_traits.specs.Links.{Any}
+use Rattle.world_traits.specs.Moments.{Moment, Clock, Since}
+use Rattle.play_driver.specs.Questioning.{ConnectsFirst, TalkStep}
+
+-- what isn't on the disk stays
+abbrev pub SameOutside : Moment → Moment → Type 0
+SameOutside m n = n.outside ≡ m.outside
+
+-- Up to a first clock what isn't on the disk stays; up to a second one a connection is made, if any is; and behind that none is
+-- made: the server answers, or is asked for no change of a mailbox.
+pub record ConnectsAtFirst (old new : Clock) : Type 0 where
+  pub first : Clock
+  pub opens : Since Any SameOutside old first
+  pub run : ConnectsFirst TalkStep first new

@@ -1,0 +1,44 @@
+-- What a command finds on the disk and of the link, and what it leaves there.
+use Rattle.std.specs.Prelude.{◌≡◌, ℕ, ◌+◌, length, Some}
+use Rattle.world_traits.specs.Files.{Files}
+use Rattle.world_traits.specs.LinkState.{LinkState}
+use Rattle.world_traits.specs.Moments.{Clock, Within}
+use Rattle.mail_base.specs.Bodies.{frame_of}
+use Rattle.journal_core.specs.Records.{records}
+use Rattle.action_queue.specs.Book.{Meaning}
+use Rattle.action_queue.specs.declared.event.Event.{Event}
+use Rattle.record_codec.specs.Bodies.{body_of}
+use Rattle.store_core.specs.Mail.{mail}
+use Rattle.store_core.specs.Books.{HasBook}
+use Rattle.store_core.specs.Steps.{Firm}
+use Rattle.store_core.specs.Taking.{HasBooks}
+
+-- the clock, what the files read as, and the link, each at entry and now
+pub record Course : Type 0 where
+  pub old : Clock
+  pub new : Clock
+  pub seen : Files
+  pub seen_after : Files
+  pub link : LinkState
+  pub link_after : LinkState
+
+-- a stop leaves what one at entry could have left, and the files read as before
+pub record Keeps (k : Course) : Type 0 where
+  pub leaves : Within k.old.now k.new.now
+  pub reads : k.seen_after ≡ k.seen
+
+-- the files as read hold this book, and from now on each stop leaves it
+pub record Stays (k : Course) (b : Meaning) : Type 0 where
+  pub holds : HasBook mail b k.seen
+  pub leaves : HasBooks mail (Firm (Some b)) k.new.now
+  pub reads : k.seen_after ≡ k.seen
+
+-- so it came with the files alone: the link is as it was, and so is all that isn't on the disk
+pub record OnFiles (k : Course) (Says : Type 0) : Type 0 where
+  pub link : k.link_after ≡ k.link
+  pub outside : k.new.now.outside ≡ k.old.now.outside
+  pub says : Says
+
+-- where the journal that holds a book would end with an event's record behind the others: behind the next closed gate
+abbrev pub end_behind : {b : Meaning} {files : Files} → HasBook mail b files → Event → ℕ
+end_behind holds event = 14 + length (records holds.bodies) + length (frame_of (body_of event))
