@@ -72,6 +72,7 @@ impl<'a> Names<'a> {
             Some(("long", count)) => self.spelled(&number(count)?.to_be_bytes()),
             Some(("name", name)) => self.counted(name),
             Some(("noise", count)) => noise(self.alloc, number(count)?),
+            Some(("accepts", count)) => accepts(self.alloc, small(count)?),
             _ => self.front(text),
         }
     }
@@ -170,6 +171,20 @@ fn noise(alloc: Global, count: u64) -> Result<Vec<u8>, Fault> {
     for _ in 0..count {
         state = state.wrapping_mul(1_664_525).wrapping_add(1_013_904_223);
         bytes.push((state >> 24) as u8)?;
+    }
+    Ok(bytes)
+}
+
+// So many records of actions, numbered from 1, that add \seen to message 42 of INBOX, whose UIDVALIDITY is 5.
+fn accepts(alloc: Global, count: u32) -> Result<Vec<u8>, Fault> {
+    if u64::from(count) > MOST {
+        return Err(Fault::Form);
+    }
+    let mut bytes = Vec::new(alloc);
+    for before in 0..count {
+        bytes.extend_from_slice(b"\x01\x00\x00\x00\x1eA")?;
+        bytes.extend_from_slice(&before.wrapping_add(1).to_be_bytes())?;
+        bytes.extend_from_slice(b"FR\x05INBOX\x00\x00\x00\x05\x00\x00\x00*+\x00\x01\x05\\seen")?;
     }
     Ok(bytes)
 }

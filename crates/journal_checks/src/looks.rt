@@ -61,3 +61,8 @@ pub fn prints(alloc: Global, told: &[u8], wanted: &str) -> Result<(), Fault> {
         None => Err(differs(alloc, wanted.as_bytes(), told)),
     }
 }
+
+/// What was printed, as it stands.
+pub fn shows(alloc: Global, names: &Names<'_>, told: &[u8], wanted: &str) -> Result<(), Fault> {
+    same_bytes(alloc, &names.bytes(wanted)?, told)
+}

@@ -2,8 +2,6 @@
 //! over disks in memory, and on those disks and streams themselves, and tells each line that differs.
 #![tactic(auto)]
 
-mod actions;
-mod begins;
 mod bodies;
 mod bytes;
 mod cases;

@@ -1,12 +1,10 @@
 //! A case played on journals, line by line.
 
-use crate::actions::spells;
-use crate::begins::{is_one, no_front, no_longer, refused, spell};
 use crate::bytes::Names;
 use crate::commands::{Told, carried_out};
 use crate::cuts::{each_change, each_cut, each_flip};
 use crate::fate::Fate;
-use crate::looks::{all_bodies, file, first_piece, prints, whole_book};
+use crate::looks::{all_bodies, file, first_piece, prints, shows, whole_book};
 use crate::loops::each_call;
 use crate::pieces::each_length;
 use crate::texts::{Phrase, number, phrase_of, split};
@@ -89,6 +87,7 @@ impl Player {
             "gives" => same_text(alloc, phrase.rest, told.answer.as_str())?,
             "costs" => same_text(alloc, phrase.rest, told.cost.as_str())?,
             "prints" => prints(alloc, &told.printed, phrase.rest)?,
+            "shows" => shows(alloc, names, &told.printed, phrase.rest)?,
             "piece" => first_piece(alloc, &told.files, phrase.rest)?,
             "book" => whole_book(alloc, &told.files, phrase.rest)?,
             _ => file(alloc, names, &told.files, phrase.word, phrase.rest)?,
@@ -107,23 +106,7 @@ impl Player {
             "stays" => self.stays(),
             "bodies" => all_bodies(self.alloc, &self.told.files, phrase.rest),
             "each" => self.each(names, lines, phrase.rest),
-            "names" => spell(self.alloc, names, phrase.rest),
-            "action" => spells(self.alloc, names, phrase.rest),
-            "begin" => is_one(self.alloc, &names.bytes(phrase.rest)?, true),
-            "no" => self.none(names, phrase.rest),
             _ => self.ask(names, phrase),
-        }
-    }
-
-    // `names a b a`, `begin BYTES`, `front BYTES` or `longer BYTES`
-    fn none(&self, names: &Names<'_>, text: &str) -> Result<u64, Fault> {
-        let Phrase { word, rest } = phrase_of(text);
-        match word {
-            "names" => refused(self.alloc, rest),
-            "begin" => is_one(self.alloc, &names.bytes(rest)?, false),
-            "front" => no_front(self.alloc, &names.bytes(rest)?),
-            "longer" => no_longer(self.alloc, &names.bytes(rest)?),
-            _ => Err(Fault::Form),
         }
     }
 

@@ -8,7 +8,7 @@ use mail_top::run;
 use std::alloc::Global;
 use world_traits::{FaultySink, MemSource};
 
-// An account, which a command needs and doesn't use yet.
+// An account. No command here comes to log in: the link fails.
 fn account(alloc: Global) -> Result<Account, Fault> {
     match Account::new(alloc, "ann", "pw") {
         Ok(account) => Ok(account),
@@ -47,5 +47,6 @@ pub fn status_text(status: Status) -> &'static str {
         Status::Output => "output",
         Status::Input => "input",
         Status::Limit => "limit",
+        Status::Later => "later",
     }
 }
