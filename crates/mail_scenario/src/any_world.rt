@@ -1,0 +1,162 @@
+//! The worlds of a scenario, and their calls. They are taken without clauses: what a call says of all moments is dear to carry on.
+
+ghost use Rattle.std.specs.Prelude.{◌<◌, ◌≤◌, ◌+◌, ◌^◌, length, IfOk};
+
+use crate::fault::LineFault;
+use crate::foreign::Foreign;
+use imap_model::Server;
+use server_mem::ForeignFault;
+use std::alloc::AllocError;
+use world_mem::{Files, ImageFault, MemWorld, Plan, ScriptWorld};
+use world_traits::{Disk, DiskFailed, Link, LinkFailed, Side};
+
+/// The world of a server, or that of a script.
+#[derive(Drop)]
+pub enum AnyWorld {
+    /// Of a server.
+    Served(MemWorld),
+    /// Of a script, which has no server, no moments and no plan.
+    Scripted(ScriptWorld),
+}
+
+impl AnyWorld {
+    /// Whether it is the world of a script.
+    pub fn is_scripted(&self) -> bool {
+        match self {
+            AnyWorld::Served(_) => false,
+            AnyWorld::Scripted(_) => true,
+        }
+    }
+
+    /// The length of a file.
+    pub fn length(&mut self, side: Side) -> Result<u64, DiskFailed> {
+        match self {
+            AnyWorld::Served(world) => world.length(side),
+            AnyWorld::Scripted(world) => world.length(side),
+        }
+    }
+
+    /// Reads a file from a place.
+    pub fn read(&mut self, side: Side, at: u64, into: &mut [u8]) -> Result<usize, DiskFailed>
+        ensures fits { IfOk result (λ n. n ≤ length into.old) }
+    {
+        match self {
+            AnyWorld::Served(world) => world.read(side, at, into),
+            AnyWorld::Scripted(world) => world.read(side, at, into),
+        }
+    }
+
+    /// Writes to a file at a place.
+    pub fn write_at(&mut self, side: Side, at: u64, bytes: &[u8]) -> Result<(), DiskFailed>
+        requires { at + length bytes.now ≤ 2 ^ 32 }
+    {
+        match self {
+            AnyWorld::Served(world) => world.write_at(side, at, bytes),
+            AnyWorld::Scripted(world) => world.write_at(side, at, bytes),
+        }
+    }
+
+    /// Syncs a file.
+    pub fn sync(&mut self, side: Side) -> Result<(), DiskFailed> {
+        match self {
+            AnyWorld::Served(world) => world.sync(side),
+            AnyWorld::Scripted(world) => world.sync(side),
+        }
+    }
+
+    /// Makes a connection.
+    pub fn connect(&mut self) -> Result<(), LinkFailed> {
+        match self {
+            AnyWorld::Served(world) => world.connect(),
+            AnyWorld::Scripted(world) => world.connect(),
+        }
+    }
+
+    /// Sends bytes.
+    pub fn send(&mut self, bytes: &[u8]) -> Result<(), LinkFailed> {
+        match self {
+            AnyWorld::Served(world) => world.send(bytes),
+            AnyWorld::Scripted(world) => world.send(bytes),
+        }
+    }
+
+    /// Receives into the buffer's front.
+    pub fn recv(&mut self, into: &mut [u8]) -> Result<usize, LinkFailed>
+        requires room { 0 < length into.old }
+        ensures some { IfOk result (λ n. 0 < n) }
+        ensures fits { IfOk result (λ n. n ≤ length into.old) }
+    {
+        match self {
+            AnyWorld::Served(world) => world.recv(into),
+            AnyWorld::Scripted(world) => world.recv(into),
+        }
+    }
+
+    /// Ends the connection.
+    pub fn close(&mut self) {
+        match self {
+            AnyWorld::Served(world) => world.close(),
+            AnyWorld::Scripted(world) => world.close(),
+        }
+    }
+
+    /// Gives another plan, whose calls are counted from now on. The world of a script has none.
+    pub fn plan(&mut self, plan: Plan) {
+        match self {
+            AnyWorld::Served(world) => world.plan(plan),
+            AnyWorld::Scripted(_) => {}
+        }
+    }
+
+    /// How many growths it was refused.
+    pub fn refused(&self) -> u64 {
+        match self {
+            AnyWorld::Served(world) => world.refused(),
+            AnyWorld::Scripted(world) => world.refused(),
+        }
+    }
+
+    /// The bytes sent in the present connection, or in the last one where there is none.
+    pub fn sent(&self) -> &[u8] {
+        match self {
+            AnyWorld::Served(world) => world.sent(),
+            AnyWorld::Scripted(world) => world.sent(),
+        }
+    }
+
+    /// The server, if there is one.
+    pub fn server(&self) -> Option<&Server> {
+        match self {
+            AnyWorld::Served(world) => Some(world.server().server()),
+            AnyWorld::Scripted(_) => None,
+        }
+    }
+
+    /// Another client changes the server, if that is lawful. Gives the rule that it would break.
+    ///
+    /// # Errors
+    /// `Unfit` where there is no server, and `Memory`.
+    pub fn change(&mut self, foreign: &Foreign) -> Result<Option<u8>, LineFault> {
+        let AnyWorld::Served(world) = self else {
+            return Err(LineFault::Unfit);
+        };
+        match world.foreign(&foreign.name, &foreign.change) {
+            Ok(()) => Ok(None),
+            Err(ForeignFault::NotLawful { rule }) => Ok(Some(rule)),
+            Err(ForeignFault::Memory) => Err(LineFault::Memory),
+        }
+    }
+
+    /// An image of a moment, if there are moments.
+    pub fn image(&self, moment: u64, pick: u64) -> Option<Result<Files, ImageFault>> {
+        match self {
+            AnyWorld::Served(world) => Some(world.images_at(moment, pick)),
+            AnyWorld::Scripted(_) => None,
+        }
+    }
+}
+
+/// Goes on from the image of the last moment that the pick takes.
+pub fn restarted(world: MemWorld, pick: u64, plan: Plan) -> Result<MemWorld, AllocError> {
+    world.restart(pick, plan)
+}

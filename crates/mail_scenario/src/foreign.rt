@@ -1,0 +1,121 @@
+//! Changes by other clients, as words.
+
+use crate::fault::LineFault;
+use crate::page::Page;
+use crate::values::{flags, name, uid};
+use flag_set::FlagSet;
+use imap_model::Change;
+use mail_base::{BoxName, Bytes};
+use std::alloc::{AllocError, Global};
+
+/// A change by another client in the mailbox of a name.
+#[derive(Drop)]
+pub struct Foreign {
+    pub name: BoxName,
+    pub change: Change,
+}
+
+/// The change that words tell.
+pub fn foreign_of(alloc: Global, words: &[Bytes]) -> Result<Foreign, LineFault> {
+    let [verb, first, rest @ ..] = words else {
+        return Err(LineFault::Unfit);
+    };
+    let change = change_of(alloc, verb.as_slice(), rest)?;
+    let name = name(first.as_slice())?;
+    Ok(Foreign { name, change })
+}
+
+// What is changed in the mailbox.
+fn change_of(alloc: Global, verb: &[u8], rest: &[Bytes]) -> Result<Change, LineFault> {
+    match verb {
+        b"add" => adding(alloc, rest),
+        b"set" => setting(alloc, rest),
+        b"drop" => dropping(rest),
+        b"shift" => shifting(rest),
+        _ => Err(LineFault::Unfit),
+    }
+}
+
+// `UID TEXT FLAG ..`
+fn adding(alloc: Global, words: &[Bytes]) -> Result<Change, LineFault> {
+    let [first, text, rest @ ..] = words else {
+        return Err(LineFault::Unfit);
+    };
+    let uid = uid(first.as_slice())?;
+    let flags = flags(alloc, rest)?;
+    let text = text.copy()?;
+    Ok(Change::Add { flags, text, uid })
+}
+
+// `UID FLAG ..`
+fn setting(alloc: Global, words: &[Bytes]) -> Result<Change, LineFault> {
+    let [first, rest @ ..] = words else {
+        return Err(LineFault::Unfit);
+    };
+    let uid = uid(first.as_slice())?;
+    let flags = flags(alloc, rest)?;
+    Ok(Change::SetFlags { uid, flags })
+}
+
+// `UID`
+fn dropping(words: &[Bytes]) -> Result<Change, LineFault> {
+    let [only] = words else {
+        return Err(LineFault::Unfit);
+    };
+    let uid = uid(only.as_slice())?;
+    Ok(Change::Drop { uid })
+}
+
+// `UID TO NEW`
+fn shifting(words: &[Bytes]) -> Result<Change, LineFault> {
+    let [first, to, new] = words else {
+        return Err(LineFault::Unfit);
+    };
+    let uid_there = uid(first.as_slice())?;
+    let new = uid(new.as_slice())?;
+    let to = name(to.as_slice())?;
+    Ok(Change::Shift {
+        uid: uid_there,
+        to,
+        new,
+    })
+}
+
+/// Adds the flags of a set, by key.
+pub fn put_flags(page: &mut Page, flags: &FlagSet) -> Result<(), AllocError> {
+    for key in flags.keys() {
+        page.word(key.as_bytes())?;
+    }
+    Ok(())
+}
+
+/// Adds a change as its words.
+pub fn put_change(page: &mut Page, name: &BoxName, change: &Change) -> Result<(), AllocError> {
+    match change {
+        Change::Add { flags, text, uid } => {
+            page.put(b" add")?;
+            page.word(name.as_bytes())?;
+            page.number(u64::from(uid.number()))?;
+            page.word(text.as_slice())?;
+            put_flags(page, flags)
+        }
+        Change::SetFlags { uid, flags } => {
+            page.put(b" set")?;
+            page.word(name.as_bytes())?;
+            page.number(u64::from(uid.number()))?;
+            put_flags(page, flags)
+        }
+        Change::Drop { uid } => {
+            page.put(b" drop")?;
+            page.word(name.as_bytes())?;
+            page.number(u64::from(uid.number()))
+        }
+        Change::Shift { uid, to, new } => {
+            page.put(b" shift")?;
+            page.word(name.as_bytes())?;
+            page.number(u64::from(uid.number()))?;
+            page.word(to.as_bytes())?;
+            page.number(u64::from(new.number()))
+        }
+    }
+}

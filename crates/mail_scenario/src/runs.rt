@@ -1,0 +1,82 @@
+//! One call of the top call, and what is shown of it.
+
+use crate::fault::LineFault;
+use crate::next_run::{NextRun, no_plan};
+use crate::page::Page;
+use crate::stand::Stand;
+use mail_base::Status;
+use mail_top::run;
+use std::alloc::{AllocError, Global};
+use world_traits::{FaultySink, FaultySource};
+
+/// Runs the top call in a world, whose server and files may go wrong by the plan, and shows what came of it.
+pub fn run_in(
+    stand: &mut Stand,
+    words: &[String],
+    next: NextRun,
+    page: &mut Page,
+) -> Result<(), LineFault> {
+    let NextRun {
+        input,
+        plan,
+        source_fails,
+        sink_fails,
+    } = next;
+    let mut input = FaultySource::new(input, source_fails);
+    let mut out = FaultySink::new(page.alloc(), sink_fails);
+    stand.world.begin_run(plan);
+    let status = called(page.alloc(), words, stand, &mut input, &mut out);
+    stand.world.end_run(no_plan(page.alloc()));
+    if stand.world.world().refused() > 0 {
+        return Err(LineFault::Memory);
+    }
+    show_run(page, words, status, &out)
+}
+
+// The top call, without its clauses.
+fn called(
+    alloc: Global,
+    words: &[String],
+    stand: &mut Stand,
+    input: &mut FaultySource,
+    out: &mut FaultySink,
+) -> Status {
+    run(alloc, words, &stand.account, input, &mut stand.world, out)
+}
+
+// What is shown of a run. Where the output was refused room, what it has isn't what was printed.
+fn show_run(
+    page: &mut Page,
+    words: &[String],
+    status: Status,
+    out: &FaultySink,
+) -> Result<(), LineFault> {
+    if out.refused() > 0 {
+        return Err(LineFault::Memory);
+    }
+    page.put(b">")?;
+    for word in words {
+        page.word(word.as_bytes())?;
+    }
+    page.end_line()?;
+    put_printed(page, out.bytes())?;
+    page.put(b"=")?;
+    page.number(u64::from(status.code()))?;
+    page.end_line()?;
+    Ok(())
+}
+
+// Each printed line, as it stands. The last one may be without its LF.
+fn put_printed(page: &mut Page, printed: &[u8]) -> Result<(), AllocError> {
+    let lines = match printed {
+        [] => return Ok(()),
+        [lines @ .., b'\n'] => lines,
+        lines => lines,
+    };
+    for line in lines.split(|byte| *byte == b'\n') {
+        page.put(b"| ")?;
+        page.put(line)?;
+        page.end_line()?;
+    }
+    Ok(())
+}
