@@ -1,0 +1,406 @@
+"""A plain model of what a scenario prints: the words and lines of the language, the journal's bytes, a server, the calls of the
+disk and of the link, and what `run` does. It is written from the documents (docs/SCENARIOS.md, JOURNAL.md, PROTOCOL.md) and from
+the rules of the commands, and reads nothing that the program printed."""
+import struct
+
+# ---- words
+def word(b):
+    if isinstance(b, str): b = b.encode()
+    if b and all(33 <= c <= 126 and c != 34 for c in b): return b.decode()
+    out = '"'
+    for c in b:
+        out += {34: '\\"', 92: '\\\\', 13: '\\r', 10: '\\n'}.get(c) or (chr(c) if 32 <= c <= 126 else '\\x%02x' % c)
+    return out + '"'
+
+def words(*bs): return ' '.join(word(b) for b in bs)
+def hexed(b): return b.hex() or '-'
+
+# ---- the journal
+u16, u32, u64 = (lambda n: struct.pack('>H', n)), (lambda n: struct.pack('>I', n)), (lambda n: struct.pack('>Q', n))
+HEAD = b'\x01ODMAILJ1' + u32(1)
+def name_of(s): return 'INBOX' if s.upper() == 'INBOX' else s
+def named(s): s = name_of(s).encode(); return bytes([len(s)]) + s
+def keys(flags):
+    got = sorted({f.lower() for f in flags} - {'\\recent'}, key=lambda k: k.encode())
+    return got
+def flags_of(flags):
+    k = keys(flags)
+    return u16(len(k)) + b''.join(bytes([len(f.encode())]) + f.encode() for f in k)
+def begin(*names): return b'B' + bytes([len(names)]) + b''.join(named(n) for n in names)
+def accept(n, box, validity, uid, sign, flags):
+    return b'A' + u32(n) + b'FR' + named(box) + u32(validity) + u32(uid) + sign.encode() + flags_of(flags)
+def learn(box, whole, validity, highest, uidnext, gone, rows):
+    ranges = []
+    for u in sorted(gone):
+        if ranges and ranges[-1][1] + 1 == u: ranges[-1][1] = u
+        else: ranges.append([u, u])
+    return (b'L' + named(box) + bytes([whole]) + u32(validity) + u64(highest) + u32(uidnext) + u32(len(ranges))
+        + b''.join(u32(a) + u32(z) for a, z in ranges) + u32(len(rows))
+        + b''.join(u32(u) + u64(m) + flags_of(f) for u, m, f in sorted(rows)))
+def record(body): return u32(len(body)) + body
+def journal(*bodies): return HEAD + b''.join(b'\x01' + record(b) for b in bodies) + b'\x00'
+
+# ---- the disk: two files, what was synced of them, and the ranges written since
+class File:
+    def __init__(self, b=b''): self.synced = self.seen = b; self.ranges = []
+    def write(self, at, b):
+        s = self.seen + bytes(max(0, at - len(self.seen)))
+        self.seen = s[:at] + b + s[at + len(b):]
+        self.ranges.append((at, at + len(b)))
+    def sync(self): self.synced, self.ranges = self.seen, []
+    def image(self, pick, draw):
+        if pick == 0: return self.synced
+        if pick == 1: return self.seen
+        out = bytearray()
+        for k in range(len(self.seen)):
+            old = self.synced[k] if k < len(self.synced) else 0
+            if k < len(self.synced) and not any(a <= k < z for a, z in self.ranges): out.append(old); continue
+            out.append([old, self.seen[k], 1][draw(3)])
+        return bytes(out)
+
+def draws(pick):
+    state = [pick % 2**32]
+    def draw(bound):
+        state[0] = (69069 * state[0] + 1) % 2**32
+        return state[0] // 65536 % bound
+    return draw
+
+class Fault(Exception):
+    def __init__(self, status, line): self.status, self.line = status, line
+DISK = lambda: Fault(3, 'error disk')
+LINK = lambda: Fault(4, 'error link')
+
+# ---- the server
+class Box:
+    def __init__(self, name, validity, uidnext, highest):
+        self.name, self.validity, self.uidnext, self.highest = name_of(name), validity, uidnext, highest
+        self.messages, self.gone = [], []
+    def at(self, uid): return next((m for m in self.messages if m['uid'] == uid), None)
+
+class World:
+    def __init__(self, offers=(), boxes=(), left=b'', right=b'', account=('ann', 'pw')):
+        self.offers, self.boxes, self.account = list(offers), list(boxes), account
+        self.files = [File(left), File(right)]
+        self.on, self.was_sent = False, b''
+        self.moments, self.history = 1, []
+        self.plan()
+    def plan(self, disk=(), link=None, other=(), stop=None, sink=()):
+        self.fails, self.losses, self.others, self.stop = set(disk), dict(link or {}), list(other), stop
+        self.sink_fails = set(sink)
+        self.calls = self.disk_calls = self.link_calls = self.writes = 0
+    def box(self, name): return next((b for b in self.boxes if b.name == name_of(name)), None)
+    # changes by others: (verb, box, ..)
+    def broken(self, verb, name, *rest):
+        b = self.box(name)
+        to = self.box(rest[1]) if verb == 'shift' else None
+        if b is None or (verb == 'shift' and (to is None or to is b)): return 1
+        if verb in ('add', 'shift'):
+            uid, target = (rest[0], b) if verb == 'add' else (rest[2], to)
+            if not target.uidnext <= uid <= 4294967294: return 2
+        if verb in ('set', 'drop', 'shift') and b.at(rest[0]) is None: return 3
+        if any(x.highest >= 2**63 - 1 for x in ([b, to] if verb == 'shift' else [b])): return 4
+        if verb == 'add' and b'\0' in rest[1]: return 5
+        return None
+    def change(self, verb, name, *rest):
+        rule = self.broken(verb, name, *rest)
+        if rule: return rule
+        b = self.box(name)
+        def next_of(x): x.highest += 1; return x.highest
+        if verb == 'add':
+            b.messages.append(dict(uid=rest[0], modseq=next_of(b), text=rest[1], flags=keys(rest[2:])))
+            b.uidnext = rest[0] + 1
+        elif verb == 'set':
+            m = b.at(rest[0]); m['modseq'], m['flags'] = next_of(b), keys(rest[1:])
+        else:
+            m = b.at(rest[0]); b.messages.remove(m); b.gone.append((m['uid'], next_of(b)))
+            if verb == 'shift':
+                to = self.box(rest[1])
+                to.messages.append(dict(uid=rest[2], modseq=next_of(to), text=m['text'], flags=m['flags']))
+                to.uidnext = rest[2] + 1
+        self.history.append(('other', verb, name_of(name)) + rest)
+        self.moments += 1
+        return None
+    # calls of the disk
+    def disk_call(self):
+        if self.stop is not None and self.calls >= self.stop: raise DISK()
+        self.calls += 1; self.disk_calls += 1
+        if self.disk_calls in self.fails: raise DISK()
+    def write(self, at, b): self.disk_call(); self.files[0].write(at, b); self.moments += 1
+    def sync(self, side=0): self.disk_call(); self.files[side].sync(); self.moments += 1
+    def read(self): self.disk_call()
+    def restart(self, pick):
+        draw = draws(pick)
+        images = [f.image(pick, draw) for f in self.files]
+        self.files = [File(i) for i in images]
+        self.on, self.was_sent, self.moments = False, b'', 1
+    # calls of the link
+    def link_call(self):
+        if self.stop is not None and self.calls >= self.stop: self.on = False; return 'stop'
+        self.calls += 1; self.link_calls += 1
+        for n, change in self.others:
+            if n == self.link_calls: self.change(*change)
+        return self.losses.get(self.link_calls)
+    def connect(self):
+        self.on = False
+        if self.link_call(): raise LINK()
+        self.on, self.was_sent, self.selected = True, b'', None
+    def send(self, text):
+        loss = self.link_call()
+        if loss == 'stop' or not self.on: raise LINK()
+        if loss is None: self.was_sent += text; return
+        n = {'nothing': 0, 'all': len(text), 'waits done': len(text), 'waits dropped': len(text)}.get(loss)
+        self.was_sent += text[:int(loss.split()[1]) if n is None else n]
+        self.on = False
+        raise LINK()
+    def recv(self):
+        if self.link_call(): self.on = False; raise LINK()
+    def close(self):
+        self.link_call(); self.on = False
+    def is_offered(self, name): return name.lower() in [o.lower() for o in self.offers]
+
+# ---- the commands
+class Book:
+    def __init__(self, bodies):
+        self.boxes, self.queue = {}, 0
+        for b in bodies: self.take(b)
+    def take(self, b):
+        if b[0] == 'begin': self.boxes = {n: None for n in b[1]}
+        if b[0] == 'accept': self.queue += 1
+        if b[0] == 'learn':
+            _, name, whole, validity, highest, uidnext, gone, rows = b
+            old = {} if whole else dict(self.boxes[name]['rows'])
+            for u in gone: old.pop(u, None)
+            for u, m, f in rows: old[u] = (m, keys(f))
+            self.boxes[name] = dict(validity=validity, highest=highest, uidnext=uidnext, rows=old)
+
+def body_of(b):
+    return {'begin': lambda b: begin(*b[1]), 'accept': lambda b: accept(*b[1:]), 'learn': lambda b: learn(*b[1:])}[b[0]](b)
+
+def read_name(s, at): n = s[at]; return s[at + 1:at + 1 + n].decode(), at + 1 + n
+def read_flags(s, at):
+    n, at, got = int.from_bytes(s[at:at + 2], 'big'), at + 2, []
+    for _ in range(n): f, at = read_name(s, at); got.append(f)
+    return got, at
+def num(s, at, n): return int.from_bytes(s[at:at + n], 'big'), at + n
+
+def event_of(s):
+    "the event of a body, or None"
+    if s[:1] == b'B':
+        at, names = 2, []
+        for _ in range(s[1]): n, at = read_name(s, at); names.append(n)
+        return ('begin', names)
+    if s[:1] == b'A' and s[5:7] == b'FR':
+        n, _ = num(s, 1, 4); box, at = read_name(s, 7); v, at = num(s, at, 4); u, at = num(s, at, 4)
+        sign, at = chr(s[at]), at + 1; f, at = read_flags(s, at)
+        return ('accept', n, box, v, u, sign, f)
+    if s[:1] == b'L':
+        box, at = read_name(s, 1); whole, at = num(s, at, 1); v, at = num(s, at, 4); h, at = num(s, at, 8); u, at = num(s, at, 4)
+        n, at = num(s, at, 4); gone = []
+        for _ in range(n): a, at = num(s, at, 4); z, at = num(s, at, 4); gone += range(a, z + 1)
+        n, at = num(s, at, 4); rows = []
+        for _ in range(n): uid, at = num(s, at, 4); m, at = num(s, at, 8); f, at = read_flags(s, at); rows.append((uid, m, f))
+        return ('learn', box, whole, v, h, u, gone, rows)
+    return None
+
+class Store:
+    """The journal of the left file; an opening makes these calls (docs/JOURNAL.md, "Counted")."""
+    def __init__(self, world):
+        w = self.world = world
+        w.sync(0); w.sync(1); w.read(); w.read()
+        left, right = w.files[0].seen, w.files[1].seen
+        for side in (left, right):
+            if len(side) >= 14 and side[0] == 1 and side[1:9] != b'ODMAILJ1': raise Fault(9, 'error journal header')
+        up = [len(s) >= 14 and s[0] == 1 for s in (left, right)]
+        if up == [True, True]: raise Fault(9, 'error journal generations')
+        if up == [False, False]: raise Fault(9, 'error journal none')
+        self.text = left
+        at, events = 13, []
+        while self.text[at:at + 1] == b'\x01':
+            size = int.from_bytes(self.text[at + 1:at + 5], 'big')
+            body = self.text[at + 5:at + 5 + size]
+            event = event_of(body) if len(body) == size and len(self.text) > at + 5 + size else None
+            if event is None or (event[0] == 'begin') != (not events): raise Fault(9, 'error journal record %d' % at)
+            events.append(event); at += 5 + size
+        if not events: raise Fault(9, 'error journal record %d' % at)
+        for _ in range(3 + (1 if len(events) == 1 else 2)): w.read()
+        self.gate, self.book = at, Book(events)
+    def commit(self, event):
+        w, frame = self.world, record(body_of(event)) + b'\x00'
+        w.write(self.gate + 1, frame); w.sync(0)
+        w.write(self.gate, b'\x01'); w.sync(0)
+        self.gate += len(frame)
+        self.book.take(event)
+
+def init(w, names):
+    w.sync(0); w.sync(1); w.read(); w.read()
+    for f in w.files:
+        if len(f.seen) >= 14 and f.seen[0] == 1 and f.seen[1:9] != b'ODMAILJ1': raise Fault(9, 'error journal header')
+        if len(f.seen) >= 14 and f.seen[0] == 1: raise Fault(9, 'error journal exists')
+    w.read()
+    w.write(0, b'\x00'); w.sync(0)
+    w.write(1, journal(begin(*names))[1:]); w.sync(0)
+    w.write(0, b'\x01'); w.sync(0)
+    return ['ready']
+
+def flag(w, box, uid, sign, flags):
+    s = Store(w)
+    if name_of(box) not in s.book.boxes: raise Fault(10, 'refused no-mailbox')
+    cache = s.book.boxes[name_of(box)]
+    if cache is None or uid not in cache['rows']: raise Fault(10, 'refused no-message')
+    if any(f.startswith('\\') and f.lower() not in ('\\answered', '\\flagged', '\\deleted', '\\seen', '\\draft') or '(' in f for f in flags):
+        raise Fault(10, 'refused bad-flag')
+    s.commit(('accept', s.book.queue + 1, name_of(box), cache['validity'], uid, sign, flags))
+    return ['accepted %d' % s.book.queue]
+
+def rows_text(rows): return ['%d %d%s' % (u, m, ''.join(' ' + k for k in f)) for u, (m, f) in sorted(rows.items())]
+
+def list_rows(w, box):
+    s = Store(w)
+    if name_of(box) not in s.book.boxes: raise Fault(10, 'refused no-mailbox')
+    cache = s.book.boxes[name_of(box)]
+    return rows_text(cache['rows']) if cache else []
+
+def login_parts(user, password):
+    "the text of LOGIN in parts: one that isn't ASCII is a literal, which begins a part of its own"
+    parts = ['LOGIN']
+    for a in (user, password):
+        if all(1 <= ord(c) <= 127 and c not in '\r\n' for c in a): parts[-1] += ' ' + astring(a)
+        else: parts[-1] += ' {%d}' % len(a.encode()); parts.append(a)
+    return parts[0], [(p + '\r\n').encode() for p in parts[1:]]
+
+def astring(s):
+    return s if s and s.upper() != 'NIL' and all(33 <= ord(c) <= 126 and c not in '(){%*"\\' for c in s) else '"%s"' % s.replace('\\', '\\\\').replace('"', '\\"')
+
+def play(w):
+    """Over a server in memory: one call of the link a part of a command, and one a reply (docs/PROTOCOL.md)."""
+    s = Store(w)
+    if s.book.queue: raise Fault(15, 'error later 1')
+    w.connect(); w.recv()
+    count = [0]
+    def ask(text, *parts):
+        count[0] += 1
+        w.send(('C%d %s\r\n' % (count[0], text)).encode()); w.recv()
+        for p in parts: w.send(p); w.recv()
+    ask('CAPABILITY')
+    user, password = w.account
+    if w.is_offered('AUTH=PLAIN'):
+        import base64
+        ask('AUTHENTICATE PLAIN', base64.b64encode(b'\0' + user.encode() + b'\0' + password.encode()) + b'\r\n')
+    elif w.is_offered('LOGINDISABLED'): raise Fault(7, 'error lacking LOGIN')
+    else:
+        first, behind = login_parts(user, password)
+        ask(first, *behind)
+    ask('CAPABILITY')
+    rev2 = w.is_offered('IMAP4rev2')
+    for item in ['QRESYNC'] + ([] if rev2 else ['UIDPLUS', 'MOVE']):
+        if not w.is_offered(item): raise Fault(7, 'error lacking ' + item)
+    ask('ENABLE IMAP4rev2 QRESYNC' if rev2 else 'ENABLE QRESYNC')
+    for name in list(s.book.boxes):
+        cache = s.book.boxes[name]
+        mark = '' if cache is None else ' (QRESYNC (%d %d))' % (cache['validity'], cache['highest'])
+        seen = dict()
+        def select():
+            b = w.box(name)
+            if b is None: return
+            seen.update(validity=b.validity, highest=b.highest, uidnext=b.uidnext, empty=not b.messages,
+                gone=[u for u, m in b.gone if cache and m > cache['highest']],
+                rows=[(m['uid'], m['modseq'], m['flags']) for m in b.messages if cache and m['modseq'] > cache['highest']])
+        count[0] += 1
+        w.send(('C%d SELECT %s%s\r\n' % (count[0], astring(name), mark)).encode())
+        select()
+        w.recv()
+        if not seen: raise Fault(5, 'error refused: C%d NO ' % count[0])
+        if cache is None and not seen['empty']:
+            count[0] += 1
+            w.send(('C%d UID FETCH 1:* (UID FLAGS MODSEQ)\r\n' % count[0]).encode())
+            seen['rows'] = [(m['uid'], m['modseq'], m['flags']) for m in w.box(name).messages]
+            w.recv()
+        s.commit(('learn', name, int(cache is None), seen['validity'], seen['highest'], seen['uidnext'], seen['gone'], seen['rows']))
+    ask('LOGOUT')
+    return ['played 0 conflicts 0']
+
+COMMANDS = dict(init=lambda w, a: init(w, a), flag=lambda w, a: flag(w, a[0], int(a[1]), a[2], a[3:]), list=lambda w, a: list_rows(w, a[0]), play=lambda w, a: play(w))
+
+# ---- scenarios: what is read, and what is printed
+class Scenario:
+    def __init__(self): self.lines = []          # (a line, what it prints)
+    def line(self, text, *printed): self.lines.append((text, list(printed)))
+    def note(self, *texts):
+        for t in texts: self.line('# ' + t if t else '#', '# ' + t if t else '#')
+    def gap(self): self.line('')
+    # a run whose ending is known
+    def ran(self, text, status, *printed):
+        self.line('run ' + text if text else 'run', '> ' + text if text else '>', *['| ' + p for p in printed], '= %d' % status)
+    # a server, as the lines tell it
+    def server(self, offers=('IMAP4rev2', 'QRESYNC'), boxes=(), left=b'', right=b'', account=None):
+        self.line(' '.join(['server'] + [word(o) for o in offers]))
+        made = []
+        for name, validity, uidnext, highest, messages, gone in boxes:
+            b = Box(name, validity, uidnext, highest); made.append(b)
+            self.line('mailbox %s %d %d %d' % (word(name), validity, uidnext, highest))
+            for uid, modseq, text, *flags in messages:
+                b.messages.append(dict(uid=uid, modseq=modseq, text=text, flags=keys(flags)))
+                self.line('message %s %d %d %s' % (word(name), uid, modseq, ' '.join([word(text)] + flags)))
+            for uid, modseq in gone:
+                b.gone.append((uid, modseq)); self.line('gone %s %d %d' % (word(name), uid, modseq))
+        if left or right: self.line('files %s %s' % (hexed(left), hexed(right)))
+        if account: self.line('account ' + words(*account))
+        self.world = World(offers, made, left, right, account or ('ann', 'pw'))
+    def stand(self): self.line('world')
+    # plans of the next run
+    def disk(self, n): self.line('disk %d' % n); self.world.fails.add(n)
+    def link(self, n, loss): self.line('link %d %s' % (n, loss)); self.world.losses.setdefault(n, loss)
+    def stop(self, n): self.line('stop %d' % n); self.world.stop = n
+    def sink(self, n): self.line('sink %d' % n); self.world.sink_fails.add(n)
+    def change_words(self, change):
+        verb, name, *rest = change
+        out = [verb, word(name), str(rest[0])]
+        if verb == 'add': out += [word(rest[1])] + list(rest[2:])
+        if verb == 'set': out += list(rest[1:])
+        if verb == 'shift': out += [word(rest[1]), str(rest[2])]
+        return ' '.join(out)
+    def other(self, n, *change): self.line('other %d %s' % (n, self.change_words(change))); self.world.others.append((n, change))
+    def change(self, *change):
+        rule = self.world.change(*change)
+        self.line('change ' + self.change_words(change), *(['rule %d' % rule] if rule else []))
+    def restart(self, pick): self.world.restart(pick); self.line('restart %d' % pick)
+    # a run, by the model. Only a command that is done prints through a failing sink with another status
+    def run(self, *ws):
+        w = self.world
+        try: printed, status = COMMANDS[ws[0]](w, list(ws[1:])), 0
+        except Fault as f: printed, status = [f.line], f.status
+        if w.link_calls or w.calls and w.stop is not None and w.calls >= w.stop and status == 4: w.close()
+        if 1 in w.sink_fails: printed, status = [], (12 if status == 0 else status)
+        w.plan()
+        self.ran(words(*ws), status, *printed)
+        return status
+    # what is shown
+    def sent(self):
+        out, text = [], self.world.was_sent
+        while b'\r\n' in text:
+            i = text.index(b'\r\n'); out.append('C: ' + word(text[:i])); text = text[i + 2:]
+        if text: out.append('c: ' + word(text))
+        self.line('sent', *out)
+    def files(self): self.line('files', 'left ' + hexed(self.world.files[0].seen), 'right ' + hexed(self.world.files[1].seen))
+    def moments(self): self.line('moments', str(self.world.moments))
+    def show(self):
+        out = []
+        for b in self.world.boxes:
+            out.append('mailbox %s %d %d %d' % (word(b.name), b.validity, b.uidnext, b.highest))
+            for m in b.messages: out.append(' '.join(['message', word(b.name), str(m['uid']), str(m['modseq']), word(m['text'])] + m['flags']))
+            for u, m in b.gone: out.append('gone %s %d %d' % (word(b.name), u, m))
+        self.line('show', *out)
+    def history(self):
+        out = []
+        for author, *change in self.world.history:
+            verb, name, *rest = change
+            if verb == 'add': rest = rest[:2] + keys(rest[2:])
+            if verb == 'set': rest = rest[:1] + keys(rest[1:])
+            out.append(author + ' ' + self.change_words([verb, name] + rest))
+        self.line('history', *out)
+    def lists(self, *names):
+        for n in names: self.run('list', n)
+    # as an input and its output, and as lines of a file of cases
+    def stdin(self): return ''.join(t + '\n' for t, _ in self.lines)
+    def stdout(self): return ''.join(p + '\n' for _, ps in self.lines for p in ps)
+    def case(self): return ''.join(t + '\n' + ''.join(' ' + p + '\n' for p in ps) for t, ps in self.lines if t)
