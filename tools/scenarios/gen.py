@@ -9,15 +9,15 @@ OFFERS = ('IMAP4rev2', 'QRESYNC')
 M40, M42 = b'Message-ID: <m40@x>\r\n\r\n', b'Message-ID: <m42@x>\r\n\r\n'
 WORKED = [('INBOX', 5, 44, 715, [(40, 700, M40, '\\Seen'), (42, 715, M42)], []), ('Archive', 9, 7, 300, [], [])]
 BEGUN = journal(begin('INBOX', 'Archive'))
-L1 = learn('INBOX', 1, 5, 715, 44, [], [(40, 700, ['\\Seen']), (42, 715, [])])
-L2 = learn('Archive', 1, 9, 300, 7, [], [])
-S = journal(begin('INBOX', 'Archive'), L1, L2)
-A1 = accept(1, 'INBOX', 5, 42, '+', ['\\Seen'])
-SEEN = journal(begin('INBOX', 'Archive'), L1, L2, A1)
+INBOX_LEARNED = learn('INBOX', 1, 5, 715, 44, [], [(40, 700, ['\\Seen']), (42, 715, [])])
+ARCHIVE_LEARNED = learn('Archive', 1, 9, 300, 7, [], [])
+BOTH_LEARNED = journal(begin('INBOX', 'Archive'), INBOX_LEARNED, ARCHIVE_LEARNED)
+ACCEPTED = accept(1, 'INBOX', 5, 42, '+', ['\\Seen'])
+SEEN = journal(begin('INBOX', 'Archive'), INBOX_LEARNED, ARCHIVE_LEARNED, ACCEPTED)
 # by the documents
-assert BEGUN.hex() == '014f444d41494c4a31000000010100000010420205494e424f58074172636869766500' and len(S) == 145 and len(SEEN) == 180
-assert A1.hex() == '4100000001465205494e424f58000000050000002a2b0001055c7365656e'
-assert S.hex() == ('014f444d41494c4a31000000010100000010420205494e424f58074172636869766501000000424c05494e424f58010000000500000000000002cb0000002c'
+assert BEGUN.hex() == '014f444d41494c4a31000000010100000010420205494e424f58074172636869766500' and len(BOTH_LEARNED) == 145 and len(SEEN) == 180
+assert ACCEPTED.hex() == '4100000001465205494e424f58000000050000002a2b0001055c7365656e'
+assert BOTH_LEARNED.hex() == ('014f444d41494c4a31000000010100000010420205494e424f58074172636869766501000000424c05494e424f58010000000500000000000002cb0000002c'
     '00000000000000020000002800000000000002bc0001055c7365656e0000002a00000000000002cb000001000000224c07417263686976650100000009000000000000012c000000070000000000000000'
     '00')
 
@@ -34,10 +34,10 @@ def language(s):
         'refuse Full', 'refuse "Sent Mail"', 'files 00ff -', 'account ann "a secret \\xc3\\xa4"', 'piece "* OK never said\\r\\n"', 'endless x',
         'input "never read"', 'world']: s.line(l)
     # the same, as the model has it
-    T42 = b'quote " backslash \\ NUL-less \x01\x7f\xff A'
+    odd_text = b'quote " backslash \\ NUL-less \x01\x7f\xff A'
     boxes = []
     for name, validity, uidnext, highest, messages, gone in [
-        ('INBOX', 5, 44, 715, [(40, 700, M40, ['\\Seen', '$Label']), (42, 715, T42, [])], [(41, 710), (39, 715)]),
+        ('INBOX', 5, 44, 715, [(40, 700, M40, ['\\Seen', '$Label']), (42, 715, odd_text, [])], [(41, 710), (39, 715)]),
         ('Sent Mail', 9, 7, 300, [(3, 300, b'bare\\text', []), (4, 299, b'', [])], []),
         ('Full', 4294967295, 4294967295, 2**63 - 1, [(1, 1, b'x', [])], [])]:
         b = Box(name, validity, uidnext, highest); boxes.append(b)
@@ -72,9 +72,9 @@ def language(s):
     s.ran('init INBOX', 0, 'ready')
     s.gap()
     s.note('A world of a script has the files and no server. What was planned is forgotten.')
-    for l in ['server QRESYNC', 'mailbox INBOX 5 44 715', 'mailbox INBOX 5 44 715', 'files %s -' % S.hex(), 'piece "* OK [CAPABILITY IMAP4rev2] hello\\r\\n"',
+    for l in ['server QRESYNC', 'mailbox INBOX 5 44 715', 'mailbox INBOX 5 44 715', 'files %s -' % BOTH_LEARNED.hex(), 'piece "* OK [CAPABILITY IMAP4rev2] hello\\r\\n"',
         'piece ""', 'endless "* 1 EXISTS\\r\\n"', 'disk 1', 'sink 1', 'scripted']: s.line(l)
-    s.world = World(left=S)
+    s.world = World(left=BOTH_LEARNED)
     s.sent(); s.files()
     s.run('flag', 'INBOX', '42', '+', '\\Seen'); s.files()
     s.line('input ""'); s.line('source 1'); s.sink(1)
@@ -109,7 +109,7 @@ def flags(s):
     s.run('flag', 'INBOX', '42', '+', '\\Seen'); s.lists('INBOX', 'Archive', 'Sent'); s.files()
     s.gap()
     s.note('INBOX was synchronised, with UIDs 40 and 42. A message is named by the UID that was cached; the files stay where it isn\'t there.')
-    s.server((), left=S); s.stand()
+    s.server((), left=BOTH_LEARNED); s.stand()
     s.lists('INBOX', 'inbox', 'Archive')
     s.run('flag', 'INBOX', '43', '+', '\\Seen'); s.run('flag', 'Archive', '42', '+', '\\Seen'); s.run('flag', 'Sent', '42', '+', '\\Seen')
     s.ran('flag INBOX 0 + \\Seen', 2, 'error words')
@@ -127,14 +127,14 @@ def flags(s):
     s.server(()); s.stand()
     s.run('flag', 'INBOX', '42', '+', '\\Seen'); s.lists('INBOX'); s.files()
     for left, right in [(b'\x01' + b'x' * 13, b''), (BEGUN, BEGUN), (HEAD + b'\0', b''), (BEGUN[:-1] + b'\x01', b''),
-        (journal(begin('INBOX', 'Archive'), b'F' + named('INBOX') + u32(42) + b'+' + b'\x05\\seen'), b''), (journal(A1), b'')]:
+        (journal(begin('INBOX', 'Archive'), b'F' + named('INBOX') + u32(42) + b'+' + b'\x05\\seen'), b''), (journal(ACCEPTED), b'')]:
         s.server((), left=left, right=right); s.stand()
         s.run('flag', 'INBOX', '42', '+', '\\Seen'); s.lists('INBOX')
         if left[1:9] != b'ODMAILJ1': s.run('init', 'INBOX')
         s.files()
     s.gap()
     s.note('Words that are none of a command: nothing is read or written.')
-    s.server((), left=S); s.stand()
+    s.server((), left=BOTH_LEARNED); s.stand()
     for w in ['', '""', 'init', 'INIT INBOX', 'play now', 'queue', '"init INBOX"', 'init ""', 'init "a\\"b"', 'init a&b', 'init %', 'init INBOX "\\xc3\\xa4"',
         'flag', 'flag INBOX 42 +', 'flag INBOX 0 + \\Seen', 'flag INBOX 042 + \\Seen', 'flag INBOX 4294967296 + \\Seen', 'flag INBOX -1 + \\Seen', 'flag INBOX 42 * \\Seen',
         'flag a*b 42 + \\Seen', 'Flag INBOX 42 + \\Seen', 'list', 'list a*b', 'list INBOX Archive', 'List INBOX', 'init ' + ' '.join('b%d' % k for k in range(33)), 'init ' + 'x' * 129,
@@ -147,7 +147,7 @@ def faults(s):
     s.note('The output fails: the status is 12 where the command was done, and else stays.')
     s.server(()); s.stand(); s.sink(1)
     s.run('init', 'INBOX', 'Archive'); s.files()
-    s.server((), left=S); s.stand()
+    s.server((), left=BOTH_LEARNED); s.stand()
     s.sink(1); s.run('flag', 'INBOX', '42', '+', '\\Seen')
     s.run('flag', 'INBOX', '42', '+', '\\Seen')
     s.sink(1); s.run('init', 'INBOX')
@@ -162,12 +162,12 @@ def faults(s):
     s.gap()
     s.note('Each call of the disk that `flag` makes fails in turn. The next one is the first action; where the last sync failed the second.')
     for n in range(1, 15):
-        s.server((), left=S); s.stand(); s.disk(n)
+        s.server((), left=BOTH_LEARNED); s.stand(); s.disk(n)
         s.run('flag', 'INBOX', '42', '+', '\\Seen'); s.run('flag', 'INBOX', '42', '+', '\\Seen')
     s.gap()
     s.note('Each call of the disk that `list` makes fails in turn.')
     for n in range(1, 11):
-        s.server((), left=S); s.stand(); s.disk(n)
+        s.server((), left=BOTH_LEARNED); s.stand(); s.disk(n)
         s.run('list', 'INBOX')
     s.gap()
     s.note('`init` stops behind each number of calls. Up to the tenth call a stop leaves no journal; at the write of its first gate none, or', 'the whole of it; and then the whole of it.')

@@ -60,23 +60,23 @@ def worked(s, **more): s.server(OFFERS, WORKED, **more); s.stand()
 def served(c):
     s = Scenario(); worked(s)
     s.run('init', 'INBOX', 'Archive'); s.run('play'); s.sent(); s.lists('INBOX', 'Archive'); s.files(); s.history()
-    assert s.world.files[0].seen == S
+    assert s.world.files[0].seen == BOTH_LEARNED
     s.run('flag', 'INBOX', '43', '+', '\\Seen'); s.ran('flag INBOX 0 + \\Seen', 2, 'error words'); s.files()
     c.add('a first synchronisation, and what can be asked then', s)
 
-    s = Scenario(); worked(s, left=S)
+    s = Scenario(); worked(s, left=BOTH_LEARNED)
     s.run('play'); s.sent(); s.lists('INBOX', 'Archive'); s.files(); s.run('play'); s.sent(); s.files()
-    assert s.world.files[0].seen == journal(BEGIN, L1, L2, *AGAIN, *AGAIN)
+    assert s.world.files[0].seen == journal(BEGIN, INBOX_LEARNED, ARCHIVE_LEARNED, *AGAIN, *AGAIN)
     c.add('nothing changed since: each mailbox is recorded all the same', s)
 
-    s = Scenario(); worked(s, left=S)
+    s = Scenario(); worked(s, left=BOTH_LEARNED)
     s.change('add', 'INBOX', 118, b'x', '$Forwarded', '\\Recent'); s.change('drop', 'INBOX', 40); s.change('set', 'INBOX', 42, '\\Seen', 'work')
     s.change('shift', 'INBOX', 118, 'Archive', 9); s.change('add', 'INBOX', 4294967294, b'y')
     s.run('play'); s.sent(); s.lists('INBOX', 'Archive'); s.files()
     s.change('add', 'Archive', 4294967294, b'z', 'a', 'B'); s.run('play'); s.lists('INBOX', 'Archive')
     c.add('others added, changed, dropped and moved messages', s)
 
-    s = Scenario(); s.server(OFFERS, LATER, left=S); s.stand()
+    s = Scenario(); s.server(OFFERS, LATER, left=BOTH_LEARNED); s.stand()
     s.run('play'); s.sent(); s.lists('INBOX', 'Archive'); s.files()
     c.add('another client added UID 118, and two UIDs are gone', s)
 
@@ -97,7 +97,7 @@ def served(c):
         s = Scenario(); s.server(offers, WORKED, left=BEGUN); s.stand()
         s.run('play'); s.sent(); s.lists('INBOX'); s.files(); c.add(title, s)
 
-    s = Scenario(); s.server(OFFERS, WORKED, left=S); s.stand()
+    s = Scenario(); s.server(OFFERS, WORKED, left=BOTH_LEARNED); s.stand()
     s.run('flag', 'INBOX', '42', '+', '\\Seen'); s.run('play'); s.sent(); s.files()
     c.add('an action isn\'t settled yet: nothing is sent', s)
 
@@ -123,25 +123,25 @@ def served(c):
     c.add('a command that doesn\'t call the link doesn\'t close it', s)
 
 def scripts(c):
-    script(c, 'a script says what the worked server says', BEGUN, WHOLE, 0, PLAYED, SENT_WHOLE, after=S, lists=['INBOX', 'Archive'])
-    script(c, 'all that it says comes at once', BEGUN, [b''.join(WHOLE)], 0, PLAYED, SENT_WHOLE, after=S, lists=['INBOX'])
-    script(c, 'BYE alone ends LOGOUT', BEGUN, WHOLE[:-1] + [crlf('* BYE bye')], 0, PLAYED, SENT_WHOLE, after=S)
+    script(c, 'a script says what the worked server says', BEGUN, WHOLE, 0, PLAYED, SENT_WHOLE, after=BOTH_LEARNED, lists=['INBOX', 'Archive'])
+    script(c, 'all that it says comes at once', BEGUN, [b''.join(WHOLE)], 0, PLAYED, SENT_WHOLE, after=BOTH_LEARNED, lists=['INBOX'])
+    script(c, 'BYE alone ends LOGOUT', BEGUN, WHOLE[:-1] + [crlf('* BYE bye')], 0, PLAYED, SENT_WHOLE, after=BOTH_LEARNED)
     script(c, 'PREAUTH: nobody logs in', BEGUN, [crlf('* PREAUTH hello ann'), capability('C1'), capability('C2'), enabled('C3'), selected('C4', 2, 5, 44, 715),
         INBOX_ROWS + done('C5'), archive('C6'), left('C7')], 0, PLAYED,
-        ['C1 CAPABILITY', 'C2 CAPABILITY', 'C3 ENABLE IMAP4rev2 QRESYNC', 'C4 SELECT INBOX', 'C5 UID FETCH 1:* (UID FLAGS MODSEQ)', 'C6 SELECT Archive', 'C7 LOGOUT'], after=S)
+        ['C1 CAPABILITY', 'C2 CAPABILITY', 'C3 ENABLE IMAP4rev2 QRESYNC', 'C4 SELECT INBOX', 'C5 UID FETCH 1:* (UID FLAGS MODSEQ)', 'C6 SELECT Archive', 'C7 LOGOUT'], after=BOTH_LEARNED)
 
     again = lambda *more, **named: ENTERED + [selected('C5', 3, 5, 119, 730, *more, **named), archive('C6'), left('C7')]
     vanished = [41] + list(range(43, 117))
-    script(c, 'UIDs that vanished, and a row of a UID that is new', S, again('* VANISHED (EARLIER) 41,43:116', '* 3 FETCH (UID 118 FLAGS ($Forwarded \\Recent) MODSEQ (730))'), 0, PLAYED,
-        SENT_AGAIN, after=journal(BEGIN, L1, L2, learn('INBOX', 0, 5, 730, 119, vanished, [(118, 730, ['$Forwarded'])]), AGAIN[1]), lists=['INBOX'])
-    script(c, 'a UID that vanished and has a row isn\'t gone, and of two rows the last counts', S, again('* VANISHED (EARLIER) 40:42', '* 1 FETCH (UID 42 FLAGS (a) MODSEQ (720))',
+    script(c, 'UIDs that vanished, and a row of a UID that is new', BOTH_LEARNED, again('* VANISHED (EARLIER) 41,43:116', '* 3 FETCH (UID 118 FLAGS ($Forwarded \\Recent) MODSEQ (730))'), 0, PLAYED,
+        SENT_AGAIN, after=journal(BEGIN, INBOX_LEARNED, ARCHIVE_LEARNED, learn('INBOX', 0, 5, 730, 119, vanished, [(118, 730, ['$Forwarded'])]), AGAIN[1]), lists=['INBOX'])
+    script(c, 'a UID that vanished and has a row isn\'t gone, and of two rows the last counts', BOTH_LEARNED, again('* VANISHED (EARLIER) 40:42', '* 1 FETCH (UID 42 FLAGS (a) MODSEQ (720))',
         '* 1 FETCH (FLAGS (b) MODSEQ (725) UID 42)'), 0, PLAYED, SENT_AGAIN,
-        after=journal(BEGIN, L1, L2, learn('INBOX', 0, 5, 730, 119, [40, 41], [(42, 725, ['b'])]), AGAIN[1]), lists=['INBOX'])
+        after=journal(BEGIN, INBOX_LEARNED, ARCHIVE_LEARNED, learn('INBOX', 0, 5, 730, 119, [40, 41], [(42, 725, ['b'])]), AGAIN[1]), lists=['INBOX'])
     closed = ['* 1 FETCH (UID 42 FLAGS (x) MODSEQ (720))', '* OK [HIGHESTMODSEQ 999] x', '* OK [UIDVALIDITY 8] x', '* VANISHED 40', '* 1 FETCH (UID 7)', '* OK [NOMODSEQ] x', CLOSED]
-    script(c, 'what stands before CLOSED is of the mailbox before', S, ENTERED + [selected('C5', 2, 5, 44, 715), selected('C6', 1, 9, 8, 301, '* 1 FETCH (UID 7 FLAGS () MODSEQ (301))', front=closed), left('C7')],
-        0, PLAYED, SENT_AGAIN, after=journal(BEGIN, L1, L2, AGAIN[0], learn('Archive', 0, 9, 301, 8, [], [(7, 301, [])])), lists=['INBOX', 'Archive'])
-    script(c, 'the codes may stand in the completion, and the last one counts', S, ENTERED + [selected('C5', 2, 5, 44, 716, last='[HIGHESTMODSEQ 715] done'), archive('C6'), left('C7')],
-        0, PLAYED, SENT_AGAIN, after=journal(BEGIN, L1, L2, *AGAIN))
+    script(c, 'what stands before CLOSED is of the mailbox before', BOTH_LEARNED, ENTERED + [selected('C5', 2, 5, 44, 715), selected('C6', 1, 9, 8, 301, '* 1 FETCH (UID 7 FLAGS () MODSEQ (301))', front=closed), left('C7')],
+        0, PLAYED, SENT_AGAIN, after=journal(BEGIN, INBOX_LEARNED, ARCHIVE_LEARNED, AGAIN[0], learn('Archive', 0, 9, 301, 8, [], [(7, 301, [])])), lists=['INBOX', 'Archive'])
+    script(c, 'the codes may stand in the completion, and the last one counts', BOTH_LEARNED, ENTERED + [selected('C5', 2, 5, 44, 716, last='[HIGHESTMODSEQ 715] done'), archive('C6'), left('C7')],
+        0, PLAYED, SENT_AGAIN, after=journal(BEGIN, INBOX_LEARNED, ARCHIVE_LEARNED, *AGAIN))
 
     # what is refused
     script(c, 'the greeting is BYE', BEGUN, [crlf('* BYE busy')], 5, 'error refused: * BYE busy', [])
@@ -168,7 +168,7 @@ def scripts(c):
     script(c, 'a literal\'s size is told up to 2^63 - 1', BEGUN, [GREETING, crlf('* X {99999999999999999999}')], 14, 'error limit literal 9223372036854775807', FIRST[:1])
     script(c, 'a line is too long', BEGUN, [b'* OK '], 14, 'error limit line 1048577', [], endless=b'x' * 1000)
     row = lambda flags: ENTERED + [selected('C5', 1, 5, 44, 715), crlf('* 1 FETCH (UID 40 FLAGS (%s) MODSEQ (700))' % flags) + done('C6'), archive('C7'), left('C8')]
-    known = lambda flags: journal(BEGIN, learn('INBOX', 1, 5, 715, 44, [], [(40, 700, flags)]), L2)
+    known = lambda flags: journal(BEGIN, learn('INBOX', 1, 5, 715, 44, [], [(40, 700, flags)]), ARCHIVE_LEARNED)
     script(c, 'a flag is too long', BEGUN, row('x' * 256), 14, 'error limit flag 256', SENT_WHOLE[:6])
     script(c, 'a flag is as long as it may be', BEGUN, row('x' * 255), 0, PLAYED, SENT_WHOLE, after=known(['x' * 255]))
     many = ['f%d' % k for k in range(1025)]
@@ -178,24 +178,24 @@ def scripts(c):
     # what a reply lacks
     kept = lambda *args, **named: ENTERED + [selected('C5', *args, **named)]
     sent = SENT_AGAIN[:5]
-    script(c, 'UIDVALIDITY is another', S, kept(2, 6, 44, 715), 8, 'error validity INBOX 5 6', sent, lists=['INBOX'])
-    script(c, 'UIDVALIDITY is a lower one', S, kept(2, 4, 44, 715), 8, 'error validity INBOX 5 4', sent)
-    script(c, 'the highest mod-sequence fell', S, kept(2, 5, 44, 714), 6, 'error reply modseq 715 714', sent, lists=['INBOX'])
-    script(c, 'no highest mod-sequence is told', S, kept(2, 5, 44, None), 6, 'error reply lacks HIGHESTMODSEQ', sent)
-    script(c, 'no UIDNEXT is told', S, kept(2, 5, None, 715), 6, 'error reply lacks UIDNEXT', sent)
-    script(c, 'no UIDVALIDITY is told', S, kept(2, None, None, None), 6, 'error reply lacks UIDVALIDITY', sent)
-    script(c, 'there are no mod-sequences', S, kept(2, 5, 44, None, '* OK [NOMODSEQ] none'), 7, 'error lacking MODSEQ', sent)
-    script(c, 'none, though one is told', S, kept(2, 5, 44, 715, '* NO [NOMODSEQ] none'), 7, 'error lacking MODSEQ', sent)
-    script(c, 'UIDs don\'t stay', S, kept(2, 5, 44, 715, '* OK [UIDNOTSTICKY] so it is'), 7, 'error lacking STICKY', sent)
-    script(c, 'UIDVALIDITY comes before the mod-sequence', S, kept(2, 6, 44, 714), 8, 'error validity INBOX 5 6', sent)
-    script(c, 'a row lacks its flags', S, kept(2, 5, 44, 715, '* 1 FETCH (UID 42 MODSEQ (715))'), 6, 'error reply lacks ROW', sent)
+    script(c, 'UIDVALIDITY is another', BOTH_LEARNED, kept(2, 6, 44, 715), 8, 'error validity INBOX 5 6', sent, lists=['INBOX'])
+    script(c, 'UIDVALIDITY is a lower one', BOTH_LEARNED, kept(2, 4, 44, 715), 8, 'error validity INBOX 5 4', sent)
+    script(c, 'the highest mod-sequence fell', BOTH_LEARNED, kept(2, 5, 44, 714), 6, 'error reply modseq 715 714', sent, lists=['INBOX'])
+    script(c, 'no highest mod-sequence is told', BOTH_LEARNED, kept(2, 5, 44, None), 6, 'error reply lacks HIGHESTMODSEQ', sent)
+    script(c, 'no UIDNEXT is told', BOTH_LEARNED, kept(2, 5, None, 715), 6, 'error reply lacks UIDNEXT', sent)
+    script(c, 'no UIDVALIDITY is told', BOTH_LEARNED, kept(2, None, None, None), 6, 'error reply lacks UIDVALIDITY', sent)
+    script(c, 'there are no mod-sequences', BOTH_LEARNED, kept(2, 5, 44, None, '* OK [NOMODSEQ] none'), 7, 'error lacking MODSEQ', sent)
+    script(c, 'none, though one is told', BOTH_LEARNED, kept(2, 5, 44, 715, '* NO [NOMODSEQ] none'), 7, 'error lacking MODSEQ', sent)
+    script(c, 'UIDs don\'t stay', BOTH_LEARNED, kept(2, 5, 44, 715, '* OK [UIDNOTSTICKY] so it is'), 7, 'error lacking STICKY', sent)
+    script(c, 'UIDVALIDITY comes before the mod-sequence', BOTH_LEARNED, kept(2, 6, 44, 714), 8, 'error validity INBOX 5 6', sent)
+    script(c, 'a row lacks its flags', BOTH_LEARNED, kept(2, 5, 44, 715, '* 1 FETCH (UID 42 MODSEQ (715))'), 6, 'error reply lacks ROW', sent)
     new = lambda select, fetch: ENTERED + [select, fetch]
     script(c, 'nothing was kept: the fault is told behind the FETCH', BEGUN, new(selected('C5', 2, 5, 44, None), INBOX_ROWS + done('C6')), 6, 'error reply lacks HIGHESTMODSEQ', SENT_WHOLE[:6])
     script(c, 'no mod-sequences, and nothing was kept', BEGUN, new(selected('C5', 2, 5, 44, None, '* OK [NOMODSEQ] none'), INBOX_ROWS + done('C6')), 7, 'error lacking MODSEQ', SENT_WHOLE[:6])
     script(c, 'the FETCH is refused: that comes first', BEGUN, new(selected('C5', 2, 5, 44, None, '* OK [NOMODSEQ] none'), crlf('C6 NO not without mod-sequences')), 5, 'error refused: C6 NO not without mod-sequences', SENT_WHOLE[:6])
     script(c, 'a row of the FETCH lacks its mod-sequence', BEGUN, new(selected('C5', 2, 5, 44, 715), crlf('* 1 FETCH (UID 40 FLAGS (\\Seen))', 'C6 OK done')), 6, 'error reply lacks ROW', SENT_WHOLE[:6])
-    script(c, 'the second mailbox is at fault: the first is known', S, ENTERED + [selected('C5', 2, 5, 44, 715), selected('C6', 0, 10, 7, 300, front=[CLOSED])], 8, 'error validity Archive 9 10', SENT_AGAIN[:6],
-        after=journal(BEGIN, L1, L2, AGAIN[0]))
+    script(c, 'the second mailbox is at fault: the first is known', BOTH_LEARNED, ENTERED + [selected('C5', 2, 5, 44, 715), selected('C6', 0, 10, 7, 300, front=[CLOSED])], 8, 'error validity Archive 9 10', SENT_AGAIN[:6],
+        after=journal(BEGIN, INBOX_LEARNED, ARCHIVE_LEARNED, AGAIN[0]))
     s = Script(); s.talks(BEGUN, WHOLE[:5], 4, 'error link', SENT_WHOLE[:5])
     s.ran('play', 4, 'error link'); s.line('sent')
     c.add('the script goes on over a second run, and has ended', s)
@@ -211,7 +211,7 @@ def cuts(c):
         for p in [reply[i:i + 1] for i in range(len(reply))] if k is None else [reply[:k], reply[k:]]: s.line('piece ' + word(p))
         s.line('piece ' + word(archive('C7'))); s.line('piece ' + word(left('C8'))); s.line('scripted')
         s.ran('play', 0, PLAYED)
-        s.world = World(left=journal(BEGIN, learn('INBOX', 1, 5, 715, 44, [], [(40, 700, ['\\Seen'])]), L2))
+        s.world = World(left=journal(BEGIN, learn('INBOX', 1, 5, 715, 44, [], [(40, 700, ['\\Seen'])]), ARCHIVE_LEARNED))
         s.lists('INBOX')
         c.add('each byte is a piece' if k is None else 'whole' if k == 0 else 'cut at byte %d' % k, s)
 
@@ -243,7 +243,7 @@ if __name__ == '__main__':
     first = Cases('# A first synchronisation in which a call fails, or which is stopped; then it is played to the end, and what is known is what the\n# server has. A call of the link that is lost behind the last one loses nothing.\n\n')
     losses(first, WORKED, BEGUN, 19, 16)
     later = Cases('# The same of a mailbox that was synchronised before, to which another client added UID 118 since.\n\n')
-    losses(later, LATER, S, 17, 17)
+    losses(later, LATER, BOTH_LEARNED, 17, 17)
     for name, cases in [('play', play_cases), ('cuts', cut_cases), ('losses', first), ('later_losses', later)]:
         open('%s/data/%s.txt' % (folder, name), 'w').write(cases.text)
         print(name, cases.text.count('\n== '), cases.text.count('\n'), len(cases.text))
