@@ -5,7 +5,9 @@ use Rattle.mail_cli.specs.declared.top_calls.TopCall.TheVariants.{Run}
 
 -- the words that pick a top call
 abbrev pub IsWordOf : TopCall → List ℕ → Type 0
-IsWordOf Run word = (word ≡ codes "init") ⊎ (word ≡ codes "flag") ⊎ (word ≡ codes "list") ⊎ (word ≡ codes "play")
+IsWordOf Run word =
+    (word ≡ codes "init") ⊎ (word ≡ codes "flag") ⊎ (word ≡ codes "move") ⊎ (word ≡ codes "append") ⊎ (word ≡ codes "list") ⊎ (word ≡ codes "queue")
+    ⊎ (word ≡ codes "play")
 
 -- the first of the words picks this top call
 abbrev pub Picks : List (List ℕ) → TopCall → Type 0

@@ -14,7 +14,7 @@ ghost use Rattle.mail_base.specs.declared.status.Status.TheVariants as statuses;
 
 use mail_base::{Line, Status};
 use mail_top::run;
-use notices::{IN_USE, NO_NULL, notice_for};
+use notices::{IN_USE, NO_NULL, SEE_HELP, notice_for};
 use settings::WordsFault;
 use std::alloc::AllocError;
 use std::fs::{File, Files};
@@ -44,14 +44,14 @@ where
 {
     let words = match settings::words(rt) {
         Ok(words) => words,
-        Err(WordsFault::NotText) => return refused(rt, Status::Words, &Line::error_words()),
+        Err(WordsFault::NotText) => return no_command(rt),
         Err(WordsFault::Memory) => return refused(rt, Status::Memory, &Line::error_memory()),
     };
     if let Some(notice) = notice_for(&words) {
         return told(rt, notice);
     }
     let Some(call) = top_call(&words) else {
-        return refused(rt, Status::Words, &Line::error_words());
+        return no_command(rt);
     };
     match carried_out(rt, call, &words) {
         Ok(status) => status,
@@ -78,6 +78,9 @@ where
     if world.is_in_use() {
         let _ = rt.eprint(IN_USE);
     }
+    if status == Status::Words {
+        let _ = rt.eprint(SEE_HELP);
+    }
     Ok(status)
 }
 
@@ -89,6 +92,15 @@ fn as_text(setting: &Option<String>) -> Option<&str>
         Some(text) => Some(text.as_str()),
         None => None,
     }
+}
+
+// The answer to words that are no command.
+fn no_command<R: Print + Eprint>(rt: &R) -> Status
+    ensures { result ≡ statuses.Words }
+{
+    let status = refused(rt, Status::Words, &Line::error_words());
+    let _ = rt.eprint(SEE_HELP);
+    status
 }
 
 // Prints the line of a refusal that comes before the top call.

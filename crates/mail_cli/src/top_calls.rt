@@ -19,7 +19,7 @@ pub fn top_call(words: &[String]) -> Option<TopCall>
 {
     let first = words.first()?;
     match first.as_str() {
-        "init" | "flag" | "list" | "play" => Some(TopCall::Run),
+        "init" | "flag" | "move" | "append" | "list" | "queue" | "play" => Some(TopCall::Run),
         _ => None,
     }
 }

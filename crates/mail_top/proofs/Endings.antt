@@ -1,6 +1,6 @@
 -- What each status says follows from what became of the command; and a lawful command ends well.
-use Rattle.std.proofs.Common.{◌≡◌, ◌⊎◌, inl, inr, ⊎_elim, ℕ, ◌≤◌, List, length, Some, refl, sym, ◌∙◌, ap, subst, arith}
-use Rattle.std.specs.Prelude.{◌↔◌}
+use Rattle.std.proofs.Common.{◌≡◌, ◌⊎◌, inl, inr, ⊎_elim, ℕ, ◌≤◌, List, length, refl, sym, ◌∙◌, ap, subst, arith}
+use Rattle.std.specs.Prelude.{◌↔◌, true}
 use Rattle.mail_base.specs.Account.{Credentials}
 use Rattle.mail_base.specs.declared.status.Status.{Status}
 use Rattle.mail_base.specs.declared.status.Status.TheVariants as status
@@ -12,55 +12,62 @@ use Rattle.journal_core.proofs.Choice.{open_head}
 use Rattle.journal_core.proofs.Unique.{one_book}
 use Rattle.action_queue.specs.Book.{Meaning}
 use Rattle.action_queue.specs.Queues.{AllSettled}
+use Rattle.action_queue.specs.Rules.{is_unknown}
 use Rattle.action_queue.specs.declared.event.Event.{Event}
 use Rattle.store_core.specs.Mail.{mail}
 use Rattle.store_core.specs.Books.{HasBook}
 use Rattle.store_core.proofs.Folding.{one_held}
 use Rattle.store_core.proofs.MailBook.{one_mail_event}
 use Rattle.store_core.proofs.Wholeness.{never_both}
-use Rattle.mail_top.specs.Ending.{Ends, EndsInit, EndsFlag, EndsRows, EndsPlay, EndsRequest, IsDone, IsLater, IsTakable, IsListable, HasWaiting}
-use Rattle.mail_top.specs.Saying.{SaysRefused, SaysFull, PassesPlace}
-use Rattle.mail_top.specs.Actions.{action_of, accepts}
+use Rattle.mail_top.specs.Ending.{Ends, EndsInit, EndsAct, EndsRows, EndsQueue, EndsPlay, EndsRequest, IsDone, IsLater, IsTakable, IsListable}
+use Rattle.mail_top.specs.Ending.{HasWaiting}
+use Rattle.mail_top.specs.Runs.{AreBook}
+use Rattle.mail_top.specs.Saying.{SaysRefused, SaysUnknown, SaysFull, PassesPlace}
+use Rattle.mail_top.specs.Actions.{Becomes, accepts}
 use Rattle.mail_top.specs.Course.{Course, end_behind}
 use Rattle.mail_top.specs.Played.{CameThrough, SaysPlayed, SaysStopped}
 use Rattle.mail_top.specs.Printing.{IsSaid}
-use Rattle.mail_top.specs.Reasons.{reason_of}
-use Rattle.mail_top.specs.Texts.{limit_actions}
-use Rattle.mail_top.specs.Words.{Change, Request, Init, Flag, Rows, Play, Asks, AsksNothing}
+use Rattle.mail_top.specs.Reasons.{IsFirst, Stops}
+use Rattle.conflict_report.specs.StatusLines.{limit_actions}
+use Rattle.mail_top.specs.Words.{Wanted, Request, Init, Act, Rows, Queue, Play, Asks, AsksNothing}
+use Rattle.mail_top.specs.declared.reason.Reason.{Reason}
+use Rattle.mail_top.specs.declared.reason.Reason.TheVariants as reasons
 use Rattle.mail_top.proofs.Wording.{one_request}
 
 -- a failed output says as much of a request as a printed text
 output_as : (account : Credentials) (request : Request) (k : Course) (text : List ℕ) → EndsRequest account request k status.Done text →
     EndsRequest account request k status.Output text
 output_as account (Init names) k text ends = ends
-output_as account (Flag change) k text ends = ends
+output_as account (Act wanted) k text ends = ends
 output_as account (Rows name) k text ends = ends
+output_as account Queue k text ends = ends
 output_as account Play k text ends = ends
 
-module _ (account : Credentials) (words : List (List ℕ)) (k : Course) where
-  output_ends : (text : List ℕ) → Ends account words k status.Done text → Ends account words k status.Output text
+module _ (account : Credentials) (words : List (List ℕ)) (input : List ℕ) (k : Course) where
+  output_ends : (text : List ℕ) → Ends account words input k status.Done text → Ends account words input k status.Output text
   output_ends text (inl w) = absurd (let told = w.told in cc)
   output_ends text (inr s) = inr (record { request = s.request; asks = s.asks; ends = output_as account s.request k text s.ends })
 
   -- no command of these ends with conflicts
-  with_conflicts : (text : List ℕ) → Ends account words k status.Conflicts text → ⊥
+  with_conflicts : (text : List ℕ) → Ends account words input k status.Conflicts text → ⊥
   with_conflicts text (inl s) = absurd (cc s.told)
   with_conflicts text (inr s) = by_request s.request s.ends
     where
       by_request : (request : Request) → EndsRequest account request k status.Conflicts text → ⊥
       by_request (Init names) ends = ends.says
-      by_request (Flag change) ends = ends.says
+      by_request (Act wanted) ends = ends.says
       by_request (Rows name) ends = ends.says
+      by_request Queue ends = ends.says
       by_request Play ends = ends
 
-  pub said_ends : (r s : Status) (text : List ℕ) → IsSaid s r → Ends account words k s text → Ends account words k r text
-  said_ends r s text (inl same) ends = subst (λ (t : Status). Ends account words k t text) (sym same) ends
-  said_ends r s text (inr (inl done, is)) ends = subst (λ (t : Status). Ends account words k t text) (sym is)
-      (output_ends text (subst (λ (t : Status). Ends account words k t text) done ends))
-  said_ends r s text (inr (inr conflicts, is)) ends = absurd (with_conflicts text (subst (λ (t : Status). Ends account words k t text) conflicts ends))
+  pub said_ends : (r s : Status) (text : List ℕ) → IsSaid s r → Ends account words input k s text → Ends account words input k r text
+  said_ends r s text (inl same) ends = subst (λ (t : Status). Ends account words input k t text) (sym same) ends
+  said_ends r s text (inr (inl done, is)) ends = subst (λ (t : Status). Ends account words input k t text) (sym is)
+      (output_ends text (subst (λ (t : Status). Ends account words input k t text) done ends))
+  said_ends r s text (inr (inr conflicts, is)) ends = absurd (with_conflicts text (subst (λ (t : Status). Ends account words input k t text) conflicts ends))
 
-  pub no_conflicts : (s : Status) (text : List ℕ) → Ends account words k s text → s ≡ status.Conflicts → ⊥
-  no_conflicts s text ends is = with_conflicts text (subst (λ (t : Status). Ends account words k t text) is ends)
+  pub no_conflicts : (s : Status) (text : List ℕ) → Ends account words input k s text → s ≡ status.Conflicts → ⊥
+  no_conflicts s text ends is = with_conflicts text (subst (λ (t : Status). Ends account words input k t text) is ends)
 
 pub said_words : (r s : Status) (Q : Type 0) → IsSaid s r → ((s ≡ status.Words) ↔ Q) → (r ≡ status.Words) ↔ Q
 said_words r s Q (inl same) both = (λ is. both.0 (sym same ∙ is), λ q. same ∙ both.1 q)
@@ -72,11 +79,20 @@ pub said_as : (t r s : Status) → (t ≡ status.Output → ⊥) → IsSaid s r 
 said_as t r s other (inl same) is = sym same ∙ is
 said_as t r s other (inr changed) is = absurd (other (sym is ∙ changed.1))
 
+-- and a status that no failed output changes is that of what is said
+pub ended_so : (t r s : Status) → (t ≡ status.Done → ⊥) → (t ≡ status.Conflicts → ⊥) → IsSaid s r → s ≡ t → r ≡ t
+ended_so t r s other quiet (inl same) is = same ∙ is
+ended_so t r s other quiet (inr (inl done, changed)) is = absurd (other (sym is ∙ done))
+ended_so t r s other quiet (inr (inr conflicts, changed)) is = absurd (quiet (sym is ∙ conflicts))
+
 pub said_disk : (r s : Status) → IsSaid s r → r ≡ status.Disk → s ≡ status.Disk
 said_disk r s said is = said_as status.Disk r s (λ e. cc e) said is
 
 pub said_link : (r s : Status) → IsSaid s r → r ≡ status.Link → s ≡ status.Link
 said_link r s said is = said_as status.Link r s (λ e. cc e) said is
+
+pub said_input : (r s : Status) → IsSaid s r → r ≡ status.Input → s ≡ status.Input
+said_input r s said is = said_as status.Input r s (λ e. cc e) said is
 
 pub said_reply : (r s : Status) → IsSaid s r → r ≡ status.Reply → s ≡ status.Reply
 said_reply r s said is = said_as status.Reply r s (λ e. cc e) said is
@@ -116,54 +132,65 @@ module _ (files : Files) (b c : Meaning) (holds : HasBook mail b files) (held : 
       omega (arith, ap (λ (l : List (List ℕ)). length (records l)) same)
 
 -- the request of an end is the one that is asked for
-ended_as : (account : Credentials) (words : List (List ℕ)) (k : Course) (r : Status) (text : List ℕ) (request : Request) → Asks words request →
-    Ends account words k r text → (r ≡ status.Words → AsksNothing words) → EndsRequest account request k r text
-ended_as account words k r text request asks (inl w) cause = absurd (w.nothing request asks)
-ended_as account words k r text request asks (inr s) cause =
-    subst (λ (q : Request). EndsRequest account q k r text) (one_request words s.request request s.asks asks) s.ends
+ended_as : (account : Credentials) (words : List (List ℕ)) (input : List ℕ) (k : Course) (r : Status) (text : List ℕ) (request : Request) →
+    Asks words input request →
+    Ends account words input k r text → (r ≡ status.Words → AsksNothing words) → EndsRequest account request k r text
+ended_as account words input k r text request asks (inl w) cause = absurd (w.nothing input request asks)
+ended_as account words input k r text request asks (inr s) cause =
+    subst (λ (q : Request). EndsRequest account q k r text) (one_request words input s.request request s.asks asks) s.ends
 
-module _ (k : Course) (change : Change) (t : IsTakable change k.seen) where
-  never_refused : (text : List ℕ) → SaysRefused (Flag change) k text → ⊥
+module _ (k : Course) (wanted : Wanted) (t : IsTakable wanted k.seen) where
+  -- no reason speaks against it
+  free_of : (reason : Reason) → Stops wanted t.book reason → ⊥
+  free_of reasons.NoMessageId stops = t.free.0 stops
+  free_of reasons.BadText stops = t.free.1.0 stops
+  free_of reasons.TooLarge stops = t.free.1.1.0 stops
+  free_of reasons.NoMailbox stops = t.free.1.1.1.0 stops
+  free_of reasons.NoMessage stops = t.free.1.1.1.1.0 stops
+  free_of reasons.BadFlag stops = t.free.1.1.1.1.1.0 stops
+  free_of reasons.SameMailbox stops = t.free.1.1.1.1.1.1.0 stops
+  free_of reasons.QueueFull stops = t.free.1.1.1.1.1.1.1.0 stops
+
+  never_refused : (text : List ℕ) → SaysRefused wanted k text → ⊥
   never_refused text s =
       let same = same_book k.seen s.book t.book s.stays.holds t.holds in
-      let is : reason_of (Flag change) t.book ≡ Some s.reason = subst (λ (b : Meaning). reason_of (Flag change) b ≡ Some s.reason) same s.is in
-      cc (is, t.may)
+      free_of s.reason (subst (λ (b : Meaning). IsFirst wanted b s.reason) same s.is).stops
 
-  never_long : (text : List ℕ) (b : Meaning) (holds : HasBook mail b k.seen) → PassesPlace change k b holds text → ⊥
+  never_long : (text : List ℕ) (b : Meaning) (holds : HasBook mail b k.seen) → PassesPlace wanted k b holds text → ⊥
   never_long text b holds p =
       let same = same_book k.seen b t.book holds t.holds in
-      let is = subst (λ (c : Meaning). action_of change c ≡ Some p.action) same p.is in
+      let is = subst (λ (c : Meaning). Becomes wanted c p.action) same p.is in
       let fits = t.room p.action is in
       let there = same_end k.seen b t.book holds t.holds (accepts t.book p.action) in
       let here : end_behind holds (accepts b p.action) ≡ end_behind holds (accepts t.book p.action) =
       ap (λ (c : Meaning). end_behind holds (accepts c p.action)) same in
       omega (arith, p.past, fits, there, here)
 
-  never_full : (text : List ℕ) → SaysFull change k text → ⊥
+  never_full : (text : List ℕ) → SaysFull wanted k text → ⊥
   never_full text s = by_limit s.past
     where
-      by_limit : ((1000000 ≤ length s.book.queue) × (text ≡ limit_actions)) ⊎ PassesPlace change k s.book s.stays.holds text → ⊥
+      by_limit : ((1000000 ≤ length s.book.queue) × (text ≡ limit_actions)) ⊎ PassesPlace wanted k s.book s.stays.holds text → ⊥
       by_limit (inl many) =
           let same = same_book k.seen s.book t.book s.stays.holds t.holds in omega (arith, many.0, t.few, ap (λ (b : Meaning). length b.queue) same)
       by_limit (inr long) = never_long text s.book s.stays.holds long
 
-  flag_done : (r : Status) (text : List ℕ) → EndsFlag change k r text → (r ≡ status.Disk → ⊥) → (r ≡ status.Output → ⊥) → IsDone r
-  flag_done status.Done text ends no_disk no_output = inl refl
-  flag_done status.Memory text ends no_disk no_output = inr refl
-  flag_done status.Output text ends no_disk no_output = absurd (no_output refl)
-  flag_done status.Disk text ends no_disk no_output = absurd (no_disk refl)
-  flag_done status.Journal text ends no_disk no_output = absurd (never_both mail one_mail_event t.book k.seen t.holds ends.why ends.broken)
-  flag_done status.Reason text ends no_disk no_output = absurd (never_refused text ends)
-  flag_done status.Limit text ends no_disk no_output = absurd (never_full text ends)
-  flag_done status.Words text ends no_disk no_output = absurd ends
-  flag_done status.Conflicts text ends no_disk no_output = absurd ends
-  flag_done status.Link text ends no_disk no_output = absurd ends
-  flag_done status.Refused text ends no_disk no_output = absurd ends
-  flag_done status.Reply text ends no_disk no_output = absurd ends
-  flag_done status.Lacking text ends no_disk no_output = absurd ends
-  flag_done status.Validity text ends no_disk no_output = absurd ends
-  flag_done status.Input text ends no_disk no_output = absurd ends
-  flag_done status.Later text ends no_disk no_output = absurd ends
+  act_done : (r : Status) (text : List ℕ) → EndsAct wanted k r text → (r ≡ status.Disk → ⊥) → (r ≡ status.Output → ⊥) → (r ≡ status.Input → ⊥) → IsDone r
+  act_done status.Done text ends no_disk no_output no_input = inl refl
+  act_done status.Memory text ends no_disk no_output no_input = inr refl
+  act_done status.Output text ends no_disk no_output no_input = absurd (no_output refl)
+  act_done status.Disk text ends no_disk no_output no_input = absurd (no_disk refl)
+  act_done status.Journal text ends no_disk no_output no_input = absurd (never_both mail one_mail_event t.book k.seen t.holds ends.why ends.broken)
+  act_done status.Reason text ends no_disk no_output no_input = absurd (never_refused text ends)
+  act_done status.Limit text ends no_disk no_output no_input = absurd (never_full text ends)
+  act_done status.Words text ends no_disk no_output no_input = absurd ends
+  act_done status.Conflicts text ends no_disk no_output no_input = absurd ends
+  act_done status.Link text ends no_disk no_output no_input = absurd ends
+  act_done status.Refused text ends no_disk no_output no_input = absurd ends
+  act_done status.Reply text ends no_disk no_output no_input = absurd ends
+  act_done status.Lacking text ends no_disk no_output no_input = absurd ends
+  act_done status.Validity text ends no_disk no_output no_input = absurd ends
+  act_done status.Input text ends no_disk no_output no_input = absurd (no_input refl)
+  act_done status.Later text ends no_disk no_output no_input = absurd ends
 
 module _ (k : Course) (names : List (List ℕ)) (unbegun : IsUnbegun k.seen) where
   init_done : (r : Status) (text : List ℕ) → EndsInit names k r text → (r ≡ status.Disk → ⊥) → (r ≡ status.Output → ⊥) → IsDone r
@@ -187,11 +214,11 @@ module _ (k : Course) (names : List (List ℕ)) (unbegun : IsUnbegun k.seen) whe
   init_done status.Later text ends no_disk no_output = absurd ends
 
 module _ (k : Course) (name : List ℕ) (t : IsListable name k.seen) where
-  never_unknown : (text : List ℕ) → SaysRefused (Rows name) k text → ⊥
+  never_unknown : (text : List ℕ) → SaysUnknown name k text → ⊥
   never_unknown text s =
       let same = same_book k.seen s.book t.book s.stays.holds t.holds in
-      let is : reason_of (Rows name) t.book ≡ Some s.reason = subst (λ (b : Meaning). reason_of (Rows name) b ≡ Some s.reason) same s.is in
-      cc (is, t.may)
+      let is = subst (λ (b : Meaning). is_unknown b.boxes name ≡ true) same s.unknown in
+      cc (is, t.known)
 
   rows_done : (r : Status) (text : List ℕ) → EndsRows name k r text → (r ≡ status.Disk → ⊥) → (r ≡ status.Output → ⊥) → IsDone r
   rows_done status.Done text ends no_disk no_output = inl refl
@@ -211,17 +238,41 @@ module _ (k : Course) (name : List ℕ) (t : IsListable name k.seen) where
   rows_done status.Input text ends no_disk no_output = absurd ends
   rows_done status.Later text ends no_disk no_output = absurd ends
 
-module _ (account : Credentials) (words : List (List ℕ)) (k : Course) (r : Status) (text : List ℕ) (ends : Ends account words k r text)
-    (cause : r ≡ status.Words → AsksNothing words)
+module _ (k : Course) (t : AreBook k.seen) where
+  queue_done : (r : Status) (text : List ℕ) → EndsQueue k r text → (r ≡ status.Disk → ⊥) → (r ≡ status.Output → ⊥) → IsDone r
+  queue_done status.Done text ends no_disk no_output = inl refl
+  queue_done status.Memory text ends no_disk no_output = inr refl
+  queue_done status.Output text ends no_disk no_output = absurd (no_output refl)
+  queue_done status.Disk text ends no_disk no_output = absurd (no_disk refl)
+  queue_done status.Journal text ends no_disk no_output = absurd (never_both mail one_mail_event t.book k.seen t.holds ends.why ends.broken)
+  queue_done status.Reason text ends no_disk no_output = absurd ends
+  queue_done status.Limit text ends no_disk no_output = absurd ends
+  queue_done status.Words text ends no_disk no_output = absurd ends
+  queue_done status.Conflicts text ends no_disk no_output = absurd ends
+  queue_done status.Link text ends no_disk no_output = absurd ends
+  queue_done status.Refused text ends no_disk no_output = absurd ends
+  queue_done status.Reply text ends no_disk no_output = absurd ends
+  queue_done status.Lacking text ends no_disk no_output = absurd ends
+  queue_done status.Validity text ends no_disk no_output = absurd ends
+  queue_done status.Input text ends no_disk no_output = absurd ends
+  queue_done status.Later text ends no_disk no_output = absurd ends
+
+module _ (account : Credentials) (words : List (List ℕ)) (input : List ℕ) (k : Course) (r : Status) (text : List ℕ)
+    (ends : Ends account words input k r text) (cause : r ≡ status.Words → AsksNothing words)
     (no_disk : r ≡ status.Disk → ⊥) (no_output : r ≡ status.Output → ⊥) where
-  pub completes_flag : (change : Change) → Asks words (Flag change) → IsTakable change k.seen → IsDone r
-  completes_flag change asks t = flag_done k change t r text (ended_as account words k r text (Flag change) asks ends cause).says no_disk no_output
+  pub completes_act : (wanted : Wanted) → Asks words input (Act wanted) → IsTakable wanted k.seen → (r ≡ status.Input → ⊥) → IsDone r
+  completes_act wanted asks t no_input =
+      act_done k wanted t r text (ended_as account words input k r text (Act wanted) asks ends cause).says no_disk no_output no_input
 
-  pub completes_init : (names : List (List ℕ)) → Asks words (Init names) → IsUnbegun k.seen → IsDone r
-  completes_init names asks unbegun = init_done k names unbegun r text (ended_as account words k r text (Init names) asks ends cause).says no_disk no_output
+  pub completes_init : (names : List (List ℕ)) → Asks words input (Init names) → IsUnbegun k.seen → IsDone r
+  completes_init names asks unbegun =
+      init_done k names unbegun r text (ended_as account words input k r text (Init names) asks ends cause).says no_disk no_output
 
-  pub completes_rows : (name : List ℕ) → Asks words (Rows name) → IsListable name k.seen → IsDone r
-  completes_rows name asks t = rows_done k name t r text (ended_as account words k r text (Rows name) asks ends cause).says no_disk no_output
+  pub completes_rows : (name : List ℕ) → Asks words input (Rows name) → IsListable name k.seen → IsDone r
+  completes_rows name asks t = rows_done k name t r text (ended_as account words input k r text (Rows name) asks ends cause).says no_disk no_output
+
+  pub completes_queue : Asks words input Queue → AreBook k.seen → IsDone r
+  completes_queue asks t = queue_done k t r text (ended_as account words input k r text Queue asks ends cause).says no_disk no_output
 
 -- `play` doesn't come to its end over an action that isn't settled
 module _ (account : Credentials) (k : Course) (w : HasWaiting k.seen) where
@@ -252,7 +303,8 @@ module _ (account : Credentials) (k : Course) (w : HasWaiting k.seen) where
   play_waits status.Reason text ends no_disk = absurd ends
   play_waits status.Input text ends no_disk = absurd ends
 
-pub completes_later : (account : Credentials) (words : List (List ℕ)) (k : Course) (r : Status) (text : List ℕ) → Ends account words k r text →
-    (r ≡ status.Words → AsksNothing words) → (r ≡ status.Disk → ⊥) → Asks words Play → HasWaiting k.seen → IsLater r
-completes_later account words k r text ends cause no_disk asks w =
-    play_waits account k w r text (ended_as account words k r text Play asks ends cause) no_disk
+pub completes_later : (account : Credentials) (words : List (List ℕ)) (input : List ℕ) (k : Course) (r : Status) (text : List ℕ) →
+    Ends account words input k r text →
+    (r ≡ status.Words → AsksNothing words) → (r ≡ status.Disk → ⊥) → Asks words input Play → HasWaiting k.seen → IsLater r
+completes_later account words input k r text ends cause no_disk asks w =
+    play_waits account k w r text (ended_as account words input k r text Play asks ends cause) no_disk

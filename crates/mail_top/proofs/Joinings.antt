@@ -1,5 +1,5 @@
 -- A command that works with the files alone is joined: each moment is kept, by a step of the book beside the server.
-use Rattle.std.proofs.Common.{◌≡◌, ◌⊎◌, inl, inr, ℕ, ◌≤◌, List, length, Bool, Option, Some, None, refl, sym, subst}
+use Rattle.std.proofs.Common.{◌≡◌, ◌⊎◌, inl, inr, ℕ, List, Bool, Option, Some, None, refl, sym, subst}
 use Rattle.imap_model.specs.Carrying.{Waiting}
 use Rattle.imap_model.specs.Talking.{Peer}
 use Rattle.imap_model.specs.declared.server.Server.{Server}
@@ -25,26 +25,27 @@ use Rattle.play_driver.proofs.Untouched.{unplayed_withstands}
 use Rattle.mail_top.specs.Actions.{next_id, accepts}
 use Rattle.mail_top.specs.Leaving.{IsDue, BeginsDue, RequestStep}
 use Rattle.mail_top.specs.Weighing.{Admits}
-use Rattle.mail_top.specs.Words.{Change, Request, Init, Flag, Rows, Play}
+use Rattle.mail_top.specs.Words.{Wanted, Request, Init, Act, Rows, Queue, Play, HasFewFlags}
 use Rattle.mail_top.proofs.Repeated.{outside_same}
-use Rattle.mail_top.proofs.Weighing.{admitted_writable}
+use Rattle.mail_top.proofs.Admitting.{admitted_writable}
 
 -- what is asked for is an action that has a record
 abbrev pub HasRecords : Request → Type 0
-HasRecords request = (change : Change) (b : Meaning) (action : Action) → request ≡ Flag change → Admits change b (next_id b) action →
+HasRecords request = (wanted : Wanted) (b : Meaning) (action : Action) → request ≡ Act wanted → Admits wanted b (next_id b) action →
     IsWritable (accepts b action)
 
 pub init_records : (names : List (List ℕ)) → HasRecords (Init names)
-init_records names change b action is admits = absurd cc
+init_records names wanted b action is admits = absurd cc
 
 pub rows_records : (name : List ℕ) → HasRecords (Rows name)
-rows_records name change b action is admits = absurd cc
+rows_records name wanted b action is admits = absurd cc
 
-pub flag_records : (change : Change) → 1 ≤ length change.flags → length change.flags ≤ 32 → HasRecords (Flag change)
-flag_records change some few other b action is admits =
-    let same : change ≡ other = cc in
-    admitted_writable other b (next_id b) action (subst (λ (c : Change). 1 ≤ length c.flags) same some) (subst (λ (c : Change). length c.flags ≤ 32) same few)
-    admits
+pub queue_records : HasRecords Queue
+queue_records wanted b action is admits = absurd cc
+
+pub action_records : (wanted : Wanted) → HasFewFlags wanted → HasRecords (Act wanted)
+action_records wanted few other b action is admits =
+    let same : wanted ≡ other = cc in admitted_writable other b (next_id b) action (subst HasFewFlags same few) admits
 
 -- an event that is due is permitted
 permitted : (request : Request) → (request ≡ Play → ⊥) → HasRecords request → (b : Option Meaning) (e : Event) (s : Server) (w : Option Waiting) →
@@ -53,10 +54,11 @@ permitted (Init names) never writable b e s w due u =
     let none = subst (λ (x : Option Meaning). Unplayed x s w) due.0 u in
     subst (λ (x : Option Meaning). MayBegin x e s w) (sym due.0)
     (subst (λ (y : Event). MayBegin None y s w) (sym due.1) (none.none_ours, none.no_change))
-permitted (Flag change) never writable None e s w due u = absurd due
-permitted (Flag change) never writable (Some b) e s w due u =
-    subst (λ (y : Event). MayBegin (Some b) y s w) (sym due.2) (writable change b due.0 refl due.1)
+permitted (Act wanted) never writable None e s w due u = absurd due
+permitted (Act wanted) never writable (Some b) e s w due u =
+    subst (λ (y : Event). MayBegin (Some b) y s w) (sym due.2) (writable wanted b due.0 refl due.1)
 permitted (Rows name) never writable b e s w due u = absurd due
+permitted Queue never writable b e s w due u = absurd due
 permitted Play never writable b e s w due u = absurd (never refl)
 
 module _ (request : Request) (never : request ≡ Play → ⊥) (writable : HasRecords request) where

@@ -1,6 +1,9 @@
+pub mod Admitting
 pub mod Beginnings
 pub mod Connections
 pub mod Endings
+pub mod Goings
+pub mod Inputs
 pub mod Joinings
 pub mod Learnings
 pub mod Moving
@@ -9,5 +12,4 @@ pub mod Openings
 pub mod Recording
 pub mod Repeated
 pub mod Sayings
-pub mod Weighing
 pub mod Wording

@@ -23,13 +23,14 @@ use Rattle.mail_top.specs.Actions.{accepts, next_id}
 use Rattle.mail_top.specs.Course.{end_behind}
 use Rattle.mail_top.specs.Leaving.{MayBeLeft, OnTheWay, IsDue, StaysOutside, KeepsStep, WordsKeep, RequestStep, WordsStep, KeepsOn, GoesOnBy}
 use Rattle.mail_top.specs.Weighing.{Admits}
-use Rattle.mail_top.specs.Words.{Change, Request, Init, Flag, Rows, Play, Asks}
+use Rattle.mail_top.specs.Words.{Wanted, Request, Init, Act, Rows, Queue, Play, Asks}
 
 -- a step of the disk leaves what isn't on it
 pub stays_outside : (request : Request) (m n : Moment) → n.outside ≡ m.outside → StaysOutside request m n
 stays_outside (Init names) m n same = same
-stays_outside (Flag change) m n same = same
+stays_outside (Act wanted) m n same = same
 stays_outside (Rows name) m n same = same
+stays_outside Queue m n same = same
 stays_outside Play m n same = tt
 
 pub keeps_step : (request : Request) (m n : Moment) → KeepsActions m n → KeepsStep request m n
@@ -123,23 +124,23 @@ begins_steps names k l are b =
     steps_then (Init names) k b.at l (chooses_steps (Init names) k b.at b.chooses)
     (takes_steps (Init names) First None (events.Begin names) are (refl, refl) b.at l b.takes)
 
-module _ (change : Change) (seen : Files) where
+module _ (wanted : Wanted) (seen : Files) where
   -- the moments of an opening
   pub opens_adding : (entry : Moment) (k l : Clock) → Since (Within entry) KeepsActions k l →
-      Since (MayBeLeft (Flag change) entry seen) (KeepsStep (Flag change)) k l
-  opens_adding entry k l s = keeps_steps (Flag change) (Within entry) (MayBeLeft (Flag change) entry seen) (λ m w. inl w) k l s
+      Since (MayBeLeft (Act wanted) entry seen) (KeepsStep (Act wanted)) k l
+  opens_adding entry k l s = keeps_steps (Act wanted) (Within entry) (MayBeLeft (Act wanted) entry seen) (λ m w. inl w) k l s
 
   -- and those of the action
-  pub takes_adding : (entry : Moment) (b : Meaning) (action : Action) → (holds : HasBook mail b seen) → Admits change b (next_id b) action →
+  pub takes_adding : (entry : Moment) (b : Meaning) (action : Action) → (holds : HasBook mail b seen) → Admits wanted b (next_id b) action →
       end_behind holds (accepts b action) ≤ max_accepted → (k l : Clock) →
-      Since (IsTaking mail (Some b) (accepts b action)) KeepsActions k l → Since (MayBeLeft (Flag change) entry seen) (KeepsStep (Flag change)) k l
+      Since (IsTaking mail (Some b) (accepts b action)) KeepsActions k l → Since (MayBeLeft (Act wanted) entry seen) (KeepsStep (Act wanted)) k l
   takes_adding entry b action holds admits room k l s =
-      keeps_steps (Flag change) (IsTaking mail (Some b) (accepts b action)) (MayBeLeft (Flag change) entry seen)
+      keeps_steps (Act wanted) (IsTaking mail (Some b) (accepts b action)) (MayBeLeft (Act wanted) entry seen)
       (λ m t. inr (record { book = b; holds = holds; action = action; admits = admits; room = room; taking = t })) k l s
 
-  pub adding_then : (entry : Moment) (k l n : Clock) → Since (MayBeLeft (Flag change) entry seen) (KeepsStep (Flag change)) k l →
-      Since (MayBeLeft (Flag change) entry seen) (KeepsStep (Flag change)) l n → Since (MayBeLeft (Flag change) entry seen) (KeepsStep (Flag change)) k n
-  adding_then entry k l n a b = since_then (MayBeLeft (Flag change) entry seen) (KeepsStep (Flag change)) k l n a b
+  pub adding_then : (entry : Moment) (k l n : Clock) → Since (MayBeLeft (Act wanted) entry seen) (KeepsStep (Act wanted)) k l →
+      Since (MayBeLeft (Act wanted) entry seen) (KeepsStep (Act wanted)) l n → Since (MayBeLeft (Act wanted) entry seen) (KeepsStep (Act wanted)) k n
+  adding_then entry k l n a b = since_then (MayBeLeft (Act wanted) entry seen) (KeepsStep (Act wanted)) k l n a b
 
 -- what a stop leaves now
 pub left_now : (request : Request) (seen : Files) (k l : Clock) → MayBeLeft request k.now seen k.now →
@@ -151,27 +152,28 @@ left_now request seen k l start s =
 -- at entry a stop leaves what it leaves
 pub left_start : (request : Request) (seen : Files) (m : Moment) → MayBeLeft request m seen m
 left_start (Init names) seen m = inl (within_self m)
-left_start (Flag change) seen m = inl (within_self m)
+left_start (Act wanted) seen m = inl (within_self m)
 left_start (Rows name) seen m = within_self m
+left_start Queue seen m = within_self m
 left_start Play seen m = inl (within_self m)
 
--- what words ask for
-module _ (words : List (List ℕ)) (request : Request) (asks : Asks words request) where
+-- what words and an input ask for
+module _ (words : List (List ℕ)) (input : List ℕ) (request : Request) (asks : Asks words input request) where
   pub words_keep : (entry : Moment) (seen : Files) (k l : Clock) → Since (MayBeLeft request entry seen) (KeepsStep request) k l →
-      KeepsOn words entry seen k l
-  words_keep entry seen k l s = since_weaker (MayBeLeft request entry seen) (OnTheWay words entry seen) (KeepsStep request) (WordsKeep words)
+      KeepsOn words input entry seen k l
+  words_keep entry seen k l s = since_weaker (MayBeLeft request entry seen) (OnTheWay words input entry seen) (KeepsStep request) (WordsKeep words input)
       (λ m p. record { request = request; asks = asks; leaves = p }) (λ m n step. record { request = request; asks = asks; step = step }) k l s
 
-  pub words_go : (k l : Clock) → Since Any (RequestStep request) k l → GoesOnBy words k l
-  words_go k l s = since_weaker Any Any (RequestStep request) (WordsStep words)
+  pub words_go : (k l : Clock) → Since Any (RequestStep request) k l → GoesOnBy words input k l
+  words_go k l s = since_weaker Any Any (RequestStep request) (WordsStep words input)
       (λ m p. p) (λ m n step. record { request = request; asks = asks; step = step }) k l s
 
 -- nothing happened
-pub nothing_keeps : (words : List (List ℕ)) (entry : Moment) (seen : Files) (k : Clock) → KeepsOn words entry seen k k
-nothing_keeps words entry seen k = since_start (OnTheWay words entry seen) (WordsKeep words) k
+pub nothing_keeps : (words : List (List ℕ)) (input : List ℕ) (entry : Moment) (seen : Files) (k : Clock) → KeepsOn words input entry seen k k
+nothing_keeps words input entry seen k = since_start (OnTheWay words input entry seen) (WordsKeep words input) k
 
-pub nothing_goes : (words : List (List ℕ)) (k : Clock) → GoesOnBy words k k
-nothing_goes words k = since_start Any (WordsStep words) k
+pub nothing_goes : (words : List (List ℕ)) (input : List ℕ) (k : Clock) → GoesOnBy words input k k
+nothing_goes words input k = since_start Any (WordsStep words input) k
 
 pub left_none : (request : Request) (entry : Moment) (seen : Files) (k : Clock) → Since (MayBeLeft request entry seen) (KeepsStep request) k k
 left_none request entry seen k = since_start (MayBeLeft request entry seen) (KeepsStep request) k

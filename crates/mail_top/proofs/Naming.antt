@@ -71,6 +71,15 @@ bytes_at [] i text below is = absurd (omega (arith, below))
 bytes_at (x ∷ xs) zero text below is = (omega arith, ap (λ (t : String Global). string_bytes t) is)
 bytes_at (x ∷ xs) (suc i) text below is = let later = bytes_at xs i text (omega (arith, below)) is in (omega (arith, later.0), later.1)
 
+-- a first text
+pub one_first : (words : List (String Global)) (x : String Global) (a : List ℕ) → 1 ≤ length words → x ≡ get_or words 0 x → a ≡ string_bytes x →
+    map string_bytes words ≡ a ∷ map string_bytes (take (length words - 1) (drop 1 words))
+one_first [] x a some first va = absurd (omega (arith, some))
+one_first (p ∷ rest) x a some first va =
+    let one : string_bytes p ≡ a = sym (va ∙ ap (λ (t : String Global). string_bytes t) first) in
+    let tail : take (length (p ∷ rest) - 1) rest ≡ rest = take_all (length (p ∷ rest) - 1) rest (omega arith) in
+    ap (λ (t : List ℕ). t ∷ map string_bytes rest) one ∙ ap (λ (ws : List (String Global)). a ∷ map string_bytes ws) (sym tail)
+
 -- the bytes of three texts, and of those behind them
 pub three_first : (words : List (String Global)) (x y z : String Global) (a b c : List ℕ) → 3 ≤ length words
     → x ≡ get_or words 0 x → y ≡ get_or words 1 y → z ≡ get_or words 2 z
@@ -88,3 +97,13 @@ three_first (p ∷ q ∷ r ∷ rest) x y z a b c some first second third va vb v
     ∙ ap (λ (t : List ℕ). a ∷ t ∷ string_bytes r ∷ map string_bytes rest) two
     ∙ ap (λ (t : List ℕ). a ∷ b ∷ t ∷ map string_bytes rest) three
     ∙ ap (λ (ws : List (String Global)). a ∷ b ∷ c ∷ map string_bytes ws) (sym tail)
+
+-- three texts, and no more
+pub three_only : (words : List (String Global)) (x y z : String Global) (a b c : List ℕ) → 3 ≤ length words → length words ≤ 3
+    → x ≡ get_or words 0 x → y ≡ get_or words 1 y → z ≡ get_or words 2 z
+    → a ≡ string_bytes x → b ≡ string_bytes y → c ≡ string_bytes z
+    → map string_bytes words ≡ a ∷ b ∷ c ∷ []
+three_only words x y z a b c some few first second third va vb vc =
+    three_first words x y z a b c some first second third va vb vc
+    ∙ ap (λ (ws : List (String Global)). a ∷ b ∷ c ∷ map string_bytes ws)
+    (ap (λ (n : ℕ). take n (drop 3 words)) (let none : length words - 3 ≡ 0 = omega (arith, few) in none))

@@ -34,15 +34,17 @@ use Rattle.store_core.specs.declared.fault.CommitFault.{CommitFault}
 use Rattle.store_core.specs.declared.fault.CommitFault.TheVariants as commits
 use Rattle.store_core.proofs.Choosing.{only_left}
 use Rattle.journal_core.proofs.UpTo.{up_to_here}
-use Rattle.mail_top.specs.Ending.{EndsFlag, EndsRows}
+use Rattle.conflict_report.specs.QueueLines.{queue_text}
+use Rattle.mail_top.specs.Ending.{EndsAct, EndsRows, EndsQueue}
 use Rattle.mail_top.specs.Saying.{SaysMemory, SaysBroken, SaysAccepted}
+use Rattle.mail_top.specs.Texts.{refused}
 use Rattle.mail_top.specs.Telling.{line_of, status_of, text_of, status_of_refusal, text_of_refusal}
 use Rattle.mail_top.specs.Actions.{accepts}
 use Rattle.mail_top.specs.Course.{Course, Stays, end_behind}
 use Rattle.mail_top.specs.Faults.{of_store, of_commit}
 use Rattle.mail_top.specs.Leaving.{MayBeLeft}
 use Rattle.mail_top.specs.Weighing.{Admits, Weighed, Shown}
-use Rattle.mail_top.specs.Words.{Change, Flag}
+use Rattle.mail_top.specs.Words.{Wanted, Act}
 use Rattle.mail_top.specs.declared.refusal.Refusal.{Refusal}
 use Rattle.mail_top.specs.declared.refusal.Refusal.TheVariants as refusals
 
@@ -111,11 +113,12 @@ held_last b action m have = record {
   };
 }
 
--- what the opened book says of a change
-module _ (change : Change) (k : Course) (b : Meaning) (within : Within k.old.now k.new.now) (stays : Stays k b) where
-  pub weighed_ends : (x : Refusal) → Weighed change b (Err x) → EndsFlag change k (status_of_refusal x) (text_of_refusal x)
+-- what the opened book says of an action that is asked for
+module _ (wanted : Wanted) (k : Course) (b : Meaning) (within : Within k.old.now k.new.now) (stays : Stays k b) where
+  pub weighed_ends : (x : Refusal) → Weighed wanted b (Err x) → EndsAct wanted k (status_of_refusal x) (text_of_refusal x)
   weighed_ends (refusals.Reason reason) w = record { book = b; stays = stays; reason = reason; is = w; text_is = refl }
-  weighed_ends refusals.Actions w = record { book = b; stays = stays; may = w.0; past = inl (w.1, refl) }
+  weighed_ends refusals.Input w = record { book = b; stays = stays; awaits = w; text_is = refl }
+  weighed_ends refusals.Actions w = record { book = b; stays = stays; free = w.0; past = inl (w.1, refl) }
   weighed_ends refusals.Memory w = record { keeps = record { leaves = within; reads = stays.reads }; text_is = refl }
   weighed_ends refusals.Disk w = absurd w
   weighed_ends refusals.Already w = absurd w
@@ -125,9 +128,10 @@ module _ (change : Change) (k : Course) (b : Meaning) (within : Within k.old.now
 -- what the opened book says of a mailbox
 pub shown_ends : (name : List ℕ) (k : Course) (b : Meaning) → Within k.old.now k.new.now → Stays k b → (r : Result (List ℕ) Refusal) → Shown name b r →
     EndsRows name k (status_of r) (text_of (λ text. text) r)
-shown_ends name k b within stays (Ok text) s = record { book = b; stays = stays; may = s.0; text_is = s.1 }
-shown_ends name k b within stays (Err (refusals.Reason reason)) s = record { book = b; stays = stays; reason = reason; is = s; text_is = refl }
+shown_ends name k b within stays (Ok text) s = record { book = b; stays = stays; known = s.0; text_is = s.1 }
+shown_ends name k b within stays (Err (refusals.Reason reason)) s = record { book = b; stays = stays; unknown = s.0; text_is = ap refused s.1 }
 shown_ends name k b within stays (Err refusals.Memory) s = record { keeps = record { leaves = within; reads = stays.reads }; text_is = refl }
+shown_ends name k b within stays (Err refusals.Input) s = absurd s
 shown_ends name k b within stays (Err refusals.Actions) s = absurd s
 shown_ends name k b within stays (Err refusals.Disk) s = absurd s
 shown_ends name k b within stays (Err refusals.Already) s = absurd s
@@ -135,13 +139,13 @@ shown_ends name k b within stays (Err (refusals.NotAJournal why)) s = absurd s
 shown_ends name k b within stays (Err (refusals.Full end)) s = absurd s
 
 -- the action was recorded
-pub recorded : (change : Change) (k : Course) (b : Meaning) (id : ℕ) (action : Action) (holds : HasBook mail b k.seen) → Admits change b id action →
+pub recorded : (wanted : Wanted) (k : Course) (b : Meaning) (id : ℕ) (action : Action) (holds : HasBook mail b k.seen) → Admits wanted b id action →
     end_behind holds (accepts b action) ≤ max_accepted → HasBooks mail (Firm (Some (after b (accepts b action)))) k.new.now →
-    SaysAccepted change k (accepted id)
-recorded change k b id action holds takes within leaves = record {
+    SaysAccepted wanted k (accepted id)
+recorded wanted k b id action holds takes within leaves = record {
   book = b;
   holds = holds;
-  may = takes.may;
+  free = takes.free;
   few = takes.few;
   action = action;
   is = takes.is;
@@ -164,9 +168,9 @@ module _ {S T : Type 0} (o : Result S StoreFault) (r : Result T Refusal) (x : St
   back : o ≡ Err stores.Disk → x ≡ stores.Disk
   back is = cc (was, is)
 
-  pub unopened_flag : (change : Change) → EndsFlag change k (status_of r) (text_of told r)
-  unopened_flag change = subst (λ (q : Result T Refusal). EndsFlag change k (status_of q) (text_of told q)) (sym (raised r (of_store x) given))
-      (unopened (EndsFlag change k) k (λ s. s) (λ w. record { leaves = inl w; text_is = refl }) (λ why s. s) x within
+  pub unopened_act : (wanted : Wanted) → EndsAct wanted k (status_of r) (text_of told r)
+  unopened_act wanted = subst (λ (q : Result T Refusal). EndsAct wanted k (status_of q) (text_of told q)) (sym (raised r (of_store x) given))
+      (unopened (EndsAct wanted k) k (λ s. s) (λ w. record { leaves = inl w; text_is = refl }) (λ why s. s) x within
       (λ other. reads (λ is. other (back is))) (λ is. only.0 (at stores.Already is)) (λ end wanted is. only.1 end wanted (at (stores.Full end wanted) is))
       (λ why is. broken why (at (stores.NotAJournal why) is)))
 
@@ -176,28 +180,44 @@ module _ {S T : Type 0} (o : Result S StoreFault) (r : Result T Refusal) (x : St
       (λ other. reads (λ is. other (back is))) (λ is. only.0 (at stores.Already is)) (λ end wanted is. only.1 end wanted (at (stores.Full end wanted) is))
       (λ why is. broken why (at (stores.NotAJournal why) is)))
 
--- At a result that handed on what the book says of a change.
-pub weighed_flag : {T : Type 0} (change : Change) (k : Course) (b : Meaning) (within : Within k.old.now k.new.now) (stays : Stays k b) (told : T → List ℕ)
-    (w : Result (ℕ × Action) Refusal) (r : Result T Refusal) (x : Refusal) → w ≡ Err x → IsErrAnd r (λ refusal. refusal ≡ x) → Weighed change b w →
-    EndsFlag change k (status_of r) (text_of told r)
-weighed_flag {T} change k b within stays told w r x was given weighs =
-    subst (λ (q : Result T Refusal). EndsFlag change k (status_of q) (text_of told q)) (sym (raised r x given))
-    (weighed_ends change k b within stays x (subst (Weighed change b) was weighs))
+  pub unopened_queue : EndsQueue k (status_of r) (text_of told r)
+  unopened_queue = subst (λ (q : Result T Refusal). EndsQueue k (status_of q) (text_of told q)) (sym (raised r (of_store x) given))
+      (unopened (EndsQueue k) k (λ s. s) (λ w. record { leaves = w; text_is = refl }) (λ why s. s) x within
+      (λ other. reads (λ is. other (back is))) (λ is. only.0 (at stores.Already is)) (λ end wanted is. only.1 end wanted (at (stores.Full end wanted) is))
+      (λ why is. broken why (at (stores.NotAJournal why) is)))
+
+-- the text of the queue, or want of memory
+pub listed_queue : (k : Course) (b : Meaning) (stays : Stays k b) (text : List ℕ) → text ≡ queue_text b → EndsQueue k status.Done text
+listed_queue k b stays text is = record { book = b; stays = stays; text_is = is }
+
+pub unlisted_queue : {T : Type 0} (told : T → List ℕ) (k : Course) (r : Result T Refusal) → Within k.old.now k.new.now → k.seen_after ≡ k.seen →
+    IsErrAnd r (λ refusal. refusal ≡ refusals.Memory) → EndsQueue k (status_of r) (text_of told r)
+unlisted_queue told k r within same given =
+    subst (λ (q : Result _ Refusal). EndsQueue k (status_of q) (text_of told q)) (sym (raised r refusals.Memory given))
+    (record { keeps = record { leaves = within; reads = same }; text_is = refl })
+
+-- At a result that handed on what the book says of an action.
+pub weighed_act : {T : Type 0} (wanted : Wanted) (k : Course) (b : Meaning) (within : Within k.old.now k.new.now) (stays : Stays k b) (told : T → List ℕ)
+    (w : Result (ℕ × Action) Refusal) (r : Result T Refusal) (x : Refusal) → w ≡ Err x → IsErrAnd r (λ refusal. refusal ≡ x) → Weighed wanted b w →
+    EndsAct wanted k (status_of r) (text_of told r)
+weighed_act {T} wanted k b within stays told w r x was given weighs =
+    subst (λ (q : Result T Refusal). EndsAct wanted k (status_of q) (text_of told q)) (sym (raised r x given))
+    (weighed_ends wanted k b within stays x (subst (Weighed wanted b) was weighs))
 
 -- At a result that handed a fault of the recording on: after a failure of the disk the action may be there or not, and after
 -- another all is as it was.
-module _ {S T : Type 0} (change : Change) (k : Course) (told : T → List ℕ) (o : Result S CommitFault) (r : Result T Refusal) (x : CommitFault) (was : o ≡ Err x)
-    (given : IsErrAnd r (λ refusal. refusal ≡ of_commit x)) (leaves : MayBeLeft (Flag change) k.old.now k.seen k.new.now) where
-  pub unrecorded_flag : (b : Meaning) (id : ℕ) (action : Action) → Admits change b id action →
+module _ {S T : Type 0} (wanted : Wanted) (k : Course) (told : T → List ℕ) (o : Result S CommitFault) (r : Result T Refusal) (x : CommitFault) (was : o ≡ Err x)
+    (given : IsErrAnd r (λ refusal. refusal ≡ of_commit x)) (leaves : MayBeLeft (Act wanted) k.old.now k.seen k.new.now) where
+  pub unrecorded_act : (b : Meaning) (id : ℕ) (action : Action) → Admits wanted b id action →
       (holds : HasBook mail b k.seen) →
       ((o ≡ Err commits.Disk → ⊥) → Within k.old.now k.new.now × HasBooks mail (Firm (Some b)) k.new.now × (k.seen_after ≡ k.seen)) →
       ((end wanted : ℕ) → o ≡ Err (commits.Full end wanted) →
       (max_accepted < end_behind holds (accepts b action)) × (wanted ≡ told_end (end_behind holds (accepts b action)))) →
-      EndsFlag change k (status_of r) (text_of told r)
-  unrecorded_flag b id action takes holds kept full =
-      subst (λ (q : Result T Refusal). EndsFlag change k (status_of q) (text_of told q)) (sym (raised r (of_commit x) given)) (by_fault x was)
+      EndsAct wanted k (status_of r) (text_of told r)
+  unrecorded_act b id action takes holds kept full =
+      subst (λ (q : Result T Refusal). EndsAct wanted k (status_of q) (text_of told q)) (sym (raised r (of_commit x) given)) (by_fault x was)
     where
-      by_fault : (y : CommitFault) → o ≡ Err y → EndsFlag change k (status_of_refusal (of_commit y)) (text_of_refusal (of_commit y))
+      by_fault : (y : CommitFault) → o ≡ Err y → EndsAct wanted k (status_of_refusal (of_commit y)) (text_of_refusal (of_commit y))
       by_fault commits.Disk is = record { leaves = leaves; text_is = refl }
       by_fault commits.Memory is =
           let all = kept (λ e. let never : Err commits.Memory ≡ Err commits.Disk = sym is ∙ e in cc) in
@@ -207,7 +227,7 @@ module _ {S T : Type 0} (change : Change) (k : Course) (told : T → List ℕ) (
           let past = full end wanted is in record {
             book = b;
             stays = record { holds = holds; leaves = all.1; reads = all.2 };
-            may = takes.may;
+            free = takes.free;
             past =
                 inr (record { few = takes.few; action = action; is = takes.is; past = past.0; text_is = ap limit_journal past.1 });
           }
@@ -227,6 +247,13 @@ store_already_back stores.Already is = refl
 store_already_back (stores.Full end wanted) is = absurd cc
 store_already_back (stores.NotAJournal why) is = absurd cc
 
+store_input_back : (x : StoreFault) → of_store x ≡ refusals.Input → ⊥
+store_input_back stores.Memory is = absurd cc
+store_input_back stores.Disk is = absurd cc
+store_input_back stores.Already is = absurd cc
+store_input_back (stores.Full end wanted) is = absurd cc
+store_input_back (stores.NotAJournal why) is = absurd cc
+
 commit_disk_back : (x : CommitFault) → of_commit x ≡ refusals.Disk → x ≡ commits.Disk
 commit_disk_back commits.Memory is = absurd cc
 commit_disk_back commits.Disk is = refl
@@ -237,8 +264,16 @@ commit_already_back commits.Memory is = absurd cc
 commit_already_back commits.Disk is = absurd cc
 commit_already_back (commits.Full end wanted) is = absurd cc
 
+commit_input_back : (x : CommitFault) → of_commit x ≡ refusals.Input → ⊥
+commit_input_back commits.Memory is = absurd cc
+commit_input_back commits.Disk is = absurd cc
+commit_input_back (commits.Full end wanted) is = absurd cc
+
 module _ {S T : Type 0} (o : Result S StoreFault) (r : Result T Refusal) (x : StoreFault) (was : o ≡ Err x) (given : IsErrAnd r
     (λ refusal. refusal ≡ of_store x)) where
+  pub store_input : r ≡ Err refusals.Input → ⊥
+  store_input is = let same : of_store x ≡ refusals.Input = cc (raised r (of_store x) given, is) in store_input_back x same
+
   pub store_disk : r ≡ Err refusals.Disk → o ≡ Err stores.Disk
   store_disk is = let same : of_store x ≡ refusals.Disk = cc (raised r (of_store x) given, is) in was ∙ ap (λ (f : StoreFault). Err f) (store_disk_back x same)
 
@@ -252,25 +287,36 @@ module _ {S T : Type 0} (o : Result S CommitFault) (r : Result T Refusal) (x : C
   commit_disk is = let same : of_commit x ≡ refusals.Disk = cc (raised r (of_commit x) given, is) in was
       ∙ ap (λ (f : CommitFault). Err f) (commit_disk_back x same)
 
+  pub commit_input : r ≡ Err refusals.Input → ⊥
+  commit_input is = let same : of_commit x ≡ refusals.Input = cc (raised r (of_commit x) given, is) in commit_input_back x same
+
   pub commit_already : r ≡ Err refusals.Already → ⊥
   commit_already is = let same : of_commit x ≡ refusals.Already = cc (raised r (of_commit x) given, is) in commit_already_back x same
 
--- what the book says of a change is no fault of the disk
-module _ {T : Type 0} (change : Change) (b : Meaning) (w : Result (ℕ × Action) Refusal) (r : Result T Refusal) (x : Refusal) (was : w ≡ Err x)
-    (given : IsErrAnd r (λ refusal. refusal ≡ x)) (weighs : Weighed change b w) where
+-- what the book says of an action is no fault of the disk
+module _ {T : Type 0} (wanted : Wanted) (b : Meaning) (w : Result (ℕ × Action) Refusal) (r : Result T Refusal) (x : Refusal) (was : w ≡ Err x)
+    (given : IsErrAnd r (λ refusal. refusal ≡ x)) (weighs : Weighed wanted b w) where
   pub weighed_disk : r ≡ Err refusals.Disk → ⊥
   weighed_disk is =
       let same : x ≡ refusals.Disk = cc (raised r x given, is) in
-      subst (λ (y : Refusal). Weighed change b (Err y)) same (subst (Weighed change b) was weighs)
+      subst (λ (y : Refusal). Weighed wanted b (Err y)) same (subst (Weighed wanted b) was weighs)
 
   pub weighed_already : r ≡ Err refusals.Already → ⊥
   weighed_already is =
       let same : x ≡ refusals.Already = cc (raised r x given, is) in
-      subst (λ (y : Refusal). Weighed change b (Err y)) same (subst (Weighed change b) was weighs)
+      subst (λ (y : Refusal). Weighed wanted b (Err y)) same (subst (Weighed wanted b) was weighs)
 
--- nor is what it says of a mailbox
+-- an input that failed is handed on
+pub weighed_input : {S T : Type 0} (w : Result S Refusal) (r : Result T Refusal) (x : Refusal) → w ≡ Err x → IsErrAnd r (λ refusal. refusal ≡ x) →
+    r ≡ Err refusals.Input → w ≡ Err refusals.Input
+weighed_input w r x was given is = let same : x ≡ refusals.Input = cc (raised r x given, is) in was ∙ ap (λ (y : Refusal). Err y) same
+
+-- nor is what it says of a mailbox a fault of the disk
 pub shown_disk : (name : List ℕ) (b : Meaning) (r : Result (List ℕ) Refusal) → Shown name b r → r ≡ Err refusals.Disk → ⊥
 shown_disk name b r s is = subst (Shown name b) is s
 
 pub shown_already : (name : List ℕ) (b : Meaning) (r : Result (List ℕ) Refusal) → Shown name b r → r ≡ Err refusals.Already → ⊥
 shown_already name b r s is = subst (Shown name b) is s
+
+pub shown_input : (name : List ℕ) (b : Meaning) (r : Result (List ℕ) Refusal) → Shown name b r → r ≡ Err refusals.Input → ⊥
+shown_input name b r s is = subst (Shown name b) is s

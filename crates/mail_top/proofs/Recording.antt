@@ -29,22 +29,22 @@ use Rattle.mail_top.specs.Actions.{next_id, accepts}
 use Rattle.mail_top.specs.Course.{Course, end_behind}
 use Rattle.mail_top.specs.Leaving.{MayBeLeft, KeepsStep, RequestStep}
 use Rattle.mail_top.specs.Weighing.{Admits}
-use Rattle.mail_top.specs.Words.{Change, Flag}
+use Rattle.mail_top.specs.Words.{Wanted, Act}
 use Rattle.mail_top.proofs.Moving.{takes_adding, takes_steps, left_none}
 use Rattle.mail_top.proofs.Openings.{opened_book, end_is, recorded}
-use Rattle.mail_top.proofs.Weighing.{may_accept}
+use Rattle.mail_top.proofs.Admitting.{may_accept}
 
 not_below : (m n : ℕ) → (m < n → ⊥) → n ≤ m
 not_below m n not = ⊎_elim (λ (yes : (nat_le n m ≡ true) × (n ≤ m)). yes.1) (λ (no : (nat_le n m ≡ false) × (m < n)). absurd (not no.1)) (leb_tells n m)
 
 -- the number under which it was recorded
-pub told_as : (change : Change) (k : Course) (n m : ℕ) → m ≡ n → SaysAccepted change k (accepted n) → SaysAccepted change k (accepted m)
-told_as change k n m same said = subst (λ (i : ℕ). SaysAccepted change k (accepted i)) (sym same) said
+pub told_as : (wanted : Wanted) (k : Course) (n m : ℕ) → m ≡ n → SaysAccepted wanted k (accepted n) → SaysAccepted wanted k (accepted m)
+told_as wanted k n m same said = subst (λ (i : ℕ). SaysAccepted wanted k (accepted i)) (sym same) said
 
 -- the event of an action that a book takes may come next
-pub may_event : (v : Version) (change : Change) (b : Meaning) (id : ℕ) (action : Action) → Admits change b id action →
+pub may_event : (v : Version) (wanted : Wanted) (b : Meaning) (id : ℕ) (action : Action) → Admits wanted b id action →
     MayCome v (Some b) (events.Accept id action)
-may_event v change b id action takes = subst (λ (n : ℕ). MayCome v (Some b) (events.Accept n action)) (sym takes.number) (may_accept v change b id action takes)
+may_event v wanted b id action takes = subst (λ (n : ℕ). MayCome v (Some b) (events.Accept n action)) (sym takes.number) (may_accept v wanted b id action takes)
 
 -- a value that wasn't changed
 pub kept_as : {W : Type 0} (clock : W → Clock) (seen : W → Files) (books : Books mail) (old new : W) → new ≡ old → (entry : Moment) (files : Files) →
@@ -54,9 +54,9 @@ kept_as {W} clock seen books old new same entry files within have reads =
     subst (λ (w : W). Within entry (clock w).now × HasBooks mail books (clock w).now × (seen w ≡ files)) (sym same) (within, have, reads)
 
 -- a store that was opened on the files, whose book takes the action
-module _ (change : Change) (store : Holding mail) (m : Moment) (seen files : Files) (left : IsAsLeft mail store m seen) (same : seen ≡ files) (id : ℕ)
+module _ (wanted : Wanted) (store : Holding mail) (m : Moment) (seen files : Files) (left : IsAsLeft mail store m seen) (same : seen ≡ files) (id : ℕ)
     (action : Action)
-    (admits : Admits change store.book id action) where
+    (admits : Admits wanted store.book id action) where
   abbrev event : Event
   event = events.Accept id action
 
@@ -67,11 +67,11 @@ module _ (change : Change) (store : Holding mail) (m : Moment) (seen files : Fil
   holds = opened_book store m seen files left same
 
   may_come : MayCome store.journal.version (Some store.book) event
-  may_come = may_event store.journal.version change store.book id action admits
+  may_come = may_event store.journal.version wanted store.book id action admits
 
   -- the number is the next one
-  admits_next : Admits change store.book (next_id store.book) action
-  admits_next = record { may = admits.may; few = admits.few; number = refl; is = admits.is }
+  admits_next : Admits wanted store.book (next_id store.book) action
+  admits_next = record { free = admits.free; few = admits.few; number = refl; is = admits.is }
 
   end_here : end_behind holds (accepts store.book action) ≡ end_after event store
   end_here = ap (λ (e : Event). end_behind holds e) (sym event_is) ∙ end_is store m seen files left same event
@@ -79,18 +79,18 @@ module _ (change : Change) (store : Holding mail) (m : Moment) (seen files : Fil
   -- What it leaves on the way; where there is no room nothing changes.
   pub event_keeps : (entry : Moment) {W : Type 0} (clock : W → Clock) (old new : W) → (max_accepted < end_after event store → new ≡ old) →
       Since (IsTaking mail (Some store.book) event) KeepsActions (clock old) (clock new) →
-      Since (MayBeLeft (Flag change) entry files) (KeepsStep (Flag change)) (clock old) (clock new)
+      Since (MayBeLeft (Act wanted) entry files) (KeepsStep (Act wanted)) (clock old) (clock new)
   event_keeps entry {W} clock old new unchanged s =
       ⊎_elim (λ (yes : (nat_le (end_after event store) max_accepted ≡ true) × (end_after event store ≤ max_accepted)).
-      takes_adding change files entry store.book action holds admits_next (omega (arith, yes.1, end_here)) (clock old) (clock new)
+      takes_adding wanted files entry store.book action holds admits_next (omega (arith, yes.1, end_here)) (clock old) (clock new)
       (subst (λ (e : Event). Since (IsTaking mail (Some store.book) e) KeepsActions (clock old) (clock new)) event_is s))
       (λ (no : (nat_le (end_after event store) max_accepted ≡ false) × (max_accepted < end_after event store)).
-      subst (λ (w : W). Since (MayBeLeft (Flag change) entry files) (KeepsStep (Flag change)) (clock old) (clock w)) (sym (unchanged no.1))
-      (left_none (Flag change) entry files (clock old)))
+      subst (λ (w : W). Since (MayBeLeft (Act wanted) entry files) (KeepsStep (Act wanted)) (clock old) (clock w)) (sym (unchanged no.1))
+      (left_none (Act wanted) entry files (clock old)))
       (leb_tells (end_after event store) max_accepted)
 
-  pub event_steps : (k l : Clock) → Takes mail (Some store.book) event k l → Since Any (RequestStep (Flag change)) k l
-  event_steps k l t = takes_steps (Flag change) store.journal.version (Some store.book) event may_come (action, admits_next, event_is) k l t
+  pub event_steps : (k l : Clock) → Takes mail (Some store.book) event k l → Since Any (RequestStep (Act wanted)) k l
+  event_steps k l t = takes_steps (Act wanted) store.journal.version (Some store.book) event may_come (action, admits_next, event_is) k l t
 
   -- where it has no room
   pub event_full : {S : Type 0} (r : Result S CommitFault) (told : ℕ) →
@@ -106,9 +106,9 @@ module _ (change : Change) (store : Holding mail) (m : Moment) (seen files : Fil
   -- and where it is recorded
   pub event_recorded : (old new : Clock) (seen_after : Files) (link link_after : LinkState) (later : Holding mail) → later.book ≡ after store.book event →
       IsAsLeft mail later new.now seen_after → (max_accepted < end_after event store → ⊥) →
-      SaysAccepted change (record { old = old; new = new; seen = files; seen_after = seen_after; link = link; link_after = link_after }) (accepted id)
+      SaysAccepted wanted (record { old = old; new = new; seen = files; seen_after = seen_after; link = link; link_after = link_after }) (accepted id)
   event_recorded old new seen_after link link_after later book stands fits =
-      recorded change (record { old = old; new = new; seen = files; seen_after = seen_after; link = link; link_after = link_after })
+      recorded wanted (record { old = old; new = new; seen = files; seen_after = seen_after; link = link; link_after = link_after })
       store.book id action holds admits
       (omega (arith, not_below max_accepted (end_after event store) fits, end_here))
       (subst (λ (e : Event). HasBooks mail (Firm (Some (after store.book e))) new.now) event_is

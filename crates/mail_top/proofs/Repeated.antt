@@ -37,7 +37,7 @@ use Rattle.mail_top.specs.Leaving.{MayBeLeft, OnTheWay, LosesNone, StaysOutside,
 use Rattle.mail_top.specs.Runs.{RunsOn, Follows, at_once, by_run, by_stop, by_others, SameFiles, BeginsWith, AcceptsAt, AreBook, AreUnbegunOrBook}
 use Rattle.mail_top.specs.Runs.{HasNames}
 use Rattle.mail_top.specs.Runs.{IsReady, AnyBook}
-use Rattle.mail_top.specs.Words.{Change, Request, Init, Flag, Rows, Play, Asks}
+use Rattle.mail_top.specs.Words.{Wanted, Request, Init, Act, Rows, Queue, Play, Asks, WritesPlay}
 
 held_self : (m : Moment) → LosesNone m m
 held_self m = record { held = λ place action named h. h }
@@ -46,15 +46,16 @@ held_then : (l m n : Moment) → LosesNone l m → LosesNone m n → LosesNone l
 held_then l m n p q = record { held = λ place action named h. q.held place action named (p.held place action named h) }
 
 -- what is held at a moment is held at each later one
-pub held_later : (words : List (List ℕ)) (P : Moment → Type 0) (k l : Clock) → Since P (WordsKeep words) k l → LosesNone k.now l.now
-held_later words P k l s = since_now P (λ m. LosesNone k.now m) (WordsKeep words)
+pub held_later : (words : List (List ℕ)) (input : List ℕ) (P : Moment → Type 0) (k l : Clock) → Since P (WordsKeep words input) k l → LosesNone k.now l.now
+held_later words input P k l s = since_now P (λ m. LosesNone k.now m) (WordsKeep words input)
     (λ m n p step so_far. held_then k.now m n so_far step.step.loses_none) k (held_self k.now) l s
 
 -- and what isn't on the disk is as it was, unless it is played
 pub outside_same : (request : Request) (m n : Moment) → (request ≡ Play → ⊥) → StaysOutside request m n → n.outside ≡ m.outside
 outside_same (Init names) m n never same = same
-outside_same (Flag change) m n never same = same
+outside_same (Act wanted) m n never same = same
 outside_same (Rows name) m n never same = same
+outside_same Queue m n never same = same
 outside_same Play m n never same = absurd (never refl)
 
 pub outside_stays : (request : Request) → (request ≡ Play → ⊥) → (P : Moment → Type 0) (k l : Clock) → Since P (KeepsStep request) k l →
@@ -62,10 +63,10 @@ pub outside_stays : (request : Request) → (request ≡ Play → ⊥) → (P : 
 outside_stays request never P k l s = since_now P (λ m. m.outside ≡ k.now.outside) (KeepsStep request)
     (λ m n p step so_far. outside_same request m n never step.outside ∙ so_far) k refl l s
 
-pub outside_later : (words : List (List ℕ)) → (Asks words Play → ⊥) → (P : Moment → Type 0) (k l : Clock) → Since P (WordsKeep words) k l →
+pub outside_later : (words : List (List ℕ)) (input : List ℕ) → (WritesPlay words → ⊥) → (P : Moment → Type 0) (k l : Clock) → Since P (WordsKeep words input) k l →
     l.now.outside ≡ k.now.outside
-outside_later words never P k l s = since_now P (λ m. m.outside ≡ k.now.outside) (WordsKeep words)
-    (λ m n p w so_far. outside_same w.request m n (λ is. never (subst (Asks words) is w.asks)) w.step.outside ∙ so_far) k refl l s
+outside_later words input never P k l s = since_now P (λ m. m.outside ≡ k.now.outside) (WordsKeep words input)
+    (λ m n p w so_far. outside_same w.request m n (λ is. never (subst (Asks words input) is w.asks)) w.step.outside ∙ so_far) k refl l s
 
 within_held : (m n : Moment) → Within m n → LosesNone m n
 within_held m n w = record { held = (within_keeps_actions m n w).held }
@@ -85,8 +86,8 @@ same_held m n same = record { held = λ place action named held. record { each =
 
 pub follows_held : (first last : Moment) → Follows first last → LosesNone first last
 follows_held first last at_once = held_self first
-follows_held first last (by_run words seen old at new so_far reads cut) =
-    held_then first old.now at.now (follows_held first old.now so_far) (held_later words (OnTheWay words old.now seen) old at cut.before.keeps)
+follows_held first last (by_run words input seen old at new so_far reads cut) =
+    held_then first old.now at.now (follows_held first old.now so_far) (held_later words input (OnTheWay words input old.now seen) old at cut.before.keeps)
 follows_held first last (by_stop m files so_far leaves) =
     held_then first m (restarted files m) (follows_held first m so_far) (within_held m (restarted files m) (restart_within m files leaves))
 follows_held first last (by_others m n so_far same) = held_then first m n (follows_held first m so_far) (same_held m n same)
@@ -106,7 +107,7 @@ in_front [] i q e = absurd cc
 in_front (x ∷ xs) zero q e = omega arith
 in_front (x ∷ xs) (suc i) q e = let lt = in_front xs i q e in omega (arith, lt)
 
-module _ (change : Change) (k : Course) (text : List ℕ) (is : SaysAccepted change k text) (last : Moment) (follows : Follows k.new.now last) where
+module _ (wanted : Wanted) (k : Course) (text : List ℕ) (is : SaysAccepted wanted k text) (last : Moment) (follows : Follows k.new.now last) where
   pub accepted_stays : IsHeld (length is.book.queue) is.action None last
   accepted_stays = (follows_held k.new.now last follows).held (length is.book.queue) is.action None is.held
 
@@ -121,7 +122,7 @@ book_as : (b : Meaning) (files : Files) → HasBook mail b files → AreBook fil
 book_as b files h = record { book = b; holds = h }
 
 -- each moment of a run on files without a journal or with a book
-module _ (words : List (List ℕ)) (seen : Files) (entry : Moment) (was : Images AreUnbegunOrBook entry) where
+module _ (words : List (List ℕ)) (input : List ℕ) (seen : Files) (entry : Moment) (was : Images AreUnbegunOrBook entry) where
   within_ready : (m : Moment) → Within entry m → Images AreUnbegunOrBook m
   within_ready m w = record { each = λ files h. was.each files (w.each files h) }
 
@@ -130,26 +131,28 @@ module _ (words : List (List ℕ)) (seen : Files) (entry : Moment) (was : Images
   left_ready (Init names) m (inr images) = record {
     each = λ files h. ⊎_elim (λ none. inl none) (λ (b : HasBook mail (begun names) files). inr (book_as (begun names) files b)) (images.each files h);
   }
-  left_ready (Flag change) m (inl w) = within_ready m w
-  left_ready (Flag change) m (inr a) = record {
+  left_ready (Act wanted) m (inl w) = within_ready m w
+  left_ready (Act wanted) m (inr a) = record {
     each = λ files h. ⊎_elim (λ (b : HasBook mail a.book files). inr (book_as a.book files b))
         (λ (b : HasBook mail (after a.book (accepts a.book a.action)) files). inr (book_as (after a.book (accepts a.book a.action)) files b))
         (a.taking.each files h);
   }
   left_ready (Rows name) m w = within_ready m w
+  left_ready Queue m w = within_ready m w
   left_ready Play m (inl w) = within_ready m w
   left_ready Play m (inr p) = record {
     each = λ files h. let held = p.learning.each files h in inr (book_as held.book files held.holds);
   }
 
-  way_ready : (m : Moment) → OnTheWay words entry seen m → Images AreUnbegunOrBook m
+  way_ready : (m : Moment) → OnTheWay words input entry seen m → Images AreUnbegunOrBook m
   way_ready m way = left_ready way.request m way.leaves
 
 pub follows_ready : (first last : Moment) → Images AreUnbegunOrBook first → Follows first last → Images AreUnbegunOrBook last
 follows_ready first last was at_once = was
-follows_ready first last was (by_run words seen old at new so_far reads cut) =
+follows_ready first last was (by_run words input seen old at new so_far reads cut) =
     let here = follows_ready first old.now was so_far in
-    since_now (OnTheWay words old.now seen) (Images AreUnbegunOrBook) (WordsKeep words) (λ m n way step so. way_ready words seen old.now here n way) old here at
+    since_now (OnTheWay words input old.now seen) (Images AreUnbegunOrBook) (WordsKeep words input)
+    (λ m n way step so. way_ready words input seen old.now here n way) old here at
     cut.before.keeps
 follows_ready first last was (by_stop m files so_far leaves) =
     let at = follows_ready first m was so_far in
@@ -226,16 +229,17 @@ module _ (P : Option Meaning → Type 0)
     have : HasBooks mail books m
     each : EachBook mail P books
 
-  known_on : (words : List (List ℕ)) (m n : Moment) → WordsStep words m n → Stand m → Stand n
-  known_on words m n w known =
+  known_on : (words : List (List ℕ)) (input : List ℕ) (m n : Moment) → WordsStep words input m n → Stand m → Stand n
+  known_on words input m n w known =
       let s = w.step in
       let old = each_of s.old m s.at_old (images_of known.books m known.have known.each) in
       record { books = s.new; have = s.at_new; each = step_has w.request m n s old }
 
-  ready_run : (words : List (List ℕ)) (seen : Files) (old at : Clock) → RunsOn words seen old.now old at → IsReady P old.now → IsReady P at.now
-  ready_run words seen old at run ready =
+  ready_run : (words : List (List ℕ)) (input : List ℕ) (seen : Files) (old at : Clock) → RunsOn words input seen old.now old at → IsReady P old.now →
+      IsReady P at.now
+  ready_run words input seen old at run ready =
       let one = since_now OneSideAtRest OneSideAtRest AnyNext (λ m n p s q. p) old ready.one_side at (run.one_side ready.one_side) in
-      let known = since_now Any Stand (WordsStep words) (λ m n p s q. known_on words m n s q) old
+      let known = since_now Any Stand (WordsStep words input) (λ m n p s q. known_on words input m n s q) old
       (record { books = ready.books; have = ready.have; each = ready.each }) at (run.books ready.one_side ready.books ready.have) in
       record { one_side = one; books = known.books; have = known.have; each = known.each }
 
@@ -282,8 +286,8 @@ module _ (P : Option Meaning → Type 0)
 
   stays_ready : (first last : Moment) → IsReady P first → Follows first last → IsReady P last
   stays_ready first last was at_once = was
-  stays_ready first last was (by_run words seen old at new so_far reads cut) =
-      ready_run words seen old at cut.before (stays_ready first old.now was so_far)
+  stays_ready first last was (by_run words input seen old at new so_far reads cut) =
+      ready_run words input seen old at cut.before (stays_ready first old.now was so_far)
   stays_ready first last was (by_stop m files so_far leaves) = ready_stop m files leaves (stays_ready first m was so_far)
   stays_ready first last was (by_others m n so_far same) = ready_others m n same (stays_ready first m was so_far)
 
@@ -308,8 +312,9 @@ names_stay : (names : List (List ℕ)) (request : Request) (b : Option Meaning) 
     HasNames names (Some (next_book b e))
 names_stay names request None e due has = absurd has
 names_stay names (Init others) (Some b) e due has = absurd (let is = due.0 in cc)
-names_stay names (Flag change) (Some b) e due has = subst (λ (x : Event). HasNames names (Some (after b x))) (sym due.2) has
+names_stay names (Act wanted) (Some b) e due has = subst (λ (x : Event). HasNames names (Some (after b x))) (sym due.2) has
 names_stay names (Rows name) (Some b) e due has = absurd due
+names_stay names Queue (Some b) e due has = absurd due
 names_stay names Play (Some b) e due has = subst (λ (x : Event). HasNames names (Some (after b x))) (sym due.2)
     (put_names due.0 (Some (learned (cache_at due.0 b.boxes) due.1)) b.boxes ∙ has)
 

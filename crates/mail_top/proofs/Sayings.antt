@@ -27,13 +27,13 @@ use Rattle.play_driver.specs.declared.fault.PlayFault.TheVariants as faults
 use Rattle.play_driver.specs.declared.fault.Why.TheVariants as whys
 use Rattle.play_driver.specs.declared.played.Played.{Played}
 use Rattle.mail_top.specs.Course.{Course, Stays, OnFiles}
-use Rattle.mail_top.specs.Ending.{Comes, EndsInit, EndsFlag, EndsRows, EndsPlay, EndsRequest}
+use Rattle.mail_top.specs.Ending.{Comes, EndsPlay, EndsRequest}
 use Rattle.mail_top.specs.Faults.{of_store}
 use Rattle.mail_top.specs.Played.{IsOpened, SaysLater, SaysStopped}
 use Rattle.mail_top.specs.Telling.{TellsNoPlace, status_of, status_of_refusal, status_of_fault, text_of_fault}
 use Rattle.mail_top.specs.Telling.{status_of_conflicts, status_of_play, text_of_play}
-use Rattle.mail_top.specs.Texts.{error_later}
-use Rattle.mail_top.specs.Words.{Change, Request, Init, Flag, Rows, Play}
+use Rattle.conflict_report.specs.StatusLines.{error_later}
+use Rattle.mail_top.specs.Words.{Wanted, Request, Init, Act, Rows, Queue, Play}
 use Rattle.mail_top.specs.declared.refusal.Refusal.{Refusal}
 use Rattle.mail_top.specs.declared.refusal.Refusal.TheVariants as refusals
 use Rattle.mail_top.specs.declared.unfinished.Unfinished.{Unfinished}
@@ -244,6 +244,7 @@ reply_refusal : {T : Type 0} (r : Result T Refusal) → status_of r ≡ status.R
 reply_refusal (Ok x) is = absurd cc
 reply_refusal (Err refusals.Disk) is = absurd cc
 reply_refusal (Err refusals.Memory) is = absurd cc
+reply_refusal (Err refusals.Input) is = absurd cc
 reply_refusal (Err refusals.Already) is = absurd cc
 reply_refusal (Err (refusals.NotAJournal why)) is = absurd cc
 reply_refusal (Err (refusals.Reason reason)) is = absurd cc
@@ -254,6 +255,7 @@ link_refusal : {T : Type 0} (r : Result T Refusal) → status_of r ≡ status.Li
 link_refusal (Ok x) is = absurd cc
 link_refusal (Err refusals.Disk) is = absurd cc
 link_refusal (Err refusals.Memory) is = absurd cc
+link_refusal (Err refusals.Input) is = absurd cc
 link_refusal (Err refusals.Already) is = absurd cc
 link_refusal (Err (refusals.NotAJournal why)) is = absurd cc
 link_refusal (Err (refusals.Reason reason)) is = absurd cc
@@ -270,32 +272,20 @@ no_link r s status_is is = link_refusal r (sym status_is ∙ is)
 pub never_init : (names : List (List ℕ)) → Init names ≡ Play → ⊥
 never_init names is = absurd cc
 
-pub never_flag : (change : Change) → Flag change ≡ Play → ⊥
-never_flag change is = absurd cc
+pub never_act : (wanted : Wanted) → Act wanted ≡ Play → ⊥
+never_act wanted is = absurd cc
 
 pub never_rows : (name : List ℕ) → Rows name ≡ Play → ⊥
 never_rows name is = absurd cc
 
+pub never_queue : Queue ≡ Play → ⊥
+never_queue is = absurd cc
+
 -- What is said of what became of a request is said of its ending.
 module _ (account : Credentials) (r : Request) (k : Course) (s t : Status) (x y : List ℕ) (status_is : s ≡ t) (text_is : x ≡ y) where
-  said_so : (q : Request) → r ≡ q → EndsRequest account q k t y → EndsRequest account r k s x
+  pub said_so : (q : Request) → r ≡ q → EndsRequest account q k t y → EndsRequest account r k s x
   said_so q same says = subst (λ (p : Request). EndsRequest account p k s x) (sym same)
       (subst (λ (u : Status). EndsRequest account q k u x) (sym status_is) (subst (λ (z : List ℕ). EndsRequest account q k t z) (sym text_is) says))
-
-  pub answers_init : (names : List (List ℕ)) → r ≡ Init names → k.link_after ≡ k.link → k.new.now.outside ≡ k.old.now.outside → EndsInit names k t y →
-      EndsRequest account r k s x
-  answers_init names is link outside says = said_so (Init names) is (record { link = link; outside = outside; says = says })
-
-  pub answers_flag : (change : Change) → r ≡ Flag change → k.link_after ≡ k.link → k.new.now.outside ≡ k.old.now.outside → EndsFlag change k t y →
-      EndsRequest account r k s x
-  answers_flag change is link outside says = said_so (Flag change) is (record { link = link; outside = outside; says = says })
-
-  pub answers_rows : (name : List ℕ) → r ≡ Rows name → k.link_after ≡ k.link → k.new.now.outside ≡ k.old.now.outside → EndsRows name k t y →
-      EndsRequest account r k s x
-  answers_rows name is link outside says = said_so (Rows name) is (record { link = link; outside = outside; says = says })
-
-  pub answers_play : r ≡ Play → EndsPlay account k t y → EndsRequest account r k s x
-  answers_play is says = said_so Play is says
 
 -- a run that came to its end is done
 pub played_done : (p : Played) → p ≡ record { settled = 0; conflicts = 0 } → status_of_play (Ok p) ≡ status.Done
@@ -343,6 +333,12 @@ play_prints r s = of_play (λ (t : Status). t ≡ status.Output → ⊥)
 pub play_asked : (r : Result Played Unfinished) (s : Status) → s ≡ status_of_play r → IfOk r (λ p. p ≡ record { settled = 0; conflicts = 0 }) →
     s ≡ status.Words → ⊥
 play_asked r s = of_play (λ (t : Status). t ≡ status.Words → ⊥)
+    (λ e. cc e) (λ e. cc e) (λ e. cc e) (λ e. cc e) (λ e. cc e) (λ e. cc e)
+    (λ e. cc e) (λ e. cc e) (λ e. cc e) (λ e. cc e) (λ e. cc e) r s
+
+pub play_reads : (r : Result Played Unfinished) (s : Status) → s ≡ status_of_play r → IfOk r (λ p. p ≡ record { settled = 0; conflicts = 0 }) →
+    s ≡ status.Input → ⊥
+play_reads r s = of_play (λ (t : Status). t ≡ status.Input → ⊥)
     (λ e. cc e) (λ e. cc e) (λ e. cc e) (λ e. cc e) (λ e. cc e) (λ e. cc e)
     (λ e. cc e) (λ e. cc e) (λ e. cc e) (λ e. cc e) (λ e. cc e) r s
 

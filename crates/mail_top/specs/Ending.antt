@@ -1,6 +1,6 @@
 -- How a command ends: what each status says of what was asked for, of the book as read, of what a stop leaves, of the link, and
 -- of the printed text.
-use Rattle.std.specs.Prelude.{◌≡◌, ◌⊎◌, ℕ, ◌≤◌, ◌<◌, List, length, Some, None}
+use Rattle.std.specs.Prelude.{◌≡◌, ◌⊎◌, ℕ, ◌≤◌, ◌<◌, false, List, length}
 use Rattle.mail_base.specs.Account.{Credentials}
 use Rattle.mail_base.specs.Lines.{error_words}
 use Rattle.mail_base.specs.declared.status.Status.{Status}
@@ -10,16 +10,18 @@ use Rattle.world_traits.specs.Moments.{Within}
 use Rattle.journal_core.specs.Limits.{max_accepted}
 use Rattle.action_queue.specs.Book.{Meaning}
 use Rattle.action_queue.specs.Queues.{AllSettled}
+use Rattle.action_queue.specs.Rules.{is_unknown}
 use Rattle.action_queue.specs.declared.action.Action.{Action}
 use Rattle.store_core.specs.Mail.{mail}
 use Rattle.store_core.specs.Books.{HasBook}
-use Rattle.mail_top.specs.Actions.{action_of, accepts}
+use Rattle.mail_top.specs.Actions.{Becomes, accepts}
 use Rattle.mail_top.specs.Course.{Course, OnFiles, end_behind}
 use Rattle.mail_top.specs.Leaving.{MayBeLeft}
 use Rattle.mail_top.specs.Played.{SaysPlayed, SaysLater, SaysStopped}
-use Rattle.mail_top.specs.Reasons.{reason_of}
-use Rattle.mail_top.specs.Saying.{SaysReady, SaysTaken, SaysAccepted, SaysRows, SaysBroken, SaysRefused, SaysFull, SaysMemory, SaysDisk}
-use Rattle.mail_top.specs.Words.{Change, Request, Init, Flag, Rows, Play, Asks, AsksNothing}
+use Rattle.mail_top.specs.Reasons.{IsFree}
+use Rattle.mail_top.specs.Saying.{SaysReady, SaysTaken, SaysAccepted, SaysRows, SaysUnknown, SaysQueue, SaysBroken, SaysRefused, SaysUnread}
+use Rattle.mail_top.specs.Saying.{SaysFull, SaysMemory, SaysDisk}
+use Rattle.mail_top.specs.Words.{Wanted, Request, Init, Act, Rows, Queue, Play, Asks, AsksNothing}
 
 -- What each status says of `init BOX ..`. The others don't come.
 abbrev pub EndsInit : List (List ℕ) → Course → Status → List ℕ → Type 0
@@ -40,24 +42,24 @@ EndsInit names k status.Validity text = ⊥
 EndsInit names k status.Input text = ⊥
 EndsInit names k status.Later text = ⊥
 
--- What each status says of `flag BOX UID SIGN FLAG ..`.
-abbrev pub EndsFlag : Change → Course → Status → List ℕ → Type 0
-EndsFlag change k status.Done text = SaysAccepted change k text
-EndsFlag change k status.Output text = SaysAccepted change k text
-EndsFlag change k status.Disk text = SaysDisk (MayBeLeft (Flag change) k.old.now k.seen k.new.now) text
-EndsFlag change k status.Journal text = SaysBroken k text
-EndsFlag change k status.Reason text = SaysRefused (Flag change) k text
-EndsFlag change k status.Memory text = SaysMemory k text
-EndsFlag change k status.Limit text = SaysFull change k text
-EndsFlag change k status.Words text = ⊥
-EndsFlag change k status.Conflicts text = ⊥
-EndsFlag change k status.Link text = ⊥
-EndsFlag change k status.Refused text = ⊥
-EndsFlag change k status.Reply text = ⊥
-EndsFlag change k status.Lacking text = ⊥
-EndsFlag change k status.Validity text = ⊥
-EndsFlag change k status.Input text = ⊥
-EndsFlag change k status.Later text = ⊥
+-- What each status says of an action that is asked for: `flag`, `move` and `append`.
+abbrev pub EndsAct : Wanted → Course → Status → List ℕ → Type 0
+EndsAct wanted k status.Done text = SaysAccepted wanted k text
+EndsAct wanted k status.Output text = SaysAccepted wanted k text
+EndsAct wanted k status.Disk text = SaysDisk (MayBeLeft (Act wanted) k.old.now k.seen k.new.now) text
+EndsAct wanted k status.Journal text = SaysBroken k text
+EndsAct wanted k status.Reason text = SaysRefused wanted k text
+EndsAct wanted k status.Memory text = SaysMemory k text
+EndsAct wanted k status.Limit text = SaysFull wanted k text
+EndsAct wanted k status.Input text = SaysUnread wanted k text
+EndsAct wanted k status.Words text = ⊥
+EndsAct wanted k status.Conflicts text = ⊥
+EndsAct wanted k status.Link text = ⊥
+EndsAct wanted k status.Refused text = ⊥
+EndsAct wanted k status.Reply text = ⊥
+EndsAct wanted k status.Lacking text = ⊥
+EndsAct wanted k status.Validity text = ⊥
+EndsAct wanted k status.Later text = ⊥
 
 -- What each status says of `list BOX`.
 abbrev pub EndsRows : List ℕ → Course → Status → List ℕ → Type 0
@@ -65,7 +67,7 @@ EndsRows name k status.Done text = SaysRows name k text
 EndsRows name k status.Output text = SaysRows name k text
 EndsRows name k status.Disk text = SaysDisk (Within k.old.now k.new.now) text
 EndsRows name k status.Journal text = SaysBroken k text
-EndsRows name k status.Reason text = SaysRefused (Rows name) k text
+EndsRows name k status.Reason text = SaysUnknown name k text
 EndsRows name k status.Memory text = SaysMemory k text
 EndsRows name k status.Words text = ⊥
 EndsRows name k status.Limit text = ⊥
@@ -77,6 +79,25 @@ EndsRows name k status.Lacking text = ⊥
 EndsRows name k status.Validity text = ⊥
 EndsRows name k status.Input text = ⊥
 EndsRows name k status.Later text = ⊥
+
+-- What each status says of `queue`.
+abbrev pub EndsQueue : Course → Status → List ℕ → Type 0
+EndsQueue k status.Done text = SaysQueue k text
+EndsQueue k status.Output text = SaysQueue k text
+EndsQueue k status.Disk text = SaysDisk (Within k.old.now k.new.now) text
+EndsQueue k status.Journal text = SaysBroken k text
+EndsQueue k status.Memory text = SaysMemory k text
+EndsQueue k status.Words text = ⊥
+EndsQueue k status.Reason text = ⊥
+EndsQueue k status.Limit text = ⊥
+EndsQueue k status.Conflicts text = ⊥
+EndsQueue k status.Link text = ⊥
+EndsQueue k status.Refused text = ⊥
+EndsQueue k status.Reply text = ⊥
+EndsQueue k status.Lacking text = ⊥
+EndsQueue k status.Validity text = ⊥
+EndsQueue k status.Input text = ⊥
+EndsQueue k status.Later text = ⊥
 
 -- What each status says of `play`. The others don't come.
 abbrev pub EndsPlay : Credentials → Course → Status → List ℕ → Type 0
@@ -100,8 +121,9 @@ EndsPlay account k status.Input text = ⊥
 -- what each status says of a request
 abbrev pub EndsRequest : Credentials → Request → Course → Status → List ℕ → Type 0
 EndsRequest account (Init names) k s text = OnFiles k (EndsInit names k s text)
-EndsRequest account (Flag change) k s text = OnFiles k (EndsFlag change k s text)
+EndsRequest account (Act wanted) k s text = OnFiles k (EndsAct wanted k s text)
 EndsRequest account (Rows name) k s text = OnFiles k (EndsRows name k s text)
+EndsRequest account Queue k s text = OnFiles k (EndsQueue k s text)
 EndsRequest account Play k s text = EndsPlay account k s text
 
 -- the words ask for nothing, and nothing was done
@@ -113,14 +135,14 @@ pub record SaysWords (words : List (List ℕ)) (k : Course) (s : Status) (text :
   pub told : s ≡ status.Words
   pub text_is : text ≡ error_words
 
--- the words ask for something, and so it ended
-pub record SaysRequest (account : Credentials) (words : List (List ℕ)) (k : Course) (s : Status) (text : List ℕ) : Type 0 where
+-- the words and the input ask for something, and so it ended
+pub record SaysRequest (account : Credentials) (words : List (List ℕ)) (input : List ℕ) (k : Course) (s : Status) (text : List ℕ) : Type 0 where
   pub request : Request
-  pub asks : Asks words request
+  pub asks : Asks words input request
   pub ends : EndsRequest account request k s text
 
-abbrev pub Ends : Credentials → List (List ℕ) → Course → Status → List ℕ → Type 0
-Ends account words k s text = SaysWords words k s text ⊎ SaysRequest account words k s text
+abbrev pub Ends : Credentials → List (List ℕ) → List ℕ → Course → Status → List ℕ → Type 0
+Ends account words input k s text = SaysWords words k s text ⊎ SaysRequest account words input k s text
 
 -- the statuses that come
 abbrev pub Comes : Status → Type 0
@@ -138,8 +160,8 @@ Comes status.Reason = Unit {0}
 Comes status.Memory = Unit {0}
 Comes status.Limit = Unit {0}
 Comes status.Later = Unit {0}
+Comes status.Input = Unit {0}
 Comes status.Conflicts = ⊥
-Comes status.Input = ⊥
 
 -- done, or memory is wanting
 abbrev pub IsDone : Status → Type 0
@@ -149,20 +171,20 @@ IsDone s = (s ≡ status.Done) ⊎ (s ≡ status.Memory)
 abbrev pub IsLater : Status → Type 0
 IsLater s = (s ≡ status.Later) ⊎ (s ≡ status.Memory)
 
--- The files hold a book that takes the change: no reason is against it, and with its action neither the queue nor the journal
--- passes a limit.
-pub record IsTakable (change : Change) (seen : Files) : Type 0 where
+-- The files hold a book that takes the action: no reason is against it, and with it neither the queue nor the journal passes a
+-- limit.
+pub record IsTakable (wanted : Wanted) (seen : Files) : Type 0 where
   pub book : Meaning
   pub holds : HasBook mail book seen
-  pub may : reason_of (Flag change) book ≡ None
+  pub free : IsFree wanted book
   pub few : length book.queue < 1000000
-  pub room : (action : Action) → action_of change book ≡ Some action → end_behind holds (accepts book action) ≤ max_accepted
+  pub room : (action : Action) → Becomes wanted book action → end_behind holds (accepts book action) ≤ max_accepted
 
 -- The files hold a book that has the mailbox.
 pub record IsListable (name : List ℕ) (seen : Files) : Type 0 where
   pub book : Meaning
   pub holds : HasBook mail book seen
-  pub may : reason_of (Rows name) book ≡ None
+  pub known : is_unknown book.boxes name ≡ false
 
 -- The files hold a book of which an action isn't settled.
 pub record HasWaiting (seen : Files) : Type 0 where

@@ -1,6 +1,8 @@
 -- Why a command isn't carried out, as its parts tell it.
 use Rattle.flag_set.specs.declared.flag_fault.FlagFault.{FlagFault}
 use Rattle.flag_set.specs.declared.flag_fault.FlagFault.TheVariants as flaws
+use Rattle.mail_header.specs.declared.identifier.IdFault.{IdFault}
+use Rattle.mail_header.specs.declared.identifier.IdFault.TheVariants as ids
 use Rattle.store_core.specs.declared.fault.StoreFault.{StoreFault}
 use Rattle.store_core.specs.declared.fault.StoreFault.TheVariants as stores
 use Rattle.store_core.specs.declared.fault.CommitFault.{CommitFault}
@@ -28,3 +30,11 @@ of_flag flaws.Memory = refusals.Memory
 of_flag (flaws.TooLong length) = refusals.Reason reasons.BadFlag
 of_flag (flaws.BadFlag at) = refusals.Reason reasons.BadFlag
 of_flag (flaws.TooMany count) = refusals.Reason reasons.BadFlag
+
+-- want of memory, or a message whose Message-ID is refused
+abbrev pub of_id : IdFault → Refusal
+of_id ids.Memory = refusals.Memory
+of_id ids.Missing = refusals.Reason reasons.NoMessageId
+of_id (ids.Twice second) = refusals.Reason reasons.NoMessageId
+of_id (ids.TooLong length) = refusals.Reason reasons.NoMessageId
+of_id (ids.BadForm at) = refusals.Reason reasons.NoMessageId

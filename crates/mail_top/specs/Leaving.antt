@@ -21,15 +21,15 @@ use Rattle.play_driver.specs.Learning.{IsLearning}
 use Rattle.mail_top.specs.Actions.{next_id, accepts}
 use Rattle.mail_top.specs.Course.{end_behind}
 use Rattle.mail_top.specs.Weighing.{Admits}
-use Rattle.mail_top.specs.Words.{Change, Request, Init, Flag, Rows, Play, Asks}
+use Rattle.mail_top.specs.Words.{Wanted, Request, Init, Act, Rows, Queue, Play, Asks}
 
 -- Each image holds the book that was read, or the one with the action that is asked for behind the others: the book admits
 -- it, and there is room for it.
-pub record IsAdding (change : Change) (seen : Files) (m : Moment) : Type 0 where
+pub record IsAdding (wanted : Wanted) (seen : Files) (m : Moment) : Type 0 where
   pub book : Meaning
   pub holds : HasBook mail book seen
   pub action : Action
-  pub admits : Admits change book (next_id book) action
+  pub admits : Admits wanted book (next_id book) action
   pub room : end_behind holds (accepts book action) ≤ max_accepted
   pub taking : IsTaking mail (Some book) (accepts book action) m
 
@@ -44,14 +44,15 @@ pub record IsPlaying (seen : Files) (m : Moment) : Type 0 where
 -- that are asked for; or the book that was read, with the action that is asked for or without it, or with other caches.
 abbrev pub MayBeLeft : Request → Moment → Files → Moment → Type 0
 MayBeLeft (Init names) entry seen m = IsCreating mail (events.Begin names) entry m
-MayBeLeft (Flag change) entry seen m = Within entry m ⊎ IsAdding change seen m
+MayBeLeft (Act wanted) entry seen m = Within entry m ⊎ IsAdding wanted seen m
 MayBeLeft (Rows name) entry seen m = Within entry m
+MayBeLeft Queue entry seen m = Within entry m
 MayBeLeft Play entry seen m = Within entry m ⊎ IsPlaying seen m
 
--- the same of what the words ask for
-pub record OnTheWay (words : List (List ℕ)) (entry : Moment) (seen : Files) (m : Moment) : Type 0 where
+-- the same of what the words and the input ask for
+pub record OnTheWay (words : List (List ℕ)) (input : List ℕ) (entry : Moment) (seen : Files) (m : Moment) : Type 0 where
   pub request : Request
-  pub asks : Asks words request
+  pub asks : Asks words input request
   pub leaves : MayBeLeft request entry seen m
 
 -- no action that all images hold is lost: each stays at its place, and with its outcome
@@ -61,8 +62,9 @@ pub record LosesNone (m n : Moment) : Type 0 where
 -- what isn't on the disk stays, unless it is played: then the link is called
 abbrev pub StaysOutside : Request → Moment → Moment → Type 0
 StaysOutside (Init names) m n = n.outside ≡ m.outside
-StaysOutside (Flag change) m n = n.outside ≡ m.outside
+StaysOutside (Act wanted) m n = n.outside ≡ m.outside
 StaysOutside (Rows name) m n = n.outside ≡ m.outside
+StaysOutside Queue m n = n.outside ≡ m.outside
 StaysOutside Play m n = ⊤
 
 -- a step of what is asked for, whatever is known of the books
@@ -70,18 +72,19 @@ pub record KeepsStep (request : Request) (m n : Moment) : Type 0 where
   pub loses_none : LosesNone m n
   pub outside : StaysOutside request m n
 
--- the same for what the words ask for
-pub record WordsKeep (words : List (List ℕ)) (m n : Moment) : Type 0 where
+-- the same for what the words and the input ask for
+pub record WordsKeep (words : List (List ℕ)) (input : List ℕ) (m n : Moment) : Type 0 where
   pub request : Request
-  pub asks : Asks words request
+  pub asks : Asks words input request
   pub step : KeepsStep request m n
 
 -- the event that may be begun for a request, on a book or on none
 abbrev pub IsDue : Request → Option Meaning → Event → Type 0
 IsDue (Init names) book event = (book ≡ None) × (event ≡ events.Begin names)
-IsDue (Flag change) None event = ⊥
-IsDue (Flag change) (Some b) event = (action : Action) × Admits change b (next_id b) action × (event ≡ accepts b action)
+IsDue (Act wanted) None event = ⊥
+IsDue (Act wanted) (Some b) event = (action : Action) × Admits wanted b (next_id b) action × (event ≡ accepts b action)
 IsDue (Rows name) book event = ⊥
+IsDue Queue book event = ⊥
 IsDue Play book event = (name : List ℕ) × (delta : Delta) × (event ≡ events.Learn name delta)
 
 -- an event that is due for the request is begun
@@ -101,17 +104,17 @@ pub record RequestStep (request : Request) (m n : Moment) : Type 0 where
   pub step : (new ≡ old) ⊎ BeginsDue request old new ⊎ MakesFirm mail old new ⊎ ((first : Bool) × Chooses mail first old new)
   pub outside : StaysOutside request m n
 
--- the same for what the words ask for
-pub record WordsStep (words : List (List ℕ)) (m n : Moment) : Type 0 where
+-- the same for what the words and the input ask for
+pub record WordsStep (words : List (List ℕ)) (input : List ℕ) (m n : Moment) : Type 0 where
   pub request : Request
-  pub asks : Asks words request
+  pub asks : Asks words input request
   pub step : RequestStep request m n
 
 -- The moments of a run: at each a stop leaves what the words ask for, and no step loses an action that all images hold, or
 -- touches more than the words ask for.
-abbrev pub KeepsOn : List (List ℕ) → Moment → Files → Clock → Clock → Type 0
-KeepsOn words entry seen old new = Since (OnTheWay words entry seen) (WordsKeep words) old new
+abbrev pub KeepsOn : List (List ℕ) → List ℕ → Moment → Files → Clock → Clock → Type 0
+KeepsOn words input entry seen old new = Since (OnTheWay words input entry seen) (WordsKeep words input) old new
 
 -- and from each moment to the next the books go on as the words ask
-abbrev pub GoesOnBy : List (List ℕ) → Clock → Clock → Type 0
-GoesOnBy words old new = Since Any (WordsStep words) old new
+abbrev pub GoesOnBy : List (List ℕ) → List ℕ → Clock → Clock → Type 0
+GoesOnBy words input old new = Since Any (WordsStep words input) old new

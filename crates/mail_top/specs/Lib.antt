@@ -3,10 +3,12 @@ pub mod Connecting
 pub mod Course
 pub mod Ending
 pub mod Faults
+pub mod Going
 pub mod Leaving
 pub mod Names
 pub mod Played
 pub mod Printing
+pub mod Reading
 pub mod Reasons
 pub mod Runs
 pub mod Saying

@@ -22,7 +22,7 @@ use Rattle.play_driver.specs.declared.fault.PlayFault.{PlayFault}
 use Rattle.play_driver.specs.declared.fault.PlayFault.TheVariants as faults
 use Rattle.mail_top.specs.Course.{Course, Stays}
 use Rattle.mail_top.specs.Telling.{status_of_fault, text_of_fault}
-use Rattle.mail_top.specs.Texts.{played, error_later}
+use Rattle.conflict_report.specs.StatusLines.{played, error_later}
 
 -- The files as read hold the book of this store: as it was opened on them, the disk stood behind their last record.
 pub record IsOpened (k : Course) (store : Holding mail) : Type 0 where

@@ -13,19 +13,19 @@ use Rattle.store_core.specs.Taking.{HasBooks}
 use Rattle.mail_top.specs.Course.{Course}
 use Rattle.mail_top.specs.Leaving.{KeepsOn, GoesOnBy}
 use Rattle.mail_top.specs.Saying.{SaysAccepted}
-use Rattle.mail_top.specs.Words.{Change}
+use Rattle.mail_top.specs.Words.{Wanted}
 
 -- The moments of a run, or of a part of one that began at this entry: what a stop leaves at each, that one side is at rest at
 -- each, and how the books go on.
-pub record RunsOn (words : List (List ℕ)) (seen : Files) (entry : Moment) (old new : Clock) : Type 0 where
-  pub keeps : KeepsOn words entry seen old new
+pub record RunsOn (words : List (List ℕ)) (input : List ℕ) (seen : Files) (entry : Moment) (old new : Clock) : Type 0 where
+  pub keeps : KeepsOn words input entry seen old new
   pub one_side : OneSideAtRest entry → EachOneSide old new
-  pub books : OneSideAtRest entry → (books : Books mail) → HasBooks mail books entry → GoesOnBy words old new
+  pub books : OneSideAtRest entry → (books : Books mail) → HasBooks mail books entry → GoesOnBy words input old new
 
 -- a run from one clock to another, and a clock on its way: its last, or one at which the run was cut off
-pub record CutOff (words : List (List ℕ)) (seen : Files) (old at new : Clock) : Type 0 where
-  pub before : RunsOn words seen old.now old at
-  pub after : RunsOn words seen old.now at new
+pub record CutOff (words : List (List ℕ)) (input : List ℕ) (seen : Files) (old at new : Clock) : Type 0 where
+  pub before : RunsOn words input seen old.now old at
+  pub after : RunsOn words input seen old.now at new
 
 -- The files are as they were. What isn't on the disk may be another: other clients change the server between two runs, and a
 -- connection ends with its run.
@@ -38,8 +38,8 @@ pub record SameFiles (m n : Moment) : Type 0 where
 -- since between two runs anything may happen at the server.
 pub data Follows (first : Moment) : Moment → Type 0 where
   at_once : Follows first first
-  by_run : (words : List (List ℕ)) → (seen : Files) → (old at new : Clock) → Follows first old.now → MayLeave old.now seen
-      → CutOff words seen old at new → Follows first at.now
+  by_run : (words : List (List ℕ)) → (input : List ℕ) → (seen : Files) → (old at new : Clock) → Follows first old.now → MayLeave old.now seen
+      → CutOff words input seen old at new → Follows first at.now
   by_stop : (m : Moment) → (files : Files) → Follows first m → MayLeave m files → Follows first (restarted files m)
   by_others : (m n : Moment) → Follows first m → SameFiles m n → Follows first n
 
@@ -50,11 +50,11 @@ pub record BeginsWith (files : Files) (before m : Moment) : Type 0 where
 
 -- a run that began at the moment accepted an action
 pub record AcceptsAt (m : Moment) : Type 0 where
-  pub change : Change
+  pub wanted : Wanted
   pub course : Course
   pub text : List ℕ
   pub reads : MayLeave m course.seen
-  pub is : SaysAccepted change course text
+  pub is : SaysAccepted wanted course text
 
 -- the files hold a book
 pub record AreBook (files : Files) : Type 0 where

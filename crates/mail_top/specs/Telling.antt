@@ -12,8 +12,9 @@ use Rattle.play_driver.specs.declared.fault.Why.{Why}
 use Rattle.play_driver.specs.declared.fault.Why.TheVariants as whys
 use Rattle.play_driver.specs.declared.played.Played.{Played}
 use Rattle.mail_top.specs.Faults.{of_store}
-use Rattle.mail_top.specs.Texts.{refused, limit_actions, played, error_link, error_refused, error_reply_at, error_reply_lacks, error_reply_modseq}
-use Rattle.mail_top.specs.Texts.{error_lacking, error_validity, error_limit, error_later}
+use Rattle.conflict_report.specs.StatusLines.{limit_actions, played, error_input, error_link, error_refused, error_reply_at, error_reply_lacks}
+use Rattle.conflict_report.specs.StatusLines.{error_reply_modseq, error_lacking, error_validity, error_limit, error_later}
+use Rattle.mail_top.specs.Texts.{refused}
 use Rattle.mail_top.specs.declared.printed.Printed.{Printed}
 use Rattle.mail_top.specs.declared.printed.Printed.TheVariants as prints
 use Rattle.mail_top.specs.declared.refusal.Refusal.{Refusal}
@@ -39,6 +40,7 @@ printed (prints.Text text) = text
 abbrev pub status_of_refusal : Refusal → Status
 status_of_refusal refusals.Disk = status.Disk
 status_of_refusal refusals.Memory = status.Memory
+status_of_refusal refusals.Input = status.Input
 status_of_refusal refusals.Already = status.Journal
 status_of_refusal (refusals.NotAJournal why) = status.Journal
 status_of_refusal (refusals.Reason reason) = status.Reason
@@ -53,6 +55,7 @@ status_of (Err refusal) = status_of_refusal refusal
 abbrev pub text_of_refusal : Refusal → List ℕ
 text_of_refusal refusals.Disk = error_disk
 text_of_refusal refusals.Memory = error_memory
+text_of_refusal refusals.Input = error_input
 text_of_refusal refusals.Already = journal_exists
 text_of_refusal (refusals.NotAJournal why) = line_of why
 text_of_refusal (refusals.Reason reason) = refused reason

@@ -1,12 +1,8 @@
--- The printed texts that no lower crate has yet. Each line ends with an LF.
-use Rattle.std.specs.Prelude.{ℕ, List, [], ◌∷◌, ◌++◌, codes, decimal, map, take, flat_map, Option, Some, None, cond, nat_le, ◌&&◌}
-use Rattle.imap_model.specs.declared.item.Item.{Item}
-use Rattle.imap_model.specs.declared.item.Item.TheVariants as items
-use Rattle.imap_model.specs.declared.limit.Limit.{Limit}
-use Rattle.imap_model.specs.declared.limit.Limit.TheVariants as limits
-use Rattle.mail_base.specs.Lines.{numbered}
-use Rattle.mailbox_cache.specs.declared.cache.Cache.{Cache}
-use Rattle.mailbox_cache.specs.declared.row.Row.{Row}
+-- The printed texts that no lower crate has. Each line ends with an LF.
+use Rattle.std.specs.Prelude.{ℕ, List, [], ◌∷◌, ◌++◌, codes, decimal, flat_map, Option, Some, None}
+use Rattle.conflict_report.specs.QueueLines.{spaced}
+use Rattle.local_view.specs.declared.seen.Seen.{Seen}
+use Rattle.mail_top.specs.Words.{ident_text}
 use Rattle.mail_top.specs.declared.reason.Reason.{Reason}
 use Rattle.mail_top.specs.declared.reason.Reason.TheVariants as reasons
 
@@ -15,102 +11,25 @@ abbrev pub reason_name : Reason → List ℕ
 reason_name reasons.NoMailbox = codes "no-mailbox"
 reason_name reasons.NoMessage = codes "no-message"
 reason_name reasons.BadFlag = codes "bad-flag"
+reason_name reasons.SameMailbox = codes "same-mailbox"
 reason_name reasons.QueueFull = codes "queue-full"
+reason_name reasons.TooLarge = codes "too-large"
+reason_name reasons.BadText = codes "bad-text"
+reason_name reasons.NoMessageId = codes "no-message-id"
 
--- the command is refused by the book as it is
+-- the command is refused by the book as it is, or by its input
 abbrev pub refused : Reason → List ℕ
 refused reason = codes "refused " ++ reason_name reason ++ 10 ∷ []
 
--- a flag's key behind a space
-abbrev pub spaced : List ℕ → List ℕ
-spaced key = 32 ∷ key
+-- a mod-sequence, or `-` where the server hasn't told one
+abbrev pub mark_text : Option ℕ → List ℕ
+mark_text None = 45 ∷ []
+mark_text (Some modseq) = decimal modseq
 
--- a message: by what it is named, its mod-sequence, and its flags by their keys
-abbrev pub row_line : List ℕ → List ℕ → List (List ℕ) → List ℕ
-row_line ident mark flags = ident ++ 32 ∷ mark ++ flat_map spaced flags ++ 10 ∷ []
+-- a message as the user sees it: by what it is named, its mod-sequence, and its flags by their keys
+unfoldable pub row_line : Seen → List ℕ
+row_line row = ident_text row.id ++ 32 ∷ [] ++ mark_text row.modseq ++ flat_map spaced row.flags ++ 10 ∷ []
 
--- a cached message, named by its UID
-abbrev pub cached_line : (ℕ × Row) → List ℕ
-cached_line r = row_line (decimal r.0) (decimal r.1.modseq) r.1.flags
-
--- the rows of a mailbox's cache by UID; a mailbox that was never synchronised shows none
-abbrev pub rows_text : Option Cache → List ℕ
-rows_text None = []
-rows_text (Some cache) = flat_map cached_line cache.rows
-
--- the run came to its end: so many actions were settled in it, and so many of them as conflicts
-abbrev pub played : ℕ → ℕ → List ℕ
-played settled conflicts = codes "played " ++ decimal settled ++ codes " conflicts " ++ decimal conflicts ++ 10 ∷ []
-
--- the link failed
-abbrev pub error_link : List ℕ
-error_link = codes "error link" ++ 10 ∷ []
-
--- a byte of a server's line as it is printed: one from 32 to 126 as it is, and any other as `?`
-abbrev pub shown_byte : ℕ → ℕ
-shown_byte byte = cond (nat_le 32 byte && nat_le byte 126) byte 63
-
--- the server refused by this line, of which at most the first 200 bytes are shown
-abbrev pub error_refused : List ℕ → List ℕ
-error_refused line = codes "error refused: " ++ map shown_byte (take 200 line) ++ 10 ∷ []
-
--- the name of what a server lacks: as the standards write it (RFC 9051; RFC 7162; RFC 4315; RFC 6851), but LOGIN, STICKY and ROW
--- are this client's
-abbrev pub item_name : Item → List ℕ
-item_name items.Qresync = codes "QRESYNC"
-item_name items.Uidplus = codes "UIDPLUS"
-item_name items.Move = codes "MOVE"
-item_name items.Login = codes "LOGIN"
-item_name items.ModSeqs = codes "MODSEQ"
-item_name items.Sticky = codes "STICKY"
-item_name items.UidValidity = codes "UIDVALIDITY"
-item_name items.UidNext = codes "UIDNEXT"
-item_name items.HighestModSeq = codes "HIGHESTMODSEQ"
-item_name items.CopyUid = codes "COPYUID"
-item_name items.AppendUid = codes "APPENDUID"
-item_name items.Flags = codes "FLAGS"
-item_name items.ModSeq = codes "MODSEQ"
-item_name items.Row = codes "ROW"
-
--- the bytes that came in the connection don't go on as a reply at this place
-abbrev pub error_reply_at : ℕ → List ℕ
-error_reply_at at = numbered (codes "error reply ") at
-
--- the reply lacks this
-abbrev pub error_reply_lacks : Item → List ℕ
-error_reply_lacks item = codes "error reply lacks " ++ item_name item ++ 10 ∷ []
-
--- the highest mod-sequence that was told is below the kept one
-abbrev pub error_reply_modseq : ℕ → ℕ → List ℕ
-error_reply_modseq kept told = codes "error reply modseq " ++ decimal kept ++ 32 ∷ decimal told ++ 10 ∷ []
-
--- the server lacks a thing that this client needs
-abbrev pub error_lacking : Item → List ℕ
-error_lacking item = codes "error lacking " ++ item_name item ++ 10 ∷ []
-
--- the mailbox has another UIDVALIDITY than its cache
-abbrev pub error_validity : List ℕ → ℕ → ℕ → List ℕ
-error_validity name kept told = codes "error validity " ++ name ++ 32 ∷ decimal kept ++ 32 ∷ decimal told ++ 10 ∷ []
-
--- a limit's name
-abbrev pub limit_name : Limit → List ℕ
-limit_name limits.Literal = codes "literal"
-limit_name limits.Line = codes "line"
-limit_name limits.Reply = codes "reply"
-limit_name limits.Rows = codes "rows"
-limit_name limits.Flags = codes "flags"
-limit_name limits.Flag = codes "flag"
-limit_name limits.Journal = codes "journal"
-limit_name limits.Actions = codes "actions"
-
--- a limit is passed by this number
-abbrev pub error_limit : Limit → ℕ → List ℕ
-error_limit which number = codes "error limit " ++ limit_name which ++ 32 ∷ decimal number ++ 10 ∷ []
-
--- the queue would have more actions than it may
-abbrev pub limit_actions : List ℕ
-limit_actions = error_limit limits.Actions 1000001
-
--- the action of this number waits, which can't be played yet
-abbrev pub error_later : ℕ → List ℕ
-error_later number = numbered (codes "error later ") number
+-- the rows of a view, a line each
+abbrev pub rows_text : List Seen → List ℕ
+rows_text rows = flat_map row_line rows

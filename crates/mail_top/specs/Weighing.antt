@@ -1,56 +1,68 @@
--- What a book answers to a change of flags, and to a question for a mailbox's rows.
-use Rattle.std.specs.Prelude.{◌≡◌, ℕ, ◌+◌, ◌≤◌, ◌<◌, true, false, is_none, List, length, Some, None, Result, Ok, Err, ⊤}
+-- What a book answers to an action that is asked for, and to a question for a mailbox's rows.
+use Rattle.std.specs.Prelude.{◌≡◌, ℕ, ◌+◌, ◌≤◌, ◌<◌, true, false, List, length, Some, Result, Ok, Err, ⊤}
 use Rattle.std.specs.List.{list_any}
 use Rattle.flag_set.specs.declared.flag_fault.FlagFault.{FlagFault}
 use Rattle.flag_set.specs.declared.flag_fault.FlagFault.TheVariants as flaws
-use Rattle.mailbox_cache.specs.declared.cache.Cache.{Cache}
-use Rattle.action_queue.specs.Book.{Meaning, cache_at}
+use Rattle.action_queue.specs.Book.{Meaning}
 use Rattle.action_queue.specs.Rules.{is_unknown}
 use Rattle.action_queue.specs.declared.action.Action.{Action}
 use Rattle.action_queue.specs.declared.queued.Queued.{Queued}
-use Rattle.mail_top.specs.Actions.{action_of, keys_of, next_id}
-use Rattle.mail_top.specs.Reasons.{row_of, is_bad_flag, is_full, reason_of}
+use Rattle.action_queue.specs.declared.target.Target.{Target}
+use Rattle.local_view.specs.Listing.{view}
+use Rattle.local_view.specs.declared.seen.Ident.{Ident}
+use Rattle.mail_top.specs.Actions.{Becomes, keys_of, next_id, target_of}
+use Rattle.mail_top.specs.Reading.{Awaits}
+use Rattle.mail_top.specs.Reasons.{IsFirst, IsFree, NoneStops, at_once, is_absent, is_bad_flag}
 use Rattle.mail_top.specs.Texts.{rows_text}
-use Rattle.mail_top.specs.Words.{Change, Flag, Rows}
-use Rattle.mail_top.specs.declared.reason.Reason.{Reason}
+use Rattle.mail_top.specs.Words.{Addition, Wanted, Append}
 use Rattle.mail_top.specs.declared.reason.Reason.TheVariants as reasons
 use Rattle.mail_top.specs.declared.refusal.Refusal.{Refusal}
 use Rattle.mail_top.specs.declared.refusal.Refusal.TheVariants as refusals
 
--- the book admits this action, under this number
-pub record Admits (change : Change) (b : Meaning) (id : ℕ) (action : Action) : Type 0 where
-  pub may : reason_of (Flag change) b ≡ None
+-- The book admits this action, under this number.
+pub record Admits (wanted : Wanted) (b : Meaning) (id : ℕ) (action : Action) : Type 0 where
+  pub free : IsFree wanted b
   pub few : length b.queue < 1000000
   pub number : id ≡ next_id b
-  pub is : action_of change b ≡ Some action
+  pub is : Becomes wanted b action
 
--- it takes an action, or a reason is the first against it, or else it has too many actions; or memory is wanting
-abbrev pub Weighed : Change → Meaning → Result (ℕ × Action) Refusal → Type 0
-Weighed change b (Ok both) = Admits change b both.0 both.1
-Weighed change b (Err (refusals.Reason reason)) = reason_of (Flag change) b ≡ Some reason
-Weighed change b (Err refusals.Actions) = (reason_of (Flag change) b ≡ None) × (1000000 ≤ length b.queue)
-Weighed change b (Err refusals.Memory) = ⊤
-Weighed change b (Err refusals.Disk) = ⊥
-Weighed change b (Err refusals.Already) = ⊥
-Weighed change b (Err (refusals.NotAJournal why)) = ⊥
-Weighed change b (Err (refusals.Full end)) = ⊥
+-- It takes an action, or a reason is the first against it, or else it has too many actions. Or the input fails, where none of the
+-- reasons that are looked for at once speaks against it; or memory is wanting.
+abbrev pub Weighed : Wanted → Meaning → Result (ℕ × Action) Refusal → Type 0
+Weighed wanted b (Ok both) = Admits wanted b both.0 both.1
+Weighed wanted b (Err (refusals.Reason reason)) = IsFirst wanted b reason
+Weighed wanted b (Err refusals.Input) = Awaits wanted b
+Weighed wanted b (Err refusals.Actions) = IsFree wanted b × (1000000 ≤ length b.queue)
+Weighed wanted b (Err refusals.Memory) = ⊤
+Weighed wanted b (Err refusals.Disk) = ⊥
+Weighed wanted b (Err refusals.Already) = ⊥
+Weighed wanted b (Err (refusals.NotAJournal why)) = ⊥
+Weighed wanted b (Err (refusals.Full end)) = ⊥
 
--- the message is in the mailbox's cache, which has this UIDVALIDITY
-pub record IsThere (change : Change) (b : Meaning) (validity : ℕ) : Type 0 where
-  pub cache : Cache
-  pub known : is_unknown b.boxes change.name ≡ false
-  pub at : cache_at change.name b.boxes ≡ Some cache
-  pub there : is_none (row_of change.uid (cache_at change.name b.boxes)) ≡ false
-  pub under : validity ≡ cache.validity
+-- The message is in the view of the mailbox, and this is its target.
+pub record IsThere (name : List ℕ) (id : Ident) (b : Meaning) (target : Target) : Type 0 where
+  pub known : is_unknown b.boxes name ≡ false
+  pub there : is_absent b name id ≡ false
+  pub of : target_of b name id ≡ Some target
 
--- it is there, or the mailbox isn't known, or else the message isn't there
-abbrev pub Found : Change → Meaning → Result ℕ Reason → Type 0
-Found change b (Ok validity) = IsThere change b validity
-Found change b (Err reasons.NoMailbox) = is_unknown b.boxes change.name ≡ true
-Found change b (Err reasons.NoMessage) =
-    (is_unknown b.boxes change.name ≡ false) × (is_none (row_of change.uid (cache_at change.name b.boxes)) ≡ true)
-Found change b (Err reasons.BadFlag) = ⊥
-Found change b (Err reasons.QueueFull) = ⊥
+-- the message's target; or the mailbox isn't known, or else the message isn't there; or memory is wanting
+abbrev pub Found : List ℕ → Ident → Meaning → Result Target Refusal → Type 0
+Found name id b (Ok target) = IsThere name id b target
+Found name id b (Err (refusals.Reason reasons.NoMailbox)) = is_unknown b.boxes name ≡ true
+Found name id b (Err (refusals.Reason reasons.NoMessage)) = (is_unknown b.boxes name ≡ false) × (is_absent b name id ≡ true)
+Found name id b (Err (refusals.Reason reasons.BadFlag)) = ⊥
+Found name id b (Err (refusals.Reason reasons.SameMailbox)) = ⊥
+Found name id b (Err (refusals.Reason reasons.QueueFull)) = ⊥
+Found name id b (Err (refusals.Reason reasons.TooLarge)) = ⊥
+Found name id b (Err (refusals.Reason reasons.BadText)) = ⊥
+Found name id b (Err (refusals.Reason reasons.NoMessageId)) = ⊥
+Found name id b (Err refusals.Memory) = ⊤
+Found name id b (Err refusals.Input) = ⊥
+Found name id b (Err refusals.Actions) = ⊥
+Found name id b (Err refusals.Disk) = ⊥
+Found name id b (Err refusals.Already) = ⊥
+Found name id b (Err (refusals.NotAJournal why)) = ⊥
+Found name id b (Err (refusals.Full end)) = ⊥
 
 -- these are the keys of the flags, all of which a user may ask for; or one of them isn't such; or memory is wanting
 abbrev pub FlagsAsked : List (List ℕ) → Result (List (List ℕ)) FlagFault → Type 0
@@ -60,25 +72,37 @@ FlagsAsked flags (Err (flaws.BadFlag at)) = list_any is_bad_flag flags ≡ true
 FlagsAsked flags (Err (flaws.TooMany n)) = list_any is_bad_flag flags ≡ true
 FlagsAsked flags (Err flaws.Memory) = ⊤
 
--- the queue takes one more action under this number, or has too many unsettled ones, or else too many
-abbrev pub HasRoom : List Queued → Result ℕ Refusal → Type 0
-HasRoom queue (Ok id) = (is_full queue ≡ false) × (length queue < 1000000) × (id ≡ length queue + 1)
-HasRoom queue (Err (refusals.Reason reasons.QueueFull)) = is_full queue ≡ true
-HasRoom queue (Err (refusals.Reason reasons.NoMailbox)) = ⊥
-HasRoom queue (Err (refusals.Reason reasons.NoMessage)) = ⊥
-HasRoom queue (Err (refusals.Reason reasons.BadFlag)) = ⊥
-HasRoom queue (Err refusals.Actions) = (is_full queue ≡ false) × (1000000 ≤ length queue)
-HasRoom queue (Err refusals.Memory) = ⊥
-HasRoom queue (Err refusals.Disk) = ⊥
-HasRoom queue (Err refusals.Already) = ⊥
-HasRoom queue (Err (refusals.NotAJournal why)) = ⊥
-HasRoom queue (Err (refusals.Full end)) = ⊥
+-- the queue takes one more action under this number, or has too many
+abbrev pub HasNumber : List Queued → Result ℕ Refusal → Type 0
+HasNumber queue (Ok id) = (length queue < 1000000) × (id ≡ length queue + 1)
+HasNumber queue (Err refusals.Actions) = 1000000 ≤ length queue
+HasNumber queue (Err (refusals.Reason reason)) = ⊥
+HasNumber queue (Err refusals.Memory) = ⊥
+HasNumber queue (Err refusals.Input) = ⊥
+HasNumber queue (Err refusals.Disk) = ⊥
+HasNumber queue (Err refusals.Already) = ⊥
+HasNumber queue (Err (refusals.NotAJournal why)) = ⊥
+HasNumber queue (Err (refusals.Full end)) = ⊥
 
--- the text of the rows that the book knows of a mailbox, or the first reason against it; or memory is wanting
+-- The keys of a new message's flags, where none of the reasons that are looked for at once speaks against it; or the first of them;
+-- or memory is wanting.
+abbrev pub Received : Addition → List ℕ → Meaning → Result (List (List ℕ)) Refusal → Type 0
+Received addition input b (Ok keys) = NoneStops (Append addition input) b at_once × (keys ≡ keys_of addition.flags)
+Received addition input b (Err (refusals.Reason reason)) = IsFirst (Append addition input) b reason
+Received addition input b (Err refusals.Memory) = ⊤
+Received addition input b (Err refusals.Input) = ⊥
+Received addition input b (Err refusals.Actions) = ⊥
+Received addition input b (Err refusals.Disk) = ⊥
+Received addition input b (Err refusals.Already) = ⊥
+Received addition input b (Err (refusals.NotAJournal why)) = ⊥
+Received addition input b (Err (refusals.Full end)) = ⊥
+
+-- The text of the rows of the mailbox's view; or the mailbox isn't one of the book's; or memory is wanting.
 abbrev pub Shown : List ℕ → Meaning → Result (List ℕ) Refusal → Type 0
-Shown name b (Ok text) = (reason_of (Rows name) b ≡ None) × (text ≡ rows_text (cache_at name b.boxes))
-Shown name b (Err (refusals.Reason reason)) = reason_of (Rows name) b ≡ Some reason
+Shown name b (Ok text) = (is_unknown b.boxes name ≡ false) × (text ≡ rows_text (view b name))
+Shown name b (Err (refusals.Reason reason)) = (is_unknown b.boxes name ≡ true) × (reason ≡ reasons.NoMailbox)
 Shown name b (Err refusals.Memory) = ⊤
+Shown name b (Err refusals.Input) = ⊥
 Shown name b (Err refusals.Actions) = ⊥
 Shown name b (Err refusals.Disk) = ⊥
 Shown name b (Err refusals.Already) = ⊥

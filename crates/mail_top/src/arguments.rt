@@ -1,32 +1,44 @@
-//! What single words of a command say: the name of a mailbox, a UID, a sign.
+//! What single words of a command say: the name of a mailbox, a message, a sign.
 
 ghost use Rattle.std.specs.Prelude.{◌≡◌, ◌<◌, ◌^◌, ◌↔◌, [], ◌∷◌, IsTrue, IsNone, IfSome, decimal};
-ghost use Rattle.mail_base.specs.BoxName.{IsBoxText, KeptAs};
-ghost use Rattle.mail_top.specs.Words.{sign_of};
+ghost use Rattle.conflict_report.specs.QueueLines.{sign_of};
+ghost use Rattle.mail_top.specs.Words.{WritesBox, WritesIdent};
+ghost use Rattle.local_view.specs.declared.seen.Ident.{Ident as AnyIdent};
 
 use itoa::Buffer;
-use mail_base::{BoxName, read_u32};
+use local_view::Ident;
+use mail_base::{ActionId, BoxName, read_u32};
 use uid_sets::Uid;
 
 /// The mailbox whose name a word writes, as it is kept.
 pub fn box_of(text: &str) -> Option<BoxName>
-    ensures some { IfSome result (λ name. IsBoxText text.now × KeptAs text.now name) }
-    ensures none { IsNone result → IsBoxText text.now → ⊥ }
+    ensures some { IfSome result (WritesBox text.now) }
+    ensures none { IsNone result → (name : _) → WritesBox text.now name → ⊥ }
 {
     BoxName::new(text.as_bytes()).ok()
 }
 
-/// The UID that a word writes, from 1 and without leading zeros.
-pub fn uid_of(text: &str) -> Option<Uid>
-    ensures some { IfSome result (λ uid. (text.now ≡ decimal uid) × (0 < uid) × (uid < 2 ^ 32)) }
-    ensures none { IsNone result → (uid : _) → 0 < uid → uid < 2 ^ 32 → text.now ≡ decimal uid → ⊥ }
+/// The message that a word writes: its UID from 1 without leading zeros, or `d` and the number of the action that makes it.
+pub fn ident_of(text: &str) -> Option<Ident>
+    ensures some { IfSome result (WritesIdent text.now) }
+    ensures none { IsNone result → (id : AnyIdent) → WritesIdent text.now id → ⊥ }
+{
+    match text.strip_prefix("d") {
+        Some(rest) => Some(Ident::Dummy(ActionId::new(number_of(rest)?)?)),
+        None => Some(Ident::Real(Uid::new(number_of(text)?)?)),
+    }
+}
+
+// The number that a text writes, without leading zeros.
+fn number_of(text: &str) -> Option<u32>
+    ensures some { IfSome result (λ number. text.now ≡ decimal number) }
+    ensures none { IsNone result → (number : _) → number < 2 ^ 32 → text.now ≡ decimal number → ⊥ }
 {
     let Ok(number) = read_u32(text.as_bytes()) else {
         return None;
     };
-    let uid = Uid::new(number)?;
     if is_decimal(text, number) {
-        Some(uid)
+        Some(number)
     } else {
         None
     }
@@ -41,7 +53,7 @@ fn is_decimal(text: &str, number: u32) -> bool
 }
 
 /// Whether a sign asks for an addition.
-pub fn addition_of(text: &str) -> Option<bool>
+pub fn is_addition(text: &str) -> Option<bool>
     ensures some { IfSome result (λ add. text.now ≡ sign_of add ∷ []) }
     ensures none { IsNone result → (add : _) → text.now ≡ sign_of add ∷ [] → ⊥ }
 {

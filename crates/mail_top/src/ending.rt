@@ -5,8 +5,10 @@ ghost use Rattle.mail_base.specs.Lines.{accepted, error_words, ready};
 ghost use Rattle.mail_top.specs.Telling.{line_of, printed, status_of, text_of, status_of_refusal, text_of_refusal};
 ghost use Rattle.mail_top.specs.Telling.{status_of_play, text_of_play, status_of_conflicts, status_of_fault, text_of_fault, text_of_why};
 
-use crate::printed::{limit_actions_line, refused_line};
-use crate::{Printed, Refusal, Told, Unfinished};
+use crate::printed::refused_line;
+use crate::{Printed, Refusal, Unfinished};
+use conflict_report::Told;
+use imap_model::Limit;
 use journal_core::Place9;
 use mail_base::{Bytes, Line, Status};
 use play_driver::{PlayFault, Played, Why};
@@ -43,7 +45,7 @@ pub fn ending_of_init(created: Result<(), Refusal>) -> Ending
 }
 
 /// The ending for what became of an action.
-pub fn ending_of_flag(taken: Result<u32, Refusal>) -> Ending
+pub fn ending_of_action(taken: Result<u32, Refusal>) -> Ending
     ensures status { result.status ≡ status_of taken }
     ensures text { printed result.text ≡ text_of accepted taken }
 {
@@ -53,8 +55,8 @@ pub fn ending_of_flag(taken: Result<u32, Refusal>) -> Ending
     }
 }
 
-/// The ending for what became of a list of rows.
-pub fn ending_of_list(listed: Result<Bytes, Refusal>) -> Ending
+/// The ending for what became of a text that is to be shown: the rows of a mailbox, or the queue.
+pub fn ending_of_text(listed: Result<Bytes, Refusal>) -> Ending
     ensures status { result.status ≡ status_of listed }
     ensures text { printed result.text ≡ text_of (λ text. text) listed }
 {
@@ -116,10 +118,14 @@ fn ending_of_refusal(refusal: Refusal) -> Ending
     let (status, text) = match refusal {
         Refusal::Disk => (Status::Disk, Printed::Line(Line::error_disk())),
         Refusal::Memory => (Status::Memory, Printed::Line(Line::error_memory())),
+        Refusal::Input => (Status::Input, Printed::Fixed(b"error input\n")),
         Refusal::Already => (Status::Journal, Printed::Line(Line::journal_exists())),
         Refusal::NotAJournal { why } => (Status::Journal, Printed::Line(line_of(why))),
         Refusal::Reason { reason } => (Status::Reason, Printed::Fixed(refused_line(reason))),
-        Refusal::Actions => (Status::Limit, Printed::Fixed(limit_actions_line())),
+        Refusal::Actions => (
+            Status::Limit,
+            Printed::Told(Told::error_limit(Limit::Actions, 1_000_001)),
+        ),
         Refusal::Full { end } => (Status::Limit, Printed::Line(Line::limit_journal(end))),
     };
     Ending { status, text }

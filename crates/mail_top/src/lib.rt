@@ -5,28 +5,33 @@ mod accepting;
 mod arguments;
 mod creating;
 mod ending;
+mod input;
 mod listing;
 mod names;
 mod playing;
 mod printed;
+mod queue_listing;
 mod reason;
 mod refusal;
 mod request;
 mod running;
 mod runs;
-mod told;
 mod unfinished;
+mod weighing;
 mod words;
 
-pub use accepting::{MAX_ASKED, MAX_OPEN};
-pub use arguments::{addition_of, box_of, uid_of};
+pub use arguments::{box_of, ident_of, is_addition};
+pub use input::{MAX_INPUT, MAX_TEXT};
 pub use names::{MAX_NAMES, are_names, names_in};
 pub use printed::Printed;
 pub use reason::Reason;
 pub use refusal::Refusal;
-pub use request::{Asked, AskedFlags};
+pub use request::{Asked, AskedAction, AskedAppend, AskedFlags, AskedMove};
 pub use running::run;
-pub use runs::{admitted_actions_have_records, runs_one_behind_another, words_ask_one_thing};
-pub use told::{Told, a_full_journal_is_told_as_a_limit};
+pub use runs::{
+    admitted_actions_have_records, one_action_is_asked_for, runs_one_behind_another,
+    words_ask_one_thing,
+};
 pub use unfinished::Unfinished;
+pub use weighing::{MAX_ASKED, MAX_OPEN};
 pub use words::asked;

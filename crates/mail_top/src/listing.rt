@@ -1,4 +1,4 @@
-//! The rows of a mailbox are shown as the book has them.
+//! The rows of a mailbox are shown as the user sees them.
 
 ghost use Rattle.std.specs.Prelude.{◌≡◌, ◌≤◌, IsErrOf};
 ghost use Rattle.world_traits.specs.Calls.{Rose};
@@ -19,12 +19,13 @@ ghost use Rattle.mail_top.specs.declared.refusal.Refusal.TheVariants as refusals
 use crate::printed::rows_of;
 use crate::{Reason, Refusal};
 use action_queue::Book;
+use local_view::view;
 use mail_base::{BoxName, Bytes};
 use std::alloc::Global;
 use store_core::Store;
 use world_traits::{Clocked, Disk};
 
-/// The text of a mailbox's rows.
+/// The text of the rows of a mailbox's view.
 ///
 /// The files are synced and read, and nothing is written: where a stop could have left either of two books, the syncs leave
 /// the one that is read.
@@ -54,16 +55,20 @@ pub fn list<D: Disk>(alloc: Global, disk: &mut D, name: &BoxName) -> Result<Byte
     ensures count { D.disk_faults disk.old ≤ D.disk_faults disk.new }
     ensures cause { IsErrOf result refusals.Disk → Rose (D.disk_faults disk.old) (D.disk_faults disk.new) }
     ensures never { IsErrOf result refusals.Already → ⊥ }
+    ensures unread { IsErrOf result refusals.Input → ⊥ }
 {
     let store = Store::open(alloc, disk)?;
     shown(alloc, store.book(), name)
 }
 
-// The text of the rows that a book knows of a mailbox.
+// The text of the rows of a mailbox's view.
 fn shown(alloc: Global, book: &Book, name: &BoxName) -> Result<Bytes, Refusal>
     ensures { Shown name.now (meaning book.now) result }
 {
-    let known = book.known(name).ok_or(Reason::NoMailbox)?;
-    let text = rows_of(alloc, &known.cache)?;
+    if book.known(name).is_none() {
+        return Err(Refusal::from(Reason::NoMailbox));
+    }
+    let rows = view(alloc, book, name)?;
+    let text = rows_of(alloc, &rows)?;
     Ok(text)
 }

@@ -1,18 +1,15 @@
 //! What a command prints.
 
-ghost use Rattle.std.specs.Prelude.{◌≡◌, ◌∷◌, ◌++◌, [], ℕ, IfOk, OnOk, decimal, flat_map};
-ghost use Rattle.mail_base.specs.Lines.{numbered};
-ghost use Rattle.mailbox_cache.specs.declared.row.Row.{Row};
+ghost use Rattle.std.specs.Prelude.{◌≡◌, ◌++◌, IfOk, OnOk, flat_map};
 ghost use Rattle.mail_top.specs.Telling.{printed};
-ghost use Rattle.mail_top.specs.Texts.{refused, limit_actions, row_line, cached_line, rows_text, spaced};
+ghost use Rattle.mail_top.specs.Texts.{refused, row_line, rows_text, mark_text};
+ghost use Rattle.mail_top.specs.Words.{ident_text};
 
-use crate::{Reason, Told};
-use flag_set::FlagKey;
-use itoa::Buffer;
-use mail_base::{Bytes, Line};
-use mailbox_cache::{Cache, Row};
+use crate::Reason;
+use conflict_report::{Told, put_keys, put_number};
+use local_view::{Ident, Seen};
+use mail_base::{Bytes, Line, ModSeq};
 use std::alloc::{AllocError, Global};
-use uid_sets::Uid;
 
 /// What a command prints.
 #[derive(Drop)]
@@ -41,7 +38,7 @@ impl Printed {
     }
 }
 
-/// `refused REASON`: the command is refused by the book as it is.
+/// `refused REASON`: the command is refused by the book as it is, or by its input.
 pub fn refused_line(reason: Reason) -> &'static [u8]
     ensures { result.now ≡ refused reason }
 {
@@ -49,73 +46,69 @@ pub fn refused_line(reason: Reason) -> &'static [u8]
         Reason::NoMailbox => b"refused no-mailbox\n",
         Reason::NoMessage => b"refused no-message\n",
         Reason::BadFlag => b"refused bad-flag\n",
+        Reason::SameMailbox => b"refused same-mailbox\n",
         Reason::QueueFull => b"refused queue-full\n",
+        Reason::TooLarge => b"refused too-large\n",
+        Reason::BadText => b"refused bad-text\n",
+        Reason::NoMessageId => b"refused no-message-id\n",
     }
 }
 
-/// `error limit actions 1000001`: the queue would have more actions than it may.
-pub fn limit_actions_line() -> &'static [u8]
-    ensures { result.now ≡ limit_actions }
-{
-    b"error limit actions 1000001\n"
-}
-
-/// The rows of a mailbox's cache, a line each: the UID, the mod-sequence, and each flag's key behind a space. A mailbox that
-/// was never synchronised shows none. Fails for want of memory alone.
-pub fn rows_of(alloc: Global, cache: &Option<Cache>) -> Result<Bytes, AllocError>
-    ensures { IfOk result (λ text. text ≡ rows_text cache.now) }
+/// The rows of a mailbox as the user sees it, a line each: the UID, or `d` and the number of the action that makes the message;
+/// the mod-sequence, or `-`; and each flag's key behind a space. Fails for want of memory alone.
+pub fn rows_of(alloc: Global, rows: &[Seen]) -> Result<Bytes, AllocError>
+    ensures { IfOk result (λ text. text ≡ rows_text rows.now) }
 {
     let mut text = Vec::new(alloc);
-    if let Some(cache) = cache {
-        put_rows(&mut text, cache.rows.as_slice())?;
-    }
+    put_rows(&mut text, rows)?;
     Ok(Bytes::of(text))
 }
 
 // Adds the lines of rows.
-fn put_rows(text: &mut Vec<u8>, rows: &[(Uid, Row)]) -> Result<(), AllocError>
-    ensures { OnOk result (text.new.items ≡ text.old.items ++ flat_map cached_line rows.now) }
+fn put_rows(text: &mut Vec<u8>, rows: &[Seen]) -> Result<(), AllocError>
+    ensures { OnOk result (text.new.items ≡ text.old.items ++ flat_map row_line rows.now) }
 {
-    for (uid, row) in rows {
-        put_row(text, *uid, row)?;
+    for row in rows {
+        put_row(text, row)?;
     }
     Ok(())
 }
 
 // Adds the line of a row.
-fn put_row(text: &mut Vec<u8>, uid: Uid, row: &Row) -> Result<(), AllocError>
-    ensures { OnOk result (text.new.items ≡ text.old.items ++ cached_line (uid, row.now)) }
+#[tactic(auto, unfolding(crate::specs::Texts::row_line))]
+fn put_row(text: &mut Vec<u8>, row: &Seen) -> Result<(), AllocError>
+    ensures { OnOk result (text.new.items ≡ text.old.items ++ row_line row.now) }
 {
-    put_number(text, u64::from(uid.number()))?;
+    put_ident(text, row.id)?;
     text.push(b' ')?;
-    put_number(text, row.modseq.number())?;
+    put_mark(text, row.modseq)?;
     put_keys(text, row.flags.keys())?;
     text.push(b'\n')?;
     Ok(())
 }
 
-// Adds a number in decimal digits.
-fn put_number(text: &mut Vec<u8>, number: u64) -> Result<(), AllocError>
-    ensures { OnOk result (text.new.items ≡ text.old.items ++ decimal number) }
+// Adds a message, as it is written.
+fn put_ident(text: &mut Vec<u8>, id: Ident) -> Result<(), AllocError>
+    ensures { OnOk result (text.new.items ≡ text.old.items ++ ident_text id) }
 {
-    let mut buffer = Buffer::new();
-    text.extend_from_slice(buffer.format(number).as_bytes())
-}
-
-// Adds each key behind a space.
-fn put_keys(text: &mut Vec<u8>, keys: &[FlagKey]) -> Result<(), AllocError>
-    ensures { OnOk result (text.new.items ≡ text.old.items ++ flat_map spaced keys.now) }
-{
-    for key in keys {
-        put_key(text, key)?;
+    match id {
+        Ident::Real(uid) => put_number(text, u64::from(uid.number())),
+        Ident::Dummy(id) => {
+            text.push(b'd')?;
+            put_number(text, u64::from(id.number()))
+        }
     }
-    Ok(())
 }
 
-// Adds a key behind a space.
-fn put_key(text: &mut Vec<u8>, key: &FlagKey) -> Result<(), AllocError>
-    ensures { OnOk result (text.new.items ≡ text.old.items ++ spaced key.now) }
+// Adds a mod-sequence, or `-` where there is none.
+fn put_mark(text: &mut Vec<u8>, modseq: Option<ModSeq>) -> Result<(), AllocError>
+    ensures { OnOk result (text.new.items ≡ text.old.items ++ mark_text modseq) }
 {
-    text.push(b' ')?;
-    text.extend_from_slice(key.as_bytes())
+    match modseq {
+        Some(modseq) => put_number(text, modseq.number()),
+        None => {
+            text.push(b'-')?;
+            Ok(())
+        }
+    }
 }

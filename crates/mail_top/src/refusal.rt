@@ -3,9 +3,11 @@
 use crate::Reason;
 use flag_set::FlagFault;
 use journal_core::Place9;
+use mail_header::IdFault;
 use std::alloc::AllocError;
 use store_core::{CommitFault, StoreFault};
 use thiserror::Error;
+use world_traits::ReadFailed;
 
 /// Why a command isn't carried out.
 #[derive(Clone, Copy, Debug, PartialEq, Eq, Drop, Error)]
@@ -16,13 +18,16 @@ pub enum Refusal {
     /// Memory is wanting.
     #[error("out of memory")]
     Memory,
+    /// The input failed.
+    #[error("the input failed")]
+    Input,
     /// A journal is there already.
     #[error("a journal is there")]
     Already,
     /// The files are no journal, or a record isn't whole, spells no event, or one that may not come there.
     #[error("no journal")]
     NotAJournal { why: Place9 },
-    /// The book as it is speaks against it.
+    /// The book as it is, or the input, speaks against it.
     #[error("refused")]
     Reason { reason: Reason },
     /// The queue would have more actions than it may.
@@ -99,6 +104,34 @@ impl From<FlagFault> for Refusal {
             FlagFault::TooLong { .. } | FlagFault::BadFlag { .. } | FlagFault::TooMany { .. } => {
                 Refusal::from(Reason::BadFlag)
             }
+        }
+    }
+}
+
+impl From<ReadFailed> for Refusal {
+    ghost use Rattle.std.specs.Prelude.{◌≡◌};
+    ghost use Rattle.mail_top.specs.declared.refusal.Refusal.TheVariants as refusals;
+
+    ghost from_gives = { λ _ refusal. refusal ≡ refusals.Input };
+
+    fn from(_failed: ReadFailed) -> Refusal {
+        Refusal::Input
+    }
+}
+
+impl From<IdFault> for Refusal {
+    ghost use Rattle.std.specs.Prelude.{◌≡◌};
+    ghost use Rattle.mail_top.specs.Faults.{of_id};
+
+    ghost from_gives = { λ flaw refusal. refusal ≡ of_id flaw };
+
+    fn from(fault: IdFault) -> Refusal {
+        match fault {
+            IdFault::Memory => Refusal::Memory,
+            IdFault::Missing
+            | IdFault::Twice { .. }
+            | IdFault::TooLong { .. }
+            | IdFault::BadForm { .. } => Refusal::from(Reason::NoMessageId),
         }
     }
 }

@@ -1,9 +1,8 @@
 //! The top call.
 
-ghost use Rattle.std.specs.Prelude.{◌≡◌, ◌≢◌, ◌⊎◌, ◌≤◌, ◌↔◌, ℕ, List, map, string_bytes};
+ghost use Rattle.std.specs.Prelude.{◌≡◌, ◌≢◌, ◌⊎◌, ◌≤◌, ◌↔◌, ℕ, List, [], map, string_bytes};
 ghost use Rattle.world_traits.specs.Calls.{Rose};
-ghost use Rattle.world_traits.specs.Links.{Any};
-ghost use Rattle.world_traits.specs.Moments.{OneSideAtRest, Since};
+ghost use Rattle.world_traits.specs.Moments.{OneSideAtRest};
 ghost use Rattle.journal_core.specs.Creating.{IsUnbegun};
 ghost use Rattle.journal_core.specs.OneSide.{EachOneSide};
 ghost use Rattle.store_core.specs.Mail.{mail};
@@ -12,29 +11,39 @@ ghost use Rattle.store_core.specs.Taking.{HasBooks};
 ghost use Rattle.play_driver.specs.Joining.{AllFair};
 ghost use Rattle.play_driver.specs.Unplayed.{unplayed};
 ghost use Rattle.mail_top.specs.Connecting.{ConnectsAtFirst};
-ghost use Rattle.mail_top.specs.Ending.{Ends, EndsRequest, Comes, IsDone, IsLater, IsTakable, IsListable, HasWaiting};
-ghost use Rattle.mail_top.specs.Leaving.{KeepsOn, GoesOnBy, KeepsStep, LosesNone, MayBeLeft, RequestStep};
+ghost use Rattle.mail_top.specs.Ending.{Comes, IsDone, IsLater, IsTakable, IsListable, HasWaiting};
+ghost use Rattle.mail_top.specs.Going.{Goes, GoesRequest};
+ghost use Rattle.mail_top.specs.Leaving.{LosesNone};
 ghost use Rattle.mail_top.specs.Played.{AreSynced, CameThrough};
 ghost use Rattle.mail_top.specs.Printing.{IsSaid, Prints};
+ghost use Rattle.mail_top.specs.Reading.{AsksAppend, AwaitsAsked, AwaitsInput, IsAppend, IsInput, IsReadOut, NeedsInput, TakesFront};
+ghost use Rattle.mail_top.specs.Runs.{AreBook};
 ghost use Rattle.mail_top.specs.Telling.{printed, TellsNoPlace};
 ghost use Rattle.mail_top.specs.Unplayed.{IsUnplayedYet, StaysUnplayed};
-ghost use Rattle.mail_top.specs.Words.{Asks, AsksNothing, IsLawful, Change, Init, Flag, Rows, Play, request_of};
+ghost use Rattle.mail_top.specs.Words.{Asks, AsksAction, AsksNothing, IsLawful, Wanted, Play, WritesInit, WritesRows, WritesQueue, WritesPlay, request_of};
 
 use crate::accepting::accept;
 use crate::creating::init;
 use crate::ending::{
-    Ending, ending_of_flag, ending_of_init, ending_of_list, ending_of_play, ending_of_words,
+    Ending, ending_of_action, ending_of_init, ending_of_play, ending_of_text, ending_of_words,
 };
 use crate::listing::list;
 use crate::playing::play;
+use crate::queue_listing::queue;
 use crate::{Asked, asked};
 use mail_base::{Account, Status};
 use std::alloc::Global;
 use world_traits::{Clocked, Disk, Link, Sink, Source, World, WriteFailed};
 
 // Carries out what the words ask for, up to the printing.
-fn carry_out<W: World>(alloc: Global, words: &[String], account: &Account, world: &mut W) -> Ending
-    ensures ends { W.tells_files → Ends account.now (map string_bytes words.now)
+fn carry_out<W: World, I: Source>(
+    alloc: Global,
+    words: &[String],
+    account: &Account,
+    input: &mut I,
+    world: &mut W,
+) -> Ending
+    ensures goes { W.tells_files → (given : List ℕ) × IsInput I.tells (I.rest input.old) given × Goes account.now (map string_bytes words.now) given
         (record {
           old = W.clock world.old;
           new = W.clock world.new;
@@ -49,36 +58,45 @@ fn carry_out<W: World>(alloc: Global, words: &[String], account: &Account, world
     ensures words { (result.status ≡ Status.Words) ↔ AsksNothing (map string_bytes words.now) }
     ensures disk { result.status ≡ Status.Disk → Rose (W.disk_faults world.old) (W.disk_faults world.new) }
     ensures link_fault { result.status ≡ Status.Link → Rose (W.link world.old).faults (W.link world.new).faults }
+    ensures input_fault { result.status ≡ Status.Input → Rose (I.source_faults input.old) (I.source_faults input.new) }
+    ensures unread { (AsksAppend (map string_bytes words.now) → ⊥) → input.new ≡ input.old }
+    ensures read { W.tells_files → (input.new ≡ input.old) ⊎ AwaitsInput (map string_bytes words.now) (W.seen world.old) }
+    ensures taken { I.tells → TakesFront (I.rest input.old) (I.rest input.new) }
+    ensures whole { I.tells → AsksAppend (map string_bytes words.now) → result.status ≡ Status.Done → I.rest input.new ≡ [] }
+    ensures out { I.tells → (result.status ≢ Status.Input) → (result.status ≢ Status.Memory) →
+        (input.new ≡ input.old) ⊎ IsReadOut (I.rest input.old) (I.rest input.new) }
     ensures honest { W.tells_server → result.status ≡ Status.Reply → TellsNoPlace (printed result.text) }
-    ensures every { W.tells_files → KeepsOn (map string_bytes words.now) (W.clock world.old).now (W.seen world.old)
-        (W.clock world.old) (W.clock world.new) }
-    ensures books { W.tells_files → OneSideAtRest (W.clock world.old).now →
-        (books : Books mail) → HasBooks mail books (W.clock world.old).now →
-        GoesOnBy (map string_bytes words.now) (W.clock world.old) (W.clock world.new) }
     ensures joined { W.tells_server → OneSideAtRest (W.clock world.old).now →
         (books : Books mail) → HasBooks mail books (W.clock world.old).now →
         IsUnplayedYet (W.clock world.old).now → StaysUnplayed (W.clock world.old) (W.clock world.new) }
-    ensures synced { W.tells_server → Asks (map string_bytes words.now) Play → result.status ≡ Status.Done →
+    ensures synced { W.tells_server → WritesPlay (map string_bytes words.now) → result.status ≡ Status.Done →
         IsUnplayedYet (W.clock world.old).now → AllFair mail unplayed (W.clock world.old) (W.clock world.new) →
         AreSynced (W.seen world.new) (W.clock world.old) (W.clock world.new) }
     ensures one_side { W.tells_files → OneSideAtRest (W.clock world.old).now → OneSideAtRest (W.clock world.new).now }
     ensures each_one_side { W.tells_files → OneSideAtRest (W.clock world.old).now →
         EachOneSide (W.clock world.old) (W.clock world.new) }
     ensures connects { W.tells_server → ConnectsAtFirst (W.clock world.old) (W.clock world.new) }
-    ensures link { (Asks (map string_bytes words.now) Play → ⊥) → W.link world.new ≡ W.link world.old }
+    ensures link { (WritesPlay (map string_bytes words.now) → ⊥) → W.link world.new ≡ W.link world.old }
     ensures count { W.disk_faults world.old ≤ W.disk_faults world.new }
     ensures link_count { (W.link world.old).faults ≤ (W.link world.new).faults }
+    ensures source_count { I.source_faults input.old ≤ I.source_faults input.new }
 {
     match asked(words) {
         None => ending_of_words(),
-        Some(asked) => answer(alloc, &asked, account, world),
+        Some(asked) => answer(alloc, &asked, account, input, world),
     }
 }
 
 // Carries out what was asked for, up to the printing.
-fn answer<W: World>(alloc: Global, asked: &Asked<'_>, account: &Account, world: &mut W) -> Ending
+fn answer<W: World, I: Source>(
+    alloc: Global,
+    asked: &Asked<'_>,
+    account: &Account,
+    input: &mut I,
+    world: &mut W,
+) -> Ending
     requires { IsLawful asked.now }
-    ensures ends { W.tells_files → EndsRequest account.now (request_of asked.now)
+    ensures goes { W.tells_files → (given : List ℕ) × IsInput I.tells (I.rest input.old) given × GoesRequest account.now (request_of asked.now given)
         (record {
           old = W.clock world.old;
           new = W.clock world.new;
@@ -93,30 +111,34 @@ fn answer<W: World>(alloc: Global, asked: &Asked<'_>, account: &Account, world: 
     ensures not_words { result.status ≢ Status.Words }
     ensures disk { result.status ≡ Status.Disk → Rose (W.disk_faults world.old) (W.disk_faults world.new) }
     ensures link_fault { result.status ≡ Status.Link → Rose (W.link world.old).faults (W.link world.new).faults }
+    ensures input_fault { result.status ≡ Status.Input → Rose (I.source_faults input.old) (I.source_faults input.new) }
+    ensures unread { (IsAppend asked.now → ⊥) → input.new ≡ input.old }
+    ensures read { W.tells_files → (input.new ≡ input.old) ⊎ AwaitsAsked asked.now (W.seen world.old) }
+    ensures taken { I.tells → TakesFront (I.rest input.old) (I.rest input.new) }
+    ensures whole { I.tells → IsAppend asked.now → result.status ≡ Status.Done → I.rest input.new ≡ [] }
+    ensures out { I.tells → (result.status ≢ Status.Input) → (result.status ≢ Status.Memory) →
+        (input.new ≡ input.old) ⊎ IsReadOut (I.rest input.old) (I.rest input.new) }
     ensures honest { W.tells_server → result.status ≡ Status.Reply → TellsNoPlace (printed result.text) }
-    ensures keeps { W.tells_files → Since (MayBeLeft (request_of asked.now) (W.clock world.old).now (W.seen world.old))
-        (KeepsStep (request_of asked.now)) (W.clock world.old) (W.clock world.new) }
-    ensures books { W.tells_files → OneSideAtRest (W.clock world.old).now →
-        (books : Books mail) → HasBooks mail books (W.clock world.old).now →
-        Since Any (RequestStep (request_of asked.now)) (W.clock world.old) (W.clock world.new) }
     ensures joined { W.tells_server → OneSideAtRest (W.clock world.old).now →
         (books : Books mail) → HasBooks mail books (W.clock world.old).now →
         IsUnplayedYet (W.clock world.old).now → StaysUnplayed (W.clock world.old) (W.clock world.new) }
-    ensures synced { W.tells_server → request_of asked.now ≡ Play → result.status ≡ Status.Done →
+    ensures synced { W.tells_server → ((input : List ℕ) → request_of asked.now input ≡ Play) → result.status ≡ Status.Done →
         IsUnplayedYet (W.clock world.old).now → AllFair mail unplayed (W.clock world.old) (W.clock world.new) →
         AreSynced (W.seen world.new) (W.clock world.old) (W.clock world.new) }
     ensures one_side { W.tells_files → OneSideAtRest (W.clock world.old).now → OneSideAtRest (W.clock world.new).now }
     ensures each_one_side { W.tells_files → OneSideAtRest (W.clock world.old).now →
         EachOneSide (W.clock world.old) (W.clock world.new) }
     ensures connects { W.tells_server → ConnectsAtFirst (W.clock world.old) (W.clock world.new) }
-    ensures link { (request_of asked.now ≡ Play → ⊥) → W.link world.new ≡ W.link world.old }
+    ensures link { (((input : List ℕ) → request_of asked.now input ≡ Play) → ⊥) → W.link world.new ≡ W.link world.old }
     ensures count { W.disk_faults world.old ≤ W.disk_faults world.new }
     ensures link_count { (W.link world.old).faults ≤ (W.link world.new).faults }
+    ensures source_count { I.source_faults input.old ≤ I.source_faults input.new }
 {
     match asked {
         Asked::Init(texts) => ending_of_init(init(alloc, world, texts)),
-        Asked::Flag(flags) => ending_of_flag(accept(alloc, world, flags)),
-        Asked::Rows(name) => ending_of_list(list(alloc, world, name)),
+        Asked::Act(action) => ending_of_action(accept(alloc, world, input, action)),
+        Asked::Rows(name) => ending_of_text(list(alloc, world, name)),
+        Asked::Queue => ending_of_text(queue(alloc, world)),
         Asked::Play => ending_of_play(play(alloc, account, world)),
     }
 }
@@ -141,30 +163,40 @@ fn say<S: Sink>(out: &mut S, ending: &Ending) -> Status
 
 /// Carries out what the user's words ask for, and prints what it came to.
 ///
-/// The words are `init BOX ..`, which sets up a journal for these mailboxes and prints `ready`; `flag BOX UID SIGN FLAG ..`,
-/// which accepts an action: both files are synced and read, the action's record is written behind the journal's last one
-/// and synced, its gate is opened and synced, and only then `accepted n` is printed; `list BOX`, which prints the rows
-/// that the book knows of a mailbox; or `play`, which makes each cache the server's in one connection, with the account's
-/// user and password, and prints `played 0 conflicts 0`. While an action isn't settled nothing is sent: `play` ends with
-/// `error later n`, where n is the first one's number. The connection is left as it ended: the caller, who made the world,
-/// closes it. The input isn't read.
+/// The words are one of these:
 ///
-/// Refusals come in this order: the words, the disk and the journal as read, the reasons, the limits, the actions that wait,
-/// and what befalls a session. Want of memory may come in place of any: before the first write, but of `play` also behind what
-/// it recorded of some mailboxes.
+/// - `init BOX ..` sets up a journal for these mailboxes, and prints `ready`;
+/// - `flag BOX ID SIGN FLAG ..`, `move BOX ID BOX` and `append BOX FLAG ..` accept an action: both files are synced and read, the
+///   action's record is written behind the journal's last one and synced, its gate is opened and synced, and only then
+///   `accepted n` is printed. ID is a UID, or `dk` for the message that action k makes. An append's message is the input, with a CR
+///   before each LF that has none; it is read where no reason speaks against it that the book can tell, to its end or 2^25 + 1
+///   bytes. No other command reads the input;
+/// - `list BOX` prints the rows of a mailbox as the user sees them, and `queue` a line for each unsettled action;
+/// - `play` makes each cache the server's in one connection, with the account's user and password, and prints
+///   `played 0 conflicts 0`. While an action isn't settled nothing is sent: it ends with `error later n`, where n is the first
+///   one's number. The connection is left as it ended: the caller, who made the world, closes it.
+///
+/// Refusals come in this order: the words, the disk and the journal as read, the reasons (with a fault of the input between
+/// `queue-full` and `too-large`), the limits, the actions that wait, and what befalls a session. Want of memory may come in place
+/// of any: before the first write, but of `play` also behind what it recorded of some mailboxes.
 pub fn run<W: World, I: Source, S: Sink>(
     alloc: Global,
     words: &[String],
     account: &Account,
-    _input: &mut I,
+    input: &mut I,
     world: &mut W,
     out: &mut S,
 ) -> Status
-    // What the status says of the words, the book as read, what a stop leaves now, the link, and the text, which is printed.
-    // Where `accepted n` was printed, what a stop leaves has the action behind n - 1 others. An honest server's bytes go on as
-    // replies: the text isn't `error reply AT`.
-    ensures ends { W.tells_files → (text : List ℕ)
-        × Ends account.now (map string_bytes words.now)
+    // What the status says of the words, the input, the book as read, what a stop leaves now, the link, and the text, which is
+    // printed. Where `accepted n` was printed, what a stop leaves has the action behind n - 1 others. An honest server's bytes go
+    // on as replies: the text isn't `error reply AT`.
+    //
+    // At every moment a stop leaves what was accepted, and nothing but what the words ask for; no step from one moment to the next
+    // loses an action that all images hold. Nor does one change what isn't on the disk, but those of `play`. Where one side was at
+    // rest, from each moment to the next the books that a stop may leave stay, or the event that the words ask for is begun, or
+    // made firm, or one of two books is chosen.
+    ensures goes { W.tells_files → (given : List ℕ) × IsInput I.tells (I.rest input.old) given × (text : List ℕ)
+        × Goes account.now (map string_bytes words.now) given
         (record {
           old = W.clock world.old;
           new = W.clock world.new;
@@ -182,42 +214,39 @@ pub fn run<W: World, I: Source, S: Sink>(
     ensures words { (result ≡ Status.Words) ↔ AsksNothing (map string_bytes words.now) }
     ensures disk { result ≡ Status.Disk → Rose (W.disk_faults world.old) (W.disk_faults world.new) }
     ensures link_fault { result ≡ Status.Link → Rose (W.link world.old).faults (W.link world.new).faults }
+    ensures input_fault { result ≡ Status.Input → Rose (I.source_faults input.old) (I.source_faults input.new) }
     ensures output { result ≡ Status.Output → Rose (S.sink_faults out.old) (S.sink_faults out.new) }
 
-    // A change that the book takes, and no fault of disk or sink: the action is accepted, or memory is wanting.
-    ensures complete_flag { W.tells_files → (change : Change) → Asks (map string_bytes words.now) (Flag change) →
-        IsTakable change (W.seen world.old) →
-        (Rose (W.disk_faults world.old) (W.disk_faults world.new) → ⊥) → (Rose (S.sink_faults out.old) (S.sink_faults out.new) → ⊥) →
-        IsDone result }
+    // An action that the book takes, and no fault of disk, input or sink: it is accepted, or memory is wanting.
+    ensures complete_action { W.tells_files → (wanted : Wanted) → AsksAction (map string_bytes words.now) (I.rest input.old) wanted →
+        NeedsInput wanted I.tells → IsTakable wanted (W.seen world.old) →
+        (Rose (W.disk_faults world.old) (W.disk_faults world.new) → ⊥) →
+        (Rose (I.source_faults input.old) (I.source_faults input.new) → ⊥) →
+        (Rose (S.sink_faults out.old) (S.sink_faults out.new) → ⊥) → IsDone result }
 
     // Lawful names, no side begun, and no fault: the journal is set up, or memory is wanting.
-    ensures complete_init { W.tells_files → (names : List (List ℕ)) → Asks (map string_bytes words.now) (Init names) →
+    ensures complete_init { W.tells_files → (names : List (List ℕ)) → WritesInit (map string_bytes words.now) names →
         IsUnbegun (W.seen world.old) →
         (Rose (W.disk_faults world.old) (W.disk_faults world.new) → ⊥) → (Rose (S.sink_faults out.old) (S.sink_faults out.new) → ⊥) →
         IsDone result }
 
     // A mailbox of the book, and no fault: its rows are printed, or memory is wanting.
-    ensures complete_list { W.tells_files → (name : List ℕ) → Asks (map string_bytes words.now) (Rows name) →
+    ensures complete_list { W.tells_files → (name : List ℕ) → WritesRows (map string_bytes words.now) name →
         IsListable name (W.seen world.old) →
         (Rose (W.disk_faults world.old) (W.disk_faults world.new) → ⊥) → (Rose (S.sink_faults out.old) (S.sink_faults out.new) → ⊥) →
         IsDone result }
 
+    // A book, and no fault: its queue is printed, or memory is wanting.
+    ensures complete_queue { W.tells_files → WritesQueue (map string_bytes words.now) → AreBook (W.seen world.old) →
+        (Rose (W.disk_faults world.old) (W.disk_faults world.new) → ⊥) → (Rose (S.sink_faults out.old) (S.sink_faults out.new) → ⊥) →
+        IsDone result }
+
     // A book of which an action isn't settled, and no fault of the disk: `play` waits for it, or memory is wanting.
-    ensures complete_later { W.tells_files → Asks (map string_bytes words.now) Play → HasWaiting (W.seen world.old) →
+    ensures complete_later { W.tells_files → WritesPlay (map string_bytes words.now) → HasWaiting (W.seen world.old) →
         (Rose (W.disk_faults world.old) (W.disk_faults world.new) → ⊥) → IsLater result }
 
-    // At every moment a stop leaves what was accepted, and nothing but what the words ask for; no step from one moment to
-    // the next loses an action that all images hold, and so what they hold at entry they hold at the end. Nor does one
-    // change what isn't on the disk, but those of `play`.
-    ensures every { W.tells_files → KeepsOn (map string_bytes words.now) (W.clock world.old).now (W.seen world.old)
-        (W.clock world.old) (W.clock world.new) }
+    // No action that all images hold at entry is lost.
     ensures held { W.tells_files → LosesNone (W.clock world.old).now (W.clock world.new).now }
-
-    // From each moment to the next the books that a stop may leave stay, or the event that the words ask for is begun, or
-    // made firm, or one of two books is chosen.
-    ensures books { W.tells_files → OneSideAtRest (W.clock world.old).now →
-        (books : Books mail) → HasBooks mail books (W.clock world.old).now →
-        GoesOnBy (map string_bytes words.now) (W.clock world.old) (W.clock world.new) }
 
     // As long as nothing was played, and others leave each UIDVALIDITY: each moment stays so, and is joined to the one before
     // it by one step of the book beside the server.
@@ -227,7 +256,7 @@ pub fn run<W: World, I: Source, S: Sink>(
 
     // And a `play` that came to its end leaves each mailbox with a cache that is the server's as it answered for its rows in
     // this run.
-    ensures synced { W.tells_server → Asks (map string_bytes words.now) Play → CameThrough result →
+    ensures synced { W.tells_server → WritesPlay (map string_bytes words.now) → CameThrough result →
         IsUnplayedYet (W.clock world.old).now → AllFair mail unplayed (W.clock world.old) (W.clock world.new) →
         AreSynced (W.seen world.new) (W.clock world.old) (W.clock world.new) }
 
@@ -241,16 +270,25 @@ pub fn run<W: World, I: Source, S: Sink>(
     ensures each_one_side { W.tells_files → OneSideAtRest (W.clock world.old).now →
         EachOneSide (W.clock world.old) (W.clock world.new) }
 
-    // Unless it is played no more of the outside is touched: nothing but the files, and not the link. The input isn't read.
-    ensures outside { W.tells_files → (Asks (map string_bytes words.now) Play → ⊥) →
+    // Unless it is played no more of the outside is touched: nothing but the files, and not the link.
+    ensures outside { W.tells_files → (WritesPlay (map string_bytes words.now) → ⊥) →
         (W.clock world.new).now.outside ≡ (W.clock world.old).now.outside }
-    ensures link { (Asks (map string_bytes words.now) Play → ⊥) → W.link world.new ≡ W.link world.old }
-    ensures unread { _input.new ≡ _input.old }
+    ensures link { (WritesPlay (map string_bytes words.now) → ⊥) → W.link world.new ≡ W.link world.old }
+
+    // The input is read for an append alone, and only where no reason speaks against it that the book as read can tell. Then it is
+    // read to its end or 2^25 + 1 bytes, unless it fails or memory is wanting; and where the message is accepted, to its end.
+    ensures unread { (AsksAppend (map string_bytes words.now) → ⊥) → input.new ≡ input.old }
+    ensures read { W.tells_files → (input.new ≡ input.old) ⊎ AwaitsInput (map string_bytes words.now) (W.seen world.old) }
+    ensures taken { I.tells → TakesFront (I.rest input.old) (I.rest input.new) }
+    ensures whole { I.tells → AsksAppend (map string_bytes words.now) → CameThrough result → I.rest input.new ≡ [] }
+    ensures out { I.tells → (result ≢ Status.Input) → (result ≢ Status.Memory) →
+        (input.new ≡ input.old) ⊎ IsReadOut (I.rest input.old) (I.rest input.new) }
 
     ensures count { W.disk_faults world.old ≤ W.disk_faults world.new }
     ensures link_count { (W.link world.old).faults ≤ (W.link world.new).faults }
+    ensures source_count { I.source_faults input.old ≤ I.source_faults input.new }
     ensures sink_count { S.sink_faults out.old ≤ S.sink_faults out.new }
 {
-    let ending = carry_out(alloc, words, account, world);
+    let ending = carry_out(alloc, words, account, input, world);
     say(out, &ending)
 }

@@ -7,13 +7,13 @@ ghost use Rattle.store_core.specs.HeldActions.{IsHeld};
 ghost use Rattle.action_queue.specs.Book.{Meaning};
 ghost use Rattle.action_queue.specs.Writable.{IsWritable};
 ghost use Rattle.action_queue.specs.declared.action.Action.{Action};
-ghost use Rattle.mail_top.specs.Actions.{accepts};
+ghost use Rattle.mail_top.specs.Actions.{Becomes, accepts};
 ghost use Rattle.mail_top.specs.Course.{Course};
 ghost use Rattle.mail_top.specs.Leaving.{LosesNone};
 ghost use Rattle.mail_top.specs.Runs.{Follows, BeginsWith, AcceptsAt, AreUnbegunOrBook, IsReady, HasNames, AnyBook};
 ghost use Rattle.mail_top.specs.Saying.{SaysAccepted};
 ghost use Rattle.mail_top.specs.Weighing.{Admits};
-ghost use Rattle.mail_top.specs.Words.{Change, Request, Flag, Asks};
+ghost use Rattle.mail_top.specs.Words.{Request, Wanted, Asks, AsksAction};
 
 /// Whatever runs come one behind another, wherever each is cut off, whatever image each stop leaves, and whatever happens at
 /// the server between two runs: no action that every image held is lost, with its outcome, and the n-th that was accepted
@@ -26,9 +26,9 @@ pub fn runs_one_behind_another()
     ensures held { (first last : Moment) → Follows first last → LosesNone first last }
 
     // So an accepted action stays in the queue at the place of its number, and a later one gets a higher number.
-    ensures accepted { (change : Change) (k : Course) (text : List ℕ) (is : SaysAccepted change k text) → (last : Moment) →
+    ensures accepted { (wanted : Wanted) (k : Course) (text : List ℕ) (is : SaysAccepted wanted k text) → (last : Moment) →
         Follows k.new.now last → IsHeld (length is.book.queue) is.action None last }
-    ensures numbered { (change : Change) (k : Course) (text : List ℕ) (is : SaysAccepted change k text) → (last : Moment) →
+    ensures numbered { (wanted : Wanted) (k : Course) (text : List ℕ) (is : SaysAccepted wanted k text) → (last : Moment) →
         Follows k.new.now last → (later : AcceptsAt last) → length is.book.queue < length later.is.book.queue }
 
     // Files without a journal, and those that hold a book, stay such: no run and no stop leaves a journal that a later run
@@ -41,13 +41,19 @@ pub fn runs_one_behind_another()
         IsReady (HasNames names) last }
 {}
 
-/// Words ask for one thing at most.
+/// Words and an input ask for one thing at most.
 pub fn words_ask_one_thing()
-    ensures { (words : List (List ℕ)) (one other : Request) → Asks words one → Asks words other → one ≡ other }
+    ensures { (words : List (List ℕ)) (input : List ℕ) (one other : Request) → Asks words input one → Asks words input other → one ≡ other }
 {}
 
-/// The action that a book admits for the words of a command has a record.
+/// What is asked for becomes one action at most, which depends on what the book knows of its mailboxes alone.
+pub fn one_action_is_asked_for()
+    ensures one { (wanted : Wanted) (b : Meaning) (action other : Action) → Becomes wanted b action → Becomes wanted b other → action ≡ other }
+    ensures boxes { (wanted : Wanted) (b c : Meaning) (action : Action) → c.boxes ≡ b.boxes → Becomes wanted b action → Becomes wanted c action }
+{}
+
+/// The action that a book admits for the words of a command, and its input, has a record.
 pub fn admitted_actions_have_records()
-    ensures { (words : List (List ℕ)) (change : Change) (b : Meaning) (id : ℕ) (action : Action) → Asks words (Flag change) →
-        Admits change b id action → IsWritable (accepts b action) }
+    ensures { (words : List (List ℕ)) (input : List ℕ) (wanted : Wanted) (b : Meaning) (id : ℕ) (action : Action) →
+        AsksAction words input wanted → Admits wanted b id action → IsWritable (accepts b action) }
 {}

@@ -1,26 +1,41 @@
 //! The words of a command.
 
 ghost use Rattle.std.specs.Prelude.{◌≡◌, ℕ, List, [], ◌∷◌, IsNone, IfSome, string_bytes, map, codes};
-ghost use Rattle.mail_top.specs.Words.{Asks, AsksNothing, IsLawful, WritesInit, WritesFlag, WritesRows, WritesPlay, Change, Play, change_of, request_of};
+ghost use Rattle.mail_top.specs.Words.{Asks, AsksAction, AsksNothing, HasFewFlags, IsLawful, WritesInit, WritesFlag, WritesMove, WritesAppend};
+ghost use Rattle.mail_top.specs.Words.{WritesRows, WritesQueue, WritesPlay, Change, Transfer, Addition, Queue, Play};
+ghost use Rattle.mail_top.specs.Words.{change_of, transfer_of, addition_of, wanted_of, request_of};
 ghost use Rattle.mail_top.specs.Names.{name_of, WriteNames};
 
-use crate::{Asked, AskedFlags, MAX_ASKED, addition_of, are_names, box_of, uid_of};
+use crate::{
+    Asked, AskedAction, AskedAppend, AskedFlags, AskedMove, MAX_ASKED, are_names, box_of, ident_of,
+    is_addition,
+};
 use mail_base::BoxName;
 
 /// What the words of a command ask for. `None` exactly where they ask for nothing.
 ///
-/// The words are `init BOX ..` with 1 to 32 names, no two of them the same; `flag BOX UID SIGN FLAG ..`, where UID is one
-/// from 1 without leading zeros, SIGN `+` or `-`, with 1 to 32 flags, which may be any words; `list BOX`; or `play`.
+/// The words are one of these:
+///
+/// - `init BOX ..` with 1 to 32 names, no two of them the same;
+/// - `flag BOX ID SIGN FLAG ..`, where SIGN is `+` or `-`, with 1 to 32 flags, which may be any words;
+/// - `move BOX ID BOX`;
+/// - `append BOX FLAG ..` with at most 32 flags;
+/// - `list BOX`, `queue` or `play`.
+///
+/// ID is a UID from 1 without leading zeros, or `d` and such a number: that of the action that makes the message.
 pub fn asked(words: &[String]) -> Option<Asked<'_>>
-    ensures some { IfSome result (λ asked. Asks (map string_bytes words.now) (request_of asked)) }
+    ensures some { IfSome result (λ asked. (input : List ℕ) → Asks (map string_bytes words.now) input (request_of asked input)) }
     ensures none { IsNone result → AsksNothing (map string_bytes words.now) }
     ensures lawful { IfSome result IsLawful }
 {
     let (command, arguments) = words.split_first()?;
     match command.as_str() {
         "init" => Some(Asked::Init(names_asked(arguments)?)),
-        "flag" => Some(Asked::Flag(flags_asked(arguments)?)),
+        "flag" => Some(Asked::Act(AskedAction::Flag(flags_asked(arguments)?))),
+        "move" => Some(Asked::Act(AskedAction::Move(move_asked(arguments)?))),
+        "append" => Some(Asked::Act(AskedAction::Append(append_asked(arguments)?))),
         "list" => Some(Asked::Rows(box_asked(arguments)?)),
+        "queue" => queue_asked(arguments),
         "play" => play_asked(arguments),
         _ => None,
     }
@@ -47,9 +62,24 @@ fn box_asked(arguments: &[String]) -> Option<BoxName>
     }
 }
 
+// Nothing stands behind `queue`.
+fn queue_asked(arguments: &[String]) -> Option<Asked<'static>>
+    ensures some { IfSome result (λ asked. ((input : List ℕ) → request_of asked input ≡ Queue)
+        × WritesQueue (codes "queue" ∷ map string_bytes arguments.now)) }
+    ensures none { IsNone result → WritesQueue (codes "queue" ∷ map string_bytes arguments.now) → ⊥ }
+    ensures lawful { IfSome result IsLawful }
+{
+    if arguments.is_empty() {
+        Some(Asked::Queue)
+    } else {
+        None
+    }
+}
+
 // Nothing stands behind `play`.
 fn play_asked(arguments: &[String]) -> Option<Asked<'static>>
-    ensures some { IfSome result (λ asked. (request_of asked ≡ Play) × WritesPlay (codes "play" ∷ map string_bytes arguments.now)) }
+    ensures some { IfSome result (λ asked. ((input : List ℕ) → request_of asked input ≡ Play)
+        × WritesPlay (codes "play" ∷ map string_bytes arguments.now)) }
     ensures none { IsNone result → WritesPlay (codes "play" ∷ map string_bytes arguments.now) → ⊥ }
     ensures lawful { IfSome result IsLawful }
 {
@@ -73,7 +103,7 @@ fn flags_asked(arguments: &[String]) -> Option<AskedFlags<'_>>
     }
 }
 
-// The change that a name, a UID, a sign and flags ask for.
+// The change that a name, a message, a sign and flags ask for.
 fn change_asked<'a>(name: &str, id: &str, sign: &str, flags: &'a [String]) -> Option<AskedFlags<'a>>
     ensures some { IfSome result (λ asked.
         WritesFlag (codes "flag" ∷ name.now ∷ id.now ∷ sign.now ∷ map string_bytes flags.now) (change_of asked)) }
@@ -84,12 +114,58 @@ fn change_asked<'a>(name: &str, id: &str, sign: &str, flags: &'a [String]) -> Op
         return None;
     }
     let name = box_of(name)?;
-    let uid = uid_of(id)?;
-    let add = addition_of(sign)?;
+    let id = ident_of(id)?;
+    let add = is_addition(sign)?;
     Some(AskedFlags {
         name,
-        uid,
+        id,
         add,
         flags,
     })
+}
+
+// The move behind `move`.
+fn move_asked(arguments: &[String]) -> Option<AskedMove>
+    ensures some { IfSome result (λ asked. WritesMove (codes "move" ∷ map string_bytes arguments.now) (transfer_of asked)) }
+    ensures none { IsNone result → (transfer : Transfer) → WritesMove (codes "move" ∷ map string_bytes arguments.now) transfer → ⊥ }
+{
+    match arguments {
+        [name, id, to] => transfer_asked(name.as_str(), id.as_str(), to.as_str()),
+        _ => None,
+    }
+}
+
+// The move that a name, a message and a name ask for.
+fn transfer_asked(name: &str, id: &str, to: &str) -> Option<AskedMove>
+    ensures some { IfSome result (λ asked. WritesMove (codes "move" ∷ name.now ∷ id.now ∷ to.now ∷ []) (transfer_of asked)) }
+    ensures none { IsNone result → (transfer : Transfer) → WritesMove (codes "move" ∷ name.now ∷ id.now ∷ to.now ∷ []) transfer → ⊥ }
+{
+    let name = box_of(name)?;
+    let id = ident_of(id)?;
+    let to = box_of(to)?;
+    Some(AskedMove { name, id, to })
+}
+
+// The message behind `append`.
+fn append_asked(arguments: &[String]) -> Option<AskedAppend<'_>>
+    ensures some { IfSome result (λ asked. WritesAppend (codes "append" ∷ map string_bytes arguments.now) (addition_of asked)) }
+    ensures none { IsNone result → (addition : Addition) → WritesAppend (codes "append" ∷ map string_bytes arguments.now) addition → ⊥ }
+{
+    match arguments {
+        [name, flags @ ..] => addition_asked(name.as_str(), flags),
+        [] => None,
+    }
+}
+
+// The message that a name and flags ask for.
+fn addition_asked<'a>(name: &str, flags: &'a [String]) -> Option<AskedAppend<'a>>
+    ensures some { IfSome result (λ asked. WritesAppend (codes "append" ∷ name.now ∷ map string_bytes flags.now) (addition_of asked)) }
+    ensures none { IsNone result → (addition : Addition) →
+        WritesAppend (codes "append" ∷ name.now ∷ map string_bytes flags.now) addition → ⊥ }
+{
+    if flags.len() > MAX_ASKED {
+        return None;
+    }
+    let to = box_of(name)?;
+    Some(AskedAppend { to, flags })
 }

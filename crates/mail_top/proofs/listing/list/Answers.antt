@@ -6,7 +6,8 @@ use Rattle.world_traits.specs.Moments.{Within}
 use Rattle.mail_top.specs.Leaving.{MayBeLeft}
 use Rattle.mail_top.specs.Words.{Rows}
 use Rattle.mail_top.proofs.Moving.{chooses_steps, keeps_steps}
-use Rattle.mail_top.proofs.Openings.{unopened_rows, opened_stays, shown_ends, store_disk, store_already, shown_disk, shown_already, never_err}
+use Rattle.mail_top.proofs.Openings.{unopened_rows, opened_stays, shown_ends, store_disk, store_already, store_input}
+use Rattle.mail_top.proofs.Openings.{shown_disk, shown_already, shown_input, never_err}
 use Rattle.mail_top.proofs.listing.list.Goals as goal
 
 pub returns-in_err-store-clause-ends : goal.returns-in_err-store-clause-ends
@@ -28,6 +29,9 @@ returns-in_err-store-clause-cause g c is = c.open.ensures.cause (store_disk _ _ 
 pub returns-in_err-store-clause-never : goal.returns-in_err-store-clause-never
 returns-in_err-store-clause-never g c is = c.open.ensures.only.0 (store_already _ _ _ c.in_err-store.was c.from_residual.ensures.1 is)
 
+pub returns-in_err-store-clause-unread : goal.returns-in_err-store-clause-unread
+returns-in_err-store-clause-unread g c is = store_input _ _ _ c.in_err-store.was c.from_residual.ensures.1 is
+
 pub returns-clause-ends : goal.returns-clause-ends
 returns-clause-ends g c tells =
     shown_ends _ _ _ (narrowed _ _ (c.open.ensures.told tells)) (opened_stays _ _ (c.in_ok-store.ensures.still tells) (c.in_ok-store.ensures.seen tells
@@ -47,3 +51,6 @@ returns-clause-cause g c is = absurd (shown_disk c.args.name.now (meaning c.book
 
 pub returns-clause-never : goal.returns-clause-never
 returns-clause-never g c is = shown_already c.args.name.now (meaning c.book.result.now) _ c.shown.ensures is
+
+pub returns-clause-unread : goal.returns-clause-unread
+returns-clause-unread g c is = shown_input c.args.name.now (meaning c.book.result.now) _ c.shown.ensures is

@@ -1,58 +1,89 @@
-use Rattle.mail_top.proofs.Endings.{said_ends, said_words, said_disk, said_link, said_reply, said_through, no_conflicts}
-use Rattle.mail_top.proofs.Endings.{completes_flag, completes_init, completes_rows, completes_later}
+use Rattle.mail_base.specs.declared.status.Status.TheVariants as status
+use Rattle.mail_top.proofs.Endings.{ended_so, said_ends, said_words, said_disk, said_link, said_input, said_reply, said_through}
+use Rattle.mail_top.proofs.Endings.{completes_act, completes_init, completes_rows, completes_queue, completes_later}
+use Rattle.mail_top.proofs.Goings.{asks_given, comes_without}
 use Rattle.mail_top.proofs.Repeated.{held_later, outside_later}
 use Rattle.mail_top.proofs.running.run.Goals as goal
 
-pub returns-clause-ends : goal.returns-clause-ends
-returns-clause-ends g c tells = (
-  _,
-  said_ends _ _ _ _ _ _ c.say.ensures.status (c.carry_out-ending.ensures.ends tells),
-  λ server is. c.carry_out-ending.ensures.honest server (said_reply _ _ c.say.ensures.status is),
-  c.say.ensures.prints,
-)
+pub returns-clause-goes : goal.returns-clause-goes
+returns-clause-goes g c tells =
+    let went = c.carry_out-ending.ensures.goes tells in (
+      went.0,
+      went.1,
+      _,
+      record {
+        ends = said_ends _ _ _ _ _ _ _ c.say.ensures.status went.2.ends;
+        every = went.2.every;
+        books = went.2.books;
+      },
+      λ server is. c.carry_out-ending.ensures.honest server (said_reply _ _ c.say.ensures.status is),
+      c.say.ensures.prints,
+    )
 
 pub returns-clause-words : goal.returns-clause-words
 returns-clause-words g c = said_words _ _ _ c.say.ensures.status c.carry_out-ending.ensures.words
 
-pub returns-clause-complete_flag : goal.returns-clause-complete_flag
-returns-clause-complete_flag g c tells change asks takable no_disk no_sink =
+pub returns-clause-complete_action : goal.returns-clause-complete_action
+returns-clause-complete_action g c tells wanted asks needs takable no_disk no_input no_sink =
     let begun = c.carry_out-ending.ensures in
     let said = c.say.ensures in
-    completes_flag _ _ _ _ _ (said_ends _ _ _ _ _ _ said.status (begun.ends tells)) (said_words _ _ _ said.status begun.words).0
-    (λ is. no_disk (begun.disk (said_disk _ _ said.status is))) (λ is. no_sink (said.output is)) change asks takable
+    let went = begun.goes tells in
+    completes_act _ _ _ _ _ _ (said_ends _ _ _ _ _ _ _ said.status went.2.ends) (said_words _ _ _ said.status begun.words).0
+    (λ is. no_disk (begun.disk (said_disk _ _ said.status is))) (λ is. no_sink (said.output is)) wanted
+    (asks_given _ _ went.0 wanted _ needs went.1 asks) takable
+    (λ is. no_input (begun.input_fault (said_input _ _ said.status is)))
 
 pub returns-clause-complete_init : goal.returns-clause-complete_init
 returns-clause-complete_init g c tells names asks unbegun no_disk no_sink =
     let begun = c.carry_out-ending.ensures in
     let said = c.say.ensures in
-    completes_init _ _ _ _ _ (said_ends _ _ _ _ _ _ said.status (begun.ends tells)) (said_words _ _ _ said.status begun.words).0
+    completes_init _ _ _ _ _ _ (said_ends _ _ _ _ _ _ _ said.status (begun.goes tells).2.ends) (said_words _ _ _ said.status begun.words).0
     (λ is. no_disk (begun.disk (said_disk _ _ said.status is))) (λ is. no_sink (said.output is)) names asks unbegun
 
 pub returns-clause-complete_list : goal.returns-clause-complete_list
 returns-clause-complete_list g c tells name asks listable no_disk no_sink =
     let begun = c.carry_out-ending.ensures in
     let said = c.say.ensures in
-    completes_rows _ _ _ _ _ (said_ends _ _ _ _ _ _ said.status (begun.ends tells)) (said_words _ _ _ said.status begun.words).0
+    completes_rows _ _ _ _ _ _ (said_ends _ _ _ _ _ _ _ said.status (begun.goes tells).2.ends) (said_words _ _ _ said.status begun.words).0
     (λ is. no_disk (begun.disk (said_disk _ _ said.status is))) (λ is. no_sink (said.output is)) name asks listable
+
+pub returns-clause-complete_queue : goal.returns-clause-complete_queue
+returns-clause-complete_queue g c tells asks set_up no_disk no_sink =
+    let begun = c.carry_out-ending.ensures in
+    let said = c.say.ensures in
+    completes_queue _ _ _ _ _ _ (said_ends _ _ _ _ _ _ _ said.status (begun.goes tells).2.ends) (said_words _ _ _ said.status begun.words).0
+    (λ is. no_disk (begun.disk (said_disk _ _ said.status is))) (λ is. no_sink (said.output is)) asks set_up
 
 pub returns-clause-complete_later : goal.returns-clause-complete_later
 returns-clause-complete_later g c tells asks waiting no_disk =
     let begun = c.carry_out-ending.ensures in
     let said = c.say.ensures in
-    completes_later _ _ _ _ _ (said_ends _ _ _ _ _ _ said.status (begun.ends tells)) (said_words _ _ _ said.status begun.words).0
+    completes_later _ _ _ _ _ _ (said_ends _ _ _ _ _ _ _ said.status (begun.goes tells).2.ends) (said_words _ _ _ said.status begun.words).0
     (λ is. no_disk (begun.disk (said_disk _ _ said.status is))) asks waiting
 
 pub returns-clause-link_fault : goal.returns-clause-link_fault
 returns-clause-link_fault g c is = c.carry_out-ending.ensures.link_fault (said_link _ _ c.say.ensures.status is)
 
+pub returns-clause-input_fault : goal.returns-clause-input_fault
+returns-clause-input_fault g c is = c.carry_out-ending.ensures.input_fault (said_input _ _ c.say.ensures.status is)
+
 pub returns-clause-synced : goal.returns-clause-synced
 returns-clause-synced g c tells asks through kept fair =
     let ended = c.carry_out-ending.ensures in
-    ended.synced tells asks
-    (said_through _ _ c.say.ensures.status ended.not_output (no_conflicts _ _ _ _ _ (ended.ends (g.W.Clocked.server_with_files tells))) through) kept fair
+    ended.synced tells asks (said_through _ _ c.say.ensures.status ended.not_output (comes_without _ ended.comes) through) kept fair
+
+pub returns-clause-whole : goal.returns-clause-whole
+returns-clause-whole g c tells append through =
+    let ended = c.carry_out-ending.ensures in
+    ended.whole tells append (said_through _ _ c.say.ensures.status ended.not_output (comes_without _ ended.comes) through)
+
+pub returns-clause-out : goal.returns-clause-out
+returns-clause-out g c tells unfailed enough =
+    c.carry_out-ending.ensures.out tells (λ is. unfailed (ended_so status.Input _ _ (λ e. cc e) (λ e. cc e) c.say.ensures.status is))
+    (λ is. enough (ended_so status.Memory _ _ (λ e. cc e) (λ e. cc e) c.say.ensures.status is))
 
 pub returns-clause-held : goal.returns-clause-held
-returns-clause-held g c tells = held_later _ _ _ _ (c.carry_out-ending.ensures.every tells)
+returns-clause-held g c tells = held_later _ _ _ _ _ (c.carry_out-ending.ensures.goes tells).2.every
 
 pub returns-clause-outside : goal.returns-clause-outside
-returns-clause-outside g c tells never = outside_later _ never _ _ _ (c.carry_out-ending.ensures.every tells)
+returns-clause-outside g c tells never = outside_later _ _ never _ _ _ (c.carry_out-ending.ensures.goes tells).2.every

@@ -1,7 +1,0 @@
-use Rattle.std.proofs.Common.{◌≡◌, ◌++◌, take}
-use Rattle.std.specs.List.{flat_map}
-use Rattle.mail_top.specs.Texts.{spaced}
-use Rattle.mail_top.proofs.printed.put_keys.Given as goal
-
-abbrev pub invariant-loop-key : goal.invariant-loop-key
-invariant-loop-key l = l.text.items ≡ l.fn.text.items ++ flat_map spaced (take l.key-index l.keys)
