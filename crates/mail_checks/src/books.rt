@@ -103,8 +103,8 @@ impl Books {
     }
 }
 
-// The book of a journal with the mailboxes INBOX and Archive.
-fn begun(alloc: Global) -> Result<Book, CaseFault> {
+/// The book of a journal with the mailboxes INBOX and Archive.
+pub fn begun(alloc: Global) -> Result<Book, CaseFault> {
     let (Ok(first), Ok(second)) = (BoxName::new(b"INBOX"), BoxName::new(b"Archive")) else {
         return Err(CaseFault::WrongInput);
     };
@@ -117,8 +117,8 @@ fn begun(alloc: Global) -> Result<Book, CaseFault> {
     Ok(Book::new(alloc, names)?)
 }
 
-// Enters an event, or tells the first rule that it breaks.
-fn enter(book: &mut Book, event: Event) -> Result<Option<Rule>, AllocError> {
+/// Enters an event, or tells the first rule that it breaks.
+pub fn enter(book: &mut Book, event: Event) -> Result<Option<Rule>, AllocError> {
     if let Some(rule) = book.allows(&event, Version::First) {
         return Ok(Some(rule));
     }

@@ -2,7 +2,7 @@
 
 use crate::{
     books, caches, commands, flags, frames, headers, numbers, records, responses, resyncs, sets,
-    tokens,
+    tokens, views,
 };
 use case_words::{Answer, CaseFault, Input};
 
@@ -54,6 +54,9 @@ fn is_kept(call: &str, input: &mut Input, answer: &mut Answer) -> Result<bool, C
         return Ok(true);
     }
     if books::answers(call, input, answer)? {
+        return Ok(true);
+    }
+    if views::answers(call, input, answer)? {
         return Ok(true);
     }
     if resyncs::answers(call, input, answer)? {

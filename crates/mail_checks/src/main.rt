@@ -16,6 +16,7 @@ mod headers;
 mod numbers;
 mod outcomes;
 mod plain_delta;
+mod plain_view;
 mod records;
 mod responses;
 mod resyncs;
@@ -23,6 +24,7 @@ mod rules;
 mod sets;
 mod tally;
 mod tokens;
+mod views;
 
 use std::alloc::AllocError;
 use std::process::ExitCode;
