@@ -5,24 +5,54 @@ use crate::bytes::Names;
 use crate::fate::{Fate, FateDisk};
 use crate::files::Files;
 use crate::journals::{Unappended, append, create, created_text, framed};
-use crate::runs::{run_on, status_text};
+use crate::runs::{Streams, run_on, status_text};
 use crate::stores::{Recorded, init, init_and_record, record, recorded_text};
 use crate::texts::{Phrase, number, owned, split};
 use case_files::Fault;
 use journal_core::AppendFault;
 use mail_base::Bytes;
 use std::alloc::Global;
-use world_traits::FaultySink;
 
-/// What a command came to: its answer, what it printed, its calls of the disk, the files that it
-/// left, and those that a stop may leave behind it.
+/// What a command begins with: the files, its input, and what befalls it.
+#[derive(Clone, Copy)]
+pub struct Start<'a> {
+    pub files: &'a Files,
+    pub input: &'a [u8],
+    pub fate: Fate,
+}
+
+impl<'a> Start<'a> {
+    /// These files, no input, and nothing befalls it.
+    pub fn calm(files: &'a Files) -> Start<'a> {
+        Start {
+            files,
+            input: &[],
+            fate: Fate::Calm,
+        }
+    }
+
+    fn disk(&self, alloc: Global) -> Result<FateDisk, Fault> {
+        Ok(FateDisk::new(alloc, self.files, self.fate)?)
+    }
+
+    fn streams(&self, alloc: Global) -> Result<Streams, Fault> {
+        let mut fails = Vec::new(alloc);
+        if let Fate::Output(write) = self.fate {
+            fails.push(write)?;
+        }
+        Ok(Streams::new(alloc, self.input.to_vec(alloc)?, fails))
+    }
+}
+
+/// What a command came to: its answer, what it printed, how many bytes of its input it left, its
+/// calls of the disk, and the files that it left.
 #[derive(Drop)]
 pub struct Told {
     pub answer: String,
     pub printed: Vec<u8>,
+    pub unread: u64,
     pub cost: String,
     pub files: Files,
-    pub images: Vec<Files>,
 }
 
 impl Told {
@@ -31,9 +61,9 @@ impl Told {
         Told {
             answer: String::new(alloc),
             printed: Vec::new(alloc),
+            unread: 0,
             cost: String::new(alloc),
             files: Files::empty(alloc),
-            images: Vec::new(alloc),
         }
     }
 
@@ -43,21 +73,28 @@ impl Told {
     }
 }
 
-/// Carries out a command over these files. The disk ends here.
+/// Carries out a command. The disk ends here.
 pub fn carried_out(
     alloc: Global,
     names: &Names<'_>,
     command: Phrase<'_>,
-    files: &Files,
-    fate: Fate,
+    start: Start<'_>,
 ) -> Result<Told, Fault> {
-    let mut fails = Vec::new(alloc);
-    if let Fate::Output(write) = fate {
-        fails.push(write)?;
-    }
-    let mut disk = FateDisk::new(alloc, files, fate)?;
-    let mut out = FaultySink::new(alloc, fails);
-    told_on(alloc, names, command, &mut disk, &mut out)
+    let mut disk = start.disk(alloc)?;
+    told_on(alloc, names, command, start, &mut disk)
+}
+
+/// The same, and the files that a stop may leave behind it.
+pub fn carried_out_to_images(
+    alloc: Global,
+    names: &Names<'_>,
+    command: Phrase<'_>,
+    start: Start<'_>,
+) -> Result<(Told, Vec<Files>), Fault> {
+    let mut disk = start.disk(alloc)?;
+    let told = told_on(alloc, names, command, start, &mut disk)?;
+    let images = disk.images()?;
+    Ok((told, images))
 }
 
 // What a command comes to on a disk.
@@ -65,20 +102,22 @@ fn told_on(
     alloc: Global,
     names: &Names<'_>,
     command: Phrase<'_>,
+    start: Start<'_>,
     disk: &mut FateDisk,
-    out: &mut FaultySink,
 ) -> Result<Told, Fault> {
-    let answer = answer_of(alloc, names, command, disk, out)?;
-    let printed = out.bytes().to_vec(alloc)?;
+    let mut streams = start.streams(alloc)?;
+    let answer = answer_of(alloc, names, command, disk, &mut streams)?;
+    let mut room = start.input.to_vec(alloc)?;
+    let unread = streams.unread(&mut room)?;
+    let printed = streams.printed().to_vec(alloc)?;
     let cost = disk.cost()?;
     let files = disk.files()?;
-    let images = disk.images()?;
     Ok(Told {
         answer,
         printed,
+        unread,
         cost,
         files,
-        images,
     })
 }
 
@@ -88,10 +127,13 @@ fn answer_of(
     names: &Names<'_>,
     command: Phrase<'_>,
     disk: &mut FateDisk,
-    out: &mut FaultySink,
+    streams: &mut Streams,
 ) -> Result<String, Fault> {
     match command.word {
-        "run" => owned(alloc, status_text(run_on(alloc, command.rest, disk, out)?)),
+        "run" => {
+            let status = run_on(alloc, command.rest, disk, streams)?;
+            owned(alloc, status_text(status))
+        }
         "create" => create_on(alloc, &names.bytes(command.rest)?, disk),
         "append" => append_on(alloc, names, command.rest, disk),
         "init" => recorded_text(alloc, init_on(alloc, names, command.rest, disk)?),

@@ -1,8 +1,7 @@
 //! A file that is cut at each place, or of which one byte after the other is changed.
 
 use crate::bytes::Names;
-use crate::commands::carried_out;
-use crate::fate::Fate;
+use crate::commands::{Start, carried_out};
 use crate::files::{Files, side_of};
 use crate::loops::command_of;
 use crate::readings::{READERS, bodies};
@@ -99,7 +98,7 @@ fn add_answer(
     files: &Files,
     spans: &mut Spans,
 ) -> Result<(), Fault> {
-    let told = carried_out(alloc, names, command, files, Fate::Calm)?;
+    let told = carried_out(alloc, names, command, Start::calm(files))?;
     spans.add(alloc, told.answer.as_str())
 }
 

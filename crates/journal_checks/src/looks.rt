@@ -15,7 +15,11 @@ pub fn file(
     side: &str,
     text: &str,
 ) -> Result<(), Fault> {
-    let told = files.file(side_of(side)?);
+    bytes(alloc, names, files.file(side_of(side)?), text)
+}
+
+/// What bytes are: `is BYTES`, `begins BYTES`, `ends BYTES` or `size 81`
+pub fn bytes(alloc: Global, names: &Names<'_>, told: &[u8], text: &str) -> Result<(), Fault> {
     let (how, wanted) = split(text, " ")?;
     if how == "size" {
         return same_number(alloc, number(wanted)?, told.len() as u64);

@@ -2,7 +2,7 @@
 //! them.
 
 use crate::bytes::Names;
-use crate::commands::{Told, carried_out};
+use crate::commands::{Start, Told, carried_out_to_images};
 use crate::fate::Fate;
 use crate::files::Files;
 use crate::spans::Spans;
@@ -31,25 +31,26 @@ fn outcome(
     names: &Names<'_>,
     lines: &[Line<'_>],
     told: &Told,
+    images: &[Files],
 ) -> Result<(bool, &'static str), Fault> {
     let is_done = told.is_done();
     if !is_done {
         same_text(alloc, "disk", told.answer.as_str())?;
     }
-    let state = state_of_all(alloc, names, lines, &told.images)?;
+    let state = state_of_all(alloc, names, lines, images)?;
     Ok((is_done, state))
 }
 
-// The same of the command where this befalls it.
+// The same of the command that the lines repeat.
 fn tried(
     alloc: Global,
     names: &Names<'_>,
     lines: &[Line<'_>],
-    files: &Files,
-    fate: Fate,
+    start: Start<'_>,
 ) -> Result<(bool, &'static str), Fault> {
-    let told = carried_out(alloc, names, command_of(lines)?, files, fate)?;
-    outcome(alloc, names, lines, &told)
+    let command = command_of(lines)?;
+    let (told, images) = carried_out_to_images(alloc, names, command, start)?;
+    outcome(alloc, names, lines, &told, &images)
 }
 
 // This call fails, or the command is stopped before it.
@@ -68,13 +69,14 @@ pub fn each_call(
     alloc: Global,
     names: &Names<'_>,
     lines: &[Line<'_>],
-    files: &Files,
+    start: Start<'_>,
     stops: bool,
     wanted: &str,
 ) -> Result<u64, Fault> {
     let mut spans = Spans::new(alloc);
     for call in 1..MOST {
-        let (is_done, state) = tried(alloc, names, lines, files, fate_at(call, stops))?;
+        let fate = fate_at(call, stops);
+        let (is_done, state) = tried(alloc, names, lines, Start { fate, ..start })?;
         if is_done {
             same_text(alloc, "after", state)?;
             spans.want(alloc, wanted)?;

@@ -1,23 +1,24 @@
 //! A case played on journals, line by line.
 
 use crate::bytes::Names;
-use crate::commands::{Told, carried_out};
+use crate::commands::{Start, Told, carried_out};
 use crate::cuts::{each_change, each_cut, each_flip};
 use crate::fate::Fate;
-use crate::looks::{all_bodies, file, first_piece, prints, shows, whole_book};
+use crate::looks::{all_bodies, bytes, file, first_piece, prints, shows, whole_book};
 use crate::loops::each_call;
 use crate::pieces::each_length;
 use crate::texts::{Phrase, number, phrase_of, split};
-use case_files::{Fault, Line, Stop, differs, same_text};
+use case_files::{Fault, Line, Stop, differs, same_number, same_text};
 use std::alloc::Global;
 
-// What the last command came to and whether it left the files, what is to befall the next one, and
-// how much was compared.
+// What the last command came to and whether it left the files, what the later ones read, what is to
+// befall the next one, and how much was compared.
 #[derive(Drop)]
 struct Player {
     alloc: Global,
     told: Told,
     stays: bool,
+    input: Vec<u8>,
     fate: Fate,
     compared: u64,
 }
@@ -28,6 +29,7 @@ impl Player {
             alloc,
             told: Told::nothing(alloc),
             stays: false,
+            input: Vec::new(alloc),
             fate: Fate::Calm,
             compared: 0,
         }
@@ -45,11 +47,21 @@ impl Player {
         Ok(())
     }
 
+    // What the next command begins with.
+    fn start(&self) -> Start<'_> {
+        Start {
+            files: &self.told.files,
+            input: &self.input,
+            fate: self.fate,
+        }
+    }
+
     // Carries out a command, and goes on with the files that it leaves.
     fn carry_out(&mut self, names: &Names<'_>, command: Phrase<'_>) -> Result<(), Fault> {
-        let files = &self.told.files;
-        let told = carried_out(self.alloc, names, command, files, self.fate)?;
-        self.stays = told.files.are(files);
+        let start = self.start();
+        let told = carried_out(self.alloc, names, command, start)?;
+        let stays = told.files.are(start.files);
+        self.stays = stays;
         self.told = told;
         self.fate = Fate::Calm;
         Ok(())
@@ -69,8 +81,8 @@ impl Player {
         let files = &self.told.files;
         let (what, rest) = split(text, " ")?;
         match what {
-            "call" => each_call(alloc, names, lines, files, false, rest),
-            "stop" => each_call(alloc, names, lines, files, true, rest),
+            "call" => each_call(alloc, names, lines, self.start(), false, rest),
+            "stop" => each_call(alloc, names, lines, self.start(), true, rest),
             "cut" => each_cut(alloc, files, rest),
             "change" => each_change(alloc, files, rest),
             "length" => each_length(alloc, names, files, rest),
@@ -88,6 +100,8 @@ impl Player {
             "costs" => same_text(alloc, phrase.rest, told.cost.as_str())?,
             "prints" => prints(alloc, &told.printed, phrase.rest)?,
             "shows" => shows(alloc, names, &told.printed, phrase.rest)?,
+            "printed" => bytes(alloc, names, &told.printed, phrase.rest)?,
+            "unread" => same_number(alloc, number(phrase.rest)?, told.unread)?,
             "piece" => first_piece(alloc, &told.files, phrase.rest)?,
             "book" => whole_book(alloc, &told.files, phrase.rest)?,
             _ => file(alloc, names, &told.files, phrase.word, phrase.rest)?,
@@ -121,6 +135,7 @@ impl Player {
             "given" => self.give(names, phrase.rest)?,
             "fails" => self.fate = Fate::Call(number(phrase.rest)?),
             "output" => self.fate = Fate::Output(number(phrase.rest)?),
+            "input" => self.input = names.bytes(phrase.rest)?,
             "run" | "create" | "append" | "init" | "record" => {
                 self.carry_out(names, phrase)?;
             }

@@ -6,7 +6,7 @@ use case_files::Fault;
 use mail_base::{Account, Status};
 use mail_top::run;
 use std::alloc::Global;
-use world_traits::{FaultySink, MemSource};
+use world_traits::{FaultySink, MemSource, Source};
 
 // An account. No command here comes to log in: the link fails.
 fn account(alloc: Global) -> Result<Account, Fault> {
@@ -16,17 +16,48 @@ fn account(alloc: Global) -> Result<Account, Fault> {
     }
 }
 
+/// What a command reads, and where it prints.
+#[derive(Drop)]
+pub struct Streams {
+    input: MemSource,
+    out: FaultySink,
+}
+
+impl Streams {
+    /// An input of these bytes, and an output whose writes with these numbers fail.
+    pub fn new(alloc: Global, input: Vec<u8>, fails: Vec<u64>) -> Streams {
+        Streams {
+            input: MemSource::new(input),
+            out: FaultySink::new(alloc, fails),
+        }
+    }
+
+    /// What was printed.
+    pub fn printed(&self) -> &[u8] {
+        self.out.bytes()
+    }
+
+    /// How many bytes of the input weren't read. The room has place for all of them, and they are
+    /// read now.
+    pub fn unread(&mut self, room: &mut [u8]) -> Result<u64, Fault> {
+        match self.input.read(room) {
+            Ok(count) => Ok(count as u64),
+            Err(_) => Err(Fault::Form),
+        }
+    }
+}
+
 /// Carries out a command, given as its words.
 pub fn run_on(
     alloc: Global,
     text: &str,
     disk: &mut FateDisk,
-    out: &mut FaultySink,
+    streams: &mut Streams,
 ) -> Result<Status, Fault> {
     let words = words_of(alloc, text)?;
     let account = account(alloc)?;
-    let mut input = MemSource::new(Vec::new(alloc));
-    Ok(run(alloc, &words, &account, &mut input, disk, out))
+    let Streams { input, out } = streams;
+    Ok(run(alloc, &words, &account, input, disk, out))
 }
 
 /// A status, as a text.

@@ -2,8 +2,7 @@
 //! `after` say of them.
 
 use crate::bytes::Names;
-use crate::commands::carried_out;
-use crate::fate::Fate;
+use crate::commands::{Start, carried_out};
 use crate::files::Files;
 use crate::readings::{bodies, book};
 use crate::texts::{Phrase, owned, phrase_of, split};
@@ -24,7 +23,7 @@ fn next(alloc: Global, names: &Names<'_>, words: &str, files: &Files) -> Result<
         word: "run",
         rest: words,
     };
-    let told = carried_out(alloc, names, command, files, Fate::Calm)?;
+    let told = carried_out(alloc, names, command, Start::calm(files))?;
     line_of(alloc, &told.printed)
 }
 
