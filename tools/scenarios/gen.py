@@ -1,6 +1,7 @@
 """Makes the stored scenarios of mail_scenario (stdin, and what it is to print), by the plain model beside it.
 
-usage: tools/scenarios/gen.py FOLDER    (crates/mail_scenario, or a folder with a copy of its stdout)
+usage: tools/scenarios/gen.py FOLDER    (crates/mail_scenario, or a copy of it, whose files of cases were made before: their lines are
+                                         counted at the end)
 """
 import sys
 from model import *
@@ -12,7 +13,7 @@ BEGUN = journal(begin('INBOX', 'Archive'))
 INBOX_LEARNED = learn('INBOX', 1, 5, 715, 44, [], [(40, 700, ['\\Seen']), (42, 715, [])])
 ARCHIVE_LEARNED = learn('Archive', 1, 9, 300, 7, [], [])
 BOTH_LEARNED = journal(begin('INBOX', 'Archive'), INBOX_LEARNED, ARCHIVE_LEARNED)
-ACCEPTED = accept(1, 'INBOX', 5, 42, '+', ['\\Seen'])
+ACCEPTED = accept(1, ('flag', real('INBOX', 5, 42), '+', ['\\Seen']))
 SEEN = journal(begin('INBOX', 'Archive'), INBOX_LEARNED, ARCHIVE_LEARNED, ACCEPTED)
 # by the documents
 assert BEGUN.hex() == '014f444d41494c4a31000000010100000010420205494e424f58074172636869766500' and len(BOTH_LEARNED) == 145 and len(SEEN) == 180
@@ -135,7 +136,7 @@ def flags(s):
     s.gap()
     s.note('Words that are none of a command: nothing is read or written.')
     s.server((), left=BOTH_LEARNED); s.stand()
-    for w in ['', '""', 'init', 'INIT INBOX', 'play now', 'queue', '"init INBOX"', 'init ""', 'init "a\\"b"', 'init a&b', 'init %', 'init INBOX "\\xc3\\xa4"',
+    for w in ['', '""', 'init', 'INIT INBOX', 'play now', 'queue now', 'report', '"init INBOX"', 'init ""', 'init "a\\"b"', 'init a&b', 'init %', 'init INBOX "\\xc3\\xa4"',
         'flag', 'flag INBOX 42 +', 'flag INBOX 0 + \\Seen', 'flag INBOX 042 + \\Seen', 'flag INBOX 4294967296 + \\Seen', 'flag INBOX -1 + \\Seen', 'flag INBOX 42 * \\Seen',
         'flag a*b 42 + \\Seen', 'Flag INBOX 42 + \\Seen', 'list', 'list a*b', 'list INBOX Archive', 'List INBOX', 'init ' + ' '.join('b%d' % k for k in range(33)), 'init ' + 'x' * 129,
         'flag INBOX 42 + ' + ' '.join('f%d' % k for k in range(33))]: s.ran(w, 2, 'error words')
@@ -151,14 +152,14 @@ def faults(s):
     s.sink(1); s.run('flag', 'INBOX', '42', '+', '\\Seen')
     s.run('flag', 'INBOX', '42', '+', '\\Seen')
     s.sink(1); s.run('init', 'INBOX')
-    s.sink(1); s.ran('flag', 2); s.world.plan()
+    s.sink(1); s.run('flag')
     s.sink(1); s.run('list', 'INBOX')
     s.sink(2); s.run('flag', 'INBOX', '42', '+', '\\Seen')
     s.gap()
     s.note('Each call of the disk that `init` makes fails in turn. The next one sets up the journal; where the last sync failed it is there.')
     for n in range(1, 13):
         s.server(()); s.stand(); s.disk(n)
-        s.run('init', 'INBOX', 'Archive'); s.run('init', 'INBOX', 'Archive'); s.files()
+        s.run('init', 'INBOX', 'Archive'); s.run('init', 'INBOX', 'Archive'); s.files(); s.moments()
     s.gap()
     s.note('Each call of the disk that `flag` makes fails in turn. The next one is the first action; where the last sync failed the second.')
     for n in range(1, 15):
@@ -182,11 +183,19 @@ def faults(s):
             s.server((), left=SEEN); s.stand(); s.stop(n)
             s.run('flag', 'INBOX', '42', '-', '\\Seen'); s.restart(pick); s.run('flag', 'INBOX', '40', '+', '\\Draft')
 
+# ---- what the program counts at its end: the lines of all cases, with those in front of the first case once for each
+def tally(folder):
+    lines = cases = 0
+    for name in open(folder + '/args').read().split()[1:]:
+        head, *rest = ('\n' + open('%s/data/%s' % (folder, name)).read()).split('\n== ')
+        count = lambda text: sum(1 for l in text.split('\n')[1:] if l and l[0] not in ' #')
+        lines += sum(count(head) + count(case) for case in rest); cases += len(rest)
+    return '%d lines\n%d passed, 0 failed\n' % (lines, cases)
+
 if __name__ == '__main__':
     folder = sys.argv[1]
     s = Scenario()
     language(s); inits(s); flags(s); faults(s)
     open(folder + '/stdin', 'w').write(s.stdin())
-    tally = open(folder + '/stdout').read().split('\n')[-3:]
-    open(folder + '/stdout', 'w').write(s.stdout() + '\n'.join(tally))
-    print(len(s.lines), tally)
+    open(folder + '/stdout', 'w').write(s.stdout() + tally(folder))
+    print(len(s.lines), tally(folder).split('\n'))

@@ -1,7 +1,7 @@
 """A plain model of what a scenario prints: the words and lines of the language, the journal's bytes, a server, the calls of the
 disk and of the link, and what `run` does. It is written from the documents (docs/SCENARIOS.md, JOURNAL.md, PROTOCOL.md) and from
 the rules of the commands, and reads nothing that the program printed."""
-import struct
+import re, struct
 
 # ---- words
 def word(b):
@@ -27,8 +27,26 @@ def flags_of(flags):
     k = keys(flags)
     return u16(len(k)) + b''.join(bytes([len(f.encode())]) + f.encode() for f in k)
 def begin(*names): return b'B' + bytes([len(names)]) + b''.join(named(n) for n in names)
-def accept(n, box, validity, uid, sign, flags):
-    return b'A' + u32(n) + b'FR' + named(box) + u32(validity) + u32(uid) + sign.encode() + flags_of(flags)
+# a target is ('real', mailbox, validity, uid) or ('dummy', number); an action ('flag', target, sign, flags), ('move', target, to) or
+# ('append', to, flags, text)
+def target_of(t): return b'R' + named(t[1]) + u32(t[2]) + u32(t[3]) if t[0] == 'real' else b'D' + u32(t[1])
+def accept(n, action):
+    verb, *a = action
+    return b'A' + u32(n) + {
+        'flag': lambda target, sign, flags: b'F' + target_of(target) + sign.encode() + flags_of(flags),
+        'move': lambda target, to: b'M' + target_of(target) + named(to),
+        'append': lambda to, flags, text: b'P' + named(to) + flags_of(flags) + u32(len(text)) + text}[verb](*a)
+def real(box, validity, uid): return ('real', name_of(box), validity, uid)
+# an intent is ('store', mailbox, validity, uid, modseq), ('shift', mailbox, validity, uid, to) or ('put', to, validity, uidnext)
+def intend(n, intent):
+    verb, box, *a = intent
+    return b'I' + u32(n) + {'store': b'S', 'shift': b'M', 'put': b'P'}[verb] + named(box) + b''.join(
+        named(x) if isinstance(x, str) else u64(x) if verb == 'store' and k == 2 else u32(x) for k, x in enumerate(a))
+# an outcome is ('done',), ('done', validity, uid) or ('conflict', kind, numbers)
+KINDS = {3: [8], 7: [4], 9: [8, 8], 12: [4, 4]}
+def settle(n, outcome):
+    if outcome[0] == 'conflict': return b'S' + u32(n) + b'C' + bytes([outcome[1]]) + b''.join(x.to_bytes(w, 'big') for x, w in zip(outcome[2], KINDS.get(outcome[1], [])))
+    return b'S' + u32(n) + b'D' + (b'\x01' + u32(outcome[1]) + u32(outcome[2]) if outcome[1:] else b'\x00')
 def learn(box, whole, validity, highest, uidnext, gone, rows):
     ranges = []
     for u in sorted(gone):
@@ -84,9 +102,9 @@ class World:
         self.on, self.was_sent = False, b''
         self.moments, self.history = 1, []
         self.plan()
-    def plan(self, disk=(), link=None, other=(), stop=None, sink=()):
+    def plan(self, disk=(), link=None, other=(), stop=None, sink=(), source=()):
         self.fails, self.losses, self.others, self.stop = set(disk), dict(link or {}), list(other), stop
-        self.sink_fails = set(sink)
+        self.sink_fails, self.source_fails, self.input = set(sink), set(source), b''
         self.calls = self.disk_calls = self.link_calls = self.writes = 0
     def box(self, name): return next((b for b in self.boxes if b.name == name_of(name)), None)
     # changes by others: (verb, box, ..)
@@ -133,6 +151,11 @@ class World:
         images = [f.image(pick, draw) for f in self.files]
         self.files = [File(i) for i in images]
         self.on, self.was_sent, self.moments = False, b'', 1
+    # the whole input: a first reading takes a short one, and another one tells its end
+    def take_input(self):
+        assert len(self.input) <= 4096 or not self.source_fails
+        if self.source_fails & ({1, 2} if self.input else {1}): raise Fault(13, 'error input')
+        return self.input
     # calls of the link
     def link_call(self):
         if self.stop is not None and self.calls >= self.stop: self.on = False; return 'stop'
@@ -158,50 +181,143 @@ class World:
         self.link_call(); self.on = False
     def is_offered(self, name): return name.lower() in [o.lower() for o in self.offers]
 
-# ---- the commands
+# ---- the words
+def is_box(s):
+    b = s.encode()
+    return 1 <= len(b) <= 128 and all(32 <= c <= 126 and chr(c) not in '"\\&*%' for c in b)
+def number_of(s): return int(s) if s.isascii() and s.isdigit() and s[0] != '0' and int(s) < 2**32 else None
+def ident_of(s):
+    "('real', uid) or ('dummy', number), or None"
+    n = number_of(s[1:] if s[:1] == 'd' else s)
+    return None if n is None else ('dummy' if s[:1] == 'd' else 'real', n)
+
+def asked(words):
+    "what the words ask for, or None where they are none of a command"
+    verb, *a = list(words) or [None]
+    if verb == 'init' and 1 <= len(a) <= 32 and all(map(is_box, a)) and len({name_of(n) for n in a}) == len(a): return (verb, [name_of(n) for n in a])
+    if verb == 'flag' and 4 <= len(a) <= 35 and is_box(a[0]) and ident_of(a[1]) and a[2] in ('+', '-'): return (verb, name_of(a[0]), ident_of(a[1]), a[2], a[3:])
+    if verb == 'move' and len(a) == 3 and is_box(a[0]) and ident_of(a[1]) and is_box(a[2]): return (verb, name_of(a[0]), ident_of(a[1]), name_of(a[2]))
+    if verb == 'append' and 1 <= len(a) <= 33 and is_box(a[0]): return (verb, name_of(a[0]), a[1:])
+    if verb == 'list' and len(a) == 1 and is_box(a[0]): return (verb, name_of(a[0]))
+    if verb in ('queue', 'play') and not a: return (verb,)
+    return None
+
+SYSTEM = ('\\answered', '\\flagged', '\\deleted', '\\seen', '\\draft')
+def may_be_asked(flag):
+    "whether a user may ask for the flag: a keyword of atom bytes, or one of the five"
+    b = flag.encode()
+    name = b[1:] if b[:1] == b'\\' else b
+    return 1 <= len(b) <= 255 and name and all(33 <= c <= 126 and chr(c) not in '(){%*"\\]' for c in name) and (b[:1] != b'\\' or flag.lower() in SYSTEM)
+
+# ---- messages
+def crlf_of(b): return re.sub(rb'(?<!\r)\n', b'\r\n', b)
+def fields(text):
+    "the fields of the header, which are the lines up to the first empty one: one that begins with a blank goes on with the one before"
+    whole = []
+    for line in text.split(b'\r\n'):
+        if not line: break
+        if whole and line[:1] in (b' ', b'\t'): whole[-1] += b'\r\n' + line
+        else: whole.append(line)
+    return [(l[:l.index(b':')], l[l.index(b':') + 1:]) for l in whole if b':' in l[1:] and l[:1] != b':']
+def message_id(text):
+    "the one Message-ID, or None"
+    ids = [body.replace(b'\r\n', b'').strip(b' \t') for name, body in fields(text) if name.lower() == b'message-id']
+    return ids[0] if len(ids) == 1 and len(ids[0]) <= 512 and re.fullmatch(rb'<[!-;=?-~]+>', ids[0]) else None
+
+# ---- the book
 class Book:
-    def __init__(self, bodies):
-        self.boxes, self.queue = {}, 0
-        for b in bodies: self.take(b)
-    def take(self, b):
-        if b[0] == 'begin': self.boxes = {n: None for n in b[1]}
-        if b[0] == 'accept': self.queue += 1
-        if b[0] == 'learn':
-            _, name, whole, validity, highest, uidnext, gone, rows = b
+    def __init__(self, events):
+        self.boxes, self.queue, self.outcomes, self.pending = {}, [], [], None
+        for e in events: self.take(e)
+    def take(self, e):
+        if e[0] == 'begin': self.boxes = {n: None for n in e[1]}
+        if e[0] == 'accept': self.queue.append(e[2]); self.outcomes.append(None)
+        if e[0] == 'intend': self.pending = e[2]
+        if e[0] == 'settle': self.outcomes[e[1] - 1], self.pending = e[2], None
+        if e[0] == 'learn':
+            _, name, whole, validity, highest, uidnext, gone, rows = e
             old = {} if whole else dict(self.boxes[name]['rows'])
             for u in gone: old.pop(u, None)
             for u, m, f in rows: old[u] = (m, keys(f))
             self.boxes[name] = dict(validity=validity, highest=highest, uidnext=uidnext, rows=old)
+    def unsettled(self): return [n for n, o in enumerate(self.outcomes, 1) if o is None]
+    def to_of(self, n): a = self.queue[n - 1]; return a[1] if a[0] == 'append' else a[2]
+    # the row that a target names, if any: of a UID in its mailbox, or of a dummy where its action puts it
+    def row_of(self, target):
+        if target[0] == 'dummy':
+            outcome = self.outcomes[target[1] - 1]
+            if outcome is None: return (self.to_of(target[1]), target)
+            if outcome[0] == 'conflict': return None
+            target = ('real', self.to_of(target[1]), *outcome[1:])
+        _, box, validity, uid = target
+        cache = self.boxes[box]
+        return (box, ('real', uid)) if cache and cache['validity'] == validity else None
+    def view(self):
+        "the rows as the user sees them: (mailbox, ident) with a mod-sequence, which a dummy hasn't, and flags"
+        rows = {(box, ('real', u)): (m, set(f)) for box, cache in self.boxes.items() if cache for u, (m, f) in cache['rows'].items()}
+        for n in self.unsettled():
+            verb, *a = self.queue[n - 1]
+            if verb == 'append': rows[a[0], ('dummy', n)] = (None, set(keys(a[1]))); continue
+            at = self.row_of(a[0])
+            if at not in rows: continue
+            m, f = rows[at]
+            if verb == 'flag': rows[at] = (m, f | set(keys(a[2])) if a[1] == '+' else f - set(keys(a[2])))
+            else: del rows[at]; rows[a[1], ('dummy', n)] = (None, f)
+        return rows
+    def list(self, box):
+        rows = [(ident, row) for (name, ident), row in self.view().items() if name == box]
+        return [' '.join([('d' if kind == 'dummy' else '') + str(n), '-' if m is None else str(m)] + sorted(f, key=str.encode))
+            for (kind, n), (m, f) in sorted(rows, key=lambda r: (r[0][0] == 'dummy', r[0][1]))]
+    def named(self, target): return '%s %d' % (target[1], target[3]) if target[0] == 'real' else '%s d%d' % (self.to_of(target[1]), target[1])
+    def queue_lines(self):
+        return ['%d %s ' % (n, 'begun' if self.pending and n == self.unsettled()[0] else 'waiting') + {
+            'flag': lambda t, sign, flags: ' '.join(['flag', self.named(t), sign] + keys(flags)),
+            'move': lambda t, to: 'move %s %s' % (self.named(t), to),
+            'append': lambda to, flags, text: 'append %s %s' % (to, message_id(text).decode())}[self.queue[n - 1][0]](*self.queue[n - 1][1:])
+            for n in self.unsettled()]
 
-def body_of(b):
-    return {'begin': lambda b: begin(*b[1]), 'accept': lambda b: accept(*b[1:]), 'learn': lambda b: learn(*b[1:])}[b[0]](b)
+def body_of(e): return dict(begin=lambda names: begin(*names), accept=accept, intend=intend, settle=settle, learn=learn)[e[0]](*e[1:])
 
-def read_name(s, at): n = s[at]; return s[at + 1:at + 1 + n].decode(), at + 1 + n
-def read_flags(s, at):
-    n, at, got = int.from_bytes(s[at:at + 2], 'big'), at + 2, []
-    for _ in range(n): f, at = read_name(s, at); got.append(f)
-    return got, at
-def num(s, at, n): return int.from_bytes(s[at:at + n], 'big'), at + n
+class Body:
+    "a body that is read from its front"
+    def __init__(self, b): self.b, self.at = b, 0
+    def take(self, n): self.at += n; assert self.at <= len(self.b); return self.b[self.at - n:self.at]
+    def num(self, n=4): return int.from_bytes(self.take(n), 'big')
+    def name(self): return self.take(self.num(1)).decode()
+    def flags(self): return [self.name() for _ in range(self.num(2))]
+    def target(self): return ('real', self.name(), self.num(), self.num()) if self.take(1) == b'R' else ('dummy', self.num())
+    def action(self):
+        letter = self.take(1)
+        if letter == b'F': return ('flag', self.target(), self.take(1).decode(), self.flags())
+        if letter == b'M': return ('move', self.target(), self.name())
+        return ('append', self.name(), self.flags(), self.take(self.num()))
+    def intent(self):
+        letter, box, validity = self.take(1), self.name(), self.num()
+        if letter == b'S': return ('store', box, validity, self.num(), self.num(8))
+        if letter == b'M': return ('shift', box, validity, self.num(), self.name())
+        return ('put', box, validity, self.num())
+    def outcome(self):
+        if self.take(1) == b'D': return ('done', self.num(), self.num()) if self.num(1) else ('done',)
+        kind = self.num(1)
+        return ('conflict', kind, [self.num(w) for w in KINDS.get(kind, [])])
+    def event(self):
+        letter = self.take(1)
+        if letter == b'B': return ('begin', [self.name() for _ in range(self.num(1))])
+        if letter == b'A': return ('accept', self.num(), self.action())
+        if letter == b'I': return ('intend', self.num(), self.intent())
+        if letter == b'S': return ('settle', self.num(), self.outcome())
+        if letter == b'L':
+            box, whole, validity, highest, uidnext = self.name(), self.num(1), self.num(), self.num(8), self.num()
+            gone = [u for a, z in [(self.num(), self.num()) for _ in range(self.num())] for u in range(a, z + 1)]
+            return ('learn', box, whole, validity, highest, uidnext, gone, [(self.num(), self.num(8), self.flags()) for _ in range(self.num())])
 
-def event_of(s):
+def event_of(b):
     "the event of a body, or None"
-    if s[:1] == b'B':
-        at, names = 2, []
-        for _ in range(s[1]): n, at = read_name(s, at); names.append(n)
-        return ('begin', names)
-    if s[:1] == b'A' and s[5:7] == b'FR':
-        n, _ = num(s, 1, 4); box, at = read_name(s, 7); v, at = num(s, at, 4); u, at = num(s, at, 4)
-        sign, at = chr(s[at]), at + 1; f, at = read_flags(s, at)
-        return ('accept', n, box, v, u, sign, f)
-    if s[:1] == b'L':
-        box, at = read_name(s, 1); whole, at = num(s, at, 1); v, at = num(s, at, 4); h, at = num(s, at, 8); u, at = num(s, at, 4)
-        n, at = num(s, at, 4); gone = []
-        for _ in range(n): a, at = num(s, at, 4); z, at = num(s, at, 4); gone += range(a, z + 1)
-        n, at = num(s, at, 4); rows = []
-        for _ in range(n): uid, at = num(s, at, 4); m, at = num(s, at, 8); f, at = read_flags(s, at); rows.append((uid, m, f))
-        return ('learn', box, whole, v, h, u, gone, rows)
-    return None
+    try: e = Body(b).event()
+    except (AssertionError, UnicodeDecodeError): return None
+    return e if e and body_of(e) == b else None
 
+# ---- the commands
 class Store:
     """The journal of the left file; an opening makes these calls (docs/JOURNAL.md, "Counted")."""
     def __init__(self, world):
@@ -237,28 +353,51 @@ def init(w, names):
         if len(f.seen) >= 14 and f.seen[0] == 1 and f.seen[1:9] != b'ODMAILJ1': raise Fault(9, 'error journal header')
         if len(f.seen) >= 14 and f.seen[0] == 1: raise Fault(9, 'error journal exists')
     w.read()
-    w.write(0, b'\x00'); w.sync(0)
+    # a longer file has its head gate closed
+    if len(w.files[0].seen) < 14: w.write(0, b'\x00'); w.sync(0)
     w.write(1, journal(begin(*names))[1:]); w.sync(0)
     w.write(0, b'\x01'); w.sync(0)
     return ['ready']
 
-def flag(w, box, uid, sign, flags):
+def refuse(reason): raise Fault(10, 'refused ' + reason)
+def target(book, box, ident):
+    "what the words name, where the view has it"
+    if (box, ident) not in book.view(): refuse('no-message')
+    return ident if ident[0] == 'dummy' else ('real', box, book.boxes[box]['validity'], ident[1])
+def opened(w, *boxes):
     s = Store(w)
-    if name_of(box) not in s.book.boxes: raise Fault(10, 'refused no-mailbox')
-    cache = s.book.boxes[name_of(box)]
-    if cache is None or uid not in cache['rows']: raise Fault(10, 'refused no-message')
-    if any(f.startswith('\\') and f.lower() not in ('\\answered', '\\flagged', '\\deleted', '\\seen', '\\draft') or '(' in f for f in flags):
-        raise Fault(10, 'refused bad-flag')
-    s.commit(('accept', s.book.queue + 1, name_of(box), cache['validity'], uid, sign, flags))
-    return ['accepted %d' % s.book.queue]
+    if any(b not in s.book.boxes for b in boxes): refuse('no-mailbox')
+    return s
+def weigh(s, flags=()):
+    "the reasons from the flags on, up to a full queue"
+    if not all(map(may_be_asked, flags)): refuse('bad-flag')
+    if len(s.book.unsettled()) >= 65535: refuse('queue-full')
+def take(s, action):
+    n = len(s.book.queue) + 1
+    s.commit(('accept', n, action))
+    return ['accepted %d' % n]
 
-def rows_text(rows): return ['%d %d%s' % (u, m, ''.join(' ' + k for k in f)) for u, (m, f) in sorted(rows.items())]
-
-def list_rows(w, box):
-    s = Store(w)
-    if name_of(box) not in s.book.boxes: raise Fault(10, 'refused no-mailbox')
-    cache = s.book.boxes[name_of(box)]
-    return rows_text(cache['rows']) if cache else []
+def flag(w, box, ident, sign, flags):
+    s = opened(w, box)
+    t = target(s.book, box, ident)
+    weigh(s, flags)
+    return take(s, ('flag', t, sign, keys(flags)))
+def move(w, box, ident, to):
+    s = opened(w, box, to)
+    t = target(s.book, box, ident)
+    if box == to: refuse('same-mailbox')
+    weigh(s)
+    return take(s, ('move', t, to))
+def append(w, to, flags):
+    s = opened(w, to)
+    weigh(s, flags)
+    text = crlf_of(w.take_input())
+    if len(text) > 2**25: refuse('too-large')
+    if b'\0' in text: refuse('bad-text')
+    if message_id(text) is None: refuse('no-message-id')
+    return take(s, ('append', to, keys(flags), text))
+def list_rows(w, box): return opened(w, box).book.list(box)
+def queue(w): return Store(w).book.queue_lines()
 
 def login_parts(user, password):
     "the text of LOGIN in parts: one that isn't ASCII is a literal, which begins a part of its own"
@@ -274,7 +413,7 @@ def astring(s):
 def play(w):
     """Over a server in memory: one call of the link a part of a command, and one a reply (docs/PROTOCOL.md)."""
     s = Store(w)
-    if s.book.queue: raise Fault(15, 'error later 1')
+    if s.book.unsettled(): raise Fault(15, 'error later %d' % s.book.unsettled()[0])
     w.connect(); w.recv()
     count = [0]
     def ask(text, *parts):
@@ -319,7 +458,7 @@ def play(w):
     ask('LOGOUT')
     return ['played 0 conflicts 0']
 
-COMMANDS = dict(init=lambda w, a: init(w, a), flag=lambda w, a: flag(w, a[0], int(a[1]), a[2], a[3:]), list=lambda w, a: list_rows(w, a[0]), play=lambda w, a: play(w))
+COMMANDS = dict(init=init, flag=flag, move=move, append=append, list=list_rows, queue=queue, play=play)
 
 # ---- scenarios: what is read, and what is printed
 class Scenario:
@@ -352,6 +491,8 @@ class Scenario:
     def link(self, n, loss): self.line('link %d %s' % (n, loss)); self.world.losses.setdefault(n, loss)
     def stop(self, n): self.line('stop %d' % n); self.world.stop = n
     def sink(self, n): self.line('sink %d' % n); self.world.sink_fails.add(n)
+    def source(self, n): self.line('source %d' % n); self.world.source_fails.add(n)
+    def input(self, text): self.line('input ' + word(text)); self.world.input = text
     def change_words(self, change):
         verb, name, *rest = change
         out = [verb, word(name), str(rest[0])]
@@ -366,8 +507,8 @@ class Scenario:
     def restart(self, pick): self.world.restart(pick); self.line('restart %d' % pick)
     # a run, by the model. Only a command that is done prints through a failing sink with another status
     def run(self, *ws):
-        w = self.world
-        try: printed, status = COMMANDS[ws[0]](w, list(ws[1:])), 0
+        w, what = self.world, asked(ws)
+        try: printed, status = (COMMANDS[what[0]](w, *what[1:]), 0) if what else (['error words'], 2)
         except Fault as f: printed, status = [f.line], f.status
         if w.link_calls or w.calls and w.stop is not None and w.calls >= w.stop and status == 4: w.close()
         if 1 in w.sink_fails: printed, status = [], (12 if status == 0 else status)
