@@ -39,11 +39,11 @@ use Rattle.action_queue.specs.declared.outcome.Outcome.{Outcome}
 use Rattle.action_queue.specs.declared.outcome.Outcome.TheVariants as outcomes
 use Rattle.action_queue.specs.declared.queued.Queued.{Queued}
 use Rattle.action_queue.specs.Book.{Meaning}
-use Rattle.playback.specs.Marked.{has_id, marked}
+use Rattle.append_probe.specs.Marked.{at_least, has_id, marked}
 use Rattle.playback.specs.Wanted.{IsAsked, IsWanted}
 use Rattle.playback.specs.Once.{new_uid, AllOwned, Fits, Once}
 use Rattle.playback.specs.InBox.{InBox}
-use Rattle.playback.specs.Open.{RowAbove, StoreFacts, ShiftFacts, at_least, some_of, PutFacts, IntentFacts, IsOpen, intent_name, intent_validity}
+use Rattle.playback.specs.Open.{RowAbove, StoreFacts, ShiftFacts, some_of, PutFacts, IntentFacts, IsOpen, intent_name, intent_validity}
 use Rattle.playback.specs.Sound.{HasIntent, IsSound}
 use Rattle.playback.specs.Of.{tag_of, command_of, IsOf, MutatingWaits}
 use Rattle.playback.specs.Kept.{KeptBook, KeptBefore, Kept}
@@ -391,7 +391,7 @@ module _ (b : Meaning) (s t : Server) (waiting : Option Waiting) (kept : KeptBoo
   nothing_done e = ap (λ (x : Server). ours (suc (due b.queue)) x.history) e ∙ of.none
 
 -- a command that doesn't change anything
-harmless : (selected : Option (List ℕ)) (tag : Tag) (command : Command) (s t : Server) → is_mutating command ≡ false →
+pub harmless : (selected : Option (List ℕ)) (tag : Tag) (command : Command) (s t : Server) → is_mutating command ≡ false →
     Accepted selected tag command s t → t ≡ s
 harmless selected tag (commands.Store uid since add flags) s t = λ f e. absurd (cc)
 harmless selected tag (commands.Shift uid to) s t = λ f e. absurd (cc)

@@ -36,7 +36,7 @@ step_at_most None k i l = omega arith
 step_at_most (Some o) k i l = omega arith
 
 -- an unsettled action stands at the due place or behind it
-due_before : (queue : List Queued) (i : ℕ) (q : Queued) → q.outcome ≡ None → slice_get queue i ≡ Some q → due queue ≤ i
+pub due_before : (queue : List Queued) (i : ℕ) (q : Queued) → q.outcome ≡ None → slice_get queue i ≡ Some q → due queue ≤ i
 due_before [] i q n = λ e. absurd (cc)
 due_before (x ∷ xs) zero q n = λ e.
     let o : x.outcome ≡ None = ap (λ (y : Queued). y.outcome) (same_Some x q e) ∙ n in

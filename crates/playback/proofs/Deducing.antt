@@ -14,9 +14,9 @@ use Rattle.imap_model.specs.declared.server.Mailbox.{Mailbox}
 use Rattle.imap_model.specs.declared.server.Server.{Server}
 use Rattle.imap_model.specs.declared.deed.Deed.{Deed}
 use Rattle.action_queue.specs.declared.outcome.Outcome.TheVariants as outcomes
-use Rattle.playback.specs.Marked.{has_id, marked}
+use Rattle.append_probe.specs.Marked.{at_least, has_id, marked}
 use Rattle.playback.specs.Once.{new_uid, Fits}
-use Rattle.playback.specs.Open.{RowAbove, StoreFacts, ShiftFacts, at_least, given, some_of, PutFacts}
+use Rattle.playback.specs.Open.{RowAbove, StoreFacts, ShiftFacts, given, some_of, PutFacts}
 use Rattle.playback.specs.Past.{Later, OneBox}
 use Rattle.playback.proofs.Deeds.{batch_ours}
 use Rattle.playback.proofs.Facts.{store_goes, shift_goes, put_goes}

@@ -10,8 +10,8 @@ use Rattle.imap_model.specs.declared.server.Server.{Server}
 use Rattle.mailbox_cache.specs.declared.cache.Cache.{Cache}
 use Rattle.mailbox_cache.specs.declared.delta.Delta.{Delta}
 use Rattle.action_queue.specs.Queues.{due, due_action, accepted, settled, change_first}
-use Rattle.action_queue.specs.Book.{Meaning, known_at, cache_of, cache_at, put_cache, learned, known_of, begun, after}
-use Rattle.action_queue.specs.Events.{next_book}
+use Rattle.action_queue.specs.Book.{Meaning, known_at, cache_of, cache_at, learned, known_of, begun, after}
+use Rattle.action_queue.specs.Events.{IsLawful, next_book}
 use Rattle.action_queue.specs.declared.action.Action.{Action}
 use Rattle.action_queue.specs.declared.intent.Intent.{Intent}
 use Rattle.action_queue.specs.declared.outcome.Outcome.{Outcome}
@@ -27,8 +27,8 @@ use Rattle.playback.specs.Of.{tag_of, command_of, IsOf}
 use Rattle.playback.specs.Kept.{KeptBook, KeptBefore, Kept}
 use Rattle.playback.specs.Permitted.{MayFollow, Permits}
 use Rattle.playback.proofs.Queueing.{get_push, get_pushed, grows_push, due_push, IsChangedAt, changed_at, grows_settle, due_settle, cache_put}
-use Rattle.playback.proofs.Queueing.{accept_sound, intend_sound, settle_sound, caches_sound}
-use Rattle.playback.proofs.Lawful.{intend_due, settle_due, IsThere}
+use Rattle.playback.proofs.Sounding.{begun_sound, accept_sound, intend_sound, settle_sound, caches_sound}
+use Rattle.playback.proofs.Lawful.{accept_known, accept_good, intend_due, settle_due, IsDue}
 use Rattle.playback.proofs.Deeds.{owned_grows, all_none_owned, none_ours}
 
 no_cache : (name : List ℕ) (names : List (List ℕ)) (cache : Cache) → cache_at name (map known_of names) ≡ Some cache → ⊥
@@ -39,7 +39,7 @@ no_cache name (n ∷ ns) cache =
 
 begun_kept : (names : List (List ℕ)) (s : Server) (waiting : Option Waiting) → KeptBefore s waiting → KeptBook (begun names) s waiting
 begun_kept names s waiting k = record {
-  sound = record { rest = λ i q e l. absurd (cc); intent = λ intent p. absurd (cc); writable = λ i q e. absurd (cc) };
+  sound = begun_sound names;
   well = k.well;
   once = record {
     owned = all_none_owned [] s.history k.none;
@@ -63,11 +63,12 @@ module _ (b : Meaning) (id : ℕ) (action : Action) (s : Server) (waiting : Opti
   old_settled i q outcome o (inl e) = kept.once.settled i q outcome e o
   old_settled i q outcome o (inr e) = let n : q.outcome ≡ None = ap (λ (x : Queued). x.outcome) e.1 in absurd (cc)
 
-  pub accept_keeps : Permits (Some b) (events.Accept id action) s waiting → KeptBook (after b (events.Accept id action)) s waiting
-  accept_keeps writable =
+  accept_keeps : IsLawful b (events.Accept id action) → Permits (Some b) (events.Accept id action) s waiting →
+      KeptBook (after b (events.Accept id action)) s waiting
+  accept_keeps lawful writable =
       let new : Queued = accepted action in
       record {
-        sound = accept_sound b action kept.sound writable;
+        sound = accept_sound b action kept.sound writable (accept_known b id action lawful) (accept_good b id action lawful);
         well = kept.well;
         once = record {
           owned = owned_grows b.queue (b.queue ++ new ∷ []) s.history (grows_push b.queue new) kept.once.owned;
@@ -116,7 +117,7 @@ outcome_fits b outcome s waiting kept fits i q other o (inr h) =
     let is : outcome ≡ other = same_Some outcome other (sym (ap (λ (x : Queued). x.outcome) h.is) ∙ o) in
     subst (λ (x : Outcome). Fits x (ours (suc i) s.history)) is (subst (λ (k : ℕ). Fits outcome (ours (suc k) s.history)) (sym h.place) fits)
 
-settle_keeps : (b : Meaning) (id : ℕ) (outcome : Outcome) (s : Server) (waiting : Option Waiting) → KeptBook b s waiting → IsThere (due_action b.queue) →
+settle_keeps : (b : Meaning) (id : ℕ) (outcome : Outcome) (s : Server) (waiting : Option Waiting) → KeptBook b s waiting → IsDue b outcome →
     Permits (Some b) (events.Settle id outcome) s waiting → KeptBook (after b (events.Settle id outcome)) s waiting
 settle_keeps b id outcome s waiting kept has permitted =
     let next : due (change_first (settled outcome) b.queue) ≡ suc (due b.queue) = due_settle outcome b.queue has.queued has.is kept.sound.rest in
@@ -124,7 +125,7 @@ settle_keeps b id outcome s waiting kept has permitted =
     let none_now : ours (suc (due (change_first (settled outcome) b.queue))) s.history ≡ [] =
     subst (λ (k : ℕ). ours (suc k) s.history ≡ []) (sym next) none in
     record {
-      sound = settle_sound b outcome has.queued kept.sound has.is;
+      sound = settle_sound b outcome kept.sound has;
       well = kept.well;
       once = record {
         owned = owned_grows b.queue (change_first (settled outcome) b.queue) s.history (grows_settle outcome b.queue) kept.once.owned;
@@ -177,14 +178,14 @@ caches_keep b c s waiting kept sound queue pending fresh = record {
 pub event_keeps : (b : Meaning) (event : Event) (s : Server) (waiting : Option Waiting) → KeptBook b s waiting → MayFollow (Some b) event →
     Permits (Some b) event s waiting → KeptBook (after b event) s waiting
 event_keeps b (events.Begin names) s waiting kept follows permitted = absurd permitted
-event_keeps b (events.Accept id action) s waiting kept follows permitted = accept_keeps b id action s waiting kept permitted
+event_keeps b (events.Accept id action) s waiting kept follows permitted = accept_keeps b id action s waiting kept follows permitted
 event_keeps b (events.Intend id intent) s waiting kept follows permitted = intend_keeps b id intent s waiting kept (intend_due b id intent follows) permitted
 event_keeps b (events.Settle id outcome) s waiting kept follows permitted =
     settle_keeps b id outcome s waiting kept (settle_due b id outcome follows) permitted
 event_keeps b (events.Learn name delta) s waiting kept follows permitted =
-    let boxes : List Known = put_cache name (Some (learned (cache_at name b.boxes) delta)) b.boxes in
-    caches_keep b (after b (events.Learn name delta)) s waiting kept (caches_sound b boxes kept.sound) refl refl
-    (λ n cache e. learned_fresh b name delta s kept.fresh permitted n cache (cache_put name n (Some (learned (cache_at name b.boxes) delta)) b.boxes cache e))
+    let new : Option Cache = Some (learned (cache_at name b.boxes) delta) in
+    caches_keep b (after b (events.Learn name delta)) s waiting kept (caches_sound b name new kept.sound) refl refl
+    (λ n cache e. learned_fresh b name delta s kept.fresh permitted n cache (cache_put name n new b.boxes cache e))
 
 pub book_keeps : (b : Option Meaning) (event : Event) (s : Server) (waiting : Option Waiting) → Kept b s waiting → MayFollow b event →
     Permits b event s waiting → KeptBook (next_book b event) s waiting

@@ -9,9 +9,9 @@ use Rattle.imap_model.specs.declared.deed.Deed.{Deed}
 use Rattle.qresync_core.specs.Fresh.{FreshFacts}
 use Rattle.qresync_core.proofs.Leveling.{facts_later}
 use Rattle.action_queue.specs.Book.{Meaning}
-use Rattle.playback.specs.Marked.{marked}
+use Rattle.append_probe.specs.Marked.{at_least, marked}
 use Rattle.playback.specs.InBox.{InBox}
-use Rattle.playback.specs.Open.{RowAbove, StoreFacts, ShiftFacts, at_least, some_of, PutFacts}
+use Rattle.playback.specs.Open.{RowAbove, StoreFacts, ShiftFacts, some_of, PutFacts}
 use Rattle.playback.specs.Fresh.{Fresh}
 
 above_same : (modseq floor : ℕ) (x m : Message) → modseq ≤ floor → modseq < x.modseq → (m ≡ x) ⊎ (floor < m.modseq) → modseq < m.modseq

@@ -18,7 +18,7 @@ use Rattle.action_queue.specs.declared.action.Action.TheVariants as actions
 use Rattle.action_queue.specs.declared.intent.Intent.{Intent}
 use Rattle.action_queue.specs.declared.intent.Intent.TheVariants as intents
 use Rattle.action_queue.specs.declared.queued.Queued.{Queued}
-use Rattle.playback.specs.Marked.{marked}
+use Rattle.append_probe.specs.Marked.{marked}
 use Rattle.playback.specs.Once.{Fits}
 use Rattle.playback.specs.Open.{IntentFacts, IsOpen, Open, intent_name, intent_validity}
 use Rattle.playback.specs.Sound.{HasIntent}

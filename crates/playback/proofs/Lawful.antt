@@ -1,11 +1,13 @@
 -- What is needed here of an event that breaks no rule.
-use Rattle.std.proofs.Common.{◌≡◌, ℕ, Bool, true, false, not, Option, Some, None, refl}
-use Rattle.std.specs.Prelude.{is_none, is_some, cond, ◌==◌, ◌+◌}
+use Rattle.std.proofs.Common.{◌≡◌, ℕ, Bool, true, false, not, length, Option, Some, None, refl}
+use Rattle.std.specs.Prelude.{is_none, is_some, cond, ◌&&◌, ◌==◌, ◌+◌}
 use Rattle.action_queue.specs.Queues.{due, due_action}
-use Rattle.action_queue.specs.Rules.{suits, is_unsuited, is_unknown_intent}
+use Rattle.action_queue.specs.Rules.{suits, is_unsuited, is_unknown_intent, is_unknown_action, is_bad_action}
+use Rattle.action_queue.specs.Rules.{rests_on_intent, comes_before_intent, is_misplaced, is_misplaced_of}
 use Rattle.action_queue.specs.Book.{Meaning}
 use Rattle.action_queue.specs.Events.{IsLawful}
 use Rattle.action_queue.specs.declared.event.Event.TheVariants as events
+use Rattle.action_queue.specs.declared.action.Action.{Action}
 use Rattle.action_queue.specs.declared.intent.Intent.{Intent}
 use Rattle.action_queue.specs.declared.outcome.Outcome.{Outcome}
 use Rattle.action_queue.specs.declared.queued.Queued.{Queued}
@@ -17,14 +19,16 @@ both_unbroken : (b : Bool) (r : Rule) (o : Option Rule) → cond b (Some r) o �
 both_unbroken true r o = λ e. absurd (cc)
 both_unbroken false r o = λ e. (refl, e)
 
--- an action that is there
-pub record IsThere (o : Option Queued) : Type 0 where
+-- The action that is due, where one is: this outcome has a place exactly where it makes a message.
+pub record IsDue (b : Meaning) (outcome : Outcome) : Type 0 where
   pub queued : Queued
-  pub is : o ≡ Some queued
+  pub is : due_action b.queue ≡ Some queued
+  pub placed : is_misplaced_of queued.action outcome ≡ false
 
-some_there : (o : Option Queued) → is_none o ≡ false → IsThere o
-some_there None = λ e. absurd (cc)
-some_there (Some q) = λ e. record { queued = q; is = refl }
+due_there : (b : Meaning) (outcome : Outcome) (o : Option Queued) → due_action b.queue ≡ o → is_none o ≡ false →
+    is_misplaced o outcome ≡ false → IsDue b outcome
+due_there b outcome None = λ e n p. absurd (cc)
+due_there b outcome (Some q) = λ e n p. record { queued = q; is = e; placed = p }
 
 not_not : (b : Bool) → not b ≡ false → b ≡ true
 not_not true = λ e. refl
@@ -35,6 +39,21 @@ intent_there : (b : Meaning) (intent : Intent) (o : Option Queued) → due_actio
 intent_there b intent None = λ e n u. absurd (cc)
 intent_there b intent (Some q) = λ e n u. record { queued = q; there = e; suits_it = not_not (suits b.queue q.action intent) u }
 
+-- an action's mailboxes are known, and its dummy is one of a move or an append of the queue
+accept_both : (b : Meaning) (id : ℕ) (action : Action) → IsLawful b (events.Accept id action) →
+    (is_unknown_action b.boxes action ≡ false) × (is_bad_action b.queue action ≡ false)
+accept_both b id action l =
+    let number = both_unbroken (not (id == length b.queue + 1)) _ _ l.unbroken in
+    let known = both_unbroken (is_unknown_action b.boxes action) _ _ number.1 in
+    let good = both_unbroken (is_bad_action b.queue action) _ _ known.1 in
+    (known.0, good.0)
+
+pub accept_known : (b : Meaning) (id : ℕ) (action : Action) → IsLawful b (events.Accept id action) → is_unknown_action b.boxes action ≡ false
+accept_known b id action l = (accept_both b id action l).0
+
+pub accept_good : (b : Meaning) (id : ℕ) (action : Action) → IsLawful b (events.Accept id action) → is_bad_action b.queue action ≡ false
+accept_good b id action l = (accept_both b id action l).1
+
 pub intend_due : (b : Meaning) (id : ℕ) (intent : Intent) → IsLawful b (events.Intend id intent) → HasIntent b intent
 intend_due b id intent l =
     let known = both_unbroken (is_unknown_intent b.boxes intent) _ _ l.unbroken in
@@ -44,7 +63,11 @@ intend_due b id intent l =
     let suited = both_unbroken (is_unsuited b.queue (due_action b.queue) intent) _ _ number.1 in
     intent_there b intent (due_action b.queue) refl waits.0 suited.0
 
-pub settle_due : (b : Meaning) (id : ℕ) (outcome : Outcome) → IsLawful b (events.Settle id outcome) → IsThere (due_action b.queue)
+pub settle_due : (b : Meaning) (id : ℕ) (outcome : Outcome) → IsLawful b (events.Settle id outcome) → IsDue b outcome
 settle_due b id outcome l =
     let waits = both_unbroken (is_none (due_action b.queue)) _ _ l.unbroken in
-    some_there (due_action b.queue) waits.0
+    let number = both_unbroken (not (id == due b.queue + 1)) _ _ waits.1 in
+    let needs = both_unbroken (is_none b.pending && rests_on_intent outcome) _ _ number.1 in
+    let before = both_unbroken (is_some b.pending && comes_before_intent outcome) _ _ needs.1 in
+    let placed = both_unbroken (is_misplaced (due_action b.queue) outcome) _ _ before.1 in
+    due_there b outcome (due_action b.queue) refl waits.0 placed.0

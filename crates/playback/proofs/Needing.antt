@@ -23,8 +23,8 @@ use Rattle.action_queue.specs.declared.intent.Intent.TheVariants as intents
 use Rattle.action_queue.specs.declared.outcome.Outcome.TheVariants as outcomes
 use Rattle.action_queue.specs.declared.rule.Version.TheVariants.{First}
 use Rattle.playback.specs.InBox.{InBox}
-use Rattle.playback.specs.Open.{IsOpen, StoreFacts, PutFacts, at_least, some_of}
-use Rattle.playback.specs.Marked.{marked}
+use Rattle.playback.specs.Open.{IsOpen, StoreFacts, PutFacts, some_of}
+use Rattle.append_probe.specs.Marked.{at_least, marked}
 use Rattle.playback.specs.Fresh.{IsFreshFor}
 use Rattle.playback.specs.Of.{IsOf}
 use Rattle.playback.specs.Kept.{KeptBook}
@@ -39,7 +39,7 @@ use Rattle.playback.proofs.Showing.{begin_follows, accept_follows, intend_follow
 kept_one : KeptBook book_one server_before None
 kept_one = book_keeps None (events.Begin (box_name ∷ [])) server_before None start_kept begin_follows (tt, nothing_waits)
 
-kept_two : KeptBook book_two server_before None
+pub kept_two : KeptBook book_two server_before None
 kept_two = event_keeps book_one (events.Accept 1 asked) server_before None kept_one accept_follows (lit≤ tt, lit≤ tt)
 
 pub kept_three : KeptBook book_three server_before None

@@ -30,10 +30,11 @@ use Rattle.action_queue.specs.declared.intent.Intent.{Intent}
 use Rattle.action_queue.specs.declared.intent.Intent.TheVariants as intents
 use Rattle.action_queue.specs.declared.queued.Queued.{Queued}
 use Rattle.imap_model.proofs.Finding.{same_name}
-use Rattle.playback.specs.Marked.{has_id, marked}
+use Rattle.append_probe.specs.Marked.{at_least, has_id, marked}
+use Rattle.append_probe.specs.Question.{append_id}
 use Rattle.playback.specs.Once.{new_uid}
 use Rattle.playback.specs.InBox.{InBox}
-use Rattle.playback.specs.Open.{RowAbove, at_least, some_of, given, AllReceived, IntentFacts, IsOpen, Open, intent_name, intent_validity, append_id}
+use Rattle.playback.specs.Open.{RowAbove, some_of, given, AllReceived, IntentFacts, IsOpen, Open, intent_name, intent_validity}
 use Rattle.playback.specs.Fresh.{IsFreshFor, Fresh}
 use Rattle.playback.specs.PlainOnce.{is_none}
 use Rattle.playback.specs.PlainOpen.{row_above, not_there, marked_from, gave, all_received, NeedsId, HasGoodId, intent_holds}

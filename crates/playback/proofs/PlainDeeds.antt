@@ -66,7 +66,7 @@ not_true : (b : Bool) → not b ≡ true → b ≡ false
 not_true true = λ e. absurd (cc)
 not_true false = λ e. refl
 
-asked_decides : (add : Bool) (asked flags : List (List ℕ)) → Decides (is_asked add asked flags) (IsAsked add asked flags)
+pub asked_decides : (add : Bool) (asked flags : List (List ℕ)) → Decides (is_asked add asked flags) (IsAsked add asked flags)
 asked_decides true asked flags = (all_pass (λ key. has flags key) asked, pass_all (λ key. has flags key) asked)
 asked_decides false asked flags = (
   λ e key h. not_true (has flags key) (all_pass (λ key. not (has flags key)) asked e key h),

@@ -6,11 +6,10 @@ use Rattle.std.proofs.lemmas.Bool.{cond_both, eq-eqb, eqb-true}
 use Rattle.std.proofs.lemmas.Option.{same_Some}
 use Rattle.imap_model.proofs.Finding.{cond_two, same_name, names_same}
 use Rattle.mailbox_cache.specs.declared.cache.Cache.{Cache}
-use Rattle.action_queue.specs.Queues.{due, due_action, settled_then, accepted, settled, change_first, change_queued}
+use Rattle.action_queue.specs.Queues.{due, settled_then, settled, change_first, change_queued}
 use Rattle.action_queue.specs.Targets.{landed, landed_queued, resolved, is_at}
 use Rattle.action_queue.specs.Rules.{suits}
-use Rattle.action_queue.specs.Writable.{IsWritableAction}
-use Rattle.action_queue.specs.Book.{Meaning, known_at, cache_of, cache_at, put_cache}
+use Rattle.action_queue.specs.Book.{known_at, cache_of, cache_at, put_cache}
 use Rattle.action_queue.specs.declared.target.Target.{Target}
 use Rattle.action_queue.specs.declared.target.Target.TheVariants as targets
 use Rattle.action_queue.specs.declared.action.Action.{Action}
@@ -22,7 +21,6 @@ use Rattle.action_queue.specs.declared.queued.Queued.{Queued}
 use Rattle.action_queue.specs.declared.found.Found.{Found}
 use Rattle.action_queue.specs.declared.found.Found.TheVariants as found
 use Rattle.action_queue.specs.declared.book.Known.{Known}
-use Rattle.playback.specs.Sound.{HasIntent, IsSound}
 
 -- an action is in its place still, and has its outcome still
 pub record Stays (q : Queued) (queue : List Queued) (i : ℕ) : Type 0 where
@@ -267,67 +265,3 @@ cache_put name n cache (k ∷ ks) x =
     (λ f. cond_two (bytes_eq k.name n) (Some k) (known_at n (put_cache name cache ks)) (Some k) (known_at n ks)
     (λ (o p : Option Known). cache_of o ≡ Some x → ((n ≡ name) × (cache ≡ Some x)) ⊎ (cache_of p ≡ Some x))
     (λ u e. inr e) (λ u e. cache_put name n cache ks x e))
-
-accepted_rest : (b : Meaning) (q : Queued) → IsSound b → (i : ℕ) (x : Queued) → q.outcome ≡ None → due b.queue ≤ i →
-    (slice_get b.queue i ≡ Some x) ⊎ ((i ≡ length b.queue) × (x ≡ q)) → x.outcome ≡ None
-accepted_rest b q s i x n l (inl e) = s.rest i x e l
-accepted_rest b q s i x n l (inr e) = ap (λ (y : Queued). y.outcome) e.1 ∙ n
-
-accepted_all : (P : Queued → Type 0) (queue : List Queued) (q : Queued) → P q → ((i : ℕ) (x : Queued) → slice_get queue i ≡ Some x → P x) →
-    (i : ℕ) (x : Queued) →
-    (slice_get queue i ≡ Some x) ⊎ ((i ≡ length queue) × (x ≡ q)) → P x
-accepted_all P queue q p all i x (inl e) = all i x e
-accepted_all P queue q p all i x (inr e) = subst P (sym e.1) p
-
-changed_all : (P : Queued → Type 0) (f : Queued → Queued) (queue : List Queued) → ((q : Queued) → P q → P (f q)) →
-    ((i : ℕ) (x : Queued) → slice_get queue i ≡ Some x → P x) →
-    (i : ℕ) (x : Queued) → IsChangedAt f queue i x → P x
-changed_all P f queue p all i x (inl h) = all i x h.there
-changed_all P f queue p all i x (inr h) = subst P (sym h.is) (p h.queued (all i h.queued h.there))
-
-settled_rest : (b : Meaning) (outcome : Outcome) → IsSound b → (i : ℕ) (x : Queued) → suc (due b.queue) ≤ i →
-    IsChangedAt (settled outcome) b.queue i x → x.outcome ≡ None
-settled_rest b outcome s i x l (inl h) = s.rest i x h.there (omega arith)
-settled_rest b outcome s i x l (inr h) = let p : i ≡ due b.queue = h.place in absurd (omega arith)
-
--- the book stays sound at each event
-pub accept_sound : (b : Meaning) (action : Action) → IsSound b → IsWritableAction action → IsSound (record b { queue = b.queue ++ accepted action ∷ [] })
-accept_sound b action s w =
-    let q : Queued = accepted action in
-    let d : due (b.queue ++ q ∷ []) ≡ due b.queue = due_push b.queue q refl in
-    record {
-      rest = λ i x e h. accepted_rest b q s i x refl (omega arith) (get_push b.queue q x i e);
-      intent = λ intent p. let h : HasIntent b intent = s.intent intent p in record {
-        queued = h.queued;
-        there = subst (λ (k : ℕ). slice_get (b.queue ++ q ∷ []) k ≡ Some h.queued) (sym d) (get_pushed b.queue q h.queued (due b.queue) h.there);
-        suits_it = suits_stays b.queue (b.queue ++ q ∷ []) h.queued.action intent (grows_push b.queue q) h.suits_it;
-      };
-      writable = λ i x e. accepted_all (λ y. IsWritableAction y.action) b.queue q w s.writable i x (get_push b.queue q x i e);
-    }
-
-pub intend_sound : (b : Meaning) (intent : Intent) → IsSound b → HasIntent b intent → IsSound (record b { pending = Some intent })
-intend_sound b intent s l =
-    record {
-      rest = s.rest;
-      intent = λ other p. subst (λ (x : Intent). HasIntent (record b { pending = Some intent }) x) (same_Some intent other p)
-          (record { queued = l.queued; there = l.there; suits_it = l.suits_it });
-      writable = s.writable;
-    }
-
-pub settle_sound : (b : Meaning) (outcome : Outcome) (q : Queued) → IsSound b → due_action b.queue ≡ Some q →
-    IsSound (record b { queue = change_first (settled outcome) b.queue; pending = None })
-settle_sound b outcome q s e =
-    let d : due (change_first (settled outcome) b.queue) ≡ suc (due b.queue) = due_settle outcome b.queue q e s.rest in
-    record {
-      rest = λ i x e h. settled_rest b outcome s i x (omega arith) (changed_at (settled outcome) b.queue i x e);
-      intent = λ other p. absurd (cc);
-      writable = λ i x e. changed_all (λ y. IsWritableAction y.action) (settled outcome) b.queue (λ y w. w) s.writable i x
-          (changed_at (settled outcome) b.queue i x e);
-    }
-
-pub caches_sound : (b : Meaning) (boxes : List Known) → IsSound b → IsSound (record b { boxes = boxes })
-caches_sound b boxes s = record {
-  rest = s.rest;
-  intent = λ other p. let h : HasIntent b other = s.intent other p in record { queued = h.queued; there = h.there; suits_it = h.suits_it };
-  writable = s.writable;
-}

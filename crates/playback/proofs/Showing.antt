@@ -1,10 +1,11 @@
 -- The run of the example, step by step.
-use Rattle.std.proofs.Common.{◌≡◌, inl, inr, ℕ, ◌<◌, ◌≤◌, eqb, false, List, [], ◌∷◌, Option, Some, None, refl, subst, arith, lit<, lit≤}
+use Rattle.std.proofs.Common.{◌≡◌, inl, inr, ℕ, ◌<◌, ◌≤◌, eqb, true, false, List, [], ◌∷◌, Option, Some, None, refl, subst, arith, lit<, lit≤}
 use Rattle.std.specs.Prelude.{Contains, bytes_eq}
 use Rattle.std.proofs.lemmas.Option.{same_Some}
 use Rattle.std.proofs.lemmas.Bool.{cond_both, eqb-true}
+use Rattle.mail_base.specs.declared.tag.Tag.TheVariants.{Play}
 use Rattle.imap_model.specs.Lookups.{box_at, message_at}
-use Rattle.imap_model.specs.Carrying.{Waiting, Carries}
+use Rattle.imap_model.specs.Carrying.{Waiting, Carries, Stores}
 use Rattle.imap_model.specs.WellFormed.{IsWellFormedBox}
 use Rattle.imap_model.specs.declared.server.Message.{Message}
 use Rattle.imap_model.specs.declared.server.Mailbox.{Mailbox}
@@ -43,30 +44,32 @@ is_of = record { intent = meant; pending = refl; queued = accepted asked; there 
 sends : Sends sent_out (firm (Some book_three) server_before None) (firm (Some book_three) server_before (Some sent_out))
 sends = record { book = book_three; firm = refl; quiet = nothing_waits; is_of = is_of; becomes = refl }
 
-pub carried_out : Carries sent_out server_before server_after
-carried_out =
-    inr (inl (record {
-      found = record { name = box_name; is_selected = refl; box = box_with [] 10; named = refl; message = message_with [] 10; there = refl };
-      since_then = lit≤ tt;
-      flags = flag ∷ [];
-      changed = λ key. refl;
+pub stores_it : Stores (Play 1) (Some box_name) 1 10 true (flag ∷ []) server_before server_after
+stores_it = record {
+  found = record { name = box_name; is_selected = refl; box = box_with [] 10; named = refl; message = message_with [] 10; there = refl };
+  since_then = lit≤ tt;
+  flags = flag ∷ [];
+  changed = λ key. refl;
+  becomes = record {
+    effect = record {
+      before = box_with [] 10;
+      after = box_with (flag ∷ []) 11;
+      there = refl;
+      put = refl;
       becomes = record {
-        effect = record {
-          before = box_with [] 10;
-          after = box_with (flag ∷ []) 11;
-          there = refl;
-          put = refl;
-          becomes = record {
-            message = message_with [] 10;
-            there = refl;
-            modseq = 11;
-            is_next = record { room = lit< tt; above = lit< tt; fits = lit< tt };
-            becomes = refl;
-          };
-        };
-        history = refl;
+        message = message_with [] 10;
+        there = refl;
+        modseq = 11;
+        is_next = record { room = lit< tt; above = lit< tt; fits = lit< tt };
+        becomes = refl;
       };
-    }))
+    };
+    history = refl;
+  };
+}
+
+pub carried_out : Carries sent_out server_before server_after
+carried_out = inr (inl stores_it)
 
 pub carries : Carried (firm (Some book_three) server_before (Some sent_out)) (firm (Some book_three) server_after None)
 carries = record {

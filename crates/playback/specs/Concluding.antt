@@ -14,9 +14,9 @@ use Rattle.imap_model.specs.declared.server.Server.{Server}
 use Rattle.action_queue.specs.Queues.{due}
 use Rattle.action_queue.specs.Book.{Meaning}
 use Rattle.action_queue.specs.declared.outcome.Outcome.TheVariants as outcomes
-use Rattle.playback.specs.Marked.{marked}
+use Rattle.append_probe.specs.Marked.{at_least, marked}
 use Rattle.playback.specs.Once.{Fits}
-use Rattle.playback.specs.Open.{at_least, StoreFacts, ShiftFacts, PutFacts}
+use Rattle.playback.specs.Open.{StoreFacts, ShiftFacts, PutFacts}
 use Rattle.playback.specs.Of.{IsOf, tag_of}
 use Rattle.playback.specs.Kept.{KeptBook}
 

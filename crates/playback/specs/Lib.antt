@@ -1,11 +1,11 @@
 -- The definitions that this crate's contracts cite.
-pub mod Marked
 pub mod Wanted
 pub mod Once
 pub mod InBox
 pub mod Open
 pub mod Fresh
 pub mod Sound
+pub mod Resolved
 pub mod Of
 pub mod Kept
 pub mod Permitted
@@ -27,3 +27,15 @@ pub mod Plain
 pub mod WorkedRows
 pub mod Needed
 pub mod EachKind
+pub mod Steps
+pub mod Needs
+pub mod Replying
+pub mod Choosing
+pub mod Worlds
+pub mod Knows
+pub mod Allowed
+pub mod Games
+pub mod Taken
+pub mod PlayerRows
+pub mod Left
+pub mod PlaysThrough

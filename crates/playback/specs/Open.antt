@@ -1,6 +1,6 @@
 -- What a pending intent keeps true in its mailbox, whatever happens there: why its command can't take effect twice, and how its
 -- effect shows (RFC 7162, section 3.1.3; RFC 9051, sections 2.3.1.1 and 6.4.8; RFC 4549, section 4.2).
-use Rattle.std.specs.Prelude.{◌≡◌, ℕ, suc, ◌≤◌, ◌<◌, nat_le, List, [], ◌∷◌, Option, Some, None, if◌then◌else◌}
+use Rattle.std.specs.Prelude.{◌≡◌, ℕ, suc, ◌≤◌, ◌<◌, List, [], ◌∷◌, Option, Some, None}
 use Rattle.imap_model.specs.Lookups.{message_at}
 use Rattle.imap_model.specs.Ours.{ours}
 use Rattle.imap_model.specs.declared.server.Message.{Message}
@@ -10,11 +10,11 @@ use Rattle.imap_model.specs.declared.deed.Deed.{Deed}
 use Rattle.action_queue.specs.Queues.{due, due_action}
 use Rattle.action_queue.specs.Book.{Meaning}
 use Rattle.action_queue.specs.declared.action.Action.{Action}
-use Rattle.action_queue.specs.declared.action.Action.TheVariants as actions
 use Rattle.action_queue.specs.declared.intent.Intent.{Intent}
 use Rattle.action_queue.specs.declared.intent.Intent.TheVariants as intents
 use Rattle.action_queue.specs.declared.queued.Queued.{Queued}
-use Rattle.playback.specs.Marked.{marked}
+use Rattle.append_probe.specs.Marked.{at_least, marked}
+use Rattle.append_probe.specs.Question.{append_id}
 use Rattle.playback.specs.Once.{new_uid}
 use Rattle.playback.specs.InBox.{InBox, InBoxNow}
 
@@ -33,11 +33,6 @@ pub record StoreFacts (uid modseq : ℕ) (mine : List Deed) (b : Mailbox) : Type
 pub record ShiftFacts (uid : ℕ) (mine : List Deed) (b : Mailbox) : Type 0 where
   pub below : uid < b.uidnext
   pub left : ¬ (mine ≡ []) → message_at uid b.messages ≡ None
-
--- the UIDs from this one on
-abbrev pub at_least : ℕ → List ℕ → List ℕ
-at_least low [] = []
-at_least low (u ∷ us) = if nat_le low u then u ∷ at_least low us else at_least low us
 
 -- the UIDs that these deeds gave
 abbrev pub given : List Deed → List (Option ℕ)
@@ -70,12 +65,6 @@ abbrev pub intent_validity : Intent → ℕ
 intent_validity (intents.Store name validity uid modseq) = validity
 intent_validity (intents.Shift from validity uid to) = validity
 intent_validity (intents.Put to validity uidnext) = validity
-
--- the identifier of an append
-abbrev pub append_id : Action → List ℕ
-append_id (actions.Flag target add flags) = []
-append_id (actions.Move target to) = []
-append_id (actions.Append to flags text id) = id
 
 -- what an intent of this action, with these deeds, says of its mailbox
 abbrev pub IntentFacts : Action → List Deed → Intent → Mailbox → Type 0

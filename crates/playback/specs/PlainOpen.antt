@@ -12,9 +12,10 @@ use Rattle.action_queue.specs.declared.action.Action.{Action}
 use Rattle.action_queue.specs.declared.intent.Intent.{Intent}
 use Rattle.action_queue.specs.declared.intent.Intent.TheVariants as intents
 use Rattle.action_queue.specs.declared.queued.Queued.{Queued}
-use Rattle.playback.specs.Marked.{IsIdentifier, has_id}
+use Rattle.append_probe.specs.Marked.{IsIdentifier, has_id}
+use Rattle.append_probe.specs.Question.{append_id}
 use Rattle.playback.specs.Once.{new_uid}
-use Rattle.playback.specs.Open.{intent_name, intent_validity, append_id}
+use Rattle.playback.specs.Open.{intent_name, intent_validity}
 use Rattle.playback.specs.PlainOnce.{is_none}
 
 abbrev pub row_above : ℕ → Option Message → Bool

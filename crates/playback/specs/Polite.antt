@@ -9,7 +9,7 @@ use Rattle.action_queue.specs.Queues.{due_action}
 use Rattle.action_queue.specs.Book.{Meaning}
 use Rattle.action_queue.specs.declared.action.Action.TheVariants as actions
 use Rattle.action_queue.specs.declared.queued.Queued.{Queued}
-use Rattle.playback.specs.Marked.{marked}
+use Rattle.append_probe.specs.Marked.{marked}
 
 -- The messages with the Message-ID of the append that is due are the same ones in its mailbox before and after: others add none and
 -- remove none, where the mailbox keeps its UIDVALIDITY.

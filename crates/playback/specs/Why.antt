@@ -1,6 +1,7 @@
 -- Why a run recorded an intent or a conflict: what was so at a moment of this run, or was told in it (this client's profile of RFC
 -- 4549, section 4.2). An intent is open where it was pending as the run began.
-use Rattle.std.specs.Prelude.{◌≡◌, ◌≢◌, ℕ, suc, ◌<◌, Bool, true, false, ◌&&◌, ◌==◌, is_some, List, length, Contains, Option, Some, None, Ok}
+use Rattle.std.specs.Option.{option_or}
+use Rattle.std.specs.Prelude.{◌≡◌, ◌≢◌, ℕ, suc, ◌<◌, Bool, true, false, ◌&&◌, ◌==◌, is_some, List, [], ◌∷◌, length, Contains, Option, Some, None, Ok}
 use Rattle.flag_set.specs.Flag.{is_keyword}
 use Rattle.flag_set.specs.FlagSet.{has}
 use Rattle.uid_sets.specs.UidSet.{Member}
@@ -38,8 +39,7 @@ use Rattle.action_queue.specs.declared.outcome.Kind.TheVariants as kinds
 use Rattle.action_queue.specs.declared.queued.Queued.{Queued}
 use Rattle.playback.specs.Course.{Said, Course, AtMoment, WasSaid}
 use Rattle.playback.specs.InBox.{InBoxNow}
-use Rattle.playback.specs.Marked.{marked}
-use Rattle.playback.specs.Open.{at_least}
+use Rattle.append_probe.specs.Marked.{at_least, marked}
 use Rattle.playback.specs.Of.{tag_of}
 use Rattle.playback.specs.Wanted.{IsAsked}
 
@@ -158,10 +158,35 @@ pub record Lacks (asked permanent : List (List ℕ)) (any : Bool) : Type 0 where
   pub lacks : has permanent key ≡ false
   pub no_star : is_keyword key ≡ true → any ≡ false
 
--- the reply tells such PERMANENTFLAGS
+-- PERMANENTFLAGS of a code, with whether `\*` is among them
+pub record Permanent : Type 0 where
+  pub flags : List (List ℕ)
+  pub any : Bool
+
+-- the PERMANENTFLAGS that the code tells
+abbrev pub permanent_in : Code → Option Permanent
+permanent_in codings.None = None
+permanent_in (codings.Capability words) = None
+permanent_in (codings.UidNext uid) = None
+permanent_in (codings.UidValidity validity) = None
+permanent_in (codings.PermanentFlags flags any) = Some (record { flags = flags; any = any })
+permanent_in (codings.HighestModSeq modseq) = None
+permanent_in codings.NoModSeq = None
+permanent_in codings.UidNotSticky = None
+permanent_in (codings.AppendUid validity uid) = None
+permanent_in (codings.CopyUid validity source target) = None
+permanent_in (codings.Modified uids) = None
+permanent_in codings.Closed = None
+permanent_in codings.Other = None
+
+-- of several PERMANENTFLAGS those that are told last
+abbrev pub last_permanent : List Code → Option Permanent
+last_permanent [] = None
+last_permanent (code ∷ codes) = option_or (last_permanent codes) (permanent_in code)
+
+-- the reply tells such PERMANENTFLAGS: the last ones behind CLOSED
 abbrev pub TellsLack : List (List ℕ) → Replies → Type 0
-TellsLack asked r = (permanent : List (List ℕ)) × (any : Bool)
-    × Contains (codes_in (behind_closed r.untagged) r.code) (codings.PermanentFlags permanent any) × Lacks asked permanent any
+TellsLack asked r = (told : Permanent) × (last_permanent (codes_in (behind_closed r.untagged) r.code) ≡ Some told) × Lacks asked told.flags told.any
 
 -- a SELECT of the target's mailbox told so of the action's flags
 abbrev pub WasRefused : List Queued → Course → Action → Type 0

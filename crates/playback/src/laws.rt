@@ -9,6 +9,7 @@ ghost use Rattle.playback.specs.Laws.{KeptAlways, LeavesTheRest, NeverTwice, Val
 ghost use Rattle.playback.specs.Needed.{ConditionsAreNeeded};
 ghost use Rattle.playback.specs.Past.{GoesOnLater};
 ghost use Rattle.playback.specs.Plain.{PlainDecides};
+ghost use Rattle.playback.specs.Resolved.{TargetsResolve};
 ghost use Rattle.playback.specs.Sound.{SoundStays};
 ghost use Rattle.playback.specs.Table.{CountsByAction};
 ghost use Rattle.playback.specs.WorkedRows.{WorkedRows};
@@ -101,6 +102,11 @@ pub fn worked_rows()
 /// What lawful events keep of a book.
 pub fn sound_stays()
     ensures { SoundStays }
+{}
+
+/// So the target of an action that is due is a message of a mailbox of the book, or one that never comes.
+pub fn targets_resolve()
+    ensures { TargetsResolve }
 {}
 
 /// Each condition of the law is needed: an example each, in which it alone is passed over.

@@ -1,12 +1,12 @@
 //! Which messages have exactly a Message-ID (RFC 5322, section 3.6.4): the plain way, which reads each text.
 
 ghost use Rattle.std.specs.Prelude.{◌≡◌, IfOk};
-ghost use Rattle.playback.specs.Marked.{has_id, IsIdentifier};
+ghost use Rattle.append_probe.specs.Marked.{IsIdentifier};
 ghost use Rattle.playback.specs.PlainOpen as plain;
 
+use append_probe::has_its_id;
 use imap_model::Message;
 use mail_base::List;
-use mail_header::{IdFault, message_id};
 use std::alloc::{AllocError, Global};
 use uid_sets::Uid;
 
@@ -40,19 +40,4 @@ fn is_marked(alloc: Global, low: Uid, id: &[u8], message: &Message) -> Result<bo
         return Ok(false);
     }
     Ok(low.number() <= message.uid.number())
-}
-
-// Whether the text's header has one Message-ID field, and its identifier is this one.
-fn has_its_id(alloc: Global, id: &[u8], text: &[u8]) -> Result<bool, AllocError>
-    requires { IsIdentifier id.now }
-    ensures { IfOk result (λ answer. answer ≡ has_id id.now text.now) }
-{
-    match message_id(alloc, text) {
-        Ok(found) => Ok(found.as_slice() == id),
-        Err(IdFault::Memory) => Err(AllocError),
-        Err(IdFault::Missing) => Ok(false),
-        Err(IdFault::Twice { .. }) => Ok(false),
-        Err(IdFault::TooLong { .. }) => Ok(false),
-        Err(IdFault::BadForm { .. }) => Ok(false),
-    }
 }

@@ -271,7 +271,8 @@ fn is_moved(book: &Book, target: &Target, to: &BoxName, deed: &Deed) -> bool
 
 // Whether the deed is what a flag action wants.
 fn is_flagged(book: &Book, target: &Target, add: bool, asked: &FlagSet, deed: &Deed) -> bool
-    ensures { result ≡ plain.is_wanted (meaning book.now).queue (actions.Flag target.now add asked.now) deed.now.name deed.now.validity deed.now.change }
+    ensures { result ≡ plain.is_wanted (meaning book.now).queue (actions.Flag target.now add asked.now) deed.now.name
+        deed.now.validity deed.now.change }
 {
     match &deed.change {
         Change::SetFlags { uid, flags } => {

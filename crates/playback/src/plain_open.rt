@@ -4,7 +4,8 @@ ghost use Rattle.std.specs.Prelude.{◌≡◌, IfOk};
 ghost use Rattle.std.specs.Bool.{Decides};
 ghost use Rattle.std.specs.Option.{option_copied};
 ghost use Rattle.action_queue.specs.Book.{meaning};
-ghost use Rattle.playback.specs.Marked.{IsIdentifier};
+ghost use Rattle.append_probe.specs.Marked.{IsIdentifier};
+ghost use Rattle.append_probe.specs.Question.{append_id};
 ghost use Rattle.playback.specs.Open as spec;
 ghost use Rattle.playback.specs.PlainOpen as plain;
 ghost use Rattle.playback.specs.Sound.{IsSound};
@@ -129,7 +130,7 @@ fn intent_holds(
 
 // The identifier of an append.
 fn append_id(action: &Action) -> &[u8]
-    ensures { result.now ≡ spec.append_id action.now }
+    ensures { result.now ≡ append_id action.now }
 {
     match action {
         Action::Flag { .. } | Action::Move { .. } => &[],

@@ -1,0 +1,619 @@
+-- What the player needs may be done, and what it records is true.
+use Rattle.std.proofs.Common.{◌≡◌, ◌≢◌, inl, inr, ℕ, ◌≤◌, Bool, true, false, cond, eqb, List, [], length, Option, Some, None, refl, sym}
+use Rattle.std.proofs.Common.{◌∙◌, ap, subst}
+use Rattle.std.proofs.lemmas.Bool.{cond_both, eqb-true, eqb-false}
+use Rattle.std.proofs.lemmas.Option.{same_Some}
+use Rattle.std.specs.Prelude.{Err, IfOk, Ok, Result, slice_get}
+use Rattle.std.specs.declared.alloc.AllocError.{AllocError}
+use Rattle.imap_model.specs.Carrying.{Waiting}
+use Rattle.imap_model.specs.Ours.{ours}
+use Rattle.imap_model.specs.declared.command.Command.{Command}
+use Rattle.imap_model.specs.declared.command.Command.TheVariants as commands
+use Rattle.imap_model.specs.declared.deed.Deed.{Deed}
+use Rattle.imap_model.specs.declared.server.Server.{Server}
+use Rattle.action_queue.specs.Book.{Meaning}
+use Rattle.action_queue.specs.Queues.{due_action}
+use Rattle.action_queue.specs.Targets.{resolved}
+use Rattle.action_queue.specs.declared.action.Action.{Action}
+use Rattle.action_queue.specs.declared.action.Action.TheVariants as actions
+use Rattle.action_queue.specs.declared.book.Known.{Known}
+use Rattle.action_queue.specs.declared.found.Found.{Found}
+use Rattle.action_queue.specs.declared.found.Found.TheVariants as found
+use Rattle.action_queue.specs.declared.intent.Intent.{Intent}
+use Rattle.action_queue.specs.declared.intent.Intent.TheVariants as intents
+use Rattle.action_queue.specs.declared.outcome.Kind.TheVariants as kinds
+use Rattle.action_queue.specs.declared.outcome.Outcome.{Outcome}
+use Rattle.action_queue.specs.declared.outcome.Outcome.TheVariants as outcomes
+use Rattle.action_queue.specs.declared.queued.Queued.{Queued}
+use Rattle.action_queue.specs.declared.target.Target.{Target}
+use Rattle.append_probe.specs.Question.{append_id}
+use Rattle.append_probe.specs.declared.verdict.Verdict.{Verdict}
+use Rattle.append_probe.specs.declared.verdict.Verdict.TheVariants as verdicts
+use Rattle.playback.specs.Allowed.{IsAllowed, MaySend}
+use Rattle.playback.specs.Course.{AtMoment}
+use Rattle.playback.specs.InBox.{InBox, InBoxNow}
+use Rattle.playback.specs.Kept.{KeptBook}
+use Rattle.playback.specs.Knows.{HasEnded, IsTold, IsUnsent, Knows, Learning, OfAppend, OfPut, Rests, RowTold}
+use Rattle.playback.specs.Needs.{due_id, need_for, need_ids, need_learn, need_of, need_search, need_send, search_of, send_meant, send_of}
+use Rattle.playback.specs.Of.{MutatingWaits, command_of, tag_of}
+use Rattle.playback.specs.Once.{Fits}
+use Rattle.playback.specs.Open.{IntentFacts, IsOpen, PutFacts, intent_name, intent_validity}
+use Rattle.playback.specs.Resolved.{Resolves}
+use Rattle.playback.specs.Steps.{append_again, append_first, append_in_box, append_judged, append_meant, append_new, append_open, conflict}
+use Rattle.playback.specs.Steps.{flag_again, flag_first, flag_judged, flag_meant, flag_new, flag_open, in_box, is_selected, is_selected_at}
+use Rattle.playback.specs.Steps.{move_again, move_first, move_meant, move_open, select_any, select_box, select_under, step_action}
+use Rattle.playback.specs.Steps.{step_append, step_box, step_due, step_flag_at, step_flag_found, step_learn, step_move_at, step_move_found}
+use Rattle.playback.specs.Why.{AreTwo, IsMark, IsNever, IsOpenStill, RowAt, RowSo, RowWas, SomeRow, TellsNext, TwoWere, WasSelected}
+use Rattle.playback.specs.Why.{WhyIntent}
+use Rattle.playback.specs.Worlds.{Among, IsUnder, World, name_of}
+use Rattle.playback.specs.declared.finding.Finding.{Finding}
+use Rattle.playback.specs.declared.finding.Finding.TheVariants as findings
+use Rattle.playback.specs.declared.finding.Resynced.{Resynced}
+use Rattle.playback.specs.declared.finding.Spot.{Spot}
+use Rattle.playback.specs.declared.need.Need.{Need}
+use Rattle.playback.specs.declared.need.Need.TheVariants as needs
+use Rattle.playback.specs.declared.player.Player.{Player}
+use Rattle.playback.specs.declared.step.Step.{Step}
+use Rattle.playback.specs.declared.step.Step.TheVariants as steps
+use Rattle.playback.proofs.Carrying.{nothing_waits}
+use Rattle.playback.proofs.Endings.{IsRight, ended_right, is_never_of, no_flag, no_move, suited_is}
+use Rattle.playback.proofs.Onward.{IsIdle, idle}
+use Rattle.playback.proofs.Queueing.{Suited}
+use Rattle.playback.proofs.Resolving.{of_flag, of_move}
+use Rattle.playback.proofs.RowFacts.{IsAboutSpot, IsThat, RowThere, row_again, row_intends, row_is, row_mark, row_shifts, row_still}
+use Rattle.playback.proofs.RowFacts.{row_weaker, selected_that, spot_at, under_that, was_at, was_map}
+
+-- the message that an intent names is that of the action
+store_same : (f : Found) (spot : Spot) (name : List ℕ) (validity uid modseq : ℕ) → f ≡ found.Real spot.name spot.validity spot.uid →
+    f ≡ found.Real name validity uid →
+    intents.Store name validity uid modseq ≡ intents.Store spot.name spot.validity spot.uid modseq
+store_same f spot name validity uid modseq e g =
+    let is : found.Real spot.name spot.validity spot.uid ≡ found.Real name validity uid = sym e ∙ g in cc
+
+shift_same : (f : Found) (spot : Spot) (name : List ℕ) (validity uid : ℕ) (to other : List ℕ) →
+    f ≡ found.Real spot.name spot.validity spot.uid →
+    f ≡ found.Real name validity uid → other ≡ to →
+    intents.Shift name validity uid other ≡ intents.Shift spot.name spot.validity spot.uid to
+shift_same f spot name validity uid to other e g o =
+    let is : found.Real spot.name spot.validity spot.uid ≡ found.Real name validity uid = sym e ∙ g in cc
+
+-- the step's need may be done
+abbrev pub IsGoodStep : Player → Meaning → World → Step → Type 0
+IsGoodStep p b w step = IsAllowed (need_for step p b) p b w
+
+module _ (p : Player) (b : Meaning) (w : World) (kept : KeptBook b w.course.now w.waiting) (known : Knows p b w) (rest : IsIdle p b w)
+    (q : Queued) (e : due_action b.queue ≡ Some q) where
+  quiet : MutatingWaits w.waiting → ⊥
+  quiet = subst (λ (o : Option Waiting). MutatingWaits o → ⊥) (sym rest.waiting) nothing_waits
+
+  -- an outcome that fits and is true
+  settles : (outcome : Outcome) → IsRight b w p.resumed outcome → IsGoodStep p b w (steps.Settle outcome)
+  settles outcome r = ((quiet, r.0), r.1)
+
+  ended_ok : (outcome : Outcome) → HasEnded outcome p.resumed b w → IsGoodStep p b w (steps.Settle outcome)
+  ended_ok outcome h = settles outcome (ended_right b w p.resumed h.queued h.there h.said h.sent h.intent h.pending h.seen outcome h.read)
+
+  at_most_one : length (ours (due_id b) w.course.now.history) ≤ 1
+  at_most_one = kept.once.once
+
+  -- the mailbox that is selected
+  under_of : (name : List ℕ) (validity : ℕ) → is_selected_at p.selected name validity ≡ true → IsUnder name validity w.course.now
+  under_of name validity selected =
+      let that : IsThat p.selected name validity = selected_that p.selected name validity selected in
+      under_that p.selected name validity w.course.now that (known.valid that.sel (rest.resting.selected ∙ that.is))
+
+  named_of : (name : List ℕ) (validity : ℕ) → is_selected_at p.selected name validity ≡ true → name_of w.selected ≡ Some name
+  named_of name validity selected =
+      let that : IsThat p.selected name validity = selected_that p.selected name validity selected in
+      ap name_of (rest.resting.selected ∙ that.is) ∙ ap (λ (n : List ℕ). Some n) that.same_name
+
+  -- an intent that is true and whose facts hold may be recorded
+  intends : b.pending ≡ None → (intent : Intent) →
+      InBoxNow (IntentFacts q.action [] intent) (intent_name intent) (intent_validity intent) w.course.now.boxes →
+      WhyIntent intent b w.course → IsGoodStep p b w (steps.Intend intent)
+  intends free intent facts why = (
+    (
+      quiet,
+      λ x y.
+          subst (λ (z : Queued). InBoxNow (IntentFacts z.action (ours (due_id b) w.course.now.history) intent) (intent_name intent)
+          (intent_validity intent) w.course.now.boxes)
+          (same_Some q x (sym e ∙ y))
+          (subst (λ (l : List Deed). InBoxNow (IntentFacts q.action l intent) (intent_name intent)
+          (intent_validity intent) w.course.now.boxes)
+          (sym (kept.once.idle free)) facts),
+    ),
+    why,
+  )
+
+  -- the command of the intent may be sent
+  may_send : (intent : Intent) → b.pending ≡ Some intent → (command : Command) (name : List ℕ) → name_of w.selected ≡ Some name →
+      command_of (tag_of (due_id b) q) q.action intent ≡ Some
+      (record { selected = Some name; tag = tag_of (due_id b) q; command = command }) →
+      ours (due_id b) w.course.now.history ≡ [] → send_of (due_id b) q.action intent ≡ needs.Send (due_id b) command →
+      IsGoodStep p b w steps.Send
+  may_send intent pending command name named is none sent =
+      let need : need_send (due_id b) (due_action b.queue) b.pending ≡ needs.Send (due_id b) command =
+      ap (λ (o : Option Queued). need_send (due_id b) o b.pending) e ∙ ap (λ (o : Option Intent). send_meant (due_id b) q.action o) pending
+      ∙ sent in
+      let may : MaySend (due_id b) command b w = record {
+        quiet = quiet;
+        sends = record { selected = name_of w.selected; tag = tag_of (due_id b) q; command = command };
+        of_tag = record { queued = q; there = e; number = refl; is = refl };
+        is_of = record {
+          intent = intent;
+          pending = pending;
+          queued = q;
+          there = e;
+          is = is ∙ ap (λ (x : Option (List ℕ)). Some (record { selected = x; tag = tag_of (due_id b) q; command = command })) (sym named);
+          none = none;
+        };
+      } in
+      subst (λ (x : Need). IsAllowed x p b w) (sym need) may
+
+  suits_of : (intent : Intent) → b.pending ≡ Some intent → Suited b.queue q.action intent
+  suits_of intent pending = suited_is b kept.sound q e intent pending
+
+  -- a step in the selected mailbox
+  boxed : (spot : Spot) (step : Step) → (is_selected p.selected spot ≡ true → IsGoodStep p b w step) →
+      IsGoodStep p b w (in_box p.selected spot step)
+  boxed spot step f =
+      cond_both (is_selected p.selected spot) step (select_box spot) (λ (s : Step). IsGoodStep p b w s) f (λ t. tt)
+
+  -- where an earlier run recorded the intent
+  module _ (resumed : p.resumed ≡ true) (told : Finding) (unsent : IsUnsent told p.resumed b w) where
+    open_still : IsOpenStill p.resumed b w.course
+    open_still = record {
+      open_then = resumed;
+      as_many = ap (λ (l : List Deed). length l) (sym (unsent.same w.course.first known.course.first));
+    }
+
+    -- its facts at an earlier moment
+    opened : (intent : Intent) → b.pending ≡ Some intent → (s : Server) → Among s w →
+        IsOpen q.action (ours (due_id b) s.history) intent s.boxes
+    opened intent pending s a = known.resumed resumed s a intent pending q e
+
+  -- of a message
+  module _ (spot : Spot) (about : IsAboutSpot b.queue q.action spot) where
+    at_moment : (modseq : ℕ) (so : Bool) → RowWas (RowTold modseq so) b w.course → AtMoment (RowThere spot (RowAt modseq q.action)) w.course
+    at_moment modseq so i =
+        was_at b w.course q e spot about (RowAt modseq) (was_map (RowTold modseq so) (RowAt modseq) b w.course (row_mark modseq so) i)
+
+  -- a flag action
+  module _ (target : Target) (add : Bool) (asked : List (List ℕ)) (a : q.action ≡ actions.Flag target add asked)
+      (spot : Spot) (is : resolved b.queue target ≡ found.Real spot.name spot.validity spot.uid) where
+    flag_about : IsAboutSpot b.queue q.action spot
+    flag_about = subst (λ (x : Action). IsAboutSpot b.queue x spot) (sym a) is
+
+    new_ok : b.pending ≡ None → is_selected p.selected spot ≡ true →
+        (told : Finding) (unsent : IsUnsent told p.resumed b w) (modseq : ℕ) (so : Bool) →
+        RowWas (RowTold modseq so) b w.course → IsGoodStep p b w (flag_new modseq so spot)
+    new_ok free selected told unsent modseq true i =
+        settles (outcomes.Conflict kinds.AlreadySo) (
+          kept.once.idle free,
+          (
+            known.fresh free,
+            was_map (RowTold modseq true) (RowSo (λ _. Unit {0})) b w.course
+                (row_weaker (λ (k : ℕ). k ≡ modseq) (λ _. Unit {0}) (λ k h. tt)) i,
+          ),
+        )
+    new_ok free selected told unsent modseq false i =
+        let m : AtMoment (RowThere spot (RowAt modseq q.action)) w.course = at_moment spot flag_about modseq false i in
+        intends free (intents.Store spot.name spot.validity spot.uid modseq)
+        (row_intends (due_id b) spot modseq q.action m.0 w.course.now (known.since m.0 m.1) (sym (unsent.same m.0 m.1)) m.2
+        (under_of spot.name spot.validity selected)) i
+
+    first_ok : b.pending ≡ None → (told : Finding) → IsTold told b w.course → Rests told p.resumed b w →
+        IsGoodStep p b w (in_box p.selected spot (flag_first told spot))
+    first_ok free findings.NoRow i r =
+        boxed spot (conflict kinds.MessageGone) (λ t. settles (outcomes.Conflict kinds.MessageGone)
+        (kept.once.idle free, (known.fresh free, i)))
+    first_ok free (findings.Row modseq so) i r =
+        boxed spot (flag_new modseq so spot) (λ t. new_ok free t (findings.Row modseq so) r modseq so i)
+    first_ok free findings.Barred i r =
+        boxed spot (conflict kinds.NotPermanent) (λ t. settles (outcomes.Conflict kinds.NotPermanent) (kept.once.idle free, i))
+    first_ok free findings.Nothing i r = boxed spot (steps.AskRow spot.uid) (λ t. tt)
+    first_ok free (findings.Ended outcome) i r = boxed spot (steps.AskRow spot.uid) (λ t. tt)
+    first_ok free (findings.Next validity uidnext) i r = boxed spot (steps.AskRow spot.uid) (λ t. tt)
+    first_ok free (findings.Candidates uids) i r = boxed spot (steps.AskRow spot.uid) (λ t. tt)
+    first_ok free (findings.Probed verdict) i r = boxed spot (steps.AskRow spot.uid) (λ t. tt)
+
+    module _ (modseq : ℕ) (pending : b.pending ≡ Some (intents.Store spot.name spot.validity spot.uid modseq)) where
+      abbrev store : Intent
+      store = intents.Store spot.name spot.validity spot.uid modseq
+
+      flag_send : is_selected p.selected spot ≡ true → ours (due_id b) w.course.now.history ≡ [] → IsGoodStep p b w steps.Send
+      flag_send selected none =
+          may_send store pending (commands.Store spot.uid modseq add asked) spot.name (named_of spot.name spot.validity selected)
+          (ap (λ (x : Action). command_of (tag_of (due_id b) q) x store) a) none (ap (λ (x : Action). send_of (due_id b) x store) a)
+
+      is_mark : IsMark b.pending modseq
+      is_mark = subst (λ (o : Option Intent). IsMark o modseq) (sym pending) refl
+
+      -- the row passed the mark
+      unsure_ok : p.resumed ≡ true → (told : Finding) (unsent : IsUnsent told p.resumed b w) (new : ℕ) (so : Bool) → new ≢ modseq →
+          RowWas (RowTold new so) b w.course →
+          IsGoodStep p b w (cond so (conflict kinds.FoundSo) (conflict (kinds.StoreUnsure modseq new)))
+      unsure_ok resumed told unsent new true apart i =
+          settles (outcomes.Conflict kinds.FoundSo) (
+            at_most_one,
+            (
+              open_still resumed told unsent,
+              (
+                modseq,
+                is_mark,
+                was_map (RowTold new true) (RowSo (λ (k : ℕ). k ≢ modseq)) b w.course
+                    (row_weaker (λ (k : ℕ). k ≡ new) (λ (k : ℕ). k ≢ modseq) (λ k h g. apart (sym h ∙ g))) i,
+              ),
+            ),
+          )
+      unsure_ok resumed told unsent new false apart i =
+          settles (outcomes.Conflict (kinds.StoreUnsure modseq new)) (at_most_one, (open_still resumed told unsent, is_mark, apart, i))
+
+      judged_ok : p.resumed ≡ true → is_selected p.selected spot ≡ true →
+          (told : Finding) (unsent : IsUnsent told p.resumed b w) (new : ℕ) (so : Bool) →
+          RowWas (RowTold new so) b w.course → IsGoodStep p b w (flag_judged modseq new so)
+      judged_ok resumed selected told unsent new so i =
+          let m : AtMoment (RowThere spot (RowAt new q.action)) w.course = at_moment spot flag_about new so i in
+          cond_both (eqb new modseq) steps.Send (cond so (conflict kinds.FoundSo) (conflict (kinds.StoreUnsure modseq new)))
+          (λ (s : Step). IsGoodStep p b w s)
+          (λ t.
+          let row : RowThere spot (RowAt modseq q.action) m.0 =
+          subst (λ (k : ℕ). RowThere spot (RowAt k q.action) m.0) (eqb-true new modseq t) m.2 in
+          flag_send selected
+          (sym (unsent.same m.0 m.1) ∙ row_again spot modseq q.action (ours (due_id b) m.0.history) m.0
+          (opened resumed told unsent store pending m.0 m.1) row))
+          (λ f. unsure_ok resumed told unsent new so (eqb-false new modseq f) i)
+
+      open_ok : p.resumed ≡ true → is_selected p.selected spot ≡ true → (told : Finding) → IsTold told b w.course →
+          IsUnsent told p.resumed b w →
+          IsGoodStep p b w (flag_open modseq told spot)
+      open_ok resumed selected findings.NoRow i unsent =
+          settles (outcomes.Conflict kinds.GoneAfterLoss) (at_most_one, (open_still resumed findings.NoRow unsent, i))
+      open_ok resumed selected (findings.Row new so) i unsent = judged_ok resumed selected (findings.Row new so) unsent new so i
+      open_ok resumed selected findings.Nothing i unsent = tt
+      open_ok resumed selected findings.Barred i unsent = tt
+      open_ok resumed selected (findings.Ended outcome) i unsent = tt
+      open_ok resumed selected (findings.Next validity uidnext) i unsent = tt
+      open_ok resumed selected (findings.Candidates uids) i unsent = tt
+      open_ok resumed selected (findings.Probed verdict) i unsent = tt
+
+      again_ok : (resumed : Bool) → p.resumed ≡ resumed → is_selected p.selected spot ≡ true → (told : Finding) → IsTold told b w.course →
+          IsUnsent told p.resumed b w → IsGoodStep p b w (flag_again resumed modseq told spot)
+      again_ok false r selected told i unsent = flag_send selected (unsent.none r)
+      again_ok true r selected told i unsent = open_ok r selected told i unsent
+
+      again_in : (told : Finding) → IsTold told b w.course → IsUnsent told p.resumed b w →
+          IsGoodStep p b w (in_box p.selected spot (flag_again p.resumed modseq told spot))
+      again_in told i unsent = boxed spot (flag_again p.resumed modseq told spot) (λ t. again_ok p.resumed refl t told i unsent)
+
+      meant_ok : (told : Finding) → IsTold told b w.course → Rests told p.resumed b w → IsGoodStep p b w (flag_meant p modseq spot told)
+      meant_ok (findings.Ended outcome) i r = ended_ok outcome r
+      meant_ok findings.Nothing i r = again_in findings.Nothing i r
+      meant_ok findings.NoRow i r = again_in findings.NoRow i r
+      meant_ok (findings.Row new so) i r = again_in (findings.Row new so) i r
+      meant_ok findings.Barred i r = again_in findings.Barred i r
+      meant_ok (findings.Next validity uidnext) i r = again_in (findings.Next validity uidnext) i r
+      meant_ok (findings.Candidates uids) i r = again_in (findings.Candidates uids) i r
+      meant_ok (findings.Probed verdict) i r = again_in (findings.Probed verdict) i r
+
+    flag_at_ok : (pending : Option Intent) → b.pending ≡ pending → IsGoodStep p b w (step_flag_at p pending spot)
+    flag_at_ok None h = first_ok h p.told known.told rest.resting.rests
+    flag_at_ok (Some (intents.Store name validity uid modseq)) h =
+        let s : Suited b.queue (actions.Flag target add asked) (intents.Store name validity uid modseq) =
+        subst (λ (x : Action). Suited b.queue x (intents.Store name validity uid modseq)) a
+        (suits_of (intents.Store name validity uid modseq) h) in
+        let same : intents.Store name validity uid modseq ≡ intents.Store spot.name spot.validity spot.uid modseq =
+        store_same (resolved b.queue target) spot name validity uid modseq is s in
+        meant_ok modseq (h ∙ ap (λ (x : Intent). Some x) same) p.told known.told rest.resting.rests
+    flag_at_ok (Some (intents.Shift from validity uid to)) h = tt
+    flag_at_ok (Some (intents.Put to validity uidnext)) h = tt
+
+  -- a move
+  module _ (target : Target) (to : List ℕ) (a : q.action ≡ actions.Move target to)
+      (spot : Spot) (is : resolved b.queue target ≡ found.Real spot.name spot.validity spot.uid) where
+    move_about : IsAboutSpot b.queue q.action spot
+    move_about = subst (λ (x : Action). IsAboutSpot b.queue x spot) (sym a) is
+
+    move_new_ok : b.pending ≡ None → is_selected p.selected spot ≡ true →
+        (told : Finding) (unsent : IsUnsent told p.resumed b w) (modseq : ℕ) (so : Bool) →
+        RowWas (RowTold modseq so) b w.course → IsGoodStep p b w (steps.Intend (intents.Shift spot.name spot.validity spot.uid to))
+    move_new_ok free selected told unsent modseq so i =
+        let m : AtMoment (RowThere spot (RowAt modseq q.action)) w.course = at_moment spot move_about modseq so i in
+        intends free (intents.Shift spot.name spot.validity spot.uid to)
+        (row_shifts (due_id b) spot modseq q.action m.0 w.course.now (known.since m.0 m.1) (sym (unsent.same m.0 m.1)) m.2
+        (under_of spot.name spot.validity selected))
+        (was_map (RowTold modseq so) SomeRow b w.course (row_is modseq so) i)
+
+    move_first_ok : b.pending ≡ None → (told : Finding) → IsTold told b w.course → Rests told p.resumed b w →
+        IsGoodStep p b w (in_box p.selected spot (move_first told spot to))
+    move_first_ok free findings.NoRow i r =
+        boxed spot (conflict kinds.MessageGone) (λ t. settles (outcomes.Conflict kinds.MessageGone)
+        (kept.once.idle free, (known.fresh free, i)))
+    move_first_ok free (findings.Row modseq so) i r =
+        boxed spot (steps.Intend (intents.Shift spot.name spot.validity spot.uid to))
+        (λ t. move_new_ok free t (findings.Row modseq so) r modseq so i)
+    move_first_ok free findings.Nothing i r = boxed spot (steps.AskRow spot.uid) (λ t. tt)
+    move_first_ok free findings.Barred i r = boxed spot (steps.AskRow spot.uid) (λ t. tt)
+    move_first_ok free (findings.Ended outcome) i r = boxed spot (steps.AskRow spot.uid) (λ t. tt)
+    move_first_ok free (findings.Next validity uidnext) i r = boxed spot (steps.AskRow spot.uid) (λ t. tt)
+    move_first_ok free (findings.Candidates uids) i r = boxed spot (steps.AskRow spot.uid) (λ t. tt)
+    move_first_ok free (findings.Probed verdict) i r = boxed spot (steps.AskRow spot.uid) (λ t. tt)
+
+    module _ (pending : b.pending ≡ Some (intents.Shift spot.name spot.validity spot.uid to)) where
+      abbrev shift : Intent
+      shift = intents.Shift spot.name spot.validity spot.uid to
+
+      move_send : is_selected p.selected spot ≡ true → ours (due_id b) w.course.now.history ≡ [] → IsGoodStep p b w steps.Send
+      move_send selected none =
+          may_send shift pending (commands.Shift spot.uid to) spot.name (named_of spot.name spot.validity selected)
+          (ap (λ (x : Action). command_of (tag_of (due_id b) q) x shift) a) none (ap (λ (x : Action). send_of (due_id b) x shift) a)
+
+      move_still : p.resumed ≡ true → is_selected p.selected spot ≡ true →
+          (told : Finding) (unsent : IsUnsent told p.resumed b w) (modseq : ℕ) (so : Bool) →
+          RowWas (RowTold modseq so) b w.course → IsGoodStep p b w steps.Send
+      move_still resumed selected told unsent modseq so i =
+          let m : AtMoment (RowThere spot (RowAt modseq q.action)) w.course = at_moment spot move_about modseq so i in
+          move_send selected
+          (sym (unsent.same m.0 m.1) ∙ row_still spot modseq q.action (ours (due_id b) m.0.history) m.0
+          (opened resumed told unsent shift pending m.0 m.1) m.2)
+
+      move_open_ok : p.resumed ≡ true → is_selected p.selected spot ≡ true → (told : Finding) → IsTold told b w.course →
+          IsUnsent told p.resumed b w →
+          IsGoodStep p b w (move_open told spot)
+      move_open_ok resumed selected findings.NoRow i unsent =
+          settles (outcomes.Conflict kinds.SourceGone) (at_most_one, (open_still resumed findings.NoRow unsent, i))
+      move_open_ok resumed selected (findings.Row modseq so) i unsent =
+          move_still resumed selected (findings.Row modseq so) unsent modseq so i
+      move_open_ok resumed selected findings.Nothing i unsent = tt
+      move_open_ok resumed selected findings.Barred i unsent = tt
+      move_open_ok resumed selected (findings.Ended outcome) i unsent = tt
+      move_open_ok resumed selected (findings.Next validity uidnext) i unsent = tt
+      move_open_ok resumed selected (findings.Candidates uids) i unsent = tt
+      move_open_ok resumed selected (findings.Probed verdict) i unsent = tt
+
+      move_again_ok : (resumed : Bool) → p.resumed ≡ resumed → is_selected p.selected spot ≡ true → (told : Finding) →
+          IsTold told b w.course →
+          IsUnsent told p.resumed b w → IsGoodStep p b w (move_again resumed told spot)
+      move_again_ok false r selected told i unsent = move_send selected (unsent.none r)
+      move_again_ok true r selected told i unsent = move_open_ok r selected told i unsent
+
+      move_again_in : (told : Finding) → IsTold told b w.course → IsUnsent told p.resumed b w →
+          IsGoodStep p b w (in_box p.selected spot (move_again p.resumed told spot))
+      move_again_in told i unsent = boxed spot (move_again p.resumed told spot) (λ t. move_again_ok p.resumed refl t told i unsent)
+
+      move_meant_ok : (told : Finding) → IsTold told b w.course → Rests told p.resumed b w → IsGoodStep p b w (move_meant p spot told)
+      move_meant_ok (findings.Ended outcome) i r = ended_ok outcome r
+      move_meant_ok findings.Nothing i r = move_again_in findings.Nothing i r
+      move_meant_ok findings.NoRow i r = move_again_in findings.NoRow i r
+      move_meant_ok (findings.Row modseq so) i r = move_again_in (findings.Row modseq so) i r
+      move_meant_ok findings.Barred i r = move_again_in findings.Barred i r
+      move_meant_ok (findings.Next validity uidnext) i r = move_again_in (findings.Next validity uidnext) i r
+      move_meant_ok (findings.Candidates uids) i r = move_again_in (findings.Candidates uids) i r
+      move_meant_ok (findings.Probed verdict) i r = move_again_in (findings.Probed verdict) i r
+
+    move_at_ok : (pending : Option Intent) → b.pending ≡ pending → IsGoodStep p b w (step_move_at p pending spot to)
+    move_at_ok None h = move_first_ok h p.told known.told rest.resting.rests
+    move_at_ok (Some (intents.Shift from validity uid other)) h =
+        let s : Suited b.queue (actions.Move target to) (intents.Shift from validity uid other) =
+        subst (λ (x : Action). Suited b.queue x (intents.Shift from validity uid other)) a
+        (suits_of (intents.Shift from validity uid other) h) in
+        let same : intents.Shift from validity uid other ≡ intents.Shift spot.name spot.validity spot.uid to =
+        shift_same (resolved b.queue target) spot from validity uid to other is s.0 s.1 in
+        move_meant_ok (h ∙ ap (λ (x : Intent). Some x) same) p.told known.told rest.resting.rests
+    move_at_ok (Some (intents.Store name validity uid modseq)) h = tt
+    move_at_ok (Some (intents.Put other validity uidnext)) h = tt
+
+  -- an append
+  module _ (to : List ℕ) (flags : List (List ℕ)) (text id : List ℕ) (a : q.action ≡ actions.Append to flags text id) where
+    -- what is said of the append that is due, of this one
+    of_this : (P : List ℕ → List ℕ → Type 0) → OfAppend P b → P to id
+    of_this P o =
+        let q_is : o.queued ≡ q = same_Some o.queued q (sym o.there ∙ e) in
+        let is : actions.Append o.to o.flags o.text o.id ≡ actions.Append to flags text id =
+        sym o.action ∙ ap (λ (x : Queued). x.action) q_is ∙ a in
+        let t : o.to ≡ to = cc in
+        let i : o.id ≡ id = cc in
+        subst (λ (x : List ℕ). P x id) t (subst (λ (x : List ℕ). P o.to x) i o.holds)
+
+    new_put_ok : b.pending ≡ None → (validity uidnext : ℕ) → IsTold (findings.Next validity uidnext) b w.course →
+        IsUnsent (findings.Next validity uidnext) p.resumed b w → IsGoodStep p b w (append_new p.selected to validity uidnext)
+    new_put_ok free validity uidnext i unsent =
+        cond_both (is_selected_at p.selected to validity) (steps.Intend (intents.Put to validity uidnext)) (select_any to)
+        (λ (s : Step). IsGoodStep p b w s)
+        (λ t.
+        let holds : InBox (PutFacts id uidnext validity []) to validity w.course.now.boxes =
+        of_this (λ x y. InBox (PutFacts y uidnext validity []) x validity w.course.now.boxes) unsent.holds in
+        intends free (intents.Put to validity uidnext)
+        (record {
+          box = holds.box;
+          there = holds.there;
+          same = holds.same;
+          facts = subst (λ (x : Action). PutFacts (append_id x) uidnext validity [] holds.box) (sym a) holds.facts;
+        })
+        (of_this (λ x y. WasSelected x (TellsNext validity uidnext) w.course) i))
+        (λ f. tt)
+
+    first_put_ok : b.pending ≡ None → (told : Finding) → IsTold told b w.course → Rests told p.resumed b w →
+        IsGoodStep p b w (append_first p.selected told to)
+    first_put_ok free (findings.Next validity uidnext) i r = new_put_ok free validity uidnext i r
+    first_put_ok free findings.Nothing i r = tt
+    first_put_ok free findings.NoRow i r = tt
+    first_put_ok free (findings.Row modseq so) i r = tt
+    first_put_ok free findings.Barred i r = tt
+    first_put_ok free (findings.Ended outcome) i r = tt
+    first_put_ok free (findings.Candidates uids) i r = tt
+    first_put_ok free (findings.Probed verdict) i r = tt
+
+    module _ (validity uidnext : ℕ) (pending : b.pending ≡ Some (intents.Put to validity uidnext)) where
+      abbrev put : Intent
+      put = intents.Put to validity uidnext
+
+      of_put : (P : List ℕ → List ℕ → ℕ → ℕ → Type 0) → OfPut P b → P to id validity uidnext
+      of_put P o =
+          let q_is : o.append.queued ≡ q = same_Some o.append.queued q (sym o.append.there ∙ e) in
+          let is : actions.Append o.append.to o.append.flags o.append.text o.append.id ≡ actions.Append to flags text id =
+          sym o.append.action ∙ ap (λ (x : Queued). x.action) q_is ∙ a in
+          let p_is : intents.Put o.append.to o.validity o.uidnext ≡ put =
+          same_Some (intents.Put o.append.to o.validity o.uidnext) put (sym o.pending ∙ pending) in
+          let t : o.append.to ≡ to = cc in
+          let i : o.append.id ≡ id = cc in
+          let v : o.validity ≡ validity = cc in
+          let l : o.uidnext ≡ uidnext = cc in
+          subst (λ (x : List ℕ). P x id validity uidnext) t
+          (subst (λ (x : List ℕ). P o.append.to x validity uidnext) i
+          (subst (λ (x : ℕ). P o.append.to o.append.id x uidnext) v (subst (λ (x : ℕ). P o.append.to o.append.id o.validity x) l o.holds)))
+
+      put_send : is_selected_at p.selected to validity ≡ true → ours (due_id b) w.course.now.history ≡ [] → IsGoodStep p b w steps.Send
+      put_send selected none =
+          may_send put pending (commands.Append to flags text) to (named_of to validity selected)
+          (ap (λ (x : Action). command_of (tag_of (due_id b) q) x put) a) none (ap (λ (x : Action). send_of (due_id b) x put) a)
+
+      verdict_ok : p.resumed ≡ true → is_selected_at p.selected to validity ≡ true → (verdict : Verdict) →
+          IsTold (findings.Probed verdict) b w.course →
+          IsUnsent (findings.Probed verdict) p.resumed b w → IsGoodStep p b w (append_judged verdict validity)
+      verdict_ok resumed selected verdicts.NotThere i unsent = put_send selected unsent.holds
+      verdict_ok resumed selected (verdicts.There uid) i unsent =
+          settles (outcomes.Done (Some (record { validity = validity; uid = uid }))) (
+            of_put (λ x y v l. Fits (outcomes.Done (Some (record { validity = v; uid = uid })))
+                (ours (due_id b) w.course.now.history)) unsent.holds,
+            tt,
+          )
+      verdict_ok resumed selected (verdicts.Several first second) i unsent =
+          let two : AtMoment (λ s. InBoxNow (AreTwo first second uidnext id) to validity s.boxes) w.course =
+          of_put (λ x y v l. AtMoment (λ s. InBoxNow (AreTwo first second l y) x v s.boxes) w.course) i in
+          settles (outcomes.Conflict (kinds.Ambiguous first second)) (
+            at_most_one,
+            (
+              open_still resumed (findings.Probed (verdicts.Several first second)) unsent,
+              record {
+                queued = q;
+                there = e;
+                holds = subst (λ (x : Action). TwoWere first second w.course b.pending x) (sym a)
+                    (subst (λ (o : Option Intent). TwoWere first second w.course o (actions.Append to flags text id)) (sym pending) two);
+              },
+            ),
+          )
+
+      ids_ok : (told : Finding) → p.told ≡ told → IsGoodStep p b w steps.AskIds
+      ids_ok (findings.Candidates uids) h = subst (λ (x : Finding). IsAllowed (need_ids x) p b w) (sym h) tt
+      ids_ok findings.Nothing h = subst (λ (x : Finding). IsAllowed (need_ids x) p b w) (sym h) tt
+      ids_ok findings.NoRow h = subst (λ (x : Finding). IsAllowed (need_ids x) p b w) (sym h) tt
+      ids_ok (findings.Row modseq so) h = subst (λ (x : Finding). IsAllowed (need_ids x) p b w) (sym h) tt
+      ids_ok findings.Barred h = subst (λ (x : Finding). IsAllowed (need_ids x) p b w) (sym h) tt
+      ids_ok (findings.Ended outcome) h = subst (λ (x : Finding). IsAllowed (need_ids x) p b w) (sym h) tt
+      ids_ok (findings.Next v l) h = subst (λ (x : Finding). IsAllowed (need_ids x) p b w) (sym h) tt
+      ids_ok (findings.Probed verdict) h = subst (λ (x : Finding). IsAllowed (need_ids x) p b w) (sym h) tt
+
+      search_ok : (low : ℕ) → IsGoodStep p b w (steps.Search low)
+      search_ok low =
+          subst (λ (o : Option Queued). IsAllowed (need_search low o) p b w) (sym e)
+          (subst (λ (x : Action). IsAllowed (search_of low x) p b w) (sym a) tt)
+
+      open_put_ok : p.resumed ≡ true → is_selected_at p.selected to validity ≡ true → (told : Finding) → IsTold told b w.course →
+          IsUnsent told p.resumed b w →
+          IsGoodStep p b w (append_open told to validity uidnext)
+      open_put_ok resumed selected (findings.Probed verdict) i unsent = verdict_ok resumed selected verdict i unsent
+      open_put_ok resumed selected (findings.Candidates uids) i unsent = ids_ok p.told refl
+      open_put_ok resumed selected (findings.Next v l) i unsent = search_ok uidnext
+      open_put_ok resumed selected findings.Nothing i unsent = tt
+      open_put_ok resumed selected findings.NoRow i unsent = tt
+      open_put_ok resumed selected (findings.Row modseq so) i unsent = tt
+      open_put_ok resumed selected findings.Barred i unsent = tt
+      open_put_ok resumed selected (findings.Ended outcome) i unsent = tt
+
+      again_put_ok : (resumed : Bool) → p.resumed ≡ resumed → is_selected_at p.selected to validity ≡ true → (told : Finding) →
+          IsTold told b w.course →
+          IsUnsent told p.resumed b w → IsGoodStep p b w (append_again resumed told to validity uidnext)
+      again_put_ok false r selected told i unsent = put_send selected (unsent.none r)
+      again_put_ok true r selected told i unsent = open_put_ok r selected told i unsent
+
+      put_in : (told : Finding) → IsTold told b w.course → IsUnsent told p.resumed b w →
+          IsGoodStep p b w (append_in_box p to validity uidnext told)
+      put_in told i unsent =
+          cond_both (is_selected_at p.selected to validity) (append_again p.resumed told to validity uidnext) (select_under to validity)
+          (λ (s : Step). IsGoodStep p b w s)
+          (λ t. again_put_ok p.resumed refl t told i unsent) (λ f. tt)
+
+      put_meant_ok : (told : Finding) → IsTold told b w.course → Rests told p.resumed b w →
+          IsGoodStep p b w (append_meant p to validity uidnext told)
+      put_meant_ok (findings.Ended outcome) i r = ended_ok outcome r
+      put_meant_ok findings.Nothing i r = put_in findings.Nothing i r
+      put_meant_ok findings.NoRow i r = put_in findings.NoRow i r
+      put_meant_ok (findings.Row modseq so) i r = put_in (findings.Row modseq so) i r
+      put_meant_ok findings.Barred i r = put_in findings.Barred i r
+      put_meant_ok (findings.Next v l) i r = put_in (findings.Next v l) i r
+      put_meant_ok (findings.Candidates uids) i r = put_in (findings.Candidates uids) i r
+      put_meant_ok (findings.Probed verdict) i r = put_in (findings.Probed verdict) i r
+
+    append_ok : (pending : Option Intent) → b.pending ≡ pending → IsGoodStep p b w (step_append p pending to)
+    append_ok None h = first_put_ok h p.told known.told rest.resting.rests
+    append_ok (Some (intents.Put other validity uidnext)) h =
+        let s : Suited b.queue (actions.Append to flags text id) (intents.Put other validity uidnext) =
+        subst (λ (x : Action). Suited b.queue x (intents.Put other validity uidnext)) a (suits_of (intents.Put other validity uidnext) h) in
+        put_meant_ok validity uidnext (h ∙ ap (λ (x : List ℕ). Some
+        (intents.Put x validity uidnext)) s) p.told known.told rest.resting.rests
+    append_ok (Some (intents.Store name validity uid modseq)) h = tt
+    append_ok (Some (intents.Shift from validity uid other)) h = tt
+
+  -- no intent is pending for an action whose message never comes
+  never_free : ((intent : Intent) → Suited b.queue q.action intent → ⊥) → (pending : Option Intent) → b.pending ≡ pending → b.pending ≡ None
+  never_free f None h = h
+  never_free f (Some intent) h = absurd (f intent (suits_of intent h))
+
+  never_ok : (by : ℕ) → ((intent : Intent) → Suited b.queue q.action intent → ⊥) → IsNever b.queue by q.action →
+      IsGoodStep p b w (conflict (kinds.TargetUnknown by))
+  never_ok by f why =
+      settles (outcomes.Conflict (kinds.TargetUnknown by)) (
+        kept.once.idle
+            (never_free f b.pending refl),
+        record { queued = q; there = e; holds = why },
+      )
+
+  flag_ok : (target : Target) (add : Bool) (asked : List (List ℕ)) → q.action ≡ actions.Flag target add asked → Resolves b target →
+      IsGoodStep p b w (step_flag_found p b.pending (resolved b.queue target))
+  flag_ok target add asked a (inl m) =
+      subst (λ (f : Found). IsGoodStep p b w (step_flag_found p b.pending f)) (sym m.is)
+      (flag_at_ok target add asked a (spot_at m.name m.validity m.uid) m.is b.pending refl)
+  flag_ok target add asked a (inr n) =
+      subst (λ (f : Found). IsGoodStep p b w (step_flag_found p b.pending f)) (sym n.is)
+      (never_ok n.by (λ intent s. no_flag b target add asked n.by n.is intent (subst (λ (x : Action). Suited b.queue x intent) a s))
+      (subst (λ (x : Action). IsNever b.queue n.by x) (sym a) (is_never_of (resolved b.queue target) n.by n.is)))
+
+  move_ok : (target : Target) (to : List ℕ) → q.action ≡ actions.Move target to → Resolves b target →
+      IsGoodStep p b w (step_move_found p b.pending to (resolved b.queue target))
+  move_ok target to a (inl m) =
+      subst (λ (f : Found). IsGoodStep p b w (step_move_found p b.pending to f)) (sym m.is)
+      (move_at_ok target to a (spot_at m.name m.validity m.uid) m.is b.pending refl)
+  move_ok target to a (inr n) =
+      subst (λ (f : Found). IsGoodStep p b w (step_move_found p b.pending to f)) (sym n.is)
+      (never_ok n.by (λ intent s. no_move b target to n.by n.is intent (subst (λ (x : Action). Suited b.queue x intent) a s))
+      (subst (λ (x : Action). IsNever b.queue n.by x) (sym a) (is_never_of (resolved b.queue target) n.by n.is)))
+
+  action_ok : (action : Action) → q.action ≡ action → IsGoodStep p b w (step_action p b action)
+  action_ok (actions.Flag target add asked) a = flag_ok target add asked a (of_flag b kept.sound q e target add asked a)
+  action_ok (actions.Move target to) a = move_ok target to a (of_move b kept.sound q e target to a)
+  action_ok (actions.Append to flags text id) a = append_ok to flags text id a b.pending refl
+
+module _ (p : Player) (b : Meaning) (w : World) (kept : KeptBook b w.course.now w.waiting) (known : Knows p b w) (rest : IsIdle p b w) where
+  box_ok : (o : Option Known) → IsGoodStep p b w (step_box o)
+  box_ok None = tt
+  box_ok (Some k) = tt
+
+  due_ok : (q : Option Queued) → due_action b.queue ≡ q → IsGoodStep p b w (step_due p b q)
+  due_ok None e = box_ok (slice_get b.boxes p.resynced)
+  due_ok (Some q) e = action_ok p b w kept known rest q e q.action refl
+
+  learns_ok : (learns : Option Resynced) → p.learns ≡ learns → Learning learns p b w.course.now → IsGoodStep p b w (step_learn p b learns)
+  learns_ok None h l = due_ok (due_action b.queue) refl
+  learns_ok (Some told) h l = subst (λ (o : Option Resynced). IsAllowed (need_learn o) p b w) (sym h) (l.fresh, tt)
+
+-- at any moment at which nothing is owed
+pub allowed_need : (p : Player) (b : Meaning) (w : World) → KeptBook b w.course.now w.waiting → w.owed ≡ None → Knows p b w →
+    IsAllowed (need_of p b) p b w
+allowed_need p b w kept o known = learns_ok p b w kept known (idle p b w o known) p.learns refl known.learns
+
+-- the same of what a call gives
+pub needed_allowed : (p : Player) (b : Meaning) (r : Result Need AllocError) → IfOk r (λ need. need ≡ need_of p b) →
+    IfOk r (λ need. (w : World) → KeptBook b w.course.now w.waiting → w.owed ≡ None → Knows p b w → IsAllowed need p b w)
+needed_allowed p b (Ok need) is = λ w kept o known. subst (λ (x : Need). IsAllowed x p b w) (sym is) (allowed_need p b w kept o known)
+needed_allowed p b (Err error) is = tt
