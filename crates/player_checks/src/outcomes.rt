@@ -1,0 +1,112 @@
+//! How actions end, as words: `done`, `done 9 7` at a place, or the kind of a conflict, with its numbers.
+
+use action_queue::{Kind, Outcome, Place};
+use case_words::{
+    Answer, CaseFault, Input, action_id, modseq, put_modseq, put_uid, put_validity, uid, validity,
+};
+
+/// The next words as an outcome.
+pub fn outcome(input: &mut Input) -> Result<Outcome, CaseFault> {
+    match input.word()? {
+        "done" => done(input),
+        word => conflict(word, input),
+    }
+}
+
+fn done(input: &mut Input) -> Result<Outcome, CaseFault> {
+    let place = place(input)?;
+    Ok(Outcome::Done { place })
+}
+
+fn conflict(word: &str, input: &mut Input) -> Result<Outcome, CaseFault> {
+    let kind = kind(word, input)?;
+    Ok(Outcome::Conflict(kind))
+}
+
+// The place behind `done`, if there is one.
+fn place(input: &mut Input) -> Result<Option<Place>, CaseFault> {
+    if input.is_step_done() {
+        return Ok(None);
+    }
+    Ok(Some(Place {
+        validity: validity(input)?,
+        uid: uid(input)?,
+    }))
+}
+
+fn kind(word: &str, input: &mut Input) -> Result<Kind, CaseFault> {
+    Ok(match word {
+        "message-gone" => Kind::MessageGone,
+        "already-so" => Kind::AlreadySo,
+        "flags-changed" => Kind::FlagsChanged { m: modseq(input)? },
+        "refused-no" => Kind::RefusedNo,
+        "refused-bad" => Kind::RefusedBad,
+        "not-permanent" => Kind::NotPermanent,
+        "target-unknown" => Kind::TargetUnknown {
+            k: action_id(input)?,
+        },
+        "found-so" => Kind::FoundSo,
+        "store-unsure" => Kind::StoreUnsure {
+            m: modseq(input)?,
+            f: modseq(input)?,
+        },
+        "source-gone" => Kind::SourceGone,
+        "gone-after-loss" => Kind::GoneAfterLoss,
+        "ambiguous" => Kind::Ambiguous {
+            u: uid(input)?,
+            v: uid(input)?,
+        },
+        _ => return Err(CaseFault::WrongInput),
+    })
+}
+
+/// Adds the words of an outcome.
+pub fn put_outcome(answer: &mut Answer, outcome: &Outcome) -> Result<(), CaseFault> {
+    match outcome {
+        Outcome::Done { place: None } => answer.word("done"),
+        Outcome::Done {
+            place: Some(Place { validity, uid }),
+        } => {
+            answer.word("done")?;
+            put_validity(answer, *validity)?;
+            put_uid(answer, *uid)
+        }
+        Outcome::Conflict(kind) => {
+            answer.word(word_of(kind))?;
+            put_numbers(answer, kind)
+        }
+    }
+}
+
+fn word_of(kind: &Kind) -> &'static str {
+    match kind {
+        Kind::MessageGone => "message-gone",
+        Kind::AlreadySo => "already-so",
+        Kind::FlagsChanged { .. } => "flags-changed",
+        Kind::RefusedNo => "refused-no",
+        Kind::RefusedBad => "refused-bad",
+        Kind::NotPermanent => "not-permanent",
+        Kind::TargetUnknown { .. } => "target-unknown",
+        Kind::FoundSo => "found-so",
+        Kind::StoreUnsure { .. } => "store-unsure",
+        Kind::SourceGone => "source-gone",
+        Kind::GoneAfterLoss => "gone-after-loss",
+        Kind::Ambiguous { .. } => "ambiguous",
+    }
+}
+
+fn put_numbers(answer: &mut Answer, kind: &Kind) -> Result<(), CaseFault> {
+    match kind {
+        Kind::FlagsChanged { m } => put_modseq(answer, *m),
+        Kind::TargetUnknown { k } => answer.number(u64::from(k.number())),
+        Kind::StoreUnsure { m, f } => {
+            put_modseq(answer, *m)?;
+            put_modseq(answer, *f)
+        }
+        Kind::Ambiguous { u, v } => {
+            put_uid(answer, *u)?;
+            put_uid(answer, *v)
+        }
+        _ => Ok(()),
+    }
+}

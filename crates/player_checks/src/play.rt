@@ -1,0 +1,327 @@
+//! A case, played line by line.
+
+use crate::ear::Ear;
+use crate::events::event_of;
+use crate::faults::put_fault;
+use crate::held::{enter, settle};
+use crate::lines::{Kind, kind_of};
+use crate::needs::put_need;
+use crate::telling::{choose, wants_rows};
+use action_queue::{Book, Event, Outcome};
+use case_files::{Fault, differs, same_text};
+use case_words::{Answer, CaseFault};
+use imap_model::Replies;
+use mail_base::ActionId;
+use playback::{Need, Player, Unheard};
+use std::alloc::Global;
+
+// What the server owes.
+#[derive(Clone, Copy, PartialEq, Eq)]
+enum Owed {
+    // Nothing.
+    Nothing,
+    // The reply to a SELECT, and that to the FETCH of all rows where it is due.
+    Mailbox,
+    // The reply to a question or to an action's command.
+    Reply,
+}
+
+/// A player, and what the server says to it.
+#[derive(Drop)]
+pub struct Play {
+    alloc: Global,
+    player: Option<Player>,
+    ear: Ear,
+    owed: Owed,
+    // The reply to a SELECT behind which the FETCH of all rows is due.
+    selected: Option<Replies>,
+    barred: bool,
+    // Why the last reply wasn't taken, until a line tells it.
+    fault: Option<Unheard>,
+    compared: u64,
+}
+
+/// The fault of words as one of a case's line.
+pub fn fault_of(fault: CaseFault) -> Fault {
+    match fault {
+        CaseFault::Memory => Fault::Memory,
+        CaseFault::Unreadable | CaseFault::UnknownCall | CaseFault::WrongInput => Fault::Form,
+    }
+}
+
+impl Play {
+    /// No run began.
+    pub fn new(alloc: Global) -> Play {
+        Play {
+            alloc,
+            player: None,
+            ear: Ear::new(alloc),
+            owed: Owed::Nothing,
+            selected: None,
+            barred: false,
+            fault: None,
+            compared: 0,
+        }
+    }
+
+    /// Takes a line of the case.
+    pub fn take(&mut self, book: &mut Book, text: &str) -> Result<(), Fault> {
+        match kind_of(text) {
+            Kind::Begin => self.begin(book),
+            Kind::Barred => self.bar(),
+            Kind::Need(wanted) => self.need(book, wanted),
+            Kind::Server(line) => self.hear(book, line),
+            Kind::Rows(range) => self.hear_rows(range),
+            Kind::Fault(wanted) => self.tell_fault(wanted),
+            Kind::Event(event) => accept(self.alloc, book, event),
+        }
+    }
+
+    /// Says how much was compared, where no reply is left open. A case may end with what is needed.
+    pub fn end(&self) -> Result<u64, Fault> {
+        if !self.ear.is_silent() {
+            return Err(differs(self.alloc, b"a whole reply", b"the case's end"));
+        }
+        self.check_fault()?;
+        Ok(self.compared)
+    }
+
+    // A reply that wasn't taken is told of.
+    fn check_fault(&self) -> Result<(), Fault> {
+        let Some(fault) = &self.fault else {
+            return Ok(());
+        };
+        match shown_fault(self.alloc, fault) {
+            Ok(told) => Err(differs(
+                self.alloc,
+                b"a reply that is taken",
+                told.as_str().as_bytes(),
+            )),
+            Err(fault) => Err(fault_of(fault)),
+        }
+    }
+
+    // A connection begins. The one before is lost, with all that was told in it.
+    fn begin(&mut self, book: &Book) -> Result<(), Fault> {
+        self.check_fault()?;
+        self.player = Some(Player::begin(self.alloc, book));
+        self.ear = Ear::new(self.alloc);
+        self.owed = Owed::Nothing;
+        self.selected = None;
+        self.barred = false;
+        Ok(())
+    }
+
+    // The next reply is heard of a mailbox that doesn't keep the flags.
+    fn bar(&mut self) -> Result<(), Fault> {
+        self.barred = true;
+        Ok(())
+    }
+
+    // What is needed next is what the line says. What is to be recorded is recorded.
+    fn need(&mut self, book: &mut Book, wanted: &str) -> Result<(), Fault> {
+        self.check_fault()?;
+        if self.owed != Owed::Nothing {
+            return Err(Fault::Form);
+        }
+        let need = self.next(book)?;
+        self.compare(&need, wanted)?;
+        self.meet(book, need, wanted)
+    }
+
+    fn next(&self, book: &Book) -> Result<Need, Fault> {
+        match &self.player {
+            Some(player) => Ok(player.next(book)?),
+            None => Err(Fault::Form),
+        }
+    }
+
+    // The need is the wanted one.
+    fn compare(&mut self, need: &Need, wanted: &str) -> Result<(), Fault> {
+        self.compared = self.compared.saturating_add(1);
+        match shown_need(self.alloc, need) {
+            Ok(told) => same_text(self.alloc, wanted, told.as_str()),
+            Err(fault) => Err(fault_of(fault)),
+        }
+    }
+
+    fn meet(&mut self, book: &mut Book, need: Need, text: &str) -> Result<(), Fault> {
+        match need {
+            Need::Commit(event) => self.commit(book, event, text),
+            Need::Settle(id, outcome) => self.conclude(book, &id, &outcome, text),
+            other => self.owe(owed_by(&other)),
+        }
+    }
+
+    fn owe(&mut self, owed: Owed) -> Result<(), Fault> {
+        self.owed = owed;
+        Ok(())
+    }
+
+    // Records an event, which must be lawful.
+    fn commit(&mut self, book: &mut Book, event: Event, text: &str) -> Result<(), Fault> {
+        record(self.alloc, book, event, text)?;
+        self.committed(book);
+        Ok(())
+    }
+
+    // Records an outcome, which must be lawful.
+    fn conclude(
+        &mut self,
+        book: &mut Book,
+        id: &ActionId,
+        outcome: &Outcome,
+        text: &str,
+    ) -> Result<(), Fault> {
+        if !settle(book, id, outcome) {
+            return Err(unlawful(self.alloc, text));
+        }
+        self.committed(book);
+        Ok(())
+    }
+
+    fn committed(&mut self, book: &Book) {
+        if let Some(player) = &mut self.player {
+            player.committed(book);
+        }
+    }
+
+    // Takes a line of the server, and hands a whole reply over.
+    fn hear(&mut self, book: &Book, line: &str) -> Result<(), Fault> {
+        match self.ear.hear(line) {
+            Ok(Some(replies)) => self.hand_over(book, replies),
+            Ok(None) => Ok(()),
+            Err(fault) => Err(fault_of(fault)),
+        }
+    }
+
+    fn hear_rows(&mut self, range: &str) -> Result<(), Fault> {
+        match self.ear.hear_rows(range) {
+            Ok(()) => Ok(()),
+            Err(fault) => Err(fault_of(fault)),
+        }
+    }
+
+    fn hand_over(&mut self, book: &Book, replies: Replies) -> Result<(), Fault> {
+        match self.owed {
+            Owed::Nothing => Err(Fault::Form),
+            Owed::Mailbox => self.choose(book, replies),
+            Owed::Reply => self.hand_reply(book, &replies),
+        }
+    }
+
+    // The reply to a question or to an action's command.
+    fn hand_reply(&mut self, book: &Book, replies: &Replies) -> Result<(), Fault> {
+        let permits = !self.barred;
+        self.barred = false;
+        let Some(player) = &mut self.player else {
+            return Err(Fault::Form);
+        };
+        let done = player.heard(book, replies, permits);
+        self.answered(done)
+    }
+
+    // The reply to a SELECT, behind which the FETCH of all rows may be due, or the reply to that.
+    fn choose(&mut self, book: &Book, replies: Replies) -> Result<(), Fault> {
+        if self.is_first(book, &replies)? {
+            self.selected = Some(replies);
+            return Ok(());
+        }
+        let selected = self.selected.take();
+        self.choose_by(book, &selected, &replies)
+    }
+
+    // Whether the FETCH of all rows is due behind this reply.
+    fn is_first(&self, book: &Book, replies: &Replies) -> Result<bool, Fault> {
+        if self.selected.is_some() {
+            return Ok(false);
+        }
+        match &self.player {
+            Some(player) => Ok(wants_rows(player, book, replies)?),
+            None => Err(Fault::Form),
+        }
+    }
+
+    // The last reply of a resynchronisation.
+    fn choose_by(
+        &mut self,
+        book: &Book,
+        selected: &Option<Replies>,
+        replies: &Replies,
+    ) -> Result<(), Fault> {
+        let Some(player) = &mut self.player else {
+            return Err(Fault::Form);
+        };
+        let done = match selected {
+            Some(selected) => choose(self.alloc, player, book, selected, Some(replies)),
+            None => choose(self.alloc, player, book, replies, None),
+        };
+        self.answered(done)
+    }
+
+    // A reply was taken, or it wasn't.
+    fn answered(&mut self, done: Result<(), Unheard>) -> Result<(), Fault> {
+        self.owed = Owed::Nothing;
+        match done {
+            Ok(()) => Ok(()),
+            Err(Unheard::Memory) => Err(Fault::Memory),
+            Err(fault) => {
+                self.fault = Some(fault);
+                Ok(())
+            }
+        }
+    }
+
+    // The last reply wasn't taken, for what the line says.
+    fn tell_fault(&mut self, wanted: &str) -> Result<(), Fault> {
+        self.compared = self.compared.saturating_add(1);
+        let Some(fault) = self.fault.take() else {
+            return Err(differs(self.alloc, wanted.as_bytes(), b"a reply that is taken"));
+        };
+        match shown_fault(self.alloc, &fault) {
+            Ok(told) => same_text(self.alloc, wanted, told.as_str()),
+            Err(fault) => Err(fault_of(fault)),
+        }
+    }
+}
+
+// What the server owes where this is needed.
+fn owed_by(need: &Need) -> Owed {
+    match need {
+        Need::Select(_) => Owed::Mailbox,
+        Need::Ask(_) | Need::Send(_, _) => Owed::Reply,
+        Need::Commit(_) | Need::Settle(_, _) | Need::Finished => Owed::Nothing,
+    }
+}
+
+// What was recorded before a run.
+fn accept(alloc: Global, book: &mut Book, text: &str) -> Result<(), Fault> {
+    match event_of(alloc, book, text) {
+        Ok(event) => record(alloc, book, event, text),
+        Err(fault) => Err(fault_of(fault)),
+    }
+}
+
+// Records an event, which must be lawful.
+fn record(alloc: Global, book: &mut Book, event: Event, text: &str) -> Result<(), Fault> {
+    if enter(alloc, book, event)? {
+        return Ok(());
+    }
+    Err(unlawful(alloc, text))
+}
+
+fn unlawful(alloc: Global, text: &str) -> Fault {
+    differs(alloc, b"an event that may come", text.as_bytes())
+}
+
+fn shown_need(alloc: Global, need: &Need) -> Result<Answer, CaseFault> {
+    let mut answer = Answer::new(alloc);
+    put_need(alloc, &mut answer, need)?;
+    Ok(answer)
+}
+
+fn shown_fault(alloc: Global, fault: &Unheard) -> Result<Answer, CaseFault> {
+    let mut answer = Answer::new(alloc);
+    put_fault(&mut answer, fault)?;
+    Ok(answer)
+}
