@@ -1,12 +1,12 @@
 -- A journal that begins with names, as the store's book.
-use Rattle.std.proofs.Common.{◌≡◌, ◌⊎◌, inl, inr, ⊎_elim, true, ℕ, zero, suc, ◌+◌, ◌-◌, ◌*◌, ◌≤◌, ◌<◌, ◌^◌, List, [], ◌∷◌, ◌++◌, length}
+use Rattle.std.proofs.Common.{◌≡◌, ◌⊎◌, inl, inr, ⊎_elim, true, ℕ, ◌+◌, ◌-◌, ◌*◌, ◌≤◌, ◌<◌, ◌^◌, List, [], ◌∷◌, ◌++◌, length}
 use Rattle.std.proofs.Common.{take, drop, Some, None, refl, sym, ◌∙◌, ap, subst, arith, length-append}
 use Rattle.std.specs.Prelude.{flat_map}
 use Rattle.std.specs.Int.{w32, to_be_bytes}
 use Rattle.std.specs.List.{AllByRecursion}
 use Rattle.std.proofs.lemmas.List.{take_at}
 use Rattle.world_traits.specs.Files.{Files}
-use Rattle.world_traits.specs.Moments.{Moment, MayLeave, Clock, Images, Occurs, Only, AtPhase, GoesOn, Since, Within}
+use Rattle.world_traits.specs.Moments.{Moment, MayLeave, Clock, Images, GoesOn, Since, Within}
 use Rattle.world_traits.specs.Links.{Any}
 use Rattle.world_traits.proofs.Passing.{since_start, since_then, since_weaker}
 use Rattle.world_traits.proofs.Traces.{since_both}

@@ -2,7 +2,7 @@
 use Rattle.std.proofs.Common.{◌≡◌, ℕ, ◌+◌, ◌<◌, ◌≤◌, ◌^◌, true, false, IsTrue, List, [], ◌∷◌, ◌++◌, length, get_or, take, drop, slice_get}
 use Rattle.std.proofs.Common.{Option, Some, None, Result, Ok, Err, IfOk, refl, sym, ◌∙◌, ap, subst, arith, append_assoc, length-append}
 use Rattle.std.proofs.Common.{take-append-drop}
-use Rattle.std.proofs.lemmas.List.{append-nil, drop_at, take_more, drop_more}
+use Rattle.std.proofs.lemmas.List.{append-nil, take_more, drop_more}
 use Rattle.std.proofs.lemmas.Option.{slice_get_within, get_or_from_slice_get}
 use Rattle.world_traits.specs.Files.{Files, file_of}
 use Rattle.world_traits.specs.Moments.{Moment, Clock, Since, Within, Narrows}
@@ -14,7 +14,6 @@ use Rattle.journal_core.specs.declared.fault.OpenFault.{OpenFault}
 use Rattle.journal_core.specs.declared.fault.OpenFault.TheVariants as opening
 use Rattle.journal_core.specs.Records.{open_record, records}
 use Rattle.journal_core.specs.Appending.{told_end}
-use Rattle.journal_core.specs.Sides.{head_of}
 use Rattle.journal_core.specs.Standing.{Standing, IsStill}
 use Rattle.journal_core.specs.Broken.{IsNotDue, torn, other, missing}
 use Rattle.journal_core.specs.Reading.{HasClosedGate, StandsAt, NextIs, IsNoJournal}
@@ -29,7 +28,7 @@ use Rattle.action_queue.specs.Rules.{first_broken}
 use Rattle.std.specs.Option.{is_some}
 use Rattle.record_codec.specs.Spelling.{Spelled}
 use Rattle.store_core.specs.Keeping.{Keeping}
-use Rattle.store_core.specs.Mail.{mail, rules_of, MayCome}
+use Rattle.store_core.specs.Mail.{mail, rules_of}
 use Rattle.store_core.specs.Books.{Make, HasBook}
 use Rattle.store_core.specs.Holding.{IsAsLeft}
 use Rattle.store_core.specs.HeldActions.{KeepsActions}

@@ -10,3 +10,4 @@ pub mod Opens
 pub mod AtRest
 pub mod MailBook
 pub mod FirstRecord
+pub mod Folds

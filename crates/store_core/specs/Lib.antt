@@ -6,6 +6,7 @@ pub mod Steps
 pub mod Taking
 pub mod HeldActions
 pub mod Room
+pub mod Fold
 pub mod Broken
 pub mod Reading
 pub mod Faults

@@ -18,6 +18,7 @@ ghost use Rattle.action_queue.specs.Events.{AreNames, IsFirst, first_book};
 ghost use Rattle.action_queue.specs.declared.event.Event.TheVariants as events;
 ghost use Rattle.record_codec.specs.Spelling.{IsKept, Spelled};
 ghost use Rattle.store_core.specs.Mail.{mail};
+ghost use Rattle.store_core.specs.Fold.{IsFold};
 ghost use Rattle.store_core.specs.Holding.{IsAsLeft};
 ghost use Rattle.store_core.specs.Steps.{Books};
 ghost use Rattle.store_core.specs.Taking.{HasBooks, Creates, IsCreating, BeginsStep, BeginsBehind};
@@ -44,6 +45,7 @@ impl Store {
     ) -> Result<Store, StoreFault>
         requires { AreNames names }
         ensures value { IfOk result (λ store. store.book ≡ begun names) }
+        ensures fold { IfOk result (λ store. IsFold store.book) }
         ensures sound { IfOk result (λ store. store.journal.failed ≡ false) }
         ensures still { D.tells_files → IfOk result (λ store.
             IsAsLeft mail store (D.clock disk.new).now (D.seen disk.new)) }

@@ -23,6 +23,7 @@ ghost use Rattle.store_core.specs.Books.{HasBook};
 ghost use Rattle.store_core.specs.Broken.{IsBroken, IsUndue};
 ghost use Rattle.store_core.specs.Reading.{Enters, EntersAll, ReadsBook, UndueAt};
 ghost use Rattle.store_core.specs.Steps.{Books, Firm};
+ghost use Rattle.store_core.specs.Fold.{IsFold};
 ghost use Rattle.store_core.specs.Holding.{IsAsLeft};
 ghost use Rattle.store_core.specs.Taking.{HasBooks, IsOneOf, ChoosesStep};
 ghost use Rattle.store_core.specs.HeldActions.{KeepsActions};
@@ -48,6 +49,7 @@ impl Store {
         ensures still { D.tells_files → IfOk result (λ store.
             IsAsLeft mail store (D.clock disk.new).now (D.seen disk.new)) }
         ensures sound { IfOk result (λ store. store.journal.failed ≡ false) }
+        ensures fold { IfOk result (λ store. IsFold store.book) }
 
         // It is one of those that a stop could have left, and from now on each stop leaves it.
         ensures chosen { D.tells_files → (books : Books mail) → HasBooks mail books (D.clock disk.old).now →
@@ -96,6 +98,7 @@ fn read_begin<D: Disk>(
 ) -> Result<Book, StoreFault>
     ensures value { D.tells_files → IsStill journal.old [] (D.clock disk.old).now (D.seen disk.old) →
         IfOk result (λ book. ReadsBook mail (meaning book) journal.new (D.clock disk.new).now (D.seen disk.new)) }
+    ensures fold { IfOk result (λ book. IsFold (meaning book)) }
     ensures advances { OnOk result (journal.old.place < journal.new.place) }
     ensures sound { journal.new.failed ≡ journal.old.failed }
     ensures version { journal.new.version ≡ journal.old.version }
@@ -120,6 +123,7 @@ fn read_begin<D: Disk>(
 // The book that a body begins, whose record is at this place. No memory is taken for another event's.
 fn begun_by(alloc: Global, body: &[u8], at: u64) -> Result<Book, StoreFault>
     ensures value { (version : Version) → IfOk result (λ book. Enters mail version None body.now (meaning book)) }
+    ensures fold { IfOk result (λ book. IsFold (meaning book)) }
     ensures broken { (why : Place9) → IsErrOf result (faults.NotAJournal why) →
         (why ≡ places.Record at) × ((version : Version) → IsUndue mail version None body.now) }
     ensures memory { IsErrOf result faults.Memory → (event : Event) → Spelled body.now event → IsFirst event }
@@ -147,6 +151,7 @@ fn is_lettered(body: &[u8]) -> bool
 fn begun_with(alloc: Global, event: Event, at: u64) -> Result<Book, StoreFault>
     requires { IsWritable event }
     ensures value { IfOk result (λ book. IsFirst event × (meaning book ≡ first_book event)) }
+    ensures fold { IfOk result (λ book. IsFold (meaning book)) }
     ensures broken { (why : Place9) → IsErrOf result (faults.NotAJournal why) →
         (why ≡ places.Record at) × (IsFirst event → ⊥) }
     ensures memory { IsErrOf result faults.Memory → IsFirst event }
@@ -169,6 +174,7 @@ fn read_later<D: Disk>(
 ) -> Result<(), StoreFault>
     ensures value { D.tells_files → ReadsBook mail (meaning book.old) journal.old (D.clock disk.old).now (D.seen disk.old) →
         OnOk result (ReadsBook mail (meaning book.new) journal.new (D.clock disk.new).now (D.seen disk.new)) }
+    ensures fold { IsFold (meaning book.old) → OnOk result (IsFold (meaning book.new)) }
     ensures all_read { OnOk result (journal.new.all_read ≡ true) }
     ensures sound { journal.new.failed ≡ journal.old.failed }
     ensures version { journal.new.version ≡ journal.old.version }
@@ -200,6 +206,7 @@ fn read_few<D: Disk>(
 ) -> Result<bool, StoreFault>
     ensures value { D.tells_files → ReadsBook mail (meaning book.old) journal.old (D.clock disk.old).now (D.seen disk.old) →
         OnOk result (ReadsBook mail (meaning book.new) journal.new (D.clock disk.new).now (D.seen disk.new)) }
+    ensures fold { IsFold (meaning book.old) → OnOk result (IsFold (meaning book.new)) }
     ensures advances { IfOk result (λ more. IsTrue more → journal.old.place < journal.new.place) }
     ensures ended { IfOk result (λ more. (IsTrue more → ⊥) → journal.new.all_read ≡ true) }
     ensures sound { journal.new.failed ≡ journal.old.failed }
@@ -232,6 +239,7 @@ fn enter_few(
     version: Version,
 ) -> Result<(), StoreFault>
     ensures value { OnOk result (EntersAll mail version (meaning book.old) few.now (meaning book.new)) }
+    ensures fold { IsFold (meaning book.old) → OnOk result (IsFold (meaning book.new)) }
     ensures broken { (why : Place9) → IsErrOf result (faults.NotAJournal why) →
         UndueAt mail version (meaning book.old) at why few.now }
     ensures only { (IsErrOf result faults.Already → ⊥) × (IsErrOf result faults.Disk → ⊥)
@@ -255,6 +263,7 @@ fn enter_body(
     version: Version,
 ) -> Result<(), StoreFault>
     ensures value { OnOk result (Enters mail version (Some (meaning book.old)) body.now (meaning book.new)) }
+    ensures fold { IsFold (meaning book.old) → OnOk result (IsFold (meaning book.new)) }
     ensures broken { (why : Place9) → IsErrOf result (faults.NotAJournal why) →
         (why ≡ places.Record at) × IsUndue mail version (Some (meaning book.old)) body.now }
     ensures only { (IsErrOf result faults.Already → ⊥) × (IsErrOf result faults.Disk → ⊥)

@@ -11,6 +11,7 @@ loop-more-init g c = record {
   link = refl;
   faults = omega arith;
   looks = λ tells. looks_none _ _;
+  fold = λ fold. fold;
   reads = λ tells r. r;
 }
 
@@ -35,5 +36,9 @@ loop-more-preserved g c = record {
   link = c.read_few.ensures.link ∙ c.loop-more.invariant.link;
   faults = omega (arith, c.read_few.ensures.count, c.loop-more.invariant.faults);
   looks = λ tells. looks_then _ _ _ _ _ _ (c.loop-more.invariant.looks tells) (c.read_few.ensures.told tells);
+  fold = λ fold. c.in_ok-more.ensures.fold (c.loop-more.invariant.fold fold);
   reads = λ tells r. c.in_ok-more.ensures.value tells (c.loop-more.invariant.reads tells r);
 }
+
+pub returns-then-not-more-clause-fold : goal.returns-then-not-more-clause-fold
+returns-then-not-more-clause-fold g c fold = c.in_ok-more.ensures.fold (c.loop-more.invariant.fold fold)

@@ -3,6 +3,7 @@ use Rattle.journal_core.specs.Reading.{OnlyLooks}
 use Rattle.action_queue.specs.Book.{meaning}
 use Rattle.store_core.specs.Mail.{mail}
 use Rattle.store_core.specs.Reading.{ReadsBook}
+use Rattle.store_core.specs.Fold.{IsFold}
 use Rattle.store_core.proofs.opening.read_later.Given as goal
 
 abbrev pub invariant-loop-more : goal.invariant-loop-more
@@ -15,6 +16,7 @@ invariant-loop-more g l =
       link : g.D.Clocked.link l.disk ≡ g.D.Clocked.link l.fn.disk;
       faults : g.D.Clocked.disk_faults l.fn.disk ≤ g.D.Clocked.disk_faults l.disk;
       looks : g.D.Clocked.tells_files → OnlyLooks (clock l.fn.disk) (clock l.disk) (seen l.fn.disk) (seen l.disk);
+      fold : IsFold (meaning l.fn.book) → IsFold (meaning l.book);
       reads : g.D.Clocked.tells_files → ReadsBook mail (meaning l.fn.book) l.fn.journal (clock l.fn.disk).now (seen l.fn.disk) →
           ReadsBook mail (meaning l.book) l.journal (clock l.disk).now (seen l.disk);
     }

@@ -1,7 +1,8 @@
-use Rattle.std.proofs.Common.{◌≡◌, rules, refl, ap, arith, Err}
+use Rattle.std.proofs.Common.{◌≡◌, rules, refl, sym, ap, subst, arith, Err}
 use Rattle.journal_core.specs.Standing.{Standing}
 use Rattle.journal_core.proofs.AtRest.{each_none}
 use Rattle.store_core.specs.Faults.{of_creating}
+use Rattle.store_core.specs.Fold.{IsFold, begins}
 use Rattle.store_core.proofs.Unless.{not_disk}
 use Rattle.store_core.proofs.Beginning.{some_begin, creates, creates_held, begins_behind, begins_none, begins_steps, left_begun, never_over}
 use Rattle.store_core.proofs.store.Store.init.Goals as goal
@@ -70,3 +71,6 @@ returns-in_err-body-clause-each_one_side g c tells one = each_none (g.D.Clocked.
 
 pub returns-in_err-book-clause-each_one_side : goal.returns-in_err-book-clause-each_one_side
 returns-in_err-book-clause-each_one_side g c tells one = each_none (g.D.Clocked.clock c.args.disk.now)
+
+pub returns-clause-fold : goal.returns-clause-fold
+returns-clause-fold g c = subst IsFold (sym c.in_ok-book.ensures) (begins c.args.names c.requires)

@@ -153,3 +153,6 @@ returns-in_err-read_later-clause-memory g c tells is =
     first_record _ _ (c.in_ok-journal.ensures.value tells)
     (subst (λ (f : Files). HasRecord c.in_ok-journal.journal.place (file_of c.in_ok-journal.journal.side f))
     (c.in_ok-journal.ensures.seen tells (λ e. cc e)) (c.in_ok-book.ensures.stands tells))
+
+pub returns-clause-fold : goal.returns-clause-fold
+returns-clause-fold g c = c.in_ok-read_later.ensures.fold c.in_ok-book.ensures.fold

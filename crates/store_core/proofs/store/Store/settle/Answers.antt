@@ -6,7 +6,7 @@ use Rattle.action_queue.specs.Book.{meaning, after}
 use Rattle.action_queue.specs.declared.event.Event.TheVariants as events
 use Rattle.store_core.specs.Mail.{mail}
 use Rattle.store_core.specs.Holding.{Holding}
-use Rattle.store_core.proofs.AtRest.{left_one, append_one}
+use Rattle.store_core.proofs.AtRest.{append_one}
 use Rattle.store_core.proofs.Phases.{took, steps_of, held_of, left_after}
 use Rattle.store_core.proofs.store.Store.settle.Goals as goal
 
