@@ -12,10 +12,10 @@ use Rattle.world_traits.specs.Links.{Any, LinkStep, Linked}
 use Rattle.world_traits.specs.Moments.{Moment, Clock}
 use Rattle.world_traits.proofs.Traces.{since_both, carried_now}
 use Rattle.imap_session.specs.Enquiring.{Enquiring, connecting, asking}
-use Rattle.play_driver.specs.Levelling.{IsCalm, LeavesValidity, SameValidity, ValidityStays}
-use Rattle.play_driver.specs.Unplayed.{NoChangeWaits}
+use Rattle.play_driver.specs.Calm.{IsCalm, NoChangeWaits}
+use Rattle.play_driver.specs.Levelling.{LeavesValidity, SameValidity, ValidityStays}
 use Rattle.play_driver.proofs.Parts.{grows, since_first, since_second}
-use Rattle.play_driver.proofs.Untouched.{question_stays}
+use Rattle.play_driver.proofs.QuestionsStay.{question_stays}
 
 module _ (name : List ℕ) (P : Server → Type 0)
     (stands : (s t : Server) → IsWellFormed s.boxes → Batch s.boxes s t → SameValidity name s t → P s → P t) where

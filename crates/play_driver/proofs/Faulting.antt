@@ -1,5 +1,5 @@
 -- What a fault of a run tells of the call whose fault it is.
-use Rattle.std.proofs.Common.{◌≡◌, Bool, false, IsTrue, Result, Ok, Err, OnErr, IsErrAnd, ap}
+use Rattle.std.proofs.Common.{◌≡◌, Result, Ok, Err, OnErr, IsErrAnd, ap}
 use Rattle.play_driver.specs.declared.fault.PlayFault.{PlayFault}
 
 -- one fault of a result
@@ -9,9 +9,6 @@ same_err r x y p q = cc
 -- no fault came
 pub ok_no_err : {T E : Type 0} (r : Result T E) (x : T) (e : E) → r ≡ Ok x → r ≡ Err e → ⊥
 ok_no_err r x e p q = cc
-
-pub not_failed : (failed : Bool) → failed ≡ false → IsTrue failed → ⊥
-not_failed failed is then = cc
 
 module _ {T E : Type 0} where
   raised_as : (r : Result T E) (x : E) → IsErrAnd r (λ fault. fault ≡ x) → r ≡ Err x

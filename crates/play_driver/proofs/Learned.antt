@@ -1,5 +1,5 @@
 -- What a resynchronisation tells makes the cache the server's at a moment of it, and fresh from then on.
-use Rattle.std.proofs.Common.{◌≡◌, inl, inr, ◌≤◌, ℕ, ◌+◌, Bool, true, false, not, List, Option, Some, None, is_some, Ok, Err, refl, sym, ◌∙◌, ap, subst, arith}
+use Rattle.std.proofs.Common.{◌≡◌, inl, inr, ◌≤◌, ℕ, ◌+◌, Bool, true, false, not, List, Option, Some, None, is_some, Ok, Err, Result, refl, sym, ◌∙◌, ap, subst, arith}
 use Rattle.std.proofs.lemmas.Option.{same_Some}
 use Rattle.mail_base.specs.declared.tag.Tag.{Tag}
 use Rattle.imap_model.specs.CarriedOut.{CarriesOut, Decides, Selects}
@@ -23,31 +23,28 @@ use Rattle.qresync_core.specs.Fresh.{IsFresh}
 use Rattle.qresync_core.specs.Laws.{AnswersSelect, AnswersFetch, Faultless, Mirrors, codes_of_box}
 use Rattle.qresync_core.specs.Resync.{is_told_empty, TellsDelta}
 use Rattle.qresync_core.specs.declared.fault.ResyncFault.{ResyncFault}
-use Rattle.qresync_core.specs.declared.fault.ResyncFault.TheVariants as resyncs
 use Rattle.qresync_core.proofs.Judging.{memory_alone}
 use Rattle.qresync_core.proofs.Leveling.{kept_judged, kept_levels, first_judged, first_mirrors, empty_judged, empty_mirrors, fresh_later as still_fresh}
 use Rattle.qresync_core.proofs.Replying.{select_box, fetch_box}
 use Rattle.world_traits.specs.Links.{Any, LinkStep, Linked}
 use Rattle.world_traits.specs.Moments.{Moment, Clock, tick}
 use Rattle.world_traits.proofs.Passing.{since_then, since_weaker}
-use Rattle.world_traits.proofs.Traces.{since_both, since_carry}
 use Rattle.imap_session.specs.Dialogue.{next_tag}
 use Rattle.imap_session.specs.Enquiring.{Enquiring}
 use Rattle.imap_session.specs.Session.{waiting_of}
-use Rattle.store_core.specs.Mail.{mail}
-use Rattle.store_core.specs.Steps.{Firm}
-use Rattle.store_core.specs.Taking.{HasBooks}
-use Rattle.store_core.proofs.MailBook.{one_mail_event}
+use Rattle.imap_session.specs.declared.permits.Permits.{Permits}
+use Rattle.playback.specs.Kept.{KeptBook}
+use Rattle.playback.proofs.Staying.{batch_validity}
 use Rattle.play_driver.specs.Exchanges.{Exchange, AnsweredAll, IsAnswered}
-use Rattle.play_driver.specs.Joining.{AllFair, IsFair, IsKept}
 use Rattle.play_driver.specs.Resynchronising.{exchanged, fetches, mark_kept, select_of, Resyncs}
-use Rattle.play_driver.specs.Levelling.{IsCalm, IsKeptFresh, IsLevelled, LeavesValidity, LinkFaultless, LinkLevels, SameValidity, ValidityStays}
+use Rattle.play_driver.specs.Calm.{IsCalm, IsFreshAt, NoChangeWaits}
+use Rattle.play_driver.specs.KnownAt.{StandsKept}
+use Rattle.play_driver.specs.Levelling.{IsKeptFresh, IsLevelled, LeavesValidity, LinkFaultless, LinkLevels, ResyncsFaultless, ResyncsLevel}
+use Rattle.play_driver.specs.Levelling.{SameValidity, ValidityStays}
 use Rattle.play_driver.specs.Synced.{IsLevel, IsReadAt}
-use Rattle.play_driver.specs.Unplayed.{IsFreshAt, Unplayed, unplayed}
 use Rattle.play_driver.proofs.Answering.{AnsweredAt, answered_at, answered_through}
 use Rattle.play_driver.proofs.Calm.{calm_now, held_now, stays_first, stays_second}
-use Rattle.play_driver.proofs.Kept.{kept_books}
-use Rattle.play_driver.proofs.Links.{books_there, fair_books}
+use Rattle.play_driver.proofs.KnownWalk.{kept_here}
 use Rattle.play_driver.proofs.Parts.{grows}
 
 -- a mailbox goes on through changes by others that leave its UIDVALIDITY
@@ -278,43 +275,45 @@ module _ (name : List ℕ) where
 
 -- so it is with what a resynchronisation tells
 pub link_levels : LinkLevels
-link_levels name kept delta selected count after old new calm fresh fair r =
+link_levels name kept delta selected count after permits old new calm fresh fair r =
     (by_exchanges name kept r.gathered.selected r.gathered.all selected count old new calm fresh fair r.makes.fetched r.answered).1 delta r.makes.value
 
 pub link_faultless : LinkFaultless
-link_faultless name kept fault selected count after old new calm fresh fair r =
+link_faultless name kept fault selected count after permits old new calm fresh fair r =
     memory_alone kept r.gathered.selected r.gathered.all fault
     (by_exchanges name kept r.gathered.selected r.gathered.all selected count old new calm fresh fair r.makes.fetched r.answered).0 r.makes.fault
 
--- Beside a book that is firm and kept.
-module _ (b : Meaning) (name : List ℕ) (kept : Option Cache) (old new : Clock) (has : cache_at name b.boxes ≡ kept)
-    (books : HasBooks mail (Firm (Some b)) old.now) (good : IsKept mail Unplayed old.now) (fair : AllFair mail unplayed old new) where
-  related : Unplayed (Some b) old.now.outside.server old.now.outside.waiting
-  related = kept_books mail Unplayed one_mail_event (Firm (Some b)) old.now good books
+-- no change by others touches a UIDVALIDITY
+validity_stays : (name : List ℕ) (old new : Clock) → Linked Enquiring old new → ValidityStays name old new
+validity_stays name old new linked =
+    since_weaker Any Any (LinkStep Enquiring) (LeavesValidity name) (λ m any. any)
+    (λ m n step. record { same = λ batch. batch_validity m.outside.server.boxes m.outside.server n.outside.server name batch }) old new linked
+
+-- Beside a book that is kept, where nothing waits.
+module _ (b : Meaning) (old : Clock) (stands : StandsKept b old) where
+  kept : KeptBook b old.now.outside.server old.now.outside.waiting
+  kept = kept_here b old.now stands.kept stands.books
 
   calm : IsCalm old.now.outside
-  calm = record { well = related.0.well; no_change = related.0.no_change }
+  calm = record { well = kept.well; no_change = subst NoChangeWaits (sym stands.none_waits) tt }
 
-  fresh_in : (k : Option Cache) → cache_at name b.boxes ≡ k → IsKeptFresh old.now.outside.server name k
-  fresh_in None is = tt
-  fresh_in (Some cache) is = related.1.fresh name cache is
+  fresh_in : (name : List ℕ) (cache : Option Cache) → cache_at name b.boxes ≡ cache → IsKeptFresh old.now.outside.server name cache
+  fresh_in name None is = tt
+  fresh_in name (Some cache) is =
+      let f = kept.fresh name cache is in
+      record { box = f.box; there = f.there; fresh = record { validity = sym f.same; facts = f.facts } }
 
-  stays : Linked Enquiring old new → ValidityStays name old new
-  stays linked =
-      since_weaker (λ m. (Any m × Any m) × HasBooks mail (Firm (Some b)) m) Any
-      (λ m n. HasBooks mail (Firm (Some b)) m × (LinkStep Enquiring m n × IsFair mail unplayed m n)) (LeavesValidity name) (λ m p. tt)
-      (λ m n s. record { same = λ batch. fair_books mail unplayed (Firm (Some b)) m n s.0 s.1.1 batch name }) old new
-      (since_carry (λ m. Any m × Any m) (HasBooks mail (Firm (Some b))) (λ m n. LinkStep Enquiring m n × IsFair mail unplayed m n)
-      (λ m n any s h. books_there Enquiring m n s.0 mail (Firm (Some b)) h) old books new
-      (since_both Any Any (LinkStep Enquiring) (IsFair mail unplayed) old new linked fair))
+  stays : (name : List ℕ) (cache : Option Cache) (delta : Result Delta ResyncFault) (selected : Option (List ℕ)) (count after : ℕ)
+      (permits : Option Permits) (new : Clock) → Resyncs selected count after name cache delta permits old new → ValidityStays name old new
+  stays name cache delta selected count after permits new r =
+      validity_stays name old new (asked_through name cache r.gathered.selected r.gathered.all selected count old new r.answered)
 
-  module _ (selected : Option (List ℕ)) (count after : ℕ) where
-    pub learns_level : (delta : Delta) → Resyncs selected count after name kept (Ok delta) old new → IsLevelled name (learned kept delta) old new
-    learns_level delta r =
-        link_levels name kept delta selected count after old new calm (fresh_in kept has)
-        (stays (asked_through name kept r.gathered.selected r.gathered.all selected count old new r.answered)) r
+pub learns_level : ResyncsLevel
+learns_level b name cache delta selected count after permits old new is stands fair r =
+    link_levels name cache delta selected count after permits old new (calm b old stands) (fresh_in b old stands name cache is)
+    (stays b old stands name cache (Ok delta) selected count after permits new r) r
 
-    pub learns_faultless : (fault : ResyncFault) → Resyncs selected count after name kept (Err fault) old new → fault ≡ resyncs.Memory
-    learns_faultless fault r =
-        link_faultless name kept fault selected count after old new calm (fresh_in kept has)
-        (stays (asked_through name kept r.gathered.selected r.gathered.all selected count old new r.answered)) r
+pub learns_faultless : ResyncsFaultless
+learns_faultless b name cache fault selected count after permits old new is stands fair r =
+    link_faultless name cache fault selected count after permits old new (calm b old stands) (fresh_in b old stands name cache is)
+    (stays b old stands name cache (Err fault) selected count after permits new r) r

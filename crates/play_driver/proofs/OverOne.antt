@@ -1,16 +1,15 @@
 -- A session's calls, as questions over the connection that it has.
-use Rattle.std.proofs.Common.{◌≡◌, ◌⊎◌, inl, inr, ℕ, ◌+◌, false, Bool, List, ◌++◌, Option, Some, refl, sym, subst}
+use Rattle.std.proofs.Common.{◌≡◌, inl, inr, ℕ, ◌+◌, false, Bool, List, ◌++◌, Option, Some, refl, sym, subst}
 use Rattle.mail_base.specs.Account.{Credentials}
 use Rattle.mail_base.specs.declared.tag.Tag.{Tag}
 use Rattle.imap_model.specs.Mutating.{is_mutating}
-use Rattle.imap_model.specs.Talking.{Answering, Connecting}
+use Rattle.imap_model.specs.Talking.{Answering, Connecting, Peer}
 use Rattle.imap_model.specs.declared.command.Command.{Command}
 use Rattle.imap_model.specs.declared.command.Command.TheVariants as commands
 use Rattle.imap_model.specs.declared.mark.Mark.{Mark}
 use Rattle.imap_model.specs.declared.response.Response.{Response}
-use Rattle.mailbox_cache.specs.declared.delta.Delta.{Delta}
 use Rattle.action_queue.specs.Book.{after}
-use Rattle.action_queue.specs.declared.event.Event.TheVariants as events
+use Rattle.action_queue.specs.declared.event.Event.{Event}
 use Rattle.world_traits.specs.Asking.{Asking}
 use Rattle.world_traits.specs.LinkState.{LinkState}
 use Rattle.world_traits.specs.Links.{Any, LinkStep, Linked}
@@ -19,13 +18,13 @@ use Rattle.world_traits.proofs.Passing.{since_start, since_then, since_weaker}
 use Rattle.store_core.specs.Books.{HoldsBook}
 use Rattle.store_core.specs.Holding.{Holding}
 use Rattle.store_core.specs.Mail.{mail}
-use Rattle.store_core.specs.Taking.{IsTaking}
+use Rattle.store_core.specs.Taking.{IsTaking, Takes}
 use Rattle.imap_session.specs.Dialogue.{Dialogue, Talked, Point, next_tag, next_text, so_far}
 use Rattle.imap_session.specs.Dialogue.Dialogue.{Ends, Lacks, Asks}
 use Rattle.imap_session.specs.LogIn.{enabling, entering}
 use Rattle.imap_session.proofs.Talks.{Questions, became_since, enabling_asks, entering_asks}
-use Rattle.play_driver.specs.Questioning.{ConnectsFirst, Questioning, TalkStep, answering, asking}
-use Rattle.play_driver.specs.Visiting.{Records}
+use Rattle.play_driver.specs.Questioning.{ConnectsFirst, Conversing, Questioning, TalkStep, answering, asking, sending}
+use Rattle.play_driver.specs.Questioning.Conversing.{answering as answers_so}
 
 -- reading a greeting
 pub answers_over : (old new : Clock) → Linked Answering old new → Linked Questioning old new
@@ -41,7 +40,7 @@ asks_over told tag command question old new s =
     (λ m n step. record { left = step.left; right = step.right; outside = asking told tag command question step.outside }) old new s
 
 -- the questions of a dialogue
-talks_over : (d : Dialogue) → Questions d → (count : ℕ) (old new : Point) → Talked d count old new → Linked Questioning old.clock new.clock
+pub talks_over : (d : Dialogue) → Questions d → (count : ℕ) (old new : Point) → Talked d count old new → Linked Questioning old.clock new.clock
 talks_over (Ends rev2) q count old new is =
     subst (λ (k : Point). Linked Questioning old.clock k.clock) (sym is) (since_start Any (LinkStep Questioning) old.clock)
 talks_over (Lacks item) q count old new is =
@@ -70,9 +69,6 @@ both_over name since count tag old mid new first second =
 pub connects_first : (S : Moment → Moment → Type 0) (old at : Clock) → Linked Connecting old at → ConnectsFirst S old at
 connects_first S old at linked = record { at = at; connects = linked; behind = since_start Any S at }
 
-pub nothing_first : (S : Moment → Moment → Type 0) (k : Clock) → ConnectsFirst S k k
-nothing_first S k = connects_first S k k (since_start Any (LinkStep Connecting) k)
-
 pub goes_behind : (S : Moment → Moment → Type 0) (old mid new : Clock) → ConnectsFirst S old mid → Since Any S mid new → ConnectsFirst S old new
 goes_behind S old mid new c more = record { at = c.at; connects = c.connects; behind = since_then Any S c.at mid new c.behind more }
 
@@ -88,9 +84,23 @@ module _ (old mid new : Clock) (first : ConnectsFirst (LinkStep Questioning) old
       goes_behind (LinkStep Questioning) old mid new first
       (talks_over (enabling rev2) (enabling_asks rev2) count (so_far mid before) (so_far new later) talked)
 
+-- a question is a command
+conversing : (p q : Peer) → Questioning p q → Conversing p q
+conversing p q (answering step) = answers_so step
+conversing p q (asking told tag command question step) = sending told tag command step
+
 -- beside the disk
 pub over_talks : (old new : Clock) → Linked Questioning old new → Since Any TalkStep old new
-over_talks old new s = since_weaker Any Any (LinkStep Questioning) TalkStep (λ m p. p) (λ m n step. inr step) old new s
+over_talks old new s =
+    since_weaker Any Any (LinkStep Questioning) TalkStep (λ m p. p)
+    (λ m n step. inr (record { left = step.left; right = step.right; outside = conversing m.outside n.outside step.outside })) old new s
+
+-- a command, of whatever kind
+pub asked_talks : (told : List Response) (tag : Tag) (command : Command) (old new : Clock) → Linked (Asking told tag command) old new →
+    Since Any TalkStep old new
+asked_talks told tag command old new s =
+    since_weaker Any Any (LinkStep (Asking told tag command)) TalkStep (λ m p. p)
+    (λ m n step. inr (record { left = step.left; right = step.right; outside = sending told tag command step.outside })) old new s
 
 pub talks_then : (old mid new : Clock) → Since Any TalkStep old mid → Since Any TalkStep mid new → Since Any TalkStep old new
 talks_then old mid new a b = since_then Any TalkStep old mid new a b
@@ -99,13 +109,11 @@ pub enters_talks : (old new : Clock) → ConnectsFirst (LinkStep Questioning) ol
 enters_talks old new c = record { at = c.at; connects = c.connects; behind = over_talks c.at new c.behind }
 
 -- what a record tells
-pub record_talks : (store : Holding mail) (name : List ℕ) (delta : Delta) (mid new : Clock) → (new ≡ mid) ⊎ Records store name delta mid new →
-    Since Any TalkStep mid new
-record_talks store name delta mid new (inl same) = subst (λ (k : Clock). Since Any TalkStep mid k) (sym same) (since_start Any TalkStep mid)
-record_talks store name delta mid new (inr r) =
-    since_weaker (IsTaking mail (Some store.book) (events.Learn name delta)) Any
-    (GoesOn (HoldsBook mail (Some store.book)) (HoldsBook mail (Some (after store.book (events.Learn name delta))))) TalkStep (λ m p. tt)
-    (λ m n step. inl step.outside) mid new r.takes
+pub record_talks : (store : Holding mail) (event : Event) (mid new : Clock) → Takes mail (Some store.book) event mid new → Since Any TalkStep mid new
+record_talks store event mid new takes =
+    since_weaker (IsTaking mail (Some store.book) event) Any
+    (GoesOn (HoldsBook mail (Some store.book)) (HoldsBook mail (Some (after store.book event)))) TalkStep (λ m p. tt)
+    (λ m n step. inl step.outside) mid new takes
 
 -- LOGOUT
 pub leave_talks : (told : List Response) (tag : Tag) (old new : Clock) → Linked (Asking told tag commands.Logout) old new → Since Any TalkStep old new

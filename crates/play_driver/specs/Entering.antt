@@ -2,7 +2,12 @@
 -- RFC 7162, section 3.2.3).
 use Rattle.std.specs.Prelude.{◌≡◌, ◌⊎◌, ℕ, Bool, []}
 use Rattle.mail_base.specs.Account.{Credentials}
+use Rattle.imap_model.specs.Talking.{Connecting}
+use Rattle.world_traits.specs.Connected.{IsGreeted}
 use Rattle.world_traits.specs.LinkState.{LinkState}
+use Rattle.world_traits.specs.Links.{Linked}
+use Rattle.world_traits.specs.Moments.{Clock}
+use Rattle.play_driver.specs.Questioning.{Questioning}
 use Rattle.imap_session.specs.Faults.{NoHello}
 use Rattle.imap_session.specs.Greeting.{Greets}
 use Rattle.imap_session.specs.LogIn.{enabling, entering}
@@ -37,3 +42,10 @@ pub data NotEntered (account : Credentials) (old link : LinkState) (fault : Sess
   ungreeted : NoHello link.connection fault → link.sent ≡ [] → NotEntered account old link fault
   not_logged_in : (preauth : Bool) (p : Stage) → HasGreeted preauth p → Broke (entering preauth account) p link fault → NotEntered account old link fault
   not_enabled : (rev2 : Bool) (p : Stage) → HasLoggedIn account rev2 p → Broke (enabling rev2) p link fault → NotEntered account old link fault
+
+-- Up to a clock between the two a connection was made, which said no more than its greeting then; and behind it there were questions alone.
+pub record OpensFrom (old new : Clock) : Type 0 where
+  pub made : Clock
+  pub connects : Linked Connecting old made
+  pub greeted : IsGreeted made.now.outside
+  pub asks : Linked Questioning made new

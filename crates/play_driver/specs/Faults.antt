@@ -4,6 +4,8 @@ use Rattle.imap_model.specs.declared.item.Item.TheVariants as items
 use Rattle.imap_model.specs.declared.limit.Limit.TheVariants as limits
 use Rattle.imap_session.specs.declared.fault.SessionFault.{SessionFault}
 use Rattle.imap_session.specs.declared.fault.SessionFault.TheVariants as sessions
+use Rattle.playback.specs.declared.need.Unheard.{Unheard}
+use Rattle.playback.specs.declared.need.Unheard.TheVariants as unheards
 use Rattle.qresync_core.specs.declared.fault.ResyncFault.{ResyncFault}
 use Rattle.qresync_core.specs.declared.fault.ResyncFault.TheVariants as resyncs
 use Rattle.store_core.specs.declared.fault.CommitFault.{CommitFault}
@@ -31,8 +33,27 @@ of_resync name (resyncs.Validity kept told) = faults.Validity name kept told
 of_resync name (resyncs.Unfit kept told) = faults.BadReply (whys.Lower kept told)
 of_resync name (resyncs.BareRow index) = faults.BadReply (whys.Lacks items.Row)
 
+-- what was told of the mailbox of this name isn't taken
+abbrev pub of_unheard : List ℕ → Unheard → PlayFault
+of_unheard name unheards.Memory = faults.Memory
+of_unheard name (unheards.Resync fault) = of_resync name fault
+of_unheard name (unheards.Target kept told) = faults.Validity name kept told
+of_unheard name (unheards.Lacks item) = faults.BadReply (whys.Lacks item)
+of_unheard name (unheards.Rows count) = faults.Limit limits.Rows count
+
 -- an event isn't recorded
 abbrev pub of_commit : CommitFault → PlayFault
 of_commit commits.Memory = faults.Memory
 of_commit commits.Disk = faults.Disk
 of_commit (commits.Full end wanted) = faults.Limit limits.Journal wanted
+
+-- what the server told is at fault: it is no reply, lacks something, or tells that a needed thing is lacking
+abbrev pub IsReplyFault : PlayFault → Type 0
+IsReplyFault faults.Memory = ⊥
+IsReplyFault faults.Disk = ⊥
+IsReplyFault faults.Link = ⊥
+IsReplyFault (faults.Refused line) = ⊥
+IsReplyFault (faults.BadReply why) = Unit {0}
+IsReplyFault (faults.Lacking what) = Unit {0}
+IsReplyFault (faults.Validity name kept told) = ⊥
+IsReplyFault (faults.Limit which number) = ⊥

@@ -2,8 +2,6 @@
 use Rattle.std.specs.Prelude.{◌≡◌, ℕ, List, Option, Some, None, Ok, Err, ⊤}
 use Rattle.imap_model.specs.Changes.{Batch}
 use Rattle.imap_model.specs.Lookups.{box_at, validity_of}
-use Rattle.imap_model.specs.Talking.{Peer}
-use Rattle.imap_model.specs.WellFormed.{IsWellFormed}
 use Rattle.imap_model.specs.declared.server.Server.{Server}
 use Rattle.mailbox_cache.specs.declared.cache.Cache.{Cache}
 use Rattle.mailbox_cache.specs.declared.delta.Delta.{Delta}
@@ -13,17 +11,13 @@ use Rattle.qresync_core.specs.declared.fault.ResyncFault.TheVariants as resyncs
 use Rattle.world_traits.specs.Links.{Any}
 use Rattle.world_traits.specs.Moments.{Moment, Clock, Became, Since}
 use Rattle.store_core.specs.Mail.{mail}
-use Rattle.store_core.specs.Steps.{Firm}
-use Rattle.store_core.specs.Taking.{HasBooks}
-use Rattle.play_driver.specs.Joining.{AllFair, AnyTwo, IsKept}
+use Rattle.play_driver.specs.Joining.{AllFair, AnyTwo}
 use Rattle.play_driver.specs.Resynchronising.{Resyncs}
 use Rattle.play_driver.specs.Synced.{IsReadAt}
-use Rattle.play_driver.specs.Unplayed.{IsFreshAt, NoChangeWaits, Unplayed, unplayed}
-
--- the server is well formed, and no command that changes a mailbox waits
-pub record IsCalm (p : Peer) : Type 0 where
-  pub well : IsWellFormed p.server.boxes
-  pub no_change : NoChangeWaits p.waiting
+use Rattle.play_driver.specs.KnownAt.{StandsKept}
+use Rattle.play_driver.specs.Played.{played}
+use Rattle.imap_session.specs.declared.permits.Permits.{Permits}
+use Rattle.play_driver.specs.Calm.{IsCalm, IsFreshAt}
 
 -- the mailbox of this name has one UIDVALIDITY in both servers
 abbrev pub SameValidity : List ℕ → Server → Server → Type 0
@@ -49,23 +43,26 @@ pub record IsLevelled (name : List ℕ) (cache : Cache) (old new : Clock) : Type
 -- So it is with the cache that a delta makes which a resynchronisation told. At first the server is calm, and what is kept of
 -- the mailbox is fresh; and others leave its UIDVALIDITY.
 abbrev pub LinkLevels : Type 0
-LinkLevels = (name : List ℕ) (kept : Option Cache) (delta : Delta) (selected : Option (List ℕ)) (count after : ℕ) (old new : Clock)
+LinkLevels = (name : List ℕ) (kept : Option Cache) (delta : Delta) (selected : Option (List ℕ)) (count after : ℕ)
+    (permits : Option Permits) (old new : Clock)
     → IsCalm old.now.outside → IsKeptFresh old.now.outside.server name kept → ValidityStays name old new
-    → Resyncs selected count after name kept (Ok delta) old new → IsLevelled name (learned kept delta) old new
+    → Resyncs selected count after name kept (Ok delta) permits old new → IsLevelled name (learned kept delta) old new
 
 -- Then the replies have no fault: a resynchronisation tells no delta for want of memory alone.
 abbrev pub LinkFaultless : Type 0
-LinkFaultless = (name : List ℕ) (kept : Option Cache) (fault : ResyncFault) (selected : Option (List ℕ)) (count after : ℕ) (old new : Clock)
+LinkFaultless = (name : List ℕ) (kept : Option Cache) (fault : ResyncFault) (selected : Option (List ℕ)) (count after : ℕ)
+    (permits : Option Permits) (old new : Clock)
     → IsCalm old.now.outside → IsKeptFresh old.now.outside.server name kept → ValidityStays name old new
-    → Resyncs selected count after name kept (Err fault) old new → fault ≡ resyncs.Memory
+    → Resyncs selected count after name kept (Err fault) permits old new → fault ≡ resyncs.Memory
 
--- The same beside a book: at first a stop leaves this book, which is kept, and others leave each UIDVALIDITY.
+-- The same beside a book: at first a stop leaves this book, which is kept, so that each of its caches is fresh, and nothing waits; and
+-- others are fair.
 abbrev pub ResyncsLevel : Type 0
-ResyncsLevel = (b : Meaning) (name : List ℕ) (kept : Option Cache) (delta : Delta) (selected : Option (List ℕ)) (count after : ℕ) (old new : Clock)
-    → cache_at name b.boxes ≡ kept → HasBooks mail (Firm (Some b)) old.now → IsKept mail Unplayed old.now → AllFair mail unplayed old new
-    → Resyncs selected count after name kept (Ok delta) old new → IsLevelled name (learned kept delta) old new
+ResyncsLevel = (b : Meaning) (name : List ℕ) (kept : Option Cache) (delta : Delta) (selected : Option (List ℕ)) (count after : ℕ)
+    (permits : Option Permits) (old new : Clock) → cache_at name b.boxes ≡ kept → StandsKept b old → AllFair mail played old new
+    → Resyncs selected count after name kept (Ok delta) permits old new → IsLevelled name (learned kept delta) old new
 
 abbrev pub ResyncsFaultless : Type 0
 ResyncsFaultless = (b : Meaning) (name : List ℕ) (kept : Option Cache) (fault : ResyncFault) (selected : Option (List ℕ)) (count after : ℕ)
-    (old new : Clock) → cache_at name b.boxes ≡ kept → HasBooks mail (Firm (Some b)) old.now → IsKept mail Unplayed old.now → AllFair mail unplayed old new
-    → Resyncs selected count after name kept (Err fault) old new → fault ≡ resyncs.Memory
+    (permits : Option Permits) (old new : Clock) → cache_at name b.boxes ≡ kept → StandsKept b old → AllFair mail played old new
+    → Resyncs selected count after name kept (Err fault) permits old new → fault ≡ resyncs.Memory

@@ -1,7 +1,7 @@
 pub mod States
 pub mod Machine
 pub mod Joining
-pub mod Unplayed
+pub mod Calm
 pub mod BookSteps
 pub mod Laws
 pub mod SentOnce
@@ -11,9 +11,16 @@ pub mod Resynchronising
 pub mod Synced
 pub mod Levelling
 pub mod Faults
-pub mod Learning
+pub mod Progress
 pub mod Stages
 pub mod Questioning
 pub mod Entering
-pub mod Visiting
+pub mod Recording
+pub mod Turning
+pub mod Running
 pub mod Playing
+pub mod Counted
+pub mod Settled
+pub mod Played
+pub mod KnownAt
+pub mod TrueRecords

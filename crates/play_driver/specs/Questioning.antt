@@ -15,9 +15,14 @@ pub data Questioning (p : Peer) : Peer → Type 0 where
   asking : {q : Peer} (told : List Response) (tag : Tag) (command : Command) → is_mutating command ≡ false → Asking told tag command p q →
       Questioning p q
 
+-- the server answers, or a command is sent, of whatever kind; no connection is made
+pub data Conversing (p : Peer) : Peer → Type 0 where
+  answering : {q : Peer} → Answering p q → Conversing p q
+  sending : {q : Peer} (told : List Response) (tag : Tag) (command : Command) → Asking told tag command p q → Conversing p q
+
 -- what isn't on the disk stays, or so it goes on
 abbrev pub TalkStep : Moment → Moment → Type 0
-TalkStep m n = (n.outside ≡ m.outside) ⊎ LinkStep Questioning m n
+TalkStep m n = (n.outside ≡ m.outside) ⊎ LinkStep Conversing m n
 
 -- up to a clock between the two a connection is made, and behind it there are such steps alone
 pub record ConnectsFirst (S : Moment → Moment → Type 0) (old new : Clock) : Type 0 where

@@ -18,6 +18,8 @@ use Rattle.world_traits.specs.LinkState.{LinkState}
 use Rattle.world_traits.specs.Moments.{Clock}
 use Rattle.imap_session.specs.Dialogue.{Dialogue}
 use Rattle.imap_session.specs.Dialogue.Dialogue.{Asks}
+use Rattle.imap_session.specs.Permanent.{permitted}
+use Rattle.imap_session.specs.declared.permits.Permits.{Permits}
 use Rattle.play_driver.specs.Exchanges.{Exchange, AnsweredAll, CameAll}
 use Rattle.play_driver.specs.declared.gathering.Gathered.{Gathered}
 
@@ -54,19 +56,21 @@ pub record MakesDelta (kept : Option Cache) (g : Gathered) (delta : Result Delta
   pub value : IfOk delta (TellsDelta kept g.selected g.all)
   pub fault : IfErr delta (HasFault kept g.selected g.all)
 
--- The delta is that of replies that the server gave at one moment each. So many questions were asked in the connection before
--- and behind it, and this was selected before.
+-- The delta is that of replies that the server gave at one moment each, of which that to SELECT tells the flags that can be changed
+-- for good. So many questions were asked in the connection before and behind it, and this was selected before.
 pub record Resyncs (selected : Option (List ℕ)) (count after : ℕ) (name : List ℕ) (kept : Option Cache) (delta : Result Delta ResyncFault)
-    (old new : Clock) : Type 0 where
+    (permits : Option Permits) (old new : Clock) : Type 0 where
   pub gathered : Gathered
+  pub permitted : permits ≡ permitted None gathered.selected
   pub asked : after ≡ count + length (exchanged name kept gathered)
   pub answered : AnsweredAll (exchanged name kept gathered) selected count old new
   pub makes : MakesDelta kept gathered delta
 
 -- It is that of replies that came, which are all that came behind what had been received and heard.
-pub record DeltaCame (count after : ℕ) (name : List ℕ) (kept : Option Cache) (delta : Result Delta ResyncFault) (sent had : List ℕ)
-    (heard : List Response) (link : LinkState) (feed : Stream) : Type 0 where
+pub record DeltaCame (count after : ℕ) (name : List ℕ) (kept : Option Cache) (delta : Result Delta ResyncFault) (permits : Option Permits)
+    (sent had : List ℕ) (heard : List Response) (link : LinkState) (feed : Stream) : Type 0 where
   pub gathered : Gathered
+  pub permitted : permits ≡ permitted None gathered.selected
   pub asked : after ≡ count + length (exchanged name kept gathered)
   pub came : CameAll (exchanged name kept gathered) count sent had heard link feed
   pub makes : MakesDelta kept gathered delta

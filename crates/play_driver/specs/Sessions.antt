@@ -1,6 +1,7 @@
 -- A session in which a mailbox can be selected (RFC 9051, section 3).
 use Rattle.std.specs.Prelude.{ℕ, List, Option, Some, None}
 use Rattle.literal_feed.specs.Stream.{Stream}
+use Rattle.imap_session.specs.declared.permits.Permits.{Permits}
 use Rattle.play_driver.specs.declared.session.Session.{Session}
 use Rattle.play_driver.specs.declared.session.Session.TheVariants as sessions
 
@@ -18,3 +19,8 @@ count_of (sessions.Chosen chosen) = chosen.conversation.count
 abbrev pub feed_of : Session → Stream
 feed_of (sessions.Ready ready) = ready.conversation.feed
 feed_of (sessions.Chosen chosen) = chosen.conversation.feed
+
+-- the flags that can be changed for good in what is selected
+abbrev pub permits_in : Session → Option Permits
+permits_in (sessions.Ready ready) = None
+permits_in (sessions.Chosen chosen) = chosen.permits

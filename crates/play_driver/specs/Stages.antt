@@ -8,6 +8,7 @@ use Rattle.qresync_core.specs.declared.fault.ResyncFault.{ResyncFault}
 use Rattle.world_traits.specs.LinkState.{LinkState}
 use Rattle.imap_session.specs.Dialogue.{BrokeOff, CameToEnd, Dialogue}
 use Rattle.imap_session.specs.Hearing.{Hears}
+use Rattle.imap_session.specs.declared.permits.Permits.{Permits}
 use Rattle.imap_session.specs.declared.fault.SessionFault.{SessionFault}
 use Rattle.play_driver.specs.Resynchronising.{DeltaCame}
 use Rattle.play_driver.specs.Sessions.{count_of, feed_of}
@@ -35,13 +36,13 @@ pub record Broke (dialogue : Dialogue) (p : Stage) (link : LinkState) (fault : S
   pub broke : BrokeOff dialogue p.count p.link.sent hears.connection.received heard link fault
 
 -- from one stage to another a mailbox was resynchronised, of which this was kept, and this came of it
-pub record DeltaCameOf (name : List ℕ) (kept : Option Cache) (delta : Result Delta ResyncFault) (p q : Stage) : Type 0 where
+pub record DeltaCameOf (name : List ℕ) (kept : Option Cache) (delta : Result Delta ResyncFault) (permits : Option Permits) (p q : Stage) : Type 0 where
   pub heard : List Response
   pub hears : Hears heard p.link.connection p.feed
-  pub came : DeltaCame p.count q.count name kept delta p.link.sent hears.connection.received heard q.link q.feed
+  pub came : DeltaCame p.count q.count name kept delta permits p.link.sent hears.connection.received heard q.link q.feed
 
 -- so it was up to the link as it stands
-pub record DeltaCameTo (name : List ℕ) (kept : Option Cache) (delta : Result Delta ResyncFault) (p : Stage) (link : LinkState) : Type 0 where
+pub record DeltaCameTo (name : List ℕ) (kept : Option Cache) (delta : Result Delta ResyncFault) (permits : Option Permits) (p : Stage) (link : LinkState) : Type 0 where
   pub last : Stage
   pub here : last.link ≡ link
-  pub came : DeltaCameOf name kept delta p last
+  pub came : DeltaCameOf name kept delta permits p last

@@ -1,13 +1,13 @@
 //! A run enters: it connects, reads the greeting, logs the user in and enables QRESYNC.
 
-ghost use Rattle.std.specs.Prelude.{◌≡◌, ◌≤◌, ℕ, None, IfOk, IsErrOf};
+ghost use Rattle.std.specs.Prelude.{◌≡◌, ◌≤◌, ℕ, None, IfOk, IsErrOf, OnOk};
 ghost use Rattle.world_traits.specs.Calls.{Rose};
 ghost use Rattle.world_traits.specs.Links.{Linked, LinkStep, AnyStep};
 ghost use Rattle.imap_session.specs.Enquiring.{Enquiring};
 ghost use Rattle.imap_session.specs.Session.{Follows, Stands};
 ghost use Rattle.imap_session.specs.declared.fault.SessionFault.{SessionFault};
 ghost use Rattle.imap_session.specs.declared.fault.SessionFault.TheVariants as faults;
-ghost use Rattle.play_driver.specs.Entering.{HasEntered, NotEntered};
+ghost use Rattle.play_driver.specs.Entering.{HasEntered, NotEntered, OpensFrom};
 ghost use Rattle.play_driver.specs.Questioning.{ConnectsFirst, Questioning};
 ghost use Rattle.play_driver.specs.Stages.{stage_of};
 ghost use Rattle.play_driver.specs.declared.session.Session.TheVariants as sessions;
@@ -27,6 +27,7 @@ pub(crate) fn enter<L: Link>(
     ensures files { L.tells_files → Linked AnyStep (L.clock link.old) (L.clock link.new) }
     ensures told { L.tells_server → Linked Enquiring (L.clock link.old) (L.clock link.new) }
     ensures once { L.tells_server → ConnectsFirst (LinkStep Questioning) (L.clock link.old) (L.clock link.new) }
+    ensures opened { L.tells_server → OnOk result (OpensFrom (L.clock link.old) (L.clock link.new)) }
     ensures entered { L.tells_files → IfOk result (λ s. HasEntered account.now (stage_of (L.link link.new) (sessions.Ready s))) }
     ensures stands { L.tells_server
         → IfOk result (λ s. Stands None (L.clock link.new) (L.link link.new).connection s.conversation.feed) }

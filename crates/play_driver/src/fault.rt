@@ -1,8 +1,13 @@
 //! Why a run ended early.
 
+ghost use Rattle.std.specs.Prelude.{◌≡◌};
+ghost use Rattle.play_driver.specs.Faults.{of_resync, of_unheard};
+
 use imap_model::{Item, Limit};
 use imap_session::SessionFault;
 use mail_base::{BoxName, Bytes, ModSeq, Validity};
+use playback::Unheard;
+use qresync_core::ResyncFault;
 use std::alloc::AllocError;
 use store_core::CommitFault;
 
@@ -80,6 +85,55 @@ impl From<SessionFault> for PlayFault {
                 number,
             },
         }
+    }
+}
+
+/// The fault of a run for what was told of this mailbox, or why it isn't taken.
+pub(crate) fn unheard_of(name: &BoxName, unheard: Unheard) -> PlayFault
+    ensures { result ≡ of_unheard name.now unheard }
+{
+    match unheard {
+        Unheard::Memory => PlayFault::Memory,
+        Unheard::Resync(fault) => resync_of(name, fault),
+        Unheard::Target { kept, told } => PlayFault::Validity {
+            name: name.copy(),
+            kept,
+            told,
+        },
+        Unheard::Lacks { item } => PlayFault::BadReply {
+            why: Why::Lacks(item),
+        },
+        Unheard::Rows { count } => PlayFault::Limit {
+            which: Limit::Rows,
+            number: count,
+        },
+    }
+}
+
+// The fault of a run for that of a resynchronisation of this mailbox.
+fn resync_of(name: &BoxName, fault: ResyncFault) -> PlayFault
+    ensures { result ≡ of_resync name.now fault }
+{
+    match fault {
+        ResyncFault::Memory => PlayFault::Memory,
+        ResyncFault::NoModSeq => PlayFault::Lacking {
+            what: Item::ModSeqs,
+        },
+        ResyncFault::NotSticky => PlayFault::Lacking { what: Item::Sticky },
+        ResyncFault::NoCode { which } => PlayFault::BadReply {
+            why: Why::Lacks(which),
+        },
+        ResyncFault::Validity { kept, told } => PlayFault::Validity {
+            name: name.copy(),
+            kept,
+            told,
+        },
+        ResyncFault::Unfit { kept, told } => PlayFault::BadReply {
+            why: Why::Lower { kept, told },
+        },
+        ResyncFault::BareRow { .. } => PlayFault::BadReply {
+            why: Why::Lacks(Item::Row),
+        },
     }
 }
 

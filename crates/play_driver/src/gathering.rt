@@ -1,13 +1,14 @@
 //! The replies to a resynchronisation: those to SELECT, and to the FETCH of all rows where nothing was kept of the mailbox
 //! (RFC 7162, section 3.2.5; RFC 9051, sections 6.3.2 and 6.4.5).
 
-ghost use Rattle.std.specs.Prelude.{◌≡◌, ◌≤◌, ◌<◌, ◌+◌, ℕ, List, Some, IfOk, IfSome, IsErrOf, is_some, length};
+ghost use Rattle.std.specs.Prelude.{◌≡◌, ◌≤◌, ◌<◌, ◌+◌, ℕ, List, None, Some, IfOk, IfSome, IsErrOf, is_some, length};
 ghost use Rattle.std.specs.Option.{option_copied};
 ghost use Rattle.imap_model.specs.declared.response.Response.{Response};
 ghost use Rattle.world_traits.specs.Calls.{Rose};
 ghost use Rattle.world_traits.specs.Links.{Linked, AnyStep};
 ghost use Rattle.imap_session.specs.Dialogue.{BrokeOff, Dialogue, SentIn};
 ghost use Rattle.imap_session.specs.Hearing.{Hears};
+ghost use Rattle.imap_session.specs.Permanent.{permitted};
 ghost use Rattle.imap_session.specs.Replying.{AreSmall};
 ghost use Rattle.imap_session.specs.Session.{Follows, Stands};
 ghost use Rattle.imap_session.specs.declared.fault.SessionFault.{SessionFault};
@@ -59,6 +60,7 @@ pub fn gather<L: Link>(
         → IfOk result (λ p. Stands (Some name.now) (L.clock link.new) (L.link link.new).connection p.0.conversation.feed) }
     ensures still { L.tells_files → IfOk result (λ p. Follows (L.link link.new).connection p.0.conversation.feed) }
     ensures name { IfOk result (λ p. p.0.name ≡ name.now) }
+    ensures permits { IfOk result (λ p. p.0.permits ≡ permitted None p.1.selected) }
     ensures counted { IfOk result (λ p. p.0.conversation.count ≡ count_of session + 1 + length (then_all p.1.all)) }
     ensures why { L.tells_files → (next : Dialogue) (heard : List Response)
         → (h : Hears heard (L.link link.old).connection (feed_of session))

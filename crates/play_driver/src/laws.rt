@@ -1,5 +1,10 @@
 //! What holds of a ledger's books and a server together, at every moment of calls of the disk and of the link.
 
+ghost use Rattle.play_driver.specs.KnownAt.{KnownGoesOn};
+ghost use Rattle.play_driver.specs.Machine.{Withstands};
+ghost use Rattle.play_driver.specs.Played.{played};
+ghost use Rattle.playback.specs.Kept.{Kept};
+ghost use Rattle.store_core.specs.Mail.{mail};
 ghost use Rattle.std.specs.Prelude.{Option};
 ghost use Rattle.imap_model.specs.Talking.{Peer};
 ghost use Rattle.store_core.specs.Keeping.{Keeping};
@@ -94,11 +99,18 @@ pub fn books_go_on<R: Related>()
 
 /// What a resynchronisation makes of a cache. At first the server is well formed, no command that changes a mailbox waits, and
 /// what is kept of the mailbox is fresh; and others leave its UIDVALIDITY. Then the cache is the server's at a moment of the
-/// resynchronisation, and fresh at its end; and none fails to make a delta but for want of memory. Beside a book it is so as
-/// long as no action is played.
+/// resynchronisation, and fresh at its end; and none fails to make a delta but for want of memory. Beside a kept book it is so
+/// where nothing waits at first and others are fair.
 pub fn resyncs_level()
     ensures over_link { LinkLevels }
     ensures faultless { LinkFaultless }
     ensures beside_book { ResyncsLevel }
     ensures faultless_beside_book { ResyncsFaultless }
+{}
+
+/// What the player knows goes on with a run: as it begins, as what it needs is asked, and as it is recorded; and the book beside
+/// the server withstands each step of the machine.
+pub fn known_goes_on()
+    ensures knows { KnownGoesOn }
+    ensures withstands { Withstands mail played Kept }
 {}

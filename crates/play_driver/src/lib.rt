@@ -1,6 +1,9 @@
-//! What joins a ledger's calls of the disk with a session's calls of the link, how a mailbox is resynchronised, and a run.
+//! What joins a ledger's calls of the disk with a session's calls of the link, how a mailbox is resynchronised, and a run, which
+//! plays a book's actions back.
 #![tactic(auto)]
 
+mod asking;
+mod counting;
 mod entering;
 mod fault;
 mod gathering;
@@ -9,15 +12,17 @@ mod played;
 mod plays;
 mod recording;
 mod resync;
+mod selecting;
 mod session;
-mod visiting;
+mod turning;
 
 pub use fault::{PlayFault, Why};
 pub use gathering::Gathered;
 pub use laws::{
-    Related, Steady, books_go_on, calls_keep_relations, calls_stay_joined, resyncs_level,
+    Related, Steady, books_go_on, calls_keep_relations, calls_stay_joined, known_goes_on,
+    resyncs_level,
 };
 pub use played::Played;
-pub use plays::{MAX_BOXES, play};
+pub use plays::play;
 pub use resync::resynchronise;
 pub use session::Session;

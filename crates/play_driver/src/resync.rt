@@ -47,12 +47,12 @@ pub fn resynchronise<L: Link>(
     ensures asks { L.tells_server → Linked Questioning (L.clock link.old) (L.clock link.new) }
     ensures value { L.tells_server
         → IfOk result (λ p. Resyncs (selected_in session) (count_of session) p.0.conversation.count name.now (option_copied kept.entry) p.1
-        (L.clock link.old) (L.clock link.new)) }
+        p.0.permits (L.clock link.old) (L.clock link.new)) }
 
     // It is that of the bytes that came, and may be learned of this cache.
     ensures came { L.tells_files → (heard : List Response) → (h : Hears heard (L.link link.old).connection (feed_of session))
         → IfOk result (λ p. DeltaCame (count_of session) p.0.conversation.count name.now (option_copied kept.entry) p.1
-        (L.link link.old).sent h.connection.received heard (L.link link.new) p.0.conversation.feed) }
+        p.0.permits (L.link link.old).sent h.connection.received heard (L.link link.new) p.0.conversation.feed) }
     ensures learnable { IfOk result (λ p. IfOk p.1 (IsLearnable (option_copied kept.entry))) }
 
     // How the connection stands then.

@@ -9,6 +9,7 @@ use Rattle.play_driver.specs.Entering.NotEntered.{unconnected, ungreeted}
 use Rattle.play_driver.specs.Stages.{Stage}
 use Rattle.play_driver.proofs.Enters.{enabling_told, entered_so, entering_told, unfit_so, unknown_so}
 use Rattle.play_driver.proofs.Faulting.{at_err}
+use Rattle.play_driver.proofs.Opened.{in_any, opens_from}
 use Rattle.play_driver.proofs.entering.enter.Goals as goal
 
 pub returns-in_err-fresh-clause-told : goal.returns-in_err-fresh-clause-told
@@ -121,3 +122,12 @@ returns-clause-why g c = λ t fault is.
       greets = c.in_ok-greeted.ensures.greeting t;
     }) (c.in_ok-greeted.ensures.still t) known.rev2 k (c.in_ok-known.ensures.came t) (c.in_ok-known.ensures.still t) (g.L.Clocked.link c.enable.new.link)
     c.enable.result (c.enable.ensures.why t) fault is
+
+pub returns-clause-opened : goal.returns-clause-opened
+returns-clause-opened g c = λ t.
+    let greeted = g.L.Clocked.link c.greet.new.link in
+    let known = g.L.Clocked.link c.authenticate.new.link in
+    in_any c.enable.result _
+    (opens_from _ _ _ _ _ (c.connect.ensures.told t) (c.in_ok-fresh.ensures.greeted t) (c.greet.ensures.told t) greeted known known
+    (g.L.Clocked.link c.enable.new.link) c.in_ok-greeted.greeted.conversation.count c.in_ok-known.known.conversation.count
+    c.in_ok-greeted.greeted.preauth c.in_ok-known.known.rev2 c.args.account.now (c.authenticate.ensures.told t) (c.enable.ensures.told t))

@@ -1,189 +1,303 @@
-use Rattle.std.proofs.Common.{rules, ◌≡◌, ap, refl, ◌∙◌}
-use Rattle.world_traits.specs.Links.{AnyStep}
-use Rattle.store_core.specs.Mail.{mail}
-use Rattle.play_driver.specs.Faults.{of_session}
-use Rattle.play_driver.specs.Learning.{box_names}
-use Rattle.play_driver.specs.Playing.EndsEarly.{not_entered}
-use Rattle.play_driver.proofs.Faulting.{ok_no_err, told_as}
-use Rattle.play_driver.proofs.Learns.{firm_left, linked_learns, linked_sides, rests_left, sides_then}
 use Rattle.play_driver.proofs.Links.{left_there}
-use Rattle.play_driver.proofs.OneRun.{joined_three, joined_two, learns_three, learns_two, leaves_asking}
-use Rattle.play_driver.proofs.OneRun.{names_known, plays_so, stays_on_line, stops_early, synced_three}
-use Rattle.play_driver.proofs.Visits.{asks_stay}
-use Rattle.play_driver.proofs.OverOne.{enters_talks, goes_behind, leave_talks, nothing_first}
+use Rattle.play_driver.proofs.Faulting.{ok_no_err, told_as}
+use Rattle.play_driver.proofs.OverOne.{enters_talks, goes_behind, leave_talks}
+use Rattle.play_driver.proofs.Progressing.{firm_left, linked_progress, linked_sides, progress_grows, rests_left, sides_then}
+use Rattle.play_driver.proofs.WholeRun.{HasBegun, all_synced, fair_run, has_begun, has_room, leaves_asking, leaves_grow, plays_so, progress_three}
+use Rattle.play_driver.proofs.WholeRun.{bad_at, begins_so, faultless_two, progress_two, questions_stay}
+use Rattle.play_driver.proofs.WholeRun.{run_grows, run_three, run_two, stays_on_line, stops_early, stopped_two, synced_two, true_one, true_three}
+use Rattle.play_driver.proofs.WholeRun.{true_two}
+use Rattle.play_driver.specs.Faults.{of_session}
+use Rattle.play_driver.specs.Playing.EndsEarly.{not_entered}
 use Rattle.play_driver.specs.Questioning.{TalkStep}
+use Rattle.play_driver.specs.Turning.{standing_of}
+use Rattle.std.proofs.Common.{Err, ap, refl, ◌∙◌}
+use Rattle.imap_session.specs.declared.fault.SessionFault.{SessionFault}
+use Rattle.play_driver.specs.declared.fault.PlayFault.TheVariants as faults
+use Rattle.store_core.specs.Mail.{mail}
+use Rattle.world_traits.specs.Links.{AnyStep}
+use Rattle.std.proofs.Common.{rules}
 use Rattle.play_driver.proofs.plays.play.Goals as goal
 
 -- it didn't enter
-pub returns-in_err-ready-clause-learns : goal.returns-in_err-ready-clause-learns
-returns-in_err-ready-clause-learns g c = λ t.
-    linked_learns c.args.store.now.book AnyStep _ _ (firm_left c.args.store.now (g.W.Clocked.clock c.args.world.now) _ (c.requires.left t))
-    (c.enter.ensures.files t)
+pub returns-in_err-ready-clause-progress : goal.returns-in_err-ready-clause-progress
+returns-in_err-ready-clause-progress g c = λ t. linked_progress c.args.store.now.book AnyStep _ _
+    (firm_left c.args.store.now (g.W.Clocked.clock c.args.world.now) _ (c.requires.left t)) (c.enter.ensures.files t)
 
 pub returns-in_err-ready-clause-joined : goal.returns-in_err-ready-clause-joined
 returns-in_err-ready-clause-joined g c = λ t kept.
     let f = g.W.Clocked.server_with_files t in
-    asks_stay c.args.store.now.book _ _ (firm_left c.args.store.now (g.W.Clocked.clock c.args.world.now) _ (c.requires.left f)) (c.enter.ensures.told t) kept
+    questions_stay c.args.store.now.book _ _ (firm_left c.args.store.now (g.W.Clocked.clock c.args.world.now) _ (c.requires.left f))
+    (c.enter.ensures.told t) kept
 
-pub returns-in_err-ready-clause-why : goal.returns-in_err-ready-clause-why
-returns-in_err-ready-clause-why g c = λ t fault is.
+pub returns-in_err-ready-clause-truly : goal.returns-in_err-ready-clause-truly
+returns-in_err-ready-clause-truly g c = λ t kept fair no_disk.
+    let f = g.W.Clocked.server_with_files t in
+    true_one c.args.store.now.book _ _ (firm_left c.args.store.now (g.W.Clocked.clock c.args.world.now) _ (c.requires.left f))
+    (c.enter.ensures.once t)
+
+pub returns-in_err-ready-clause-faultless : goal.returns-in_err-ready-clause-faultless
+returns-in_err-ready-clause-faultless g c = λ t kept fair why is.
     let x = c.in_err-ready.field-0.0 in
-    not_entered x (told_as of_session c.from_residual-in_err-ready.result x c.from_residual-in_err-ready.ensures.1 fault is)
-    (c.enter.ensures.why t x c.in_err-ready.was) refl
+    let bad = bad_at x why (told_as of_session c.from_residual.result x c.from_residual.ensures.1 (faults.BadReply why) is) in
+    c.enter.ensures.honest t bad.0 (c.in_err-ready.was ∙ ap (λ (f : SessionFault). Err f) bad.1)
+
+pub returns-in_err-ready-clause-left : goal.returns-in_err-ready-clause-left
+returns-in_err-ready-clause-left g c = λ t no_disk.
+    left_there mail AnyStep c.args.store.now (g.W.Clocked.clock c.args.world.now) (g.W.Clocked.clock c.enter.new.link) _ _ (c.requires.left t)
+    (c.enter.ensures.files t) (g.met.W.Disk.seen_is c.enter.new.link t)
 
 pub returns-in_err-ready-clause-each_one_side : goal.returns-in_err-ready-clause-each_one_side
 returns-in_err-ready-clause-each_one_side g c = λ t.
     linked_sides AnyStep _ _ (rests_left c.args.store.now (g.W.Clocked.clock c.args.world.now) _ (c.requires.left t)) (c.enter.ensures.files t)
 
-pub returns-in_err-ready-clause-left : goal.returns-in_err-ready-clause-left
-returns-in_err-ready-clause-left g c = λ t not.
+pub returns-in_err-ready-clause-once : goal.returns-in_err-ready-clause-once
+returns-in_err-ready-clause-once g c = λ t. enters_talks _ _ (c.enter.ensures.once t)
+
+pub returns-in_err-ready-clause-why : goal.returns-in_err-ready-clause-why
+returns-in_err-ready-clause-why g c = λ t fault is.
+    let x = c.in_err-ready.field-0.0 in
+    not_entered x (told_as of_session c.from_residual.result x c.from_residual.ensures.1 fault is) (c.enter.ensures.why t x c.in_err-ready.was) refl
+
+-- it takes its turns
+pub play_on-requires-clause-room : goal.play_on-requires-clause-room
+play_on-requires-clause-room g c =
+    let begun = begins_so c.args.alloc _ _ _ c.begin-player.ensures.value c.book-2.ensures in
+    has_room c.args.alloc c.args.store.now.book c.begin-player.result begun c.requires.fold _ c.in_ok-ready.ensures.counted
+
+pub play_on-requires-clause-left : goal.play_on-requires-clause-left
+play_on-requires-clause-left g c = λ t.
     left_there mail AnyStep c.args.store.now (g.W.Clocked.clock c.args.world.now) (g.W.Clocked.clock c.enter.new.link) _ _ (c.requires.left t)
     (c.enter.ensures.files t) (g.met.W.Disk.seen_is c.enter.new.link t)
 
--- it visits
-pub visit_all-requires-clause-known : goal.visit_all-requires-clause-known
-visit_all-requires-clause-known g c =
-    names_known c.args.account.now c.args.store.now c.deref.result.now
-    (c.deref.ensures.value ∙ c.in_ok-names.ensures.value ∙ ap box_names c.book.ensures)
-
-pub visit_all-requires-clause-left : goal.visit_all-requires-clause-left
-visit_all-requires-clause-left g c = λ t.
-    left_there mail AnyStep c.args.store.now (g.W.Clocked.clock c.args.world.now) (g.W.Clocked.clock c.enter.new.link) _ _ (c.requires.left t)
-    (c.enter.ensures.files t) (g.met.W.Disk.seen_is c.enter.new.link t)
-
-pub returns-in_err-last-clause-learns : goal.returns-in_err-last-clause-learns
-returns-in_err-last-clause-learns g c = λ t.
-    learns_two c.args.store.now.book _ _ _ (firm_left c.args.store.now (g.W.Clocked.clock c.args.world.now) _ (c.requires.left t)) (c.enter.ensures.files t)
-    (c.visit_all.ensures.learns t)
+-- a turn failed
+pub returns-in_err-last-clause-progress : goal.returns-in_err-last-clause-progress
+returns-in_err-last-clause-progress g c = λ t.
+    progress_two c.args.store.now.book _ _ _ (firm_left c.args.store.now (g.W.Clocked.clock c.args.world.now) _ (c.requires.left t))
+    (c.enter.ensures.files t) (c.play_on.ensures.progress t)
 
 pub returns-in_err-last-clause-joined : goal.returns-in_err-last-clause-joined
 returns-in_err-last-clause-joined g c = λ t kept.
     let f = g.W.Clocked.server_with_files t in
-    joined_two c.args.store.now.book _ _ _ (firm_left c.args.store.now (g.W.Clocked.clock c.args.world.now) _ (c.requires.left f)) (c.enter.ensures.told t)
-    (c.visit_all.ensures.learns f) kept (c.visit_all.ensures.joined t)
+    let r : HasBegun c.args.store.now.book c.begin-player.result (g.W.Clocked.clock c.args.world.now) (g.W.Clocked.clock c.enter.new.link) =
+    has_begun c.args.alloc _ _ _ c.begin-player.ensures.value c.begin-player.ensures.entered c.book-2.ensures _ _
+    (firm_left c.args.store.now (g.W.Clocked.clock c.args.world.now) _ (c.requires.left f)) (c.enter.ensures.told t)
+    (c.in_ok-ready.ensures.opened t) _ _ (c.in_ok-ready.ensures.stands t) in
+    run_two _ _ _ _ r kept _ (progress_grows _ _ _ (c.play_on.ensures.progress f)) (c.play_on.ensures.joined t r.opened.made)
 
-pub returns-in_err-last-clause-stopped : goal.returns-in_err-last-clause-stopped
-returns-in_err-last-clause-stopped g c = λ t is. c.visit_all.ensures.stopped t (search rules)
+pub returns-in_err-last-clause-truly : goal.returns-in_err-last-clause-truly
+returns-in_err-last-clause-truly g c = λ t kept fair no_disk.
+    let f = g.W.Clocked.server_with_files t in
+    let r : HasBegun c.args.store.now.book c.begin-player.result (g.W.Clocked.clock c.args.world.now) (g.W.Clocked.clock c.enter.new.link) =
+    has_begun c.args.alloc _ _ _ c.begin-player.ensures.value c.begin-player.ensures.entered c.book-2.ensures _ _
+    (firm_left c.args.store.now (g.W.Clocked.clock c.args.world.now) _ (c.requires.left f)) (c.enter.ensures.told t)
+    (c.in_ok-ready.ensures.opened t) _ _ (c.in_ok-ready.ensures.stands t) in
+    true_two _ _ _ _ r kept _ (progress_grows _ _ _ (c.play_on.ensures.progress f)) c.play_on.new.store.book fair (c.play_on.ensures.talks t)
+    (λ here knows second entered truly. c.play_on.ensures.truly t r.opened.made c.args.store.now.book here knows second entered truly
+    (λ disk. no_disk (search rules)))
 
-pub returns-in_err-last-clause-why : goal.returns-in_err-last-clause-why
-returns-in_err-last-clause-why g c = λ t fault is.
-    let are : c.deref.result.now ≡ box_names c.args.store.now.book =
-    c.deref.ensures.value ∙ c.in_ok-names.ensures.value ∙ ap box_names c.book.ensures in
-    stops_early c.args.account.now c.args.store.now c.deref.result.now are _ (c.in_ok-ready.ensures.entered t) c.visit_all.new.store _ _ fault
-    (c.visit_all.ensures.why t fault (search rules))
+pub returns-in_err-last-clause-faultless : goal.returns-in_err-last-clause-faultless
+returns-in_err-last-clause-faultless g c = λ t kept fair why is.
+    let f = g.W.Clocked.server_with_files t in
+    let r : HasBegun c.args.store.now.book c.begin-player.result (g.W.Clocked.clock c.args.world.now) (g.W.Clocked.clock c.enter.new.link) =
+    has_begun c.args.alloc _ _ _ c.begin-player.ensures.value c.begin-player.ensures.entered c.book-2.ensures _ _
+    (firm_left c.args.store.now (g.W.Clocked.clock c.args.world.now) _ (c.requires.left f)) (c.enter.ensures.told t)
+    (c.in_ok-ready.ensures.opened t) _ _ (c.in_ok-ready.ensures.stands t) in
+    faultless_two _ _ _ _ r kept _ (progress_grows _ _ _ (c.play_on.ensures.progress f)) fair
+    (λ here knows second. c.play_on.ensures.faultless t r.opened.made here knows second (faults.BadReply why) (search rules) tt)
+
+pub returns-in_err-last-clause-left : goal.returns-in_err-last-clause-left
+returns-in_err-last-clause-left g c = λ t no_disk. c.play_on.ensures.left t (λ is. no_disk (search rules))
+
+pub returns-in_err-last-clause-stopped_truly : goal.returns-in_err-last-clause-stopped_truly
+returns-in_err-last-clause-stopped_truly g c = λ t is kept fair.
+    let f = g.W.Clocked.server_with_files t in
+    let r : HasBegun c.args.store.now.book c.begin-player.result (g.W.Clocked.clock c.args.world.now) (g.W.Clocked.clock c.enter.new.link) =
+    has_begun c.args.alloc _ _ _ c.begin-player.ensures.value c.begin-player.ensures.entered c.book-2.ensures _ _
+    (firm_left c.args.store.now (g.W.Clocked.clock c.args.world.now) _ (c.requires.left f)) (c.enter.ensures.told t)
+    (c.in_ok-ready.ensures.opened t) _ _ (c.in_ok-ready.ensures.stands t) in
+    let s = c.play_on.ensures.stopped f (search rules) in
+    stopped_two _ _ _ _ r kept _ (progress_grows _ _ _ (c.play_on.ensures.progress f)) c.play_on.new.store.book s.0 fair (c.play_on.ensures.talks t)
+    (s.3 t r.opened.made c.args.store.now.book)
 
 pub returns-in_err-last-clause-each_one_side : goal.returns-in_err-last-clause-each_one_side
 returns-in_err-last-clause-each_one_side g c = λ t.
     sides_then _ _ _
     (linked_sides AnyStep _ _ (rests_left c.args.store.now (g.W.Clocked.clock c.args.world.now) _ (c.requires.left t)) (c.enter.ensures.files t))
-    (c.visit_all.ensures.each_one_side t)
+    (c.play_on.ensures.each_one_side t)
 
-pub returns-in_err-last-clause-left : goal.returns-in_err-last-clause-left
-returns-in_err-last-clause-left g c = λ t not. c.visit_all.ensures.left t (λ is. not (search rules))
+pub returns-in_err-last-clause-once : goal.returns-in_err-last-clause-once
+returns-in_err-last-clause-once g c = λ t. goes_behind TalkStep _ _ _ (enters_talks _ _ (c.enter.ensures.once t)) (c.play_on.ensures.talks t)
+
+pub returns-in_err-last-clause-why : goal.returns-in_err-last-clause-why
+returns-in_err-last-clause-why g c = λ t fault is.
+    let begun = begins_so c.args.alloc _ _ _ c.begin-player.ensures.value c.book-2.ensures in
+    stops_early c.args.account.now c.args.alloc c.args.store.now c.begin-player.result begun (g.W.Clocked.link c.enter.new.link) c.in_ok-ready.ready
+    (c.in_ok-ready.ensures.entered t) c.play_on.new.store _ _ fault (c.play_on.ensures.why t fault (search rules))
 
 -- it didn't leave
-pub returns-in_err-leave-clause-learns : goal.returns-in_err-leave-clause-learns
-returns-in_err-leave-clause-learns g c = λ t.
-    let later = c.visit_all.ensures.left t (ok_no_err c.visit_all.result c.in_ok-last.last _ c.in_ok-last.was) in
-    learns_three c.args.store.now.book _ _ _ (firm_left c.args.store.now (g.W.Clocked.clock c.args.world.now) _ (c.requires.left t)) (c.enter.ensures.files t)
-    (c.visit_all.ensures.learns t) c.visit_all.new.store.book _ c.visit_all.ensures.differs
-    (firm_left c.visit_all.new.store (g.W.Clocked.clock c.visit_all.new.world) _ later) (c.leave.ensures.files t)
+pub returns-in_err-leave-clause-progress : goal.returns-in_err-leave-clause-progress
+returns-in_err-leave-clause-progress g c = λ t.
+    let later = c.play_on.ensures.left t (ok_no_err c.play_on.result c.in_ok-last.last _ c.in_ok-last.was) in
+    progress_three c.args.store.now.book _ _ _ (firm_left c.args.store.now (g.W.Clocked.clock c.args.world.now) _ (c.requires.left t))
+    (c.enter.ensures.files t) (c.play_on.ensures.progress t)
+    c.play_on.new.store.book _ c.play_on.ensures.later (firm_left c.play_on.new.store (g.W.Clocked.clock c.play_on.new.world) _ later)
+    (c.leave.ensures.files t)
 
 pub returns-in_err-leave-clause-joined : goal.returns-in_err-leave-clause-joined
 returns-in_err-leave-clause-joined g c = λ t kept.
     let f = g.W.Clocked.server_with_files t in
-    let later = c.visit_all.ensures.left f (ok_no_err c.visit_all.result c.in_ok-last.last _ c.in_ok-last.was) in
-    joined_three c.args.store.now.book _ _ _ (firm_left c.args.store.now (g.W.Clocked.clock c.args.world.now) _ (c.requires.left f)) (c.enter.ensures.told t)
-    (c.visit_all.ensures.learns f) kept (c.visit_all.ensures.joined t) c.visit_all.new.store.book _
-    (firm_left c.visit_all.new.store (g.W.Clocked.clock c.visit_all.new.world) _ later) (leaves_asking _ _ _ _ (c.leave.ensures.told t))
+    let r : HasBegun c.args.store.now.book c.begin-player.result (g.W.Clocked.clock c.args.world.now) (g.W.Clocked.clock c.enter.new.link) =
+    has_begun c.args.alloc _ _ _ c.begin-player.ensures.value c.begin-player.ensures.entered c.book-2.ensures _ _
+    (firm_left c.args.store.now (g.W.Clocked.clock c.args.world.now) _ (c.requires.left f)) (c.enter.ensures.told t)
+    (c.in_ok-ready.ensures.opened t) _ _ (c.in_ok-ready.ensures.stands t) in
+    let more = progress_grows _ _ _ (c.play_on.ensures.progress f) in
+    let later = c.play_on.ensures.left f (ok_no_err c.play_on.result c.in_ok-last.last _ c.in_ok-last.was) in
+    let before = run_grows _ _ _ _ r _ more in
+    let q = leaves_asking _ _ _ _ (c.leave.ensures.told t) in
+    run_three _ _ _ before c.play_on.new.store.book (firm_left c.play_on.new.store (g.W.Clocked.clock c.play_on.new.world) _ later) q kept
+    (run_two _ _ _ _ r kept _ more (c.play_on.ensures.joined t r.opened.made))
+
+pub returns-in_err-leave-clause-truly : goal.returns-in_err-leave-clause-truly
+returns-in_err-leave-clause-truly g c = λ t kept fair no_disk.
+    let f = g.W.Clocked.server_with_files t in
+    let r : HasBegun c.args.store.now.book c.begin-player.result (g.W.Clocked.clock c.args.world.now) (g.W.Clocked.clock c.enter.new.link) =
+    has_begun c.args.alloc _ _ _ c.begin-player.ensures.value c.begin-player.ensures.entered c.book-2.ensures _ _
+    (firm_left c.args.store.now (g.W.Clocked.clock c.args.world.now) _ (c.requires.left f)) (c.enter.ensures.told t)
+    (c.in_ok-ready.ensures.opened t) _ _ (c.in_ok-ready.ensures.stands t) in
+    let more = progress_grows _ _ _ (c.play_on.ensures.progress f) in
+    let later = c.play_on.ensures.left f (ok_no_err c.play_on.result c.in_ok-last.last _ c.in_ok-last.was) in
+    let before = run_grows _ _ _ _ r _ more in
+    let q = leaves_asking _ _ _ _ (c.leave.ensures.told t) in
+    true_three _ _ _ before c.play_on.new.store.book
+    (firm_left c.play_on.new.store (g.W.Clocked.clock c.play_on.new.world) _ later) q c.args.store.now.book
+    (leave_talks _ _ _ _ (c.leave.ensures.told t))
+    (true_two _ _ _ _ r kept _ more c.play_on.new.store.book
+    (fair_run _ _ _ before c.play_on.new.store.book
+    (firm_left c.play_on.new.store (g.W.Clocked.clock c.play_on.new.world) _ later) q fair) (c.play_on.ensures.talks t)
+    (λ here knows second entered truly. c.play_on.ensures.truly t r.opened.made c.args.store.now.book here knows second entered truly
+    (ok_no_err c.play_on.result c.in_ok-last.last _ c.in_ok-last.was)))
+
+pub returns-in_err-leave-clause-faultless : goal.returns-in_err-leave-clause-faultless
+returns-in_err-leave-clause-faultless g c = λ t kept fair why is.
+    let x = c.in_err-leave.field-0.0 in
+    let bad = bad_at x why
+    (told_as of_session c.from_residual-in_err-leave.result x c.from_residual-in_err-leave.ensures.1 (faults.BadReply why) is) in
+    c.leave.ensures.honest t bad.0 (c.in_err-leave.was ∙ ap (λ (f : SessionFault). Err f) bad.1)
 
 pub returns-in_err-leave-clause-why : goal.returns-in_err-leave-clause-why
 returns-in_err-leave-clause-why g c = λ t fault is.
     let x = c.in_err-leave.field-0.0 in
-    let are : c.deref.result.now ≡ box_names c.args.store.now.book =
-    c.deref.ensures.value ∙ c.in_ok-names.ensures.value ∙ ap box_names c.book.ensures in
-    stays_on_line c.args.account.now c.args.store.now c.deref.result.now are _ (c.in_ok-ready.ensures.entered t) _ c.visit_all.new.store _ _ x fault
-    (told_as of_session c.from_residual-in_err-leave.result x c.from_residual-in_err-leave.ensures.1 fault is) (c.in_ok-last.ensures.visited t)
-    (c.leave.ensures.why t x c.in_err-leave.was)
+    let begun = begins_so c.args.alloc _ _ _ c.begin-player.ensures.value c.book-2.ensures in
+    stays_on_line c.args.account.now c.args.alloc c.args.store.now c.begin-player.result begun (g.W.Clocked.link c.enter.new.link) c.in_ok-ready.ready
+    (c.in_ok-ready.ensures.entered t) (standing_of (g.W.Clocked.link c.play_on.new.world) c.in_ok-last.last c.play_on.new.store c.play_on.new.player)
+    _ _ x fault (told_as of_session c.from_residual-in_err-leave.result x c.from_residual-in_err-leave.ensures.1 fault is)
+    (c.in_ok-last.ensures.runs t)
+    c.in_ok-last.ensures.finished (c.leave.ensures.why t x c.in_err-leave.was)
+
+pub returns-in_err-leave-clause-left : goal.returns-in_err-leave-clause-left
+returns-in_err-leave-clause-left g c = λ t no_disk.
+    let later = c.play_on.ensures.left t (ok_no_err c.play_on.result c.in_ok-last.last _ c.in_ok-last.was) in
+    left_there mail AnyStep c.play_on.new.store (g.W.Clocked.clock c.play_on.new.world) (g.W.Clocked.clock c.leave.new.link) _ _ later
+    (c.leave.ensures.files t)
+    (g.met.W.Disk.seen_is c.leave.new.link t)
 
 pub returns-in_err-leave-clause-each_one_side : goal.returns-in_err-leave-clause-each_one_side
 returns-in_err-leave-clause-each_one_side g c = λ t.
-    let later = c.visit_all.ensures.left t (ok_no_err c.visit_all.result c.in_ok-last.last _ c.in_ok-last.was) in
+    let later = c.play_on.ensures.left t (ok_no_err c.play_on.result c.in_ok-last.last _ c.in_ok-last.was) in
     let first =
     linked_sides AnyStep _ _ (rests_left c.args.store.now (g.W.Clocked.clock c.args.world.now) _ (c.requires.left t)) (c.enter.ensures.files t) in
-    sides_then _ _ _ (sides_then _ _ _ first (c.visit_all.ensures.each_one_side t))
-    (linked_sides AnyStep _ _ (rests_left c.visit_all.new.store (g.W.Clocked.clock c.visit_all.new.world) _ later) (c.leave.ensures.files t))
+    sides_then _ _ _ (sides_then _ _ _ first (c.play_on.ensures.each_one_side t))
+    (linked_sides AnyStep _ _ (rests_left c.play_on.new.store (g.W.Clocked.clock c.play_on.new.world) _ later) (c.leave.ensures.files t))
 
-pub returns-in_err-leave-clause-left : goal.returns-in_err-leave-clause-left
-returns-in_err-leave-clause-left g c = λ t not.
-    let later = c.visit_all.ensures.left t (ok_no_err c.visit_all.result c.in_ok-last.last _ c.in_ok-last.was) in
-    left_there mail AnyStep c.visit_all.new.store (g.W.Clocked.clock c.visit_all.new.world) (g.W.Clocked.clock c.leave.new.link) _ _ later
-    (c.leave.ensures.files t) (g.met.W.Disk.seen_is c.leave.new.link t)
+pub returns-in_err-leave-clause-once : goal.returns-in_err-leave-clause-once
+returns-in_err-leave-clause-once g c = λ t.
+    goes_behind TalkStep _ _ _ (goes_behind TalkStep _ _ _ (enters_talks _ _ (c.enter.ensures.once t)) (c.play_on.ensures.talks t))
+    (leave_talks _ _ _ _ (c.leave.ensures.told t))
 
 -- it left
-pub returns-clause-learns : goal.returns-clause-learns
-returns-clause-learns g c = λ t.
-    let later = c.visit_all.ensures.left t (ok_no_err c.visit_all.result c.in_ok-last.last _ c.in_ok-last.was) in
-    learns_three c.args.store.now.book _ _ _ (firm_left c.args.store.now (g.W.Clocked.clock c.args.world.now) _ (c.requires.left t)) (c.enter.ensures.files t)
-    (c.visit_all.ensures.learns t) c.visit_all.new.store.book _ c.visit_all.ensures.differs
-    (firm_left c.visit_all.new.store (g.W.Clocked.clock c.visit_all.new.world) _ later) (c.leave.ensures.files t)
+pub returns-clause-progress : goal.returns-clause-progress
+returns-clause-progress g c = λ t.
+    let later = c.play_on.ensures.left t (ok_no_err c.play_on.result c.in_ok-last.last _ c.in_ok-last.was) in
+    progress_three c.args.store.now.book _ _ _ (firm_left c.args.store.now (g.W.Clocked.clock c.args.world.now) _ (c.requires.left t))
+    (c.enter.ensures.files t) (c.play_on.ensures.progress t)
+    c.play_on.new.store.book _ c.play_on.ensures.later (firm_left c.play_on.new.store (g.W.Clocked.clock c.play_on.new.world) _ later)
+    (c.leave.ensures.files t)
 
 pub returns-clause-joined : goal.returns-clause-joined
 returns-clause-joined g c = λ t kept.
     let f = g.W.Clocked.server_with_files t in
-    let later = c.visit_all.ensures.left f (ok_no_err c.visit_all.result c.in_ok-last.last _ c.in_ok-last.was) in
-    joined_three c.args.store.now.book _ _ _ (firm_left c.args.store.now (g.W.Clocked.clock c.args.world.now) _ (c.requires.left f)) (c.enter.ensures.told t)
-    (c.visit_all.ensures.learns f) kept (c.visit_all.ensures.joined t) c.visit_all.new.store.book _
-    (firm_left c.visit_all.new.store (g.W.Clocked.clock c.visit_all.new.world) _ later) (leaves_asking _ _ _ _ (c.leave.ensures.told t))
+    let r : HasBegun c.args.store.now.book c.begin-player.result (g.W.Clocked.clock c.args.world.now) (g.W.Clocked.clock c.enter.new.link) =
+    has_begun c.args.alloc _ _ _ c.begin-player.ensures.value c.begin-player.ensures.entered c.book-2.ensures _ _
+    (firm_left c.args.store.now (g.W.Clocked.clock c.args.world.now) _ (c.requires.left f)) (c.enter.ensures.told t)
+    (c.in_ok-ready.ensures.opened t) _ _ (c.in_ok-ready.ensures.stands t) in
+    let more = progress_grows _ _ _ (c.play_on.ensures.progress f) in
+    let later = c.play_on.ensures.left f (ok_no_err c.play_on.result c.in_ok-last.last _ c.in_ok-last.was) in
+    let before = run_grows _ _ _ _ r _ more in
+    let q = leaves_asking _ _ _ _ (c.leave.ensures.told t) in
+    run_three _ _ _ before c.play_on.new.store.book (firm_left c.play_on.new.store (g.W.Clocked.clock c.play_on.new.world) _ later) q kept
+    (run_two _ _ _ _ r kept _ more (c.play_on.ensures.joined t r.opened.made))
+
+pub returns-clause-truly : goal.returns-clause-truly
+returns-clause-truly g c = λ t kept fair no_disk.
+    let f = g.W.Clocked.server_with_files t in
+    let r : HasBegun c.args.store.now.book c.begin-player.result (g.W.Clocked.clock c.args.world.now) (g.W.Clocked.clock c.enter.new.link) =
+    has_begun c.args.alloc _ _ _ c.begin-player.ensures.value c.begin-player.ensures.entered c.book-2.ensures _ _
+    (firm_left c.args.store.now (g.W.Clocked.clock c.args.world.now) _ (c.requires.left f)) (c.enter.ensures.told t)
+    (c.in_ok-ready.ensures.opened t) _ _ (c.in_ok-ready.ensures.stands t) in
+    let more = progress_grows _ _ _ (c.play_on.ensures.progress f) in
+    let later = c.play_on.ensures.left f (ok_no_err c.play_on.result c.in_ok-last.last _ c.in_ok-last.was) in
+    let before = run_grows _ _ _ _ r _ more in
+    let q = leaves_asking _ _ _ _ (c.leave.ensures.told t) in
+    true_three _ _ _ before c.play_on.new.store.book
+    (firm_left c.play_on.new.store (g.W.Clocked.clock c.play_on.new.world) _ later) q c.args.store.now.book
+    (leave_talks _ _ _ _ (c.leave.ensures.told t))
+    (true_two _ _ _ _ r kept _ more c.play_on.new.store.book
+    (fair_run _ _ _ before c.play_on.new.store.book
+    (firm_left c.play_on.new.store (g.W.Clocked.clock c.play_on.new.world) _ later) q fair) (c.play_on.ensures.talks t)
+    (λ here knows second entered truly. c.play_on.ensures.truly t r.opened.made c.args.store.now.book here knows second entered truly
+    (ok_no_err c.play_on.result c.in_ok-last.last _ c.in_ok-last.was)))
 
 pub returns-clause-synced : goal.returns-clause-synced
 returns-clause-synced g c = λ t kept fair.
     let f = g.W.Clocked.server_with_files t in
-    let are : c.deref.result.now ≡ box_names c.args.store.now.book =
-    c.deref.ensures.value ∙ c.in_ok-names.ensures.value ∙ ap box_names c.book.ensures in
-    let later = c.visit_all.ensures.left f (ok_no_err c.visit_all.result c.in_ok-last.last _ c.in_ok-last.was) in
-    synced_three c.args.store.now.book _ _ _ (firm_left c.args.store.now (g.W.Clocked.clock c.args.world.now) _ (c.requires.left f)) (c.enter.ensures.told t)
-    (c.visit_all.ensures.learns f) kept (c.visit_all.ensures.joined t) c.visit_all.new.store.book _
-    (firm_left c.visit_all.new.store (g.W.Clocked.clock c.visit_all.new.world) _ later) (leaves_asking _ _ _ _ (c.leave.ensures.told t))
-    c.deref.result.now are fair (c.in_ok-last.ensures.synced t)
+    let r : HasBegun c.args.store.now.book c.begin-player.result (g.W.Clocked.clock c.args.world.now) (g.W.Clocked.clock c.enter.new.link) =
+    has_begun c.args.alloc _ _ _ c.begin-player.ensures.value c.begin-player.ensures.entered c.book-2.ensures _ _
+    (firm_left c.args.store.now (g.W.Clocked.clock c.args.world.now) _ (c.requires.left f)) (c.enter.ensures.told t)
+    (c.in_ok-ready.ensures.opened t) _ _ (c.in_ok-ready.ensures.stands t) in
+    let more = progress_grows _ _ _ (c.play_on.ensures.progress f) in
+    let later = c.play_on.ensures.left f (ok_no_err c.play_on.result c.in_ok-last.last _ c.in_ok-last.was) in
+    let before = run_grows _ _ _ _ r _ more in
+    let q = leaves_asking _ _ _ _ (c.leave.ensures.told t) in
+    all_synced _ _ _ c.play_on.new.player c.play_on.new.store.book
+    c.in_ok-last.ensures.finished
+    (synced_two _ _ _ _ r kept _ more c.play_on.new.player c.play_on.new.store.book
+    (fair_run _ _ _ before c.play_on.new.store.book
+    (firm_left c.play_on.new.store (g.W.Clocked.clock c.play_on.new.world) _ later) q fair)
+    (c.in_ok-last.ensures.synced t r.opened.made (g.W.Clocked.clock c.args.world.now))) (leaves_grow _ _ q)
 
 pub returns-clause-plays : goal.returns-clause-plays
 returns-clause-plays g c = λ t.
-    let are : c.deref.result.now ≡ box_names c.args.store.now.book =
-    c.deref.ensures.value ∙ c.in_ok-names.ensures.value ∙ ap box_names c.book.ensures in
-    plays_so c.args.account.now c.args.store.now c.deref.result.now are _ (c.in_ok-ready.ensures.entered t) _ c.visit_all.new.store
-    (c.in_ok-last.ensures.visited t) _ (c.in_ok-leave.ensures.left t)
+    let begun = begins_so c.args.alloc _ _ _ c.begin-player.ensures.value c.book-2.ensures in
+    plays_so c.args.account.now c.args.alloc c.args.store.now c.begin-player.result begun (g.W.Clocked.link c.enter.new.link) c.in_ok-ready.ready
+    (c.in_ok-ready.ensures.entered t) (standing_of (g.W.Clocked.link c.play_on.new.world) c.in_ok-last.last c.play_on.new.store c.play_on.new.player)
+    _ (c.in_ok-last.ensures.runs t) c.in_ok-last.ensures.finished (c.in_ok-leave.ensures.left t)
+
+pub returns-clause-left : goal.returns-clause-left
+returns-clause-left g c = λ t no_disk.
+    let later = c.play_on.ensures.left t (ok_no_err c.play_on.result c.in_ok-last.last _ c.in_ok-last.was) in
+    left_there mail AnyStep c.play_on.new.store (g.W.Clocked.clock c.play_on.new.world) (g.W.Clocked.clock c.leave.new.link) _ _ later
+    (c.leave.ensures.files t)
+    (g.met.W.Disk.seen_is c.leave.new.link t)
 
 pub returns-clause-each_one_side : goal.returns-clause-each_one_side
 returns-clause-each_one_side g c = λ t.
-    let later = c.visit_all.ensures.left t (ok_no_err c.visit_all.result c.in_ok-last.last _ c.in_ok-last.was) in
+    let later = c.play_on.ensures.left t (ok_no_err c.play_on.result c.in_ok-last.last _ c.in_ok-last.was) in
     let first =
     linked_sides AnyStep _ _ (rests_left c.args.store.now (g.W.Clocked.clock c.args.world.now) _ (c.requires.left t)) (c.enter.ensures.files t) in
-    sides_then _ _ _ (sides_then _ _ _ first (c.visit_all.ensures.each_one_side t))
-    (linked_sides AnyStep _ _ (rests_left c.visit_all.new.store (g.W.Clocked.clock c.visit_all.new.world) _ later) (c.leave.ensures.files t))
-
-pub returns-clause-left : goal.returns-clause-left
-returns-clause-left g c = λ t not.
-    let later = c.visit_all.ensures.left t (ok_no_err c.visit_all.result c.in_ok-last.last _ c.in_ok-last.was) in
-    left_there mail AnyStep c.visit_all.new.store (g.W.Clocked.clock c.visit_all.new.world) (g.W.Clocked.clock c.leave.new.link) _ _ later
-    (c.leave.ensures.files t) (g.met.W.Disk.seen_is c.leave.new.link t)
-
--- the connection
-pub returns-in_err-names-clause-once : goal.returns-in_err-names-clause-once
-returns-in_err-names-clause-once g c = λ t. nothing_first TalkStep _
-
-pub returns-in_err-ready-clause-once : goal.returns-in_err-ready-clause-once
-returns-in_err-ready-clause-once g c = λ t. enters_talks _ _ (c.enter.ensures.once t)
-
-pub returns-in_err-last-clause-once : goal.returns-in_err-last-clause-once
-returns-in_err-last-clause-once g c = λ t. goes_behind TalkStep _ _ _ (enters_talks _ _ (c.enter.ensures.once t)) (c.visit_all.ensures.talks t)
-
-pub returns-in_err-leave-clause-once : goal.returns-in_err-leave-clause-once
-returns-in_err-leave-clause-once g c = λ t.
-    goes_behind TalkStep _ _ _ (goes_behind TalkStep _ _ _ (enters_talks _ _ (c.enter.ensures.once t)) (c.visit_all.ensures.talks t))
-    (leave_talks _ _ _ _ (c.leave.ensures.told t))
+    sides_then _ _ _ (sides_then _ _ _ first (c.play_on.ensures.each_one_side t))
+    (linked_sides AnyStep _ _ (rests_left c.play_on.new.store (g.W.Clocked.clock c.play_on.new.world) _ later) (c.leave.ensures.files t))
 
 pub returns-clause-once : goal.returns-clause-once
 returns-clause-once g c = λ t.
-    goes_behind TalkStep _ _ _ (goes_behind TalkStep _ _ _ (enters_talks _ _ (c.enter.ensures.once t)) (c.visit_all.ensures.talks t))
+    goes_behind TalkStep _ _ _ (goes_behind TalkStep _ _ _ (enters_talks _ _ (c.enter.ensures.once t)) (c.play_on.ensures.talks t))
     (leave_talks _ _ _ _ (c.leave.ensures.told t))

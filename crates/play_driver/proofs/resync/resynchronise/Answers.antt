@@ -9,6 +9,7 @@ returns-in_err-came-clause-why g c = λ t next heard h fault is. c.gather.ensure
 pub returns-clause-value : goal.returns-clause-value
 returns-clause-value g c = λ t. record {
   gathered = c.in_ok-came.came.1;
+  permitted = c.in_ok-came.ensures.permits;
   asked = omega (arith, c.in_ok-came.ensures.counted);
   answered = c.in_ok-came.ensures.answered t;
   makes = makes_delta (option_copied c.args.kept) c.in_ok-came.came.1 (option_copied c.as_ref.result) c.delta_of-delta.result c.as_ref.ensures.value
@@ -18,6 +19,7 @@ returns-clause-value g c = λ t. record {
 pub returns-clause-came : goal.returns-clause-came
 returns-clause-came g c = λ t heard h. record {
   gathered = c.in_ok-came.came.1;
+  permitted = c.in_ok-came.ensures.permits;
   asked = omega (arith, c.in_ok-came.ensures.counted);
   came = c.in_ok-came.ensures.came t heard h;
   makes = makes_delta (option_copied c.args.kept) c.in_ok-came.came.1 (option_copied c.as_ref.result) c.delta_of-delta.result c.as_ref.ensures.value

@@ -1,0 +1,208 @@
+-- What is needed of the server can be asked of it while a mailbox is selected.
+use Rattle.action_queue.specs.Book.{Meaning}
+use Rattle.action_queue.specs.Queues.{due_action}
+use Rattle.imap_model.specs.CommandText.{IsCarried, parts_of}
+use Rattle.imap_model.specs.Mutating.{is_mutating}
+use Rattle.imap_model.specs.declared.command.Command.{Command}
+use Rattle.imap_model.specs.declared.mark.Mark.{Mark}
+use Rattle.imap_model.specs.declared.replies.Replies.{Replies}
+use Rattle.imap_session.specs.Causes.{FailsBehind}
+use Rattle.imap_session.specs.Counting.{HasTag}
+use Rattle.imap_session.specs.Dialogue.{next_tag}
+use Rattle.imap_session.specs.Faults.{IsCount}
+use Rattle.imap_session.specs.Sent.{SentFront, joined}
+use Rattle.imap_session.specs.Session.{Follows, IsAsked}
+use Rattle.imap_session.specs.declared.chosen.Chosen.{Chosen}
+use Rattle.imap_session.specs.declared.fault.SessionFault.{SessionFault}
+use Rattle.mail_base.specs.declared.tag.Tag.{Tag}
+use Rattle.play_driver.proofs.Faulting.{same_err}
+use Rattle.play_driver.proofs.Folds.{fold_sound}
+use Rattle.play_driver.specs.Faults.{of_session, of_unheard}
+use Rattle.play_driver.specs.Stages.{stage_of}
+use Rattle.play_driver.specs.Turning.{AskedBetween, IsAskedFor, TurnFails, permits_due, standing_of}
+use Rattle.play_driver.specs.Turning.TurnFails.{not_answered, not_heard}
+use Rattle.play_driver.specs.declared.fault.PlayFault.{PlayFault}
+use Rattle.playback.proofs.Calls.{parts}
+use Rattle.playback.proofs.Lawfulness.{lawful_need}
+use Rattle.playback.specs.Left.{Awaits}
+use Rattle.playback.specs.Needs.{IsBeside, IsLawfulNeed, IsPlayQuestion, need_of}
+use Rattle.playback.specs.Replying.{IsHeard, IsHeardFault}
+use Rattle.playback.specs.declared.finding.Finding.{Finding}
+use Rattle.playback.specs.declared.need.Need.{Need}
+use Rattle.playback.specs.declared.need.Unheard.{Unheard}
+use Rattle.playback.specs.declared.player.Player.{Player}
+use Rattle.std.proofs.Common.{Bool, Err, IsErrOf, List, Option, ap, arith, false, refl, subst, sym, true, ℕ, ◌<◌, ◌∙◌, ◌≡◌, ◌≢◌}
+use Rattle.std.proofs.lemmas.Bool.{both_ways}
+use Rattle.store_core.specs.Fold.{IsFold}
+use Rattle.store_core.specs.Holding.{Holding}
+use Rattle.store_core.specs.Mail.{mail}
+use Rattle.world_traits.specs.LinkState.{LinkState}
+use Rattle.imap_model.specs.declared.command.Command.TheVariants as commands
+use Rattle.mail_base.specs.declared.tag.Tag.TheVariants as tags
+use Rattle.play_driver.specs.declared.session.Session.TheVariants as sessions
+use Rattle.playback.specs.declared.need.Need.TheVariants as needs
+
+-- a question that playback asks
+question_asked : (command : Command) → IsPlayQuestion command → IsAsked command
+question_asked commands.Capability h = absurd h
+question_asked (commands.Login account) h = absurd h
+question_asked (commands.Plain account) h = absurd h
+question_asked (commands.Enable rev2) h = absurd h
+question_asked (commands.Select name since) h = absurd h
+question_asked commands.FetchAll h = absurd h
+question_asked (commands.FetchRow uid) h = tt
+question_asked (commands.Search from id) h = tt
+question_asked (commands.FetchIds uids) h = tt
+question_asked (commands.Store uid since add flags) h = absurd h
+question_asked (commands.Shift uid to) h = absurd h
+question_asked (commands.Append to flags text) h = absurd h
+question_asked commands.Logout h = absurd h
+
+question_carried : (command : Command) → IsPlayQuestion command → IsCarried command
+question_carried commands.Capability h = absurd h
+question_carried (commands.Login account) h = absurd h
+question_carried (commands.Plain account) h = absurd h
+question_carried (commands.Enable rev2) h = absurd h
+question_carried (commands.Select name since) h = absurd h
+question_carried commands.FetchAll h = absurd h
+question_carried (commands.FetchRow uid) h = tt
+question_carried (commands.Search from id) h = h
+question_carried (commands.FetchIds uids) h = tt
+question_carried (commands.Store uid since add flags) h = absurd h
+question_carried (commands.Shift uid to) h = absurd h
+question_carried (commands.Append to flags text) h = absurd h
+question_carried commands.Logout h = absurd h
+
+pub question_harmless : (command : Command) → IsPlayQuestion command → is_mutating command ≡ false
+question_harmless commands.Capability h = absurd h
+question_harmless (commands.Login account) h = absurd h
+question_harmless (commands.Plain account) h = absurd h
+question_harmless (commands.Enable rev2) h = absurd h
+question_harmless (commands.Select name since) h = absurd h
+question_harmless commands.FetchAll h = absurd h
+question_harmless (commands.FetchRow uid) h = refl
+question_harmless (commands.Search from id) h = refl
+question_harmless (commands.FetchIds uids) h = refl
+question_harmless (commands.Store uid since add flags) h = absurd h
+question_harmless (commands.Shift uid to) h = absurd h
+question_harmless (commands.Append to flags text) h = absurd h
+question_harmless commands.Logout h = absurd h
+
+-- a command that changes a mailbox
+sent_asked : (command : Command) → is_mutating command ≡ true → IsAsked command
+sent_asked commands.Capability e = absurd cc
+sent_asked (commands.Login account) e = absurd cc
+sent_asked (commands.Plain account) e = absurd cc
+sent_asked (commands.Enable rev2) e = absurd cc
+sent_asked (commands.Select name since) e = absurd cc
+sent_asked commands.FetchAll e = absurd cc
+sent_asked (commands.FetchRow uid) e = absurd cc
+sent_asked (commands.Search from id) e = absurd cc
+sent_asked (commands.FetchIds uids) e = absurd cc
+sent_asked (commands.Store uid since add flags) e = tt
+sent_asked (commands.Shift uid to) e = tt
+sent_asked (commands.Append to flags text) e = tt
+sent_asked commands.Logout e = absurd cc
+
+sent_carried : (command : Command) → is_mutating command ≡ true → IsCarried command
+sent_carried commands.Capability e = absurd cc
+sent_carried (commands.Login account) e = absurd cc
+sent_carried (commands.Plain account) e = absurd cc
+sent_carried (commands.Enable rev2) e = absurd cc
+sent_carried (commands.Select name since) e = absurd cc
+sent_carried commands.FetchAll e = absurd cc
+sent_carried (commands.FetchRow uid) e = absurd cc
+sent_carried (commands.Search from id) e = absurd cc
+sent_carried (commands.FetchIds uids) e = absurd cc
+sent_carried (commands.Store uid since add flags) e = tt
+sent_carried (commands.Shift uid to) e = tt
+sent_carried (commands.Append to flags text) e = tt
+sent_carried commands.Logout e = absurd cc
+
+-- the command can be asked under this tag, behind so many questions
+pub record IsAskable (count : ℕ) (tag : Tag) (command : Command) : Type 0 where
+  pub asked : IsAsked command
+  pub tagged : HasTag (is_mutating command) count tag
+  pub carried : IsCarried command
+  pub counted : is_mutating command ≡ false → IsCount tag
+
+askable_as : (count : ℕ) (tag other : Tag) (command same : Command) → command ≡ same → tag ≡ other → IsAskable count other same →
+    IsAskable count tag command
+askable_as count tag other command same c t h =
+    subst (λ (x : Tag). IsAskable count x command) (sym t) (subst (λ (x : Command). IsAskable count other x) (sym c) h)
+
+askable_question : (count : ℕ) (command : Command) → IsPlayQuestion command → IsAskable count (next_tag count) command
+askable_question count command h = record {
+  asked = question_asked command h;
+  tagged = subst (λ (t : Bool). HasTag t count (next_tag count)) (sym (question_harmless command h)) refl;
+  carried = question_carried command h;
+  counted = λ e. tt;
+}
+
+askable_sent : (count n : ℕ) (command : Command) → 0 < n → is_mutating command ≡ true → IsAskable count (tags.Play n) command
+askable_sent count n command some e = record {
+  asked = sent_asked command e;
+  tagged = subst (λ (t : Bool). HasTag t count (tags.Play n)) (sym e) (n, refl, some);
+  carried = sent_carried command e;
+  counted = λ f. absurd (both_ways (is_mutating command) f e);
+}
+
+pub askable : (need : Need) (p : Player) (b : Meaning) (count : ℕ) (tag : Tag) (command : Command) → IsAskedFor need count tag command →
+    IsLawfulNeed need p b → IsAskable count tag command
+askable (needs.Select name) p b count tag command is lawful = absurd is
+askable (needs.Ask asked) p b count tag command is lawful =
+    askable_as count tag (next_tag count) command asked is.0 is.1 (askable_question count asked lawful.0)
+askable (needs.Commit event) p b count tag command is lawful = absurd is
+askable (needs.Settle n outcome) p b count tag command is lawful = absurd is
+askable (needs.Send n sent) p b count tag command is lawful =
+    askable_as count tag (tags.Play n) command sent is.0 is.1 (askable_sent count n sent (omega (arith, lawful.0)) lawful.1)
+askable needs.Finished p b count tag command is lawful = absurd is
+
+-- what is needed can be done, where the book is the fold of some events
+pub lawful_fold : (p : Player) (b : Meaning) → IsFold b → IsBeside p b → IsLawfulNeed (need_of p b) p b
+lawful_fold p b fold beside = lawful_need parts p b (fold_sound b fold) beside
+
+-- it isn't SELECT
+pub no_select : (command : Command) → IsAsked command → (name : List ℕ) (since : Option Mark) → command ≢ commands.Select name since
+no_select command asked name since is = subst IsAsked is asked
+
+-- a reply is awaited for it
+pub asked_awaits : (need : Need) (count : ℕ) (tag : Tag) (command : Command) → IsAskedFor need count tag command → Awaits need
+asked_awaits (needs.Select name) count tag command is = absurd is
+asked_awaits (needs.Ask asked) count tag command is = tt
+asked_awaits (needs.Commit event) count tag command is = absurd is
+asked_awaits (needs.Settle n outcome) count tag command is = absurd is
+asked_awaits (needs.Send n sent) count tag command is = tt
+asked_awaits needs.Finished count tag command is = absurd is
+
+-- the player keeps the rest
+pub only_told : (p : Player) (b : Meaning) (permits : Bool) (r : Replies) (new : Player) → IsHeard p b permits r new →
+    new ≡ record p { told = new.told }
+only_told p b permits r new h = h.is ∙ ap (λ (f : Finding). record p { told = f }) (ap (λ (x : Player). x.told) (sym h.is))
+
+-- no reply came
+pub not_answered_so : (link later : LinkState) (chosen : Chosen) (store : Holding mail) (p : Player) (b : Meaning) (tag : Tag) (command : Command)
+    (f : SessionFault) (fault : PlayFault) → store.book ≡ b → IsAskedFor (need_of p b) chosen.conversation.count tag command →
+    (follows : Follows link.connection chosen.conversation.feed) → SentFront (joined (parts_of tag command)) link.sent later.sent →
+    FailsBehind follows.0 tag command follows.1.connection.received later.connection f → fault ≡ of_session f →
+    TurnFails (standing_of link (sessions.Chosen chosen) store p) later fault
+not_answered_so link later chosen store p b tag command f fault same is follows sent failing told =
+    not_answered tag command f (subst (λ (x : Meaning). IsAskedFor (need_of p x) chosen.conversation.count tag command) (sym same) is) told
+    (record { heard = follows.0; hears = follows.1; sent = sent; failing = failing })
+
+-- a reply came, and isn't taken
+pub not_heard_so : (link later : LinkState) (chosen new : Chosen) (store : Holding mail) (p : Player) (b : Meaning) (tag : Tag) (command : Command)
+    (r : Replies) (unheard : Unheard) (fault : PlayFault) → store.book ≡ b → IsAskedFor (need_of p b) chosen.conversation.count tag command →
+    AskedBetween tag command r (stage_of link (sessions.Chosen chosen)) (stage_of later (sessions.Chosen new)) →
+    IsHeardFault p b (permits_due chosen.permits (due_action b.queue)) r unheard → fault ≡ of_unheard chosen.name unheard →
+    TurnFails (standing_of link (sessions.Chosen chosen) store p) later fault
+not_heard_so link later chosen new store p b tag command r unheard fault same is came lacking told =
+    not_heard tag command r (stage_of later (sessions.Chosen new)) unheard chosen.name refl
+    (subst (λ (x : Meaning). IsAskedFor (need_of p x) chosen.conversation.count tag command) (sym same) is) came refl
+    (subst (λ (x : Meaning). IsHeardFault p x (permits_due chosen.permits (due_action x.queue)) r unheard) (sym same) lacking) told
+
+-- the fault of a run where the reply isn't taken
+pub unheard_told : {T : Type 0} (told fault : PlayFault) (now name : List ℕ) (unheard : Unheard) → IsErrOf {T = T} (Err told) fault →
+    told ≡ of_unheard now unheard → now ≡ name → fault ≡ of_unheard name unheard
+unheard_told {T} told fault now name unheard is e same =
+    same_err {T = T} (Err told) fault told is refl ∙ e ∙ ap (λ (n : List ℕ). of_unheard n unheard) same

@@ -1,0 +1,235 @@
+-- One turn, by what its call tells: a record, a resynchronisation, or a question.
+use Rattle.action_queue.specs.Book.{Meaning, after, cache_at, learned}
+use Rattle.action_queue.specs.Queues.{due_action}
+use Rattle.action_queue.specs.declared.event.Event.{Event}
+use Rattle.imap_model.specs.declared.command.Command.{Command}
+use Rattle.imap_model.specs.declared.replies.Replies.{Replies}
+use Rattle.imap_session.specs.Dialogue.{next_tag}
+use Rattle.imap_session.specs.Session.{Stands}
+use Rattle.imap_session.specs.declared.chosen.Chosen.{Chosen}
+use Rattle.imap_session.specs.declared.permits.Permits.{Permits}
+use Rattle.literal_feed.specs.Stream.{Stream}
+use Rattle.mail_base.specs.declared.tag.Tag.{Tag}
+use Rattle.mailbox_cache.specs.declared.delta.Delta.{Delta}
+use Rattle.play_driver.proofs.Asked.{lawful_fold}
+use Rattle.play_driver.proofs.OverOne.{record_talks}
+use Rattle.play_driver.proofs.Parts.{became_earlier, became_later, grows_then}
+use Rattle.play_driver.proofs.Progressing.{firm_left}
+use Rattle.play_driver.specs.Faults.{IsReplyFault}
+use Rattle.play_driver.specs.Joining.{AllFair, AnyTwo, Grows, IsKept, StaysJoined}
+use Rattle.play_driver.specs.KnownAt.{KnownAt, StandsKept}
+use Rattle.play_driver.specs.Played.{played}
+use Rattle.play_driver.specs.Questioning.{TalkStep}
+use Rattle.play_driver.specs.Recording.{IsRecordedIn, NotRecorded, recorded}
+use Rattle.play_driver.specs.Recording.NotRecorded.{disk, full, wanting}
+use Rattle.play_driver.specs.Sessions.{count_of, permits_in, selected_in}
+use Rattle.play_driver.specs.Settled.{IsSyncedSoFar, SyncedSince}
+use Rattle.play_driver.specs.Stages.{DeltaCameOf, stage_of}
+use Rattle.play_driver.specs.Synced.{IsReadAt}
+use Rattle.play_driver.specs.TrueRecords.{IsTrueSince, TrueEvent}
+use Rattle.play_driver.specs.TrueRecords.IsTrueSince.{records as more_true}
+use Rattle.play_driver.specs.Turning.Turns.{asks, records, selects}
+use Rattle.play_driver.specs.Turning.{AskedBetween, IsAskedFor, TurnFails, Turns, permits_due, standing_of}
+use Rattle.play_driver.specs.declared.fault.PlayFault.{PlayFault}
+use Rattle.play_driver.specs.declared.session.Session.{Session}
+use Rattle.playback.specs.Allowed.{Records}
+use Rattle.playback.specs.Choosing.{IsChosen, committed}
+use Rattle.playback.specs.Kept.{Kept}
+use Rattle.playback.specs.Needs.{IsBeside, IsLawfulNeed, need_of}
+use Rattle.playback.specs.Replying.{IsHeard}
+use Rattle.playback.specs.Worlds.{name_of}
+use Rattle.playback.specs.declared.finding.Resynced.{Resynced}
+use Rattle.playback.specs.declared.finding.Selected.{Selected}
+use Rattle.playback.specs.declared.need.Need.{Need}
+use Rattle.playback.specs.declared.player.Player.{Player}
+use Rattle.std.proofs.Common.{inl, inr, IsErrOf, List, None, Ok, Option, Result, Some, ap, refl, subst, sym, true, ℕ, ⊎_elim, ◌<◌, ◌∙◌, ◌≡◌, ◌⊎◌}
+use Rattle.std.specs.Prelude.{is_some}
+use Rattle.store_core.specs.Books.{HoldsBook}
+use Rattle.store_core.specs.Fold.{IsFold}
+use Rattle.store_core.specs.Holding.{Holding, IsAsLeft}
+use Rattle.store_core.specs.Mail.{mail}
+use Rattle.store_core.specs.Taking.{IsTaking, Takes}
+use Rattle.world_traits.proofs.Passing.{since_start}
+use Rattle.world_traits.specs.Files.{Files}
+use Rattle.world_traits.specs.LinkState.{Connection, LinkState}
+use Rattle.world_traits.specs.Links.{Any}
+use Rattle.world_traits.specs.Moments.{Became, Clock, GoesOn, Since}
+use Rattle.playback.specs.declared.need.Need.TheVariants as needs
+use Rattle.play_driver.specs.declared.session.Session.TheVariants as sessions
+
+-- Where a call left the store, and the connection rests, a kept moment stands.
+pub stands_kept : (store : Holding mail) (k : Clock) (seen : Files) (selected : Option (List ℕ)) (c : Option Connection) (feed : Stream) →
+    IsAsLeft mail store k.now seen → Stands selected k c feed → IsKept mail Kept k.now → StandsKept store.book k
+stands_kept store k seen selected c feed left stands kept =
+    record { books = firm_left store k seen left; kept = kept; none_waits = stands.nothing; none_arrives = stands.no_part }
+
+-- The disk is as it was, or an event was recorded.
+module _ {X : Type 0} (clock : X → Clock) (store : Holding mail) (event : Event) (x y : X) where
+  abbrev Took : X → Type 0
+  Took z = Takes mail (Some store.book) event (clock x) (clock z)
+
+  pub record_takes : (y ≡ x) ⊎ IsRecordedIn store event (clock x) (clock y) → Took y
+  record_takes (inl same) =
+      subst Took (sym same)
+      (since_start (IsTaking mail (Some store.book) event)
+      (GoesOn (HoldsBook mail (Some store.book)) (HoldsBook mail (Some (after store.book event)))) (clock x))
+  record_takes (inr told) = told.takes
+
+  pub record_goes : (y ≡ x) ⊎ IsRecordedIn store event (clock x) (clock y) → Since Any TalkStep (clock x) (clock y)
+  record_goes told = record_talks store event (clock x) (clock y) (record_takes told)
+
+-- nothing was done
+pub left_kept : {X : Type 0} (clock : X → Clock) (seen : X → Files) (store now : Holding mail) (x y : X) → now ≡ store → y ≡ x →
+    IsAsLeft mail store (clock x).now (seen x) → IsAsLeft mail now (clock y).now (seen y)
+left_kept {X} clock seen store now x y same still left =
+    subst (λ (s : Holding mail). IsAsLeft mail s (clock y).now (seen y)) (sym same)
+    (subst (λ (z : X). IsAsLeft mail store (clock z).now (seen z)) (sym still) left)
+
+pub true_kept : {X : Type 0} (clock : X → Clock) (b c : Meaning) (x y : X) → c ≡ b → y ≡ x → (entry : Meaning) (made : Clock) →
+    IsTrueSince entry made (clock x) b → IsTrueSince entry made (clock y) c
+true_kept {X} clock b c x y same still entry made truly =
+    subst (λ (d : Meaning). IsTrueSince entry made (clock y) d) (sym same)
+    (subst (λ (z : X). IsTrueSince entry made (clock z) b) (sym still) truly)
+
+-- An event was recorded.
+module _ (s t : Holding mail) (event : Event) (is : t ≡ recorded s event) where
+  pub true_more : (entry : Meaning) (made old new : Clock) → IsTrueSince entry made old s.book → TrueEvent event entry s.book made old →
+      Takes mail (Some s.book) event old new → IsTrueSince entry made new t.book
+  true_more entry made old new before truly takes =
+      subst (λ (u : Holding mail). IsTrueSince entry made new u.book) (sym is) (more_true old new s.book event before truly takes)
+
+  pub records_turn : (link later : LinkState) (session : Session) (p q : Player) → later ≡ link → q ≡ committed p t.book →
+      Records (need_of p s.book) event → Turns (standing_of link session s p) (standing_of later session t q)
+  records_turn link later session p q same goes needed =
+      records event needed
+      (ap (λ (l : LinkState). standing_of l session t q) same ∙ ap (λ (u : Holding mail). standing_of link session u q) is
+      ∙ ap (standing_of link session (recorded s event)) (goes ∙ ap (λ (u : Holding mail). committed p u.book) is))
+
+-- What the server told is no reason for which an event isn't recorded.
+pub no_reply_fault : (event : Event) (s : Holding mail) (fault : PlayFault) → NotRecorded event s fault → IsReplyFault fault → ⊥
+no_reply_fault event s fault (wanting takes is) = λ told. subst IsReplyFault is told
+no_reply_fault event s fault (disk is) = λ told. subst IsReplyFault is told
+no_reply_fault event s fault (full more is) = λ told. subst IsReplyFault is told
+
+-- What a call of the link told of its book is so of the store's.
+module _ (b c : Meaning) (same : b ≡ c) (old : Clock) where
+  pub stands_back : StandsKept c old → StandsKept b old
+  stands_back stands = subst (λ (x : Meaning). StandsKept x old) (sym same) stands
+
+  module _ (new : Clock) (p : Player) (permits : Option Permits) where
+    pub joined_of : ((made : Clock) → StandsKept b old → KnownAt made old permits p b → StaysJoined mail Kept played old new) →
+        (made : Clock) → StandsKept c old → KnownAt made old permits p c → StaysJoined mail Kept played old new
+    joined_of joined =
+        subst (λ (x : Meaning). (made : Clock) → StandsKept x old → KnownAt made old permits p x → StaysJoined mail Kept played old new) same joined
+
+    pub faultless_of : {T : Type 0} (r : Result T PlayFault) →
+        ((made : Clock) → StandsKept b old → KnownAt made old permits p b → AllFair mail played old new →
+        (fault : PlayFault) → IsErrOf r fault → IsReplyFault fault → ⊥) →
+        (made : Clock) → StandsKept c old → KnownAt made old permits p c → AllFair mail played old new →
+        (fault : PlayFault) → IsErrOf r fault → IsReplyFault fault → ⊥
+    faultless_of r faultless =
+        subst (λ (x : Meaning). (made : Clock) → StandsKept x old → KnownAt made old permits p x → AllFair mail played old new →
+        (fault : PlayFault) → IsErrOf r fault → IsReplyFault fault → ⊥) same faultless
+
+    pub known_of : (q : Player) (then : Option Permits) →
+        ((made : Clock) → StandsKept b old → KnownAt made old permits p b → AllFair mail played old new → KnownAt made new then q b) →
+        (made : Clock) → StandsKept c old → KnownAt made old permits p c → AllFair mail played old new → KnownAt made new then q c
+    known_of q then known =
+        subst (λ (x : Meaning). (made : Clock) → StandsKept x old → KnownAt made old permits p x → AllFair mail played old new →
+        KnownAt made new then q x) same known
+
+-- The first mailboxes stay resynchronised over a call of the link, which records nothing.
+module _ (c : Meaning) (old new : Clock) (p q : Player) (start : Clock) (more : Grows old new) (resynced : q.resynced ≡ p.resynced) where
+  synced_as : SyncedSince start old p c → ((told : Resynced) → q.learns ≡ Some told →
+      Became Any AnyTwo (IsReadAt told.name (learned (cache_at told.name c.boxes) told.delta)) old new ⊎ (p.learns ≡ Some told)) →
+      SyncedSince start new q c
+  synced_as s pending = record {
+    from = s.from;
+    later = s.later;
+    before = grows_then s.from old new s.before more;
+    settled = s.settled;
+    counted = λ i known at below.
+        let was = s.counted i known at (subst (λ (n : ℕ). i < n) resynced below) in
+        record {
+          cache = was.cache;
+          there = was.there;
+          level = became_later (IsReadAt known.name was.cache) s.from old new was.level more;
+        };
+    pending = λ told is.
+        let level = IsReadAt told.name (learned (cache_at told.name c.boxes) told.delta) in
+        ⊎_elim (λ (read : Became Any AnyTwo level old new). became_earlier level s.from old new s.before read)
+        (λ (was : p.learns ≡ Some told). became_later level s.from old new (s.pending told was) more) (pending told is);
+  }
+
+  pub synced_asked : q.learns ≡ p.learns → IsSyncedSoFar start old p c → IsSyncedSoFar start new q c
+  synced_asked learns so_far settled = synced_as (so_far settled) (λ told is. inr (sym learns ∙ is))
+
+  abbrev Reads : Meaning → Type 0
+  Reads b =
+      StandsKept b old → AllFair mail played old new → (told : Resynced) → q.learns ≡ Some told →
+      Became Any AnyTwo (IsReadAt told.name (learned (cache_at told.name b.boxes) told.delta)) old new
+
+  pub synced_read : (b : Meaning) → b ≡ c → Reads b → StandsKept c old → AllFair mail played old new → IsSyncedSoFar start old p c →
+      IsSyncedSoFar start new q c
+  synced_read b same read stands fair so_far settled = synced_as (so_far settled) (λ told is. inl (subst Reads same read stands fair told is))
+
+-- A mailbox was resynchronised.
+pub selects_turn : (link later : LinkState) (session : Session) (chosen : Chosen) (s : Holding mail) (p q : Player) (b : Meaning) (name : List ℕ) →
+    b ≡ s.book → need_of p s.book ≡ needs.Select name → chosen.name ≡ name →
+    ((delta : Delta) × DeltaCameOf name (cache_at name b.boxes) (Ok delta) chosen.permits (stage_of link session)
+    (stage_of later (sessions.Chosen chosen)) × IsChosen p b (Ok delta) q) →
+    Turns (standing_of link session s p) (standing_of later (sessions.Chosen chosen) s q)
+selects_turn link later session chosen s p q b name same needed named (delta, came, taken) =
+    selects name delta needed
+    (subst (λ (x : Meaning). DeltaCameOf name (cache_at name x.boxes) (Ok delta) chosen.permits (stage_of link session)
+    (stage_of later (sessions.Chosen chosen))) same came)
+    (subst (λ (x : Meaning). IsChosen p x (Ok delta) q) same taken) (ap (λ (n : List ℕ). Some n) named) refl
+
+-- Something is asked in the session in which a mailbox is selected.
+module _ (session : Session) (chosen : Chosen) (is : session ≡ sessions.Chosen chosen) where
+  pub known_in : (made k : Clock) (p : Player) (b : Meaning) → KnownAt made k (permits_in session) p b → KnownAt made k chosen.permits p b
+  known_in made k p b known = subst (λ (s : Session). KnownAt made k (permits_in s) p b) is known
+
+  module _ (link later : LinkState) (s : Holding mail) (p : Player) where
+    pub asked_fails : (fault : PlayFault) → TurnFails (standing_of link (sessions.Chosen chosen) s p) later fault →
+        TurnFails (standing_of link session s p) later fault
+    asked_fails fault fails = subst (λ (x : Session). TurnFails (standing_of link x s p) later fault) (sym is) fails
+
+    pub asks_turn : (next : Chosen) (q : Player) (b : Meaning) (tag : Tag) (command : Command) → b ≡ s.book →
+        IsAskedFor (need_of p s.book) (count_of session) tag command → next.name ≡ chosen.name → next.permits ≡ chosen.permits →
+        ((r : Replies) × AskedBetween tag command r (stage_of link (sessions.Chosen chosen)) (stage_of later (sessions.Chosen next))
+        × IsHeard p b (permits_due chosen.permits (due_action b.queue)) r q) →
+        Turns (standing_of link session s p) (standing_of later (sessions.Chosen next) s q)
+    asks_turn next q b tag command same needed named permits (r, asked, heard) =
+        subst (λ (x : Session). IsAskedFor (need_of p s.book) (count_of x) tag command →
+        Turns (standing_of link x s p) (standing_of later (sessions.Chosen next) s q)) (sym is)
+        (λ here. asks tag command r here asked
+        (subst (λ (x : Meaning). IsHeard p x (permits_due chosen.permits (due_action x.queue)) r q) same heard)
+        (ap (λ (n : List ℕ). Some n) named) permits refl) needed
+
+-- A mailbox is selected where something is to be asked.
+asked_by : (p : Player) (b : Meaning) (need : Need) (count : ℕ) (tag : Tag) (command : Command) → IsLawfulNeed need p b →
+    IsAskedFor need count tag command → is_some p.selected ≡ true
+asked_by p b (needs.Select name) count tag command lawful asked = absurd asked
+asked_by p b (needs.Ask question) count tag command lawful asked = lawful.1
+asked_by p b (needs.Commit event) count tag command lawful asked = absurd asked
+asked_by p b (needs.Settle n outcome) count tag command lawful asked = absurd asked
+asked_by p b (needs.Send n sent) count tag command lawful asked = lawful.2
+asked_by p b needs.Finished count tag command lawful asked = absurd asked
+
+is_named : (selected : Option Selected) → is_some selected ≡ true → is_some (name_of selected) ≡ true
+is_named None none = none
+is_named (Some box) there = refl
+
+pub asked_selected : (p : Player) (b : Meaning) (session : Session) (tag : Tag) (command : Command) → IsFold b → IsBeside p b →
+    name_of p.selected ≡ selected_in session → IsAskedFor (need_of p b) (count_of session) tag command → is_some (selected_in session) ≡ true
+asked_selected p b session tag command fold beside same asked =
+    subst (λ (o : Option (List ℕ)). is_some o ≡ true) same
+    (is_named p.selected
+    (asked_by p b (need_of p b) (count_of session) tag command (lawful_fold p b fold beside) asked))
+
+pub question_selected : (p : Player) (b : Meaning) (session : Session) (command : Command) → IsFold b → IsBeside p b →
+    name_of p.selected ≡ selected_in session → need_of p b ≡ needs.Ask command → is_some (selected_in session) ≡ true
+question_selected p b session command fold beside same needed =
+    asked_selected p b session (next_tag (count_of session)) command fold beside same
+    (subst (λ (n : Need). IsAskedFor n (count_of session) (next_tag (count_of session)) command) (sym needed) (refl, refl))

@@ -1,0 +1,142 @@
+-- Why an event is recorded: by what the player knows at that moment.
+use Rattle.action_queue.specs.Book.{Meaning, after}
+use Rattle.action_queue.specs.declared.event.Event.{Event}
+use Rattle.imap_model.specs.Carrying.{Waiting}
+use Rattle.imap_model.specs.declared.server.Server.{Server}
+use Rattle.imap_session.specs.declared.permits.Permits.{Permits}
+use Rattle.journal_core.specs.declared.version.Version.{Version}
+use Rattle.play_driver.proofs.Calls.{takes_stays}
+use Rattle.play_driver.proofs.KnownRecords.{permitted_by}
+use Rattle.play_driver.proofs.KnownWalk.{kept_here, kept_told, tells_peer}
+use Rattle.play_driver.specs.Joining.{StaysJoined}
+use Rattle.play_driver.specs.KnownAt.{KnownAt, StandsKept}
+use Rattle.play_driver.specs.Played.{played}
+use Rattle.play_driver.specs.TrueRecords.{TrueEvent}
+use Rattle.play_driver.proofs.PlayedKept.{withstood}
+use Rattle.playback.specs.Permitted.{Permits as Permitted}
+use Rattle.action_queue.specs.Events.{IsLawful}
+use Rattle.action_queue.specs.Rules.{first_broken}
+use Rattle.action_queue.specs.declared.rule.Version.{Version as Rules}
+use Rattle.play_driver.proofs.Folds.{fold_sound}
+use Rattle.play_driver.specs.Progress.{IsPlayEvent}
+use Rattle.playback.proofs.Allowing.{allowed_need}
+use Rattle.playback.proofs.Calls.{parts}
+use Rattle.playback.proofs.Lawfulness.{lawful_need}
+use Rattle.playback.proofs.Recording.{IsRecorded, recorded}
+use Rattle.store_core.specs.Fold.{IsFold}
+use Rattle.playback.specs.Allowed.{IsAllowed, Records, WhyCommit}
+use Rattle.playback.specs.Choosing.{IsEntered, committed}
+use Rattle.playback.specs.Course.{Course}
+use Rattle.playback.specs.Kept.{Kept, KeptBook}
+use Rattle.playback.specs.Needs.{IsBeside, IsLawfulNeed, IsReadyEvent, need_of}
+use Rattle.playback.specs.Why.{WhyEvent, WhyOutcome, is_open}
+use Rattle.playback.specs.Worlds.{World}
+use Rattle.playback.specs.declared.need.Need.{Need}
+use Rattle.playback.specs.declared.player.Player.{Player}
+use Rattle.std.proofs.Common.{Bool, None, Option, Some, inl, inr, subst, sym, ◌≡◌}
+use Rattle.store_core.proofs.MailBook.{one_mail_event}
+use Rattle.store_core.specs.Mail.{MayCome, mail, rules_of}
+use Rattle.store_core.specs.Taking.{Takes}
+use Rattle.world_traits.specs.Moments.{Clock}
+use Rattle.action_queue.specs.declared.event.Event.TheVariants as events
+use Rattle.playback.specs.declared.need.Need.TheVariants as needs
+
+-- what isn't an outcome has its reason whatever was pending as the run began
+why_commit : (entry b : Meaning) (c : Course) (event : Event) → WhyCommit event b c → WhyEvent event entry b c
+why_commit entry b c (events.Begin names) why = absurd why
+why_commit entry b c (events.Accept id action) why = absurd why
+why_commit entry b c (events.Intend id intent) why = why
+why_commit entry b c (events.Settle id outcome) why = absurd why
+why_commit entry b c (events.Learn name delta) why = tt
+
+reason_by : (entry : Meaning) (p : Player) (b : Meaning) (w : World) (event : Event) (need : Need) → p.resumed ≡ is_open entry b →
+    IsAllowed need p b w → Records need event → WhyEvent event entry b w.course
+reason_by entry p b w event (needs.Select name) same ok is = absurd is
+reason_by entry p b w event (needs.Ask command) same ok is = absurd is
+reason_by entry p b w event (needs.Commit other) same ok is =
+    subst (λ (x : Event). WhyEvent x entry b w.course) (sym is) (why_commit entry b w.course other ok.1)
+reason_by entry p b w event (needs.Settle n outcome) same ok is =
+    subst (λ (x : Event). WhyEvent x entry b w.course) (sym is) (subst (λ (r : Bool). WhyOutcome outcome r b w.course) same ok.1)
+reason_by entry p b w event (needs.Send n command) same ok is = absurd is
+reason_by entry p b w event needs.Finished same ok is = absurd is
+
+-- what is needed is an event of playback
+pub of_playback : (p : Player) (b : Meaning) (event : Event) → Records (need_of p b) event → IsPlayEvent event
+of_playback p b event is = by (recorded p b event is)
+  where
+    by : IsRecorded p b event → IsPlayEvent event
+    by (inl x) = subst IsPlayEvent (sym x.is) tt
+    by (inr (inl x)) = subst IsPlayEvent (sym x.is) tt
+    by (inr (inr x)) = subst IsPlayEvent (sym x.is) tt
+
+-- Beside a kept book, while the player knows the connection.
+module _ (p : Player) (b : Meaning) (event : Event) (made old : Clock) (permits : Option Permits)
+    (stands : StandsKept b old) (known : KnownAt made old permits p b) (needed : Records (need_of p b) event) where
+  abbrev W : World
+  W = known.world
+
+  kept : KeptBook b W.course.now W.waiting
+  kept = kept_told b W old.now.outside (tells_peer W made old known.tells) (kept_here b old.now stands.kept stands.books)
+
+  allowed : IsAllowed (need_of p b) p b W
+  allowed = allowed_need p b W kept known.owed known.knows
+
+  -- the event is permitted beside the server as it is
+  pub permitted_now : Permitted (Some b) event old.now.outside.server old.now.outside.waiting
+  permitted_now =
+      subst (λ (o : Option Waiting). Permitted (Some b) event old.now.outside.server o) known.tells.waits
+      (subst (λ (s : Server). Permitted (Some b) event s W.waiting) known.tells.server (permitted_by p b W event (need_of p b) allowed needed))
+
+  -- so each moment of its record is kept and joined
+  pub takes_joined : (version : Version) (new : Clock) → MayCome version (Some b) event → Takes mail (Some b) event old new →
+      StaysJoined mail Kept played old new
+  takes_joined version new may takes =
+      takes_stays mail one_mail_event Kept played withstood version (Some b) event old new may permitted_now stands.kept takes
+
+  -- and it has its reason
+  pub true_event : (entry : Meaning) → IsEntered entry p b → IsLawful b event → TrueEvent event entry b made old
+  true_event entry entered lawful = record {
+    of_play = of_playback p b event needed;
+    lawful = lawful;
+    books = stands.books;
+    course = W.course;
+    is_course = known.knows.course;
+    first = known.tells.first;
+    last = known.tells.server;
+    each = known.tells.each;
+    answered = known.tells.answered;
+    why = reason_by entry p b W event (need_of p b) entered.same allowed needed;
+  }
+
+-- what is needed may come next, and has a record
+ready_by : (p : Player) (b : Meaning) (event : Event) (need : Need) → IsLawfulNeed need p b → Records need event → IsReadyEvent b event
+ready_by p b event (needs.Select name) lawful is = absurd is
+ready_by p b event (needs.Ask command) lawful is = absurd is
+ready_by p b event (needs.Commit other) lawful is = subst (IsReadyEvent b) (sym is) lawful
+ready_by p b event (needs.Settle n outcome) lawful is = subst (IsReadyEvent b) (sym is) lawful
+ready_by p b event (needs.Send n command) lawful is = absurd is
+ready_by p b event needs.Finished lawful is = absurd is
+
+pub ready : (p : Player) (b : Meaning) (event : Event) → IsFold b → IsBeside p b → Records (need_of p b) event → IsReadyEvent b event
+ready p b event fold beside is = ready_by p b event (need_of p b) (lawful_need parts p b (fold_sound b fold) beside) is
+
+-- each version of a journal has the same rules
+any_version : (v w : Rules) (b : Meaning) (event : Event) → first_broken v b event ≡ None → first_broken w b event ≡ None
+any_version v w b (events.Begin names) unbroken = unbroken
+any_version v w b (events.Accept id action) unbroken = unbroken
+any_version v w b (events.Intend id intent) unbroken = unbroken
+any_version v w b (events.Settle id outcome) unbroken = unbroken
+any_version v w b (events.Learn name delta) unbroken = unbroken
+
+pub may_come : (version : Version) (p : Player) (b : Meaning) (event : Event) → IsFold b → IsBeside p b → Records (need_of p b) event →
+    MayCome version (Some b) event
+may_come version p b event fold beside is =
+    let lawful = (ready p b event fold beside is).lawful in
+    any_version lawful.version (rules_of version) b event lawful.unbroken
+
+-- what the player knows behind the record, of the store's book and the player as they are
+pub known_then : (p q : Player) (b c : Meaning) (event : Event) → c ≡ after b event → q ≡ committed p c → (made new : Clock)
+    (permits : Option Permits) → KnownAt made new permits (committed p (after b event)) (after b event) → KnownAt made new permits q c
+known_then p q b c event is goes made new permits known =
+    subst (λ (x : Player). KnownAt made new permits x c) (sym goes)
+    (subst (λ (m : Meaning). KnownAt made new permits (committed p m) m) (sym is) known)

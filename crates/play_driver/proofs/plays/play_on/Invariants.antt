@@ -1,0 +1,66 @@
+-- What is so of the turns from the first one to the last one so far.
+use Rattle.std.proofs.Common.{◌≡◌, ◌≤◌, ◌<◌, ◌+◌, ◌*◌, IsTrue}
+use Rattle.action_queue.specs.Book.{Meaning}
+use Rattle.imap_session.specs.Session.{Follows, Stands}
+use Rattle.journal_core.specs.OneSide.{EachOneSide}
+use Rattle.playback.specs.Choosing.{IsEntered}
+use Rattle.playback.specs.Kept.{Kept}
+use Rattle.playback.specs.Left.{left}
+use Rattle.playback.specs.Needs.{IsBeside}
+use Rattle.playback.specs.Worlds.{name_of}
+use Rattle.store_core.specs.Fold.{IsFold}
+use Rattle.store_core.specs.Holding.{IsAsLeft}
+use Rattle.store_core.specs.Mail.{mail}
+use Rattle.world_traits.specs.Links.{Any}
+use Rattle.world_traits.specs.Moments.{Clock, Since}
+use Rattle.play_driver.specs.Joining.{AllFair, Grows, IsKept}
+use Rattle.play_driver.specs.KnownAt.{KnownAt}
+use Rattle.play_driver.specs.Played.{played}
+use Rattle.play_driver.specs.Progress.{IsLater, Progresses}
+use Rattle.play_driver.specs.Questioning.{TalkStep}
+use Rattle.play_driver.specs.Running.{RunsBetween}
+use Rattle.play_driver.specs.Sessions.{count_of, feed_of, permits_in, selected_in}
+use Rattle.play_driver.specs.Settled.{IsSyncedSoFar}
+use Rattle.play_driver.specs.TrueRecords.{IsTrueSince}
+use Rattle.play_driver.specs.Turning.{standing_of}
+use Rattle.play_driver.proofs.ManyTurns.{GoneOn}
+use Rattle.play_driver.proofs.plays.play_on.Given as goal
+
+abbrev pub invariant-loop-at : goal.invariant-loop-at
+invariant-loop-at g l = record {
+  fold : IsFold l.store.book;
+  beside : IsBeside l.player l.store.book;
+  selected : name_of l.player.selected ≡ selected_in l.at;
+  room : count_of l.at + 2 * left l.player l.store.book + 3 < 4294967295;
+  follows : g.W.Clocked.tells_files → Follows (g.W.Clocked.link l.world).connection (feed_of l.at);
+  stands : g.W.Clocked.tells_server →
+      Stands (selected_in l.at) (g.W.Clocked.clock l.world) (g.W.Clocked.link l.world).connection (feed_of l.at);
+  sound : IsTrue l.store.journal.failed → ⊥;
+  left : g.W.Clocked.tells_files → IsAsLeft mail l.store (g.W.Clocked.clock l.world).now (g.W.Disk.seen l.world);
+  progress : g.W.Clocked.tells_files → Progresses l.fn.store.book (g.W.Clocked.clock l.fn.world) (g.W.Clocked.clock l.world);
+  later : IsLater l.fn.store.book l.store.book;
+  gone : g.W.Clocked.tells_server → (made : Clock) → IsKept mail Kept (g.W.Clocked.clock l.fn.world).now →
+      KnownAt made (g.W.Clocked.clock l.fn.world) (permits_in l.fn.session) l.fn.player l.fn.store.book →
+      AllFair mail played (g.W.Clocked.clock l.fn.world) (g.W.Clocked.clock l.world) →
+      GoneOn made (g.W.Clocked.clock l.fn.world) (g.W.Clocked.clock l.world) (permits_in l.at) l.player l.store.book;
+  entered : (entry : Meaning) → IsEntered entry l.fn.player l.fn.store.book → IsEntered entry l.player l.store.book;
+  truly : g.W.Clocked.tells_server → (made : Clock) (entry : Meaning) → IsKept mail Kept (g.W.Clocked.clock l.fn.world).now →
+      KnownAt made (g.W.Clocked.clock l.fn.world) (permits_in l.fn.session) l.fn.player l.fn.store.book →
+      AllFair mail played (g.W.Clocked.clock l.fn.world) (g.W.Clocked.clock l.world) → IsEntered entry l.fn.player l.fn.store.book →
+      IsTrueSince entry made (g.W.Clocked.clock l.fn.world) l.fn.store.book → IsTrueSince entry made (g.W.Clocked.clock l.world) l.store.book;
+  synced : g.W.Clocked.tells_server → (made start : Clock) → Grows start (g.W.Clocked.clock l.fn.world) →
+      IsKept mail Kept (g.W.Clocked.clock l.fn.world).now →
+      KnownAt made (g.W.Clocked.clock l.fn.world) (permits_in l.fn.session) l.fn.player l.fn.store.book →
+      AllFair mail played (g.W.Clocked.clock l.fn.world) (g.W.Clocked.clock l.world) →
+      IsSyncedSoFar start (g.W.Clocked.clock l.fn.world) l.fn.player l.fn.store.book →
+      IsSyncedSoFar start (g.W.Clocked.clock l.world) l.player l.store.book;
+  runs : g.W.Clocked.tells_files → RunsBetween
+      (standing_of (g.W.Clocked.link l.fn.world) l.fn.session l.fn.store l.fn.player) (standing_of (g.W.Clocked.link l.world) l.at l.store l.player);
+  each_one_side : g.W.Clocked.tells_files → EachOneSide (g.W.Clocked.clock l.fn.world) (g.W.Clocked.clock l.world);
+  talks : g.W.Clocked.tells_server → Since Any TalkStep (g.W.Clocked.clock l.fn.world) (g.W.Clocked.clock l.world);
+  disk_count : g.W.Clocked.disk_faults l.fn.world ≤ g.W.Clocked.disk_faults l.world;
+  link_count : (g.W.Clocked.link l.fn.world).faults ≤ (g.W.Clocked.link l.world).faults;
+}
+
+abbrev pub decreases-loop-at : goal.decreases-loop-at
+decreases-loop-at g l = left l.player l.store.book

@@ -1,0 +1,17 @@
+-- What is so between the mail book and a server while actions are played.
+use Rattle.imap_model.specs.Talking.{Peer}
+use Rattle.imap_model.specs.declared.server.Server.{Server}
+use Rattle.action_queue.specs.Book.{Meaning}
+use Rattle.std.specs.Prelude.{Option}
+use Rattle.store_core.specs.Mail.{mail}
+use Rattle.play_driver.specs.Machine.{Machine}
+use Rattle.playback.specs.Of.{IsOf}
+use Rattle.playback.specs.Permitted.{Permits}
+use Rattle.playback.specs.Polite.{SparesBook}
+
+-- others spare the books
+abbrev pub SparesFrom : Option Meaning → Peer → Server → Type 0
+SparesFrom b p t = SparesBook p.server.boxes t.boxes b
+
+abbrev pub played : Machine mail
+played = record { Permits = Permits; MaySend = IsOf; Spares = SparesFrom }

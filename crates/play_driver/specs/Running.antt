@@ -1,0 +1,95 @@
+-- A run's turns, one behind the other, and how many mailboxes it selects (this client's profile of RFC 4549, section 4.2).
+use Rattle.std.specs.Prelude.{◌≡◌, ◌≤◌, ◌<◌, ℕ, ◌+◌, ◌*◌, Option, Some, None, length}
+use Rattle.std.specs.declared.alloc.Global.{Global}
+use Rattle.action_queue.specs.Book.{Meaning}
+use Rattle.action_queue.specs.declared.event.Event.{Event}
+use Rattle.action_queue.specs.declared.event.Event.TheVariants as events
+use Rattle.playback.specs.Choosing.{begun_with}
+use Rattle.playback.specs.Left.{left, unsettled}
+use Rattle.playback.specs.declared.finding.Resynced.{Resynced}
+use Rattle.playback.specs.declared.need.Need.{Need}
+use Rattle.playback.specs.declared.need.Need.TheVariants as needs
+use Rattle.playback.specs.declared.player.Player.{Player}
+use Rattle.store_core.specs.Holding.{Holding}
+use Rattle.store_core.specs.Mail.{mail}
+use Rattle.play_driver.specs.Stages.{Stage}
+use Rattle.play_driver.specs.Turning.{Standing, TurnFails, Turns, need_at}
+use Rattle.play_driver.specs.declared.fault.PlayFault.{PlayFault}
+use Rattle.play_driver.specs.declared.fault.PlayFault.TheVariants as faults
+use Rattle.world_traits.specs.LinkState.{LinkState}
+
+-- how many mailboxes are selected for a need
+abbrev pub selects_for : Need → ℕ
+selects_for (needs.Select name) = 1
+selects_for (needs.Ask command) = 0
+selects_for (needs.Commit event) = 0
+selects_for (needs.Settle n outcome) = 0
+selects_for (needs.Send n command) = 0
+selects_for needs.Finished = 0
+
+-- how many deltas of mailboxes are recorded with an event
+abbrev pub learns_by : Event → ℕ
+learns_by (events.Begin names) = 0
+learns_by (events.Accept id action) = 0
+learns_by (events.Intend id intent) = 0
+learns_by (events.Settle id outcome) = 0
+learns_by (events.Learn name delta) = 1
+
+-- and for a need
+abbrev pub learns_for : Need → ℕ
+learns_for (needs.Select name) = 0
+learns_for (needs.Ask command) = 0
+learns_for (needs.Commit event) = learns_by event
+learns_for (needs.Settle n outcome) = 0
+learns_for (needs.Send n command) = 0
+learns_for needs.Finished = 0
+
+-- The turns from one standing to another, in which so many mailboxes were selected and so many deltas recorded. What is left falls with
+-- each of them.
+pub data RunsTo (p : Standing) : Standing → ℕ → ℕ → Type 0 where
+  rests : RunsTo p p 0 0
+  turns : (q r : Standing) (selects learns : ℕ) → RunsTo p q selects learns → Turns q r →
+      left r.player r.store.book < left q.player q.store.book → RunsTo p r (selects + selects_for (need_at q)) (learns + learns_for (need_at q))
+
+-- the standing in which a run's turns begin: it has entered, and nothing is selected
+abbrev pub first_standing : Global → Stage → Holding mail → Standing
+first_standing alloc stage store = record {
+  stage = stage;
+  selected = None;
+  permits = None;
+  store = store;
+  player = begun_with alloc store.book;
+}
+
+-- With what is needed next, a run selects at most as many mailboxes as there are unsettled actions and mailboxes in the book with which it
+-- began, and records at most one delta for each.
+pub record IsShort (b : Meaning) (selects learns : ℕ) (need : Need) : Type 0 where
+  pub few : selects + selects_for need ≤ unsettled b.queue + length b.boxes
+  pub once : learns + learns_for need ≤ selects
+
+-- a delta is still to be recorded
+abbrev pub pending_in : Option Resynced → ℕ
+pending_in None = 0
+pending_in (Some told) = 1
+
+-- So it stays from turn to turn, where at first there were so many actions and mailboxes: with each SELECT eight less are left of the
+-- replies and records that a run may have.
+pub record StaysShort (most selects learns : ℕ) (p : Player) (b : Meaning) : Type 0 where
+  pub room : 8 * selects + left p b ≤ 8 * most + 14
+  pub few : selects ≤ most
+  pub once : learns + pending_in p.learns ≤ selects
+
+-- The turns from one standing to another, and how few they are.
+pub record RunsBetween (p q : Standing) : Type 0 where
+  pub selects : ℕ
+  pub learns : ℕ
+  pub runs : RunsTo p q selects learns
+  pub short : (most : ℕ) → StaysShort most 0 0 p.player p.store.book → StaysShort most selects learns q.player q.store.book
+
+-- Behind some turns one failed. The store is the one that they made; where the disk failed it has that one's book.
+pub record StopsBehind (p : Standing) (store : Holding mail) (link : LinkState) (fault : PlayFault) : Type 0 where
+  pub at : Standing
+  pub came : RunsBetween p at
+  pub fails : TurnFails at link fault
+  pub same : store.book ≡ at.store.book
+  pub still : (fault ≡ faults.Disk → ⊥) → store ≡ at.store
