@@ -11,7 +11,6 @@ use Rattle.journal_core.specs.Reading.{AnyWrong}
 use Rattle.journal_core.proofs.Choice.{open_head}
 use Rattle.journal_core.proofs.Unique.{one_book}
 use Rattle.action_queue.specs.Book.{Meaning}
-use Rattle.action_queue.specs.Queues.{AllSettled}
 use Rattle.action_queue.specs.Rules.{is_unknown}
 use Rattle.action_queue.specs.declared.event.Event.{Event}
 use Rattle.store_core.specs.Mail.{mail}
@@ -19,13 +18,12 @@ use Rattle.store_core.specs.Books.{HasBook}
 use Rattle.store_core.proofs.Folding.{one_held}
 use Rattle.store_core.proofs.MailBook.{one_mail_event}
 use Rattle.store_core.proofs.Wholeness.{never_both}
-use Rattle.mail_top.specs.Ending.{Ends, EndsInit, EndsAct, EndsRows, EndsQueue, EndsPlay, EndsRequest, IsDone, IsLater, IsTakable, IsListable}
-use Rattle.mail_top.specs.Ending.{HasWaiting}
+use Rattle.mail_top.specs.Ending.{Comes, Ends, EndsInit, EndsAct, EndsRows, EndsQueue, EndsRequest, IsDone, IsTakable, IsListable}
 use Rattle.mail_top.specs.Runs.{AreBook}
 use Rattle.mail_top.specs.Saying.{SaysRefused, SaysUnknown, SaysFull, PassesPlace}
 use Rattle.mail_top.specs.Actions.{Becomes, accepts}
 use Rattle.mail_top.specs.Course.{Course, end_behind}
-use Rattle.mail_top.specs.Played.{CameThrough, SaysPlayed, SaysStopped}
+use Rattle.mail_top.specs.Played.{CameThrough}
 use Rattle.mail_top.specs.Printing.{IsSaid}
 use Rattle.mail_top.specs.Reasons.{IsFirst, Stops}
 use Rattle.conflict_report.specs.StatusLines.{limit_actions}
@@ -41,33 +39,31 @@ output_as account (Init names) k text ends = ends
 output_as account (Act wanted) k text ends = ends
 output_as account (Rows name) k text ends = ends
 output_as account Queue k text ends = ends
-output_as account Play k text ends = ends
+output_as account Play k text ends = inl ends
 
 module _ (account : Credentials) (words : List (List ℕ)) (input : List ℕ) (k : Course) where
   output_ends : (text : List ℕ) → Ends account words input k status.Done text → Ends account words input k status.Output text
   output_ends text (inl w) = absurd (let told = w.told in cc)
   output_ends text (inr s) = inr (record { request = s.request; asks = s.asks; ends = output_as account s.request k text s.ends })
 
-  -- no command of these ends with conflicts
-  with_conflicts : (text : List ℕ) → Ends account words input k status.Conflicts text → ⊥
-  with_conflicts text (inl s) = absurd (cc s.told)
-  with_conflicts text (inr s) = by_request s.request s.ends
+  -- nor does `play` with conflicts say less
+  conflicts_ends : (text : List ℕ) → Ends account words input k status.Conflicts text → Ends account words input k status.Output text
+  conflicts_ends text (inl s) = absurd (let told = s.told in cc)
+  conflicts_ends text (inr s) = inr (record { request = s.request; asks = s.asks; ends = by_request s.request s.ends })
     where
-      by_request : (request : Request) → EndsRequest account request k status.Conflicts text → ⊥
-      by_request (Init names) ends = ends.says
-      by_request (Act wanted) ends = ends.says
-      by_request (Rows name) ends = ends.says
-      by_request Queue ends = ends.says
-      by_request Play ends = ends
+      by_request : (request : Request) → EndsRequest account request k status.Conflicts text → EndsRequest account request k status.Output text
+      by_request (Init names) ends = absurd ends.says
+      by_request (Act wanted) ends = absurd ends.says
+      by_request (Rows name) ends = absurd ends.says
+      by_request Queue ends = absurd ends.says
+      by_request Play ends = inr ends
 
   pub said_ends : (r s : Status) (text : List ℕ) → IsSaid s r → Ends account words input k s text → Ends account words input k r text
   said_ends r s text (inl same) ends = subst (λ (t : Status). Ends account words input k t text) (sym same) ends
   said_ends r s text (inr (inl done, is)) ends = subst (λ (t : Status). Ends account words input k t text) (sym is)
       (output_ends text (subst (λ (t : Status). Ends account words input k t text) done ends))
-  said_ends r s text (inr (inr conflicts, is)) ends = absurd (with_conflicts text (subst (λ (t : Status). Ends account words input k t text) conflicts ends))
-
-  pub no_conflicts : (s : Status) (text : List ℕ) → Ends account words input k s text → s ≡ status.Conflicts → ⊥
-  no_conflicts s text ends is = with_conflicts text (subst (λ (t : Status). Ends account words input k t text) is ends)
+  said_ends r s text (inr (inr conflicts, is)) ends = subst (λ (t : Status). Ends account words input k t text) (sym is)
+      (conflicts_ends text (subst (λ (t : Status). Ends account words input k t text) conflicts ends))
 
 pub said_words : (r s : Status) (Q : Type 0) → IsSaid s r → ((s ≡ status.Words) ↔ Q) → (r ≡ status.Words) ↔ Q
 said_words r s Q (inl same) both = (λ is. both.0 (sym same ∙ is), λ q. same ∙ both.1 q)
@@ -97,30 +93,16 @@ said_input r s said is = said_as status.Input r s (λ e. cc e) said is
 pub said_reply : (r s : Status) → IsSaid s r → r ≡ status.Reply → s ≡ status.Reply
 said_reply r s said is = said_as status.Reply r s (λ e. cc e) said is
 
--- by these statuses alone a command came to its end
-through_as : (s : Status) → CameThrough s → (s ≡ status.Output → ⊥) → (s ≡ status.Conflicts → ⊥) → s ≡ status.Done
-through_as status.Done through other quiet = refl
-through_as status.Conflicts through other quiet = absurd (quiet refl)
-through_as status.Output through other quiet = absurd (other refl)
-through_as status.Words through other quiet = absurd through
-through_as status.Disk through other quiet = absurd through
-through_as status.Link through other quiet = absurd through
-through_as status.Refused through other quiet = absurd through
-through_as status.Reply through other quiet = absurd through
-through_as status.Lacking through other quiet = absurd through
-through_as status.Validity through other quiet = absurd through
-through_as status.Journal through other quiet = absurd through
-through_as status.Reason through other quiet = absurd through
-through_as status.Memory through other quiet = absurd through
-through_as status.Limit through other quiet = absurd through
-through_as status.Input through other quiet = absurd through
-through_as status.Later through other quiet = absurd through
+-- a command that came to its end did so before its text was printed
+pub said_through : (r s : Status) → IsSaid s r → CameThrough r → CameThrough s
+said_through r s (inl same) through = subst CameThrough same through
+said_through r s (inr (inl done, is)) through = subst CameThrough (sym done) tt
+said_through r s (inr (inr conflicts, is)) through = subst CameThrough (sym conflicts) tt
 
--- a command that came to its end was done, before its text was printed
-pub said_through : (r s : Status) → IsSaid s r → (s ≡ status.Output → ⊥) → (s ≡ status.Conflicts → ⊥) → CameThrough r → s ≡ status.Done
-said_through r s (inl same) other quiet through = through_as s (subst CameThrough same through) other quiet
-said_through r s (inr (inl done, is)) other quiet through = done
-said_through r s (inr (inr conflicts, is)) other quiet through = absurd (quiet conflicts)
+-- a status that comes comes also where its text wasn't printed
+pub said_comes : (r s : Status) → IsSaid s r → Comes s → Comes r
+said_comes r s (inl same) comes = subst Comes (sym same) comes
+said_comes r s (inr (ended, is)) comes = subst Comes (sym is) tt
 
 -- one book is held
 module _ (files : Files) (b c : Meaning) (holds : HasBook mail b files) (held : HasBook mail c files) where
@@ -273,38 +255,3 @@ module _ (account : Credentials) (words : List (List ℕ)) (input : List ℕ) (k
 
   pub completes_queue : Asks words input Queue → AreBook k.seen → IsDone r
   completes_queue asks t = queue_done k t r text (ended_as account words input k r text Queue asks ends cause).says no_disk no_output
-
--- `play` doesn't come to its end over an action that isn't settled
-module _ (account : Credentials) (k : Course) (w : HasWaiting k.seen) where
-  never_settled : (b : Meaning) → HasBook mail b k.seen → AllSettled b.queue → ⊥
-  never_settled b holds settled = w.waits (subst (λ (c : Meaning). AllSettled c.queue) (same_book k.seen b w.book holds w.holds) settled)
-
-  never_played : (text : List ℕ) → SaysPlayed account k text → ⊥
-  never_played text s = never_settled s.opened.book s.read.holds s.settled
-
-  never_stopped : (r : Status) (text : List ℕ) → SaysStopped account k r text → ⊥
-  never_stopped r text s = never_settled s.opened.book s.read.holds s.settled
-
-  play_waits : (r : Status) (text : List ℕ) → EndsPlay account k r text → (r ≡ status.Disk → ⊥) → IsLater r
-  play_waits status.Later text ends no_disk = inl refl
-  play_waits status.Memory text ends no_disk = inr refl
-  play_waits status.Done text ends no_disk = absurd (never_played text ends)
-  play_waits status.Output text ends no_disk = absurd (never_played text ends)
-  play_waits status.Disk text ends no_disk = absurd (no_disk refl)
-  play_waits status.Link text ends no_disk = absurd (never_stopped status.Link text ends)
-  play_waits status.Refused text ends no_disk = absurd (never_stopped status.Refused text ends)
-  play_waits status.Reply text ends no_disk = absurd (never_stopped status.Reply text ends)
-  play_waits status.Lacking text ends no_disk = absurd (never_stopped status.Lacking text ends)
-  play_waits status.Validity text ends no_disk = absurd (never_stopped status.Validity text ends)
-  play_waits status.Limit text ends no_disk = absurd (never_stopped status.Limit text ends)
-  play_waits status.Journal text ends no_disk = absurd (never_both mail one_mail_event w.book k.seen w.holds ends.says.why ends.says.broken)
-  play_waits status.Words text ends no_disk = absurd ends
-  play_waits status.Conflicts text ends no_disk = absurd ends
-  play_waits status.Reason text ends no_disk = absurd ends
-  play_waits status.Input text ends no_disk = absurd ends
-
-pub completes_later : (account : Credentials) (words : List (List ℕ)) (input : List ℕ) (k : Course) (r : Status) (text : List ℕ) →
-    Ends account words input k r text →
-    (r ≡ status.Words → AsksNothing words) → (r ≡ status.Disk → ⊥) → Asks words input Play → HasWaiting k.seen → IsLater r
-completes_later account words input k r text ends cause no_disk asks w =
-    play_waits account k w r text (ended_as account words input k r text Play asks ends cause) no_disk

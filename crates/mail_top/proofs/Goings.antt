@@ -9,9 +9,10 @@ use Rattle.action_queue.specs.Book.{Meaning}
 use Rattle.store_core.specs.Mail.{mail}
 use Rattle.store_core.specs.Books.{HasBook}
 use Rattle.mail_top.specs.Course.{Course}
-use Rattle.mail_top.specs.Ending.{Comes, EndsInit, EndsRows, EndsQueue, EndsPlay}
+use Rattle.mail_top.specs.Ending.{EndsInit, EndsRows, EndsQueue, EndsPlay}
 use Rattle.mail_top.specs.Going.{GoesBy, GoesAction, GoesRequest}
 use Rattle.mail_top.specs.Leaving.{MayBeLeft}
+use Rattle.mail_top.specs.Played.{CameThrough}
 use Rattle.mail_top.specs.Reading.{AsksAppend, Awaits, AwaitsAsked, AwaitsInput, AwaitsOn, IsAppend, IsInput, NeedsInput, TakesFront}
 use Rattle.mail_top.specs.Telling.{status_of}
 use Rattle.mail_top.specs.Words.{Wanted, Flag, Move, Append, Request, Init, Act, Rows, Queue, Play, Asks, AsksAction, HasFewFlags, addition_of}
@@ -81,20 +82,20 @@ few_asked words input (Append addition text) asks = asks.0.few
 pub nothing_taken : (rest : List ℕ) → TakesFront rest rest
 nothing_taken rest = record { count = 0; most = omega arith; taken = refl }
 
--- an action that is done was accepted
-done_action : {T : Type 0} (r : Result T Refusal) (P : Type 0) → status_of r ≡ status.Done → OnOk r P → P
+-- an action that came to its end was accepted
+done_action : {T : Type 0} (r : Result T Refusal) (P : Type 0) → CameThrough (status_of r) → OnOk r P → P
 done_action (Ok x) P is came = came
-done_action (Err refusals.Disk) P is came = absurd cc
-done_action (Err refusals.Memory) P is came = absurd cc
-done_action (Err refusals.Input) P is came = absurd cc
-done_action (Err refusals.Already) P is came = absurd cc
-done_action (Err (refusals.NotAJournal why)) P is came = absurd cc
-done_action (Err (refusals.Reason reason)) P is came = absurd cc
-done_action (Err refusals.Actions) P is came = absurd cc
-done_action (Err (refusals.Full end)) P is came = absurd cc
+done_action (Err refusals.Disk) P is came = absurd is
+done_action (Err refusals.Memory) P is came = absurd is
+done_action (Err refusals.Input) P is came = absurd is
+done_action (Err refusals.Already) P is came = absurd is
+done_action (Err (refusals.NotAJournal why)) P is came = absurd is
+done_action (Err (refusals.Reason reason)) P is came = absurd is
+done_action (Err refusals.Actions) P is came = absurd is
+done_action (Err (refusals.Full end)) P is came = absurd is
 
-pub action_done : {T : Type 0} (r : Result T Refusal) (s : Status) (P : Type 0) → s ≡ status_of r → s ≡ status.Done → OnOk r P → P
-action_done r s P status_is is came = done_action r P (sym status_is ∙ is) came
+pub action_done : {T : Type 0} (r : Result T Refusal) (s : Status) (P : Type 0) → s ≡ status_of r → CameThrough s → OnOk r P → P
+action_done r s P status_is is came = done_action r P (subst CameThrough status_is is) came
 
 -- an input that failed is told by its status
 input_refusal : {T : Type 0} (r : Result T Refusal) → status_of r ≡ status.Input → r ≡ Err refusals.Input
@@ -161,7 +162,3 @@ pub awaits_on : (P : Type 0) (wanted : Wanted) (files : Files) (b c : Meaning) �
 awaits_on P wanted files b c same holds (inl unread) = inl unread
 awaits_on P wanted files b c same holds (inr awaits) =
     inr (record { book = c; holds = holds; awaits = subst (λ (m : Meaning). Awaits wanted m) same awaits })
-
--- a status that comes isn't that of conflicts
-pub comes_without : (s : Status) → Comes s → s ≡ status.Conflicts → ⊥
-comes_without s comes is = subst Comes is comes

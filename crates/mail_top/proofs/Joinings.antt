@@ -11,18 +11,21 @@ use Rattle.action_queue.specs.Book.{Meaning}
 use Rattle.action_queue.specs.Writable.{IsWritable}
 use Rattle.action_queue.specs.declared.action.Action.{Action}
 use Rattle.action_queue.specs.declared.event.Event.{Event}
+use Rattle.playback.specs.Kept.{Kept}
+use Rattle.playback.specs.Permitted.{Permits}
 use Rattle.store_core.specs.Mail.{mail}
 use Rattle.store_core.specs.Steps.{Books, MakesFirm, Chooses, EachBook}
 use Rattle.store_core.proofs.MailBook.{one_mail_event}
-use Rattle.play_driver.specs.Joining.{IsKept, Joined, StaysJoined}
+use Rattle.play_driver.specs.Joining.{Joined}
 use Rattle.play_driver.specs.Machine.{Step}
 use Rattle.play_driver.specs.Machine.Step.{rests, begins, firm, chooses}
 use Rattle.play_driver.specs.States.{state_of}
-use Rattle.play_driver.specs.Unplayed.{MayBegin, Unplayed, unplayed}
+use Rattle.play_driver.specs.Played.{played}
 use Rattle.play_driver.proofs.Kept.{kept_books}
 use Rattle.play_driver.proofs.Steps.{joined_keeps}
-use Rattle.play_driver.proofs.Untouched.{unplayed_withstands}
+use Rattle.play_driver.proofs.PlayedKept.{withstood}
 use Rattle.mail_top.specs.Actions.{next_id, accepts}
+use Rattle.mail_top.specs.KeptNow.{IsKeptNow, StaysKept}
 use Rattle.mail_top.specs.Leaving.{IsDue, BeginsDue, RequestStep}
 use Rattle.mail_top.specs.Weighing.{Admits}
 use Rattle.mail_top.specs.Words.{Wanted, Request, Init, Act, Rows, Queue, Play, HasFewFlags}
@@ -49,55 +52,52 @@ action_records wanted few other b action is admits =
 
 -- an event that is due is permitted
 permitted : (request : Request) → (request ≡ Play → ⊥) → HasRecords request → (b : Option Meaning) (e : Event) (s : Server) (w : Option Waiting) →
-    IsDue request b e → Unplayed b s w → MayBegin b e s w
+    IsDue request b e → Kept b s w → Permits b e s w
 permitted (Init names) never writable b e s w due u =
-    let none = subst (λ (x : Option Meaning). Unplayed x s w) due.0 u in
-    subst (λ (x : Option Meaning). MayBegin x e s w) (sym due.0)
-    (subst (λ (y : Event). MayBegin None y s w) (sym due.1) (none.none_ours, none.no_change))
+    let none = subst (λ (x : Option Meaning). Kept x s w) due.0 u in
+    subst (λ (x : Option Meaning). Permits x e s w) (sym due.0)
+    (subst (λ (y : Event). Permits None y s w) (sym due.1) (none.none, none.quiet))
 permitted (Act wanted) never writable None e s w due u = absurd due
 permitted (Act wanted) never writable (Some b) e s w due u =
-    subst (λ (y : Event). MayBegin (Some b) y s w) (sym due.2) (writable wanted b due.0 refl due.1)
+    subst (λ (y : Event). Permits (Some b) y s w) (sym due.2) (writable wanted b due.0 refl due.1)
 permitted (Rows name) never writable b e s w due u = absurd due
 permitted Queue never writable b e s w due u = absurd due
 permitted Play never writable b e s w due u = absurd (never refl)
 
 module _ (request : Request) (never : request ≡ Play → ⊥) (writable : HasRecords request) where
-  abbrev Kept : Moment → Type 0
-  Kept m = IsKept mail Unplayed m
-
   -- a step of the books alone
   abbrev Here : Moment → Books mail → Books mail → Type 0
-  Here m x y = Step mail unplayed (state_of mail x m.outside) (state_of mail y m.outside)
+  Here m x y = Step mail played (state_of mail x m.outside) (state_of mail y m.outside)
 
-  begun_here : (m : Moment) (x y : Books mail) → EachBook mail (λ (b : Option Meaning). Unplayed b m.outside.server m.outside.waiting) x →
+  begun_here : (m : Moment) (x y : Books mail) → EachBook mail (λ (b : Option Meaning). Kept b m.outside.server m.outside.waiting) x →
       BeginsDue request x y → Here m x y
   begun_here m x y each d =
       let b = d.begins in
-      let here = subst (EachBook mail (λ (o : Option Meaning). Unplayed o m.outside.server m.outside.waiting)) b.firm each in
+      let here = subst (EachBook mail (λ (o : Option Meaning). Kept o m.outside.server m.outside.waiting)) b.firm each in
       subst (Here m x) (sym b.becomes)
       (begins d.version b.book d.event b.firm b.may
       (permitted request never writable b.book d.event m.outside.server m.outside.waiting d.due here))
 
-  step_here : (m : Moment) (x y : Books mail) → EachBook mail (λ (b : Option Meaning). Unplayed b m.outside.server m.outside.waiting) x →
+  step_here : (m : Moment) (x y : Books mail) → EachBook mail (λ (b : Option Meaning). Kept b m.outside.server m.outside.waiting) x →
       ((y ≡ x) ⊎ BeginsDue request x y ⊎ MakesFirm mail x y ⊎ ((first : Bool) × Chooses mail first x y)) → Here m x y
   step_here m x y each (inl same) = subst (Here m x) (sym same) rests
   step_here m x y each (inr (inl d)) = begun_here m x y each d
   step_here m x y each (inr (inr (inl f))) = subst (Here m x) (sym f.becomes) (firm f.before f.later f.begun)
   step_here m x y each (inr (inr (inr c))) = subst (Here m x) (sym c.1.becomes) (chooses c.0 c.1.before c.1.later c.1.begun)
 
-  request_joined : (m n : Moment) → Kept m → RequestStep request m n → Joined mail unplayed m n
+  request_joined : (m n : Moment) → IsKeptNow m → RequestStep request m n → Joined mail played m n
   request_joined m n kept s = record {
     old = s.old;
     new = s.new;
     at_old = s.at_old;
     at_new = s.at_new;
-    step = subst (λ (p : Peer). Step mail unplayed (state_of mail s.old m.outside) (state_of mail s.new p)) (sym (outside_same request m n never s.outside))
-        (step_here m s.old s.new (kept_books mail Unplayed one_mail_event s.old m kept s.at_old) s.step);
+    step = subst (λ (p : Peer). Step mail played (state_of mail s.old m.outside) (state_of mail s.new p)) (sym (outside_same request m n never s.outside))
+        (step_here m s.old s.new (kept_books mail Kept one_mail_event s.old m kept s.at_old) s.step);
   }
 
-  pub request_joins : (k l : Clock) → Kept k.now → Since Any (RequestStep request) k l → StaysJoined mail Unplayed unplayed k l
+  pub request_joins : (k l : Clock) → IsKeptNow k.now → Since Any (RequestStep request) k l → StaysKept k l
   request_joins k l kept s fair =
-      since_weaker (λ m. Any m × Kept m) Kept (λ m n. Kept m × RequestStep request m n) (Joined mail unplayed) (λ m p. p.1)
+      since_weaker (λ m. Any m × IsKeptNow m) IsKeptNow (λ m n. IsKeptNow m × RequestStep request m n) (Joined mail played) (λ m p. p.1)
       (λ m n p. request_joined m n p.0 p.1) k l
-      (since_carry Any Kept (RequestStep request)
-      (λ m n any step here. joined_keeps mail unplayed Unplayed unplayed_withstands one_mail_event m n (request_joined m n here step) here) k kept l s)
+      (since_carry Any IsKeptNow (RequestStep request)
+      (λ m n any step here. joined_keeps mail played Kept withstood one_mail_event m n (request_joined m n here step) here) k kept l s)

@@ -5,10 +5,11 @@ pub mod Endings
 pub mod Goings
 pub mod Inputs
 pub mod Joinings
-pub mod Learnings
+pub mod Losing
 pub mod Moving
 pub mod Naming
 pub mod Openings
+pub mod PlaySteps
 pub mod Recording
 pub mod Repeated
 pub mod Sayings

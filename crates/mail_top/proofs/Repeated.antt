@@ -20,6 +20,7 @@ use Rattle.action_queue.specs.Book.{Meaning, after, begun, cache_at, learned, pu
 use Rattle.action_queue.specs.declared.book.Known.{Known}
 use Rattle.action_queue.specs.Events.{next_book}
 use Rattle.action_queue.specs.declared.event.Event.{Event}
+use Rattle.action_queue.specs.declared.event.Event.TheVariants as events
 use Rattle.action_queue.specs.declared.queued.Queued.{Queued}
 use Rattle.store_core.specs.Mail.{mail, MayCome}
 use Rattle.store_core.specs.Books.{HasBook, HoldsBook}
@@ -30,6 +31,7 @@ use Rattle.store_core.proofs.Folding.{one_held}
 use Rattle.store_core.proofs.Holds.{within_keeps_actions}
 use Rattle.store_core.proofs.MailBook.{one_mail_event}
 use Rattle.store_core.proofs.Opens.{stop_chooses}
+use Rattle.play_driver.specs.Progress.{IsPlayEvent}
 use Rattle.mail_top.specs.Saying.{SaysAccepted}
 use Rattle.mail_top.specs.Actions.{accepts}
 use Rattle.mail_top.specs.Course.{Course}
@@ -141,7 +143,7 @@ module _ (words : List (List ℕ)) (input : List ℕ) (seen : Files) (entry : Mo
   left_ready Queue m w = within_ready m w
   left_ready Play m (inl w) = within_ready m w
   left_ready Play m (inr p) = record {
-    each = λ files h. let held = p.learning.each files h in inr (book_as held.book files held.holds);
+    each = λ files h. let held = p.playing.each files h in inr (book_as held.book files held.holds);
   }
 
   way_ready : (m : Moment) → OnTheWay words input entry seen m → Images AreUnbegunOrBook m
@@ -175,12 +177,12 @@ same_held_book (Some b) (Some c) files p q = ap Some (one_held mail one_mail_eve
 module _ (P : Option Meaning → Type 0)
     (grows : (request : Request) (v : Version) (b : Option Meaning) (e : Event) → MayCome v b e → IsDue request b e → P b → P (Some (next_book b e))) where
   -- each image holds such a book
-  record Held (files : Files) : Type 0 where
-    book : Option Meaning
-    holds : HoldsBook mail book files
-    has : P book
+  pub record Held (files : Files) : Type 0 where
+    pub book : Option Meaning
+    pub holds : HoldsBook mail book files
+    pub has : P book
 
-  images_of : (x : Books mail) (m : Moment) → HasBooks mail x m → EachBook mail P x → Images Held m
+  pub images_of : (x : Books mail) (m : Moment) → HasBooks mail x m → EachBook mail P x → Images Held m
   images_of (Firm b) m have each = record { each = λ files h. record { book = b; holds = have.each.each files h; has = each } }
   images_of (Begun b c) m have each = record {
     each = λ files h. ⊎_elim (λ (p : HoldsBook mail b files). record { book = b; holds = p; has = each.0 })
@@ -191,7 +193,7 @@ module _ (P : Option Meaning → Type 0)
   of_occurring b m images o =
       let h = images.each o.files o.leaves in subst P (same_held_book h.book b o.files h.holds o.has) h.has
 
-  each_of : (x : Books mail) (m : Moment) → HasBooks mail x m → Images Held m → EachBook mail P x
+  pub each_of : (x : Books mail) (m : Moment) → HasBooks mail x m → Images Held m → EachBook mail P x
   each_of (Firm b) m have images = of_occurring b m images have.some
   each_of (Begun b c) m have images = (of_occurring b m images have.before, of_occurring c m images have.after)
 
@@ -213,7 +215,7 @@ module _ (P : Option Meaning → Type 0)
       let both = subst (EachBook mail P) c.begun each in
       subst (EachBook mail P) (sym c.becomes) (chosen_has first c.before c.later both.0 both.1)
 
-  step_has : (request : Request) (m n : Moment) (s : RequestStep request m n) → EachBook mail P s.old → EachBook mail P s.new
+  pub step_has : (request : Request) (m n : Moment) (s : RequestStep request m n) → EachBook mail P s.old → EachBook mail P s.new
   step_has request m n s each = by_step s.step
     where
       by_step : (s.new ≡ s.old) ⊎ BeginsDue request s.old s.new ⊎ MakesFirm mail s.old s.new ⊎ ((first : Bool) × Chooses mail first s.old s.new) →
@@ -307,6 +309,14 @@ put_names : (name : List ℕ) (cache : Option Cache) (ks : List Known) → names
 put_names name cache [] = refl
 put_names name cache (k ∷ ks) = put_at k cache ks (put_cache name cache ks) (bytes_eq k.name name) (put_names name cache ks)
 
+-- nor does an event of playback change them
+play_names : (names : List (List ℕ)) (b : Meaning) (e : Event) → IsPlayEvent e → HasNames names (Some b) → HasNames names (Some (after b e))
+play_names names b (events.Begin others) of_play has = absurd of_play
+play_names names b (events.Accept id action) of_play has = absurd of_play
+play_names names b (events.Intend id intent) of_play has = has
+play_names names b (events.Settle id outcome) of_play has = has
+play_names names b (events.Learn name delta) of_play has = put_names name (Some (learned (cache_at name b.boxes) delta)) b.boxes ∙ has
+
 -- an event that may be begun behind a book leaves its mailboxes
 names_stay : (names : List (List ℕ)) (request : Request) (b : Option Meaning) (e : Event) → IsDue request b e → HasNames names b →
     HasNames names (Some (next_book b e))
@@ -315,8 +325,7 @@ names_stay names (Init others) (Some b) e due has = absurd (let is = due.0 in cc
 names_stay names (Act wanted) (Some b) e due has = subst (λ (x : Event). HasNames names (Some (after b x))) (sym due.2) has
 names_stay names (Rows name) (Some b) e due has = absurd due
 names_stay names Queue (Some b) e due has = absurd due
-names_stay names Play (Some b) e due has = subst (λ (x : Event). HasNames names (Some (after b x))) (sym due.2)
-    (put_names due.0 (Some (learned (cache_at due.0 b.boxes) due.1)) b.boxes ∙ has)
+names_stay names Play (Some b) e due has = play_names names b e due has
 
 pub follows_names : (names : List (List ℕ)) (first last : Moment) → IsReady (HasNames names) first → Follows first last → IsReady (HasNames names) last
 follows_names names first last was follows =

@@ -1,6 +1,6 @@
 -- How `play` ends at each of its ends, and what its texts tell.
-use Rattle.std.proofs.Common.{◌≡◌, inl, inr, ℕ, zero, suc, ◌+◌, List, Some, Result, Ok, Err, refl, sym, ◌∙◌, ap, subst}
-use Rattle.std.specs.Prelude.{IfOk, OnOk}
+use Rattle.std.proofs.Common.{◌≡◌, inl, inr, ℕ, zero, suc, List, Some, Result, Ok, Err, refl, sym, ◌∙◌, ap, subst}
+use Rattle.std.specs.Prelude.{OnOk}
 use Rattle.std.specs.Result.{IsErrAnd}
 use Rattle.mail_base.specs.Account.{Credentials}
 use Rattle.mail_base.specs.declared.status.Status.{Status}
@@ -9,10 +9,8 @@ use Rattle.world_traits.specs.Files.{Files}
 use Rattle.world_traits.specs.LinkState.{LinkState}
 use Rattle.world_traits.specs.Moments.{Moment, Within}
 use Rattle.journal_core.specs.declared.fault.Place9.{Place9}
-use Rattle.mailbox_cache.specs.declared.delta.Delta.{Delta}
-use Rattle.action_queue.specs.Book.{Meaning}
-use Rattle.action_queue.specs.Queues.{AllSettled, due}
-use Rattle.action_queue.specs.declared.event.Event.TheVariants as events
+use Rattle.action_queue.specs.Queues.{AllSettled}
+use Rattle.action_queue.specs.declared.event.Event.{Event}
 use Rattle.store_core.specs.Mail.{mail}
 use Rattle.store_core.specs.Broken.{IsBroken}
 use Rattle.store_core.specs.Holding.{Holding, IsAsLeft}
@@ -20,19 +18,20 @@ use Rattle.store_core.specs.Taking.{IsTaking}
 use Rattle.store_core.specs.declared.fault.StoreFault.{StoreFault}
 use Rattle.store_core.specs.declared.fault.StoreFault.TheVariants as stores
 use Rattle.store_core.proofs.Choosing.{only_left}
-use Rattle.play_driver.specs.Learning.{IsLearning}
+use Rattle.play_driver.specs.Counted.{played_since}
 use Rattle.play_driver.specs.Playing.{Plays, EndsEarly}
+use Rattle.play_driver.specs.Progress.{IsLater, IsPlayEvent, IsPlaying}
 use Rattle.play_driver.specs.declared.fault.PlayFault.{PlayFault}
 use Rattle.play_driver.specs.declared.fault.PlayFault.TheVariants as faults
+use Rattle.play_driver.specs.declared.fault.Why.{Why}
 use Rattle.play_driver.specs.declared.fault.Why.TheVariants as whys
 use Rattle.play_driver.specs.declared.played.Played.{Played}
-use Rattle.mail_top.specs.Course.{Course, Stays, OnFiles}
+use Rattle.mail_top.specs.Course.{Course}
 use Rattle.mail_top.specs.Ending.{Comes, EndsPlay, EndsRequest}
 use Rattle.mail_top.specs.Faults.{of_store}
-use Rattle.mail_top.specs.Played.{IsOpened, SaysLater, SaysStopped}
+use Rattle.mail_top.specs.Played.{CameThrough, IsOpened, SaysPlayed, SaysStopped}
 use Rattle.mail_top.specs.Telling.{TellsNoPlace, status_of, status_of_refusal, status_of_fault, text_of_fault}
 use Rattle.mail_top.specs.Telling.{status_of_conflicts, status_of_play, text_of_play}
-use Rattle.conflict_report.specs.StatusLines.{error_later}
 use Rattle.mail_top.specs.Words.{Wanted, Request, Init, Act, Rows, Queue, Play}
 use Rattle.mail_top.specs.declared.refusal.Refusal.{Refusal}
 use Rattle.mail_top.specs.declared.refusal.Refusal.TheVariants as refusals
@@ -70,15 +69,6 @@ unopened_play account k o r x was given link within reads only broken =
     back : o ≡ Err stores.Disk → x ≡ stores.Disk
     back is = cc (was, is)
 
--- an action waits
-pub later_play : (account : Credentials) (k : Course) (b : Meaning) (first : ℕ) → k.link_after ≡ k.link → Within k.old.now k.new.now → Stays k b →
-    (AllSettled b.queue → ⊥) → first ≡ due b.queue + 1 → OnFiles k (SaysLater k (error_later first))
-later_play account k b first link within stays waits is = record {
-  link = link;
-  outside = within.outside;
-  says = record { book = b; stays = stays; waits = waits; text_is = ap error_later is };
-}
-
 -- the store that was opened on the files
 pub is_opened : (k : Course) (store : Holding mail) (m : Moment) (seen : Files) → Within k.old.now m → IsAsLeft mail store m seen → seen ≡ k.seen →
     IsOpened k store
@@ -90,21 +80,30 @@ is_opened k store m seen within left same = record {
 }
 
 -- the run came to its end
-pub played_play : (account : Credentials) (k : Course) (opened store : Holding mail) (p : Played) → IsOpened k opened → AllSettled opened.book.queue →
-    Plays account opened store k.link_after → IsAsLeft mail store k.new.now k.seen_after → p ≡ record { settled = 0; conflicts = 0 } →
-    EndsPlay account k (status_of_play (Ok p)) (text_of_play (Ok p))
-played_play account k opened store p read settled plays left is =
-    subst (λ (q : Played). EndsPlay account k (status_of_play (Ok q)) (text_of_play (Ok q))) (sym is) (record {
-      opened = opened;
-      read = read;
-      settled = settled;
-      store = store;
-      plays = plays;
-      left = left;
-      holds = opened_book store k.new.now k.seen_after k.seen_after left refl;
-      leaves = only_left mail store k.new.now k.seen_after left;
-      text_is = refl;
-    })
+module _ (account : Credentials) (k : Course) (opened store : Holding mail) (p : Played) (read : IsOpened k opened)
+    (plays : Plays account opened store k.link_after) (later : IsLater opened.book store.book) (settled : AllSettled store.book.queue)
+    (left : IsAsLeft mail store k.new.now k.seen_after) (is : p ≡ played_since opened.book store.book) where
+  says_played : SaysPlayed account k (status_of_play (Ok p)) (text_of_play (Ok p))
+  says_played = record {
+    opened = opened;
+    read = read;
+    store = store;
+    plays = plays;
+    later = later;
+    settled = settled;
+    left = left;
+    holds = opened_book store k.new.now k.seen_after k.seen_after left refl;
+    leaves = only_left mail store k.new.now k.seen_after left;
+    status_is = ap (λ (q : Played). status_of_play (Ok q)) is;
+    text_is = ap (λ (q : Played). text_of_play (Ok q)) is;
+  }
+
+  by_conflicts : (n : ℕ) (text : List ℕ) → SaysPlayed account k (status_of_conflicts n) text → EndsPlay account k (status_of_conflicts n) text
+  by_conflicts zero text says = says
+  by_conflicts (suc n) text says = says
+
+  pub played_play : EndsPlay account k (status_of_play (Ok p)) (text_of_play (Ok p))
+  played_play = by_conflicts p.conflicts (text_of_play (Ok p)) says_played
 
 -- the run ended early
 module _ (account : Credentials) (k : Course) where
@@ -119,24 +118,24 @@ module _ (account : Credentials) (k : Course) where
   by_fault (faults.Limit which number) s = s
 
   pub stopped_play : {T : Type 0} (opened store : Holding mail) (o : Result T PlayFault) (r : Result Played Unfinished) (x : PlayFault) → o ≡ Err x →
-      IsErrAnd r (λ end. end ≡ ends.Stopped x) → IsOpened k opened → AllSettled opened.book.queue →
+      IsErrAnd r (λ end. end ≡ ends.Stopped x) → IsOpened k opened → IsLater opened.book store.book →
       (before : LinkState) → before ≡ k.link → ((fault : PlayFault) → o ≡ Err fault → EndsEarly account opened store before k.link_after fault) →
-      IsLearning opened.book k.new.now →
+      IsPlaying opened.book k.new.now →
       ((o ≡ Err faults.Disk → ⊥) → IsAsLeft mail store k.new.now k.seen_after) →
-      (o ≡ Err faults.Disk → (name : List ℕ) × (delta : Delta) × IsTaking mail (Some store.book) (events.Learn name delta) k.new.now) →
+      (o ≡ Err faults.Disk → (event : Event) × IsPlayEvent event × IsTaking mail (Some store.book) event k.new.now) →
       EndsPlay account k (status_of_play r) (text_of_play r)
-  stopped_play opened store o r x was given read settled before same early leaves left stops =
+  stopped_play opened store o r x was given read later before same early leaves left stops =
       by_result account k r (Err (ends.Stopped x)) (ended_by r (ends.Stopped x) given)
       (by_fault x (record {
         opened = opened;
         read = read;
-        settled = settled;
         fault = x;
         store = store;
         early = subst (λ (l : LinkState). EndsEarly account opened store l k.link_after x) same (early x was);
+        later = later;
         leaves = leaves;
         left = λ other. left (λ is. other (cc (was, is)));
-        stopped = λ is. let one = stops (was ∙ ap (λ (f : PlayFault). Err f) is) in record { name = one.0; delta = one.1; taking = one.2 };
+        stopped = λ is. let one = stops (was ∙ ap (λ (f : PlayFault). Err f) is) in record { event = one.0; of_play = one.1; taking = one.2 };
         status_is = refl;
         text_is = refl;
       }))
@@ -183,6 +182,16 @@ link_fault (faults.Lacking what) is = absurd cc
 link_fault (faults.Validity name kept told) is = absurd cc
 link_fault (faults.Limit which number) is = absurd cc
 
+reply_fault : (x : PlayFault) → ((why : Why) → x ≡ faults.BadReply why → ⊥) → status_of_fault x ≡ status.Reply → ⊥
+reply_fault faults.Memory never is = absurd cc
+reply_fault faults.Disk never is = absurd cc
+reply_fault faults.Link never is = absurd cc
+reply_fault (faults.Refused line) never is = absurd cc
+reply_fault (faults.BadReply why) never is = never why refl
+reply_fault (faults.Lacking what) never is = absurd cc
+reply_fault (faults.Validity name kept told) never is = absurd cc
+reply_fault (faults.Limit which number) never is = absurd cc
+
 module _ {S : Type 0} (o : Result S StoreFault) (r : Result Played Unfinished) (x : StoreFault) (was : o ≡ Err x)
     (given : IsErrAnd r (λ end. end ≡ ends.Unopened x)) where
   of_opening : (t : Status) → status_of_play r ≡ t → status_of_refusal (of_store x) ≡ t
@@ -194,6 +203,9 @@ module _ {S : Type 0} (o : Result S StoreFault) (r : Result Played Unfinished) (
   pub opening_link : status_of_play r ≡ status.Link → ⊥
   opening_link is = link_store x (of_opening status.Link is)
 
+  pub opening_reply : status_of_play r ≡ status.Reply → ⊥
+  opening_reply is = reply_store x (of_opening status.Reply is)
+
 module _ {S : Type 0} (o : Result S PlayFault) (r : Result Played Unfinished) (x : PlayFault) (was : o ≡ Err x)
     (given : IsErrAnd r (λ end. end ≡ ends.Stopped x)) where
   of_run : (t : Status) → status_of_play r ≡ t → status_of_fault x ≡ t
@@ -204,6 +216,9 @@ module _ {S : Type 0} (o : Result S PlayFault) (r : Result Played Unfinished) (x
 
   pub run_link : status_of_play r ≡ status.Link → o ≡ Err faults.Link
   run_link is = was ∙ ap (λ (f : PlayFault). Err f) (link_fault x (of_run status.Link is))
+
+  pub run_reply : ((why : Why) → o ≡ Err (faults.BadReply why) → ⊥) → status_of_play r ≡ status.Reply → ⊥
+  run_reply never is = reply_fault x (λ why same. never why (was ∙ ap (λ (f : PlayFault). Err f) same)) (of_run status.Reply is)
 
   pub run_place : (at : ℕ) → r ≡ Err (ends.Stopped (faults.BadReply (whys.At at))) → o ≡ Err (faults.BadReply (whys.At at))
   run_place at is =
@@ -231,7 +246,6 @@ no_place : (r : Result Played Unfinished) → ((at : ℕ) → r ≡ Err (ends.St
     TellsNoPlace (text_of_play r)
 no_place (Ok p) honest is = absurd (other_done p.conflicts status.Reply is (λ e. cc e) (λ e. cc e))
 no_place (Err (ends.Unopened x)) honest is = absurd (reply_store x is)
-no_place (Err (ends.Later number)) honest is = absurd cc
 no_place (Err (ends.Stopped x)) honest is =
     why_told x (λ at same. honest at (ap (λ (f : PlayFault). Err (ends.Stopped f)) same)) is
 
@@ -287,13 +301,19 @@ module _ (account : Credentials) (r : Request) (k : Course) (s t : Status) (x y 
   said_so q same says = subst (λ (p : Request). EndsRequest account p k s x) (sym same)
       (subst (λ (u : Status). EndsRequest account q k u x) (sym status_is) (subst (λ (z : List ℕ). EndsRequest account q k t z) (sym text_is) says))
 
--- a run that came to its end is done
-pub played_done : (p : Played) → p ≡ record { settled = 0; conflicts = 0 } → status_of_play (Ok p) ≡ status.Done
-played_done p is = ap (λ (q : Played). status_of_play (Ok q)) is
+-- a run that came to its end has none of these statuses
+pub played_disk : (p : Played) → status_of_play (Ok p) ≡ status.Disk → ⊥
+played_disk p is = other_done p.conflicts status.Disk is (λ e. cc e) (λ e. cc e)
+
+pub played_link : (p : Played) → status_of_play (Ok p) ≡ status.Link → ⊥
+played_link p is = other_done p.conflicts status.Link is (λ e. cc e) (λ e. cc e)
+
+pub played_reply : (p : Played) → status_of_play (Ok p) ≡ status.Reply → ⊥
+played_reply p is = other_done p.conflicts status.Reply is (λ e. cc e) (λ e. cc e)
 
 -- what holds of each status that comes of `play` holds of its ending's
-module _ (P : Status → Type 0) (done : P status.Done) (memory : P status.Memory) (disk : P status.Disk) (journal : P status.Journal)
-    (limit : P status.Limit) (later : P status.Later) (link : P status.Link) (refused : P status.Refused) (reply : P status.Reply)
+module _ (P : Status → Type 0) (done : P status.Done) (conflicts : P status.Conflicts) (memory : P status.Memory) (disk : P status.Disk)
+    (journal : P status.Journal) (limit : P status.Limit) (link : P status.Link) (refused : P status.Refused) (reply : P status.Reply)
     (lacking : P status.Lacking) (validity : P status.Validity) where
   at_store : (x : StoreFault) → P (status_of_refusal (of_store x))
   at_store stores.Memory = memory
@@ -312,59 +332,58 @@ module _ (P : Status → Type 0) (done : P status.Done) (memory : P status.Memor
   at_fault (faults.Validity name kept told) = validity
   at_fault (faults.Limit which number) = limit
 
-  at_end : (r : Result Played Unfinished) → IfOk r (λ p. p ≡ record { settled = 0; conflicts = 0 }) → P (status_of_play r)
-  at_end (Ok p) is = subst P (sym (played_done p is)) done
-  at_end (Err (ends.Unopened x)) is = at_store x
-  at_end (Err (ends.Later number)) is = later
-  at_end (Err (ends.Stopped x)) is = at_fault x
+  at_conflicts : (n : ℕ) → P (status_of_conflicts n)
+  at_conflicts zero = done
+  at_conflicts (suc n) = conflicts
 
-  pub of_play : (r : Result Played Unfinished) (s : Status) → s ≡ status_of_play r → IfOk r (λ p. p ≡ record { settled = 0; conflicts = 0 }) → P s
-  of_play r s status_is is = subst P (sym status_is) (at_end r is)
+  at_end : (r : Result Played Unfinished) → P (status_of_play r)
+  at_end (Ok p) = at_conflicts p.conflicts
+  at_end (Err (ends.Unopened x)) = at_store x
+  at_end (Err (ends.Stopped x)) = at_fault x
 
-pub play_comes : (r : Result Played Unfinished) (s : Status) → s ≡ status_of_play r → IfOk r (λ p. p ≡ record { settled = 0; conflicts = 0 }) → Comes s
+  pub of_play : (r : Result Played Unfinished) (s : Status) → s ≡ status_of_play r → P s
+  of_play r s status_is = subst P (sym status_is) (at_end r)
+
+pub play_comes : (r : Result Played Unfinished) (s : Status) → s ≡ status_of_play r → Comes s
 play_comes r s = of_play Comes tt tt tt tt tt tt tt tt tt tt tt r s
 
-pub play_prints : (r : Result Played Unfinished) (s : Status) → s ≡ status_of_play r → IfOk r (λ p. p ≡ record { settled = 0; conflicts = 0 }) →
-    s ≡ status.Output → ⊥
+pub play_prints : (r : Result Played Unfinished) (s : Status) → s ≡ status_of_play r → s ≡ status.Output → ⊥
 play_prints r s = of_play (λ (t : Status). t ≡ status.Output → ⊥)
     (λ e. cc e) (λ e. cc e) (λ e. cc e) (λ e. cc e) (λ e. cc e) (λ e. cc e)
     (λ e. cc e) (λ e. cc e) (λ e. cc e) (λ e. cc e) (λ e. cc e) r s
 
-pub play_asked : (r : Result Played Unfinished) (s : Status) → s ≡ status_of_play r → IfOk r (λ p. p ≡ record { settled = 0; conflicts = 0 }) →
-    s ≡ status.Words → ⊥
+pub play_asked : (r : Result Played Unfinished) (s : Status) → s ≡ status_of_play r → s ≡ status.Words → ⊥
 play_asked r s = of_play (λ (t : Status). t ≡ status.Words → ⊥)
     (λ e. cc e) (λ e. cc e) (λ e. cc e) (λ e. cc e) (λ e. cc e) (λ e. cc e)
     (λ e. cc e) (λ e. cc e) (λ e. cc e) (λ e. cc e) (λ e. cc e) r s
 
-pub play_reads : (r : Result Played Unfinished) (s : Status) → s ≡ status_of_play r → IfOk r (λ p. p ≡ record { settled = 0; conflicts = 0 }) →
-    s ≡ status.Input → ⊥
+pub play_reads : (r : Result Played Unfinished) (s : Status) → s ≡ status_of_play r → s ≡ status.Input → ⊥
 play_reads r s = of_play (λ (t : Status). t ≡ status.Input → ⊥)
     (λ e. cc e) (λ e. cc e) (λ e. cc e) (λ e. cc e) (λ e. cc e) (λ e. cc e)
     (λ e. cc e) (λ e. cc e) (λ e. cc e) (λ e. cc e) (λ e. cc e) r s
 
--- a run that is done came to its end
-done_store : (x : StoreFault) → status_of_refusal (of_store x) ≡ status.Done → ⊥
-done_store stores.Memory is = absurd cc
-done_store stores.Disk is = absurd cc
-done_store stores.Already is = absurd cc
-done_store (stores.Full end wanted) is = absurd cc
-done_store (stores.NotAJournal why) is = absurd cc
+-- a run whose status says so came to its end
+through_store : (x : StoreFault) → CameThrough (status_of_refusal (of_store x)) → ⊥
+through_store stores.Memory is = is
+through_store stores.Disk is = is
+through_store stores.Already is = is
+through_store (stores.Full end wanted) is = is
+through_store (stores.NotAJournal why) is = is
 
-done_fault : (x : PlayFault) → status_of_fault x ≡ status.Done → ⊥
-done_fault faults.Memory is = absurd cc
-done_fault faults.Disk is = absurd cc
-done_fault faults.Link is = absurd cc
-done_fault (faults.Refused line) is = absurd cc
-done_fault (faults.BadReply why) is = absurd cc
-done_fault (faults.Lacking what) is = absurd cc
-done_fault (faults.Validity name kept told) is = absurd cc
-done_fault (faults.Limit which number) is = absurd cc
+through_fault : (x : PlayFault) → CameThrough (status_of_fault x) → ⊥
+through_fault faults.Memory is = is
+through_fault faults.Disk is = is
+through_fault faults.Link is = is
+through_fault (faults.Refused line) is = is
+through_fault (faults.BadReply why) is = is
+through_fault (faults.Lacking what) is = is
+through_fault (faults.Validity name kept told) is = is
+through_fault (faults.Limit which number) is = is
 
-done_ok : (r : Result Played Unfinished) (P : Type 0) → status_of_play r ≡ status.Done → OnOk r P → P
-done_ok (Ok p) P is came = came
-done_ok (Err (ends.Unopened x)) P is came = absurd (done_store x is)
-done_ok (Err (ends.Later number)) P is came = absurd cc
-done_ok (Err (ends.Stopped x)) P is came = absurd (done_fault x is)
+through_ok : (r : Result Played Unfinished) (P : Type 0) → CameThrough (status_of_play r) → OnOk r P → P
+through_ok (Ok p) P is came = came
+through_ok (Err (ends.Unopened x)) P is came = absurd (through_store x is)
+through_ok (Err (ends.Stopped x)) P is came = absurd (through_fault x is)
 
-pub came_through : (r : Result Played Unfinished) (s : Status) (P : Type 0) → s ≡ status_of_play r → s ≡ status.Done → OnOk r P → P
-came_through r s P status_is is came = done_ok r P (sym status_is ∙ is) came
+pub came_through : (r : Result Played Unfinished) (s : Status) (P : Type 0) → s ≡ status_of_play r → CameThrough s → OnOk r P → P
+came_through r s P status_is is came = through_ok r P (subst CameThrough status_is is) came

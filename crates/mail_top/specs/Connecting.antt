@@ -9,7 +9,7 @@ abbrev pub SameOutside : Moment → Moment → Type 0
 SameOutside m n = n.outside ≡ m.outside
 
 -- Up to a first clock what isn't on the disk stays; up to a second one a connection is made, if any is; and behind that none is
--- made: the server answers, or is asked for no change of a mailbox.
+-- made: the server answers, or is asked something, or for a change of a mailbox.
 pub record ConnectsAtFirst (old new : Clock) : Type 0 where
   pub first : Clock
   pub opens : Since Any SameOutside old first

@@ -9,7 +9,6 @@ use Rattle.world_traits.specs.Files.{Files}
 use Rattle.world_traits.specs.Moments.{Within}
 use Rattle.journal_core.specs.Limits.{max_accepted}
 use Rattle.action_queue.specs.Book.{Meaning}
-use Rattle.action_queue.specs.Queues.{AllSettled}
 use Rattle.action_queue.specs.Rules.{is_unknown}
 use Rattle.action_queue.specs.declared.action.Action.{Action}
 use Rattle.store_core.specs.Mail.{mail}
@@ -17,7 +16,7 @@ use Rattle.store_core.specs.Books.{HasBook}
 use Rattle.mail_top.specs.Actions.{Becomes, accepts}
 use Rattle.mail_top.specs.Course.{Course, OnFiles, end_behind}
 use Rattle.mail_top.specs.Leaving.{MayBeLeft}
-use Rattle.mail_top.specs.Played.{SaysPlayed, SaysLater, SaysStopped}
+use Rattle.mail_top.specs.Played.{SaysPlayed, SaysStopped}
 use Rattle.mail_top.specs.Reasons.{IsFree}
 use Rattle.mail_top.specs.Saying.{SaysReady, SaysTaken, SaysAccepted, SaysRows, SaysUnknown, SaysQueue, SaysBroken, SaysRefused, SaysUnread}
 use Rattle.mail_top.specs.Saying.{SaysFull, SaysMemory, SaysDisk}
@@ -101,8 +100,9 @@ EndsQueue k status.Later text = ⊥
 
 -- What each status says of `play`. The others don't come.
 abbrev pub EndsPlay : Credentials → Course → Status → List ℕ → Type 0
-EndsPlay account k status.Done text = SaysPlayed account k text
-EndsPlay account k status.Output text = SaysPlayed account k text
+EndsPlay account k status.Done text = SaysPlayed account k status.Done text
+EndsPlay account k status.Conflicts text = SaysPlayed account k status.Conflicts text
+EndsPlay account k status.Output text = SaysPlayed account k status.Done text ⊎ SaysPlayed account k status.Conflicts text
 EndsPlay account k status.Disk text = OnFiles k (SaysDisk (Within k.old.now k.new.now) text) ⊎ SaysStopped account k status.Disk text
 EndsPlay account k status.Link text = SaysStopped account k status.Link text
 EndsPlay account k status.Refused text = SaysStopped account k status.Refused text
@@ -112,8 +112,7 @@ EndsPlay account k status.Validity text = SaysStopped account k status.Validity 
 EndsPlay account k status.Journal text = OnFiles k (SaysBroken k text)
 EndsPlay account k status.Memory text = OnFiles k (SaysMemory k text) ⊎ SaysStopped account k status.Memory text
 EndsPlay account k status.Limit text = SaysStopped account k status.Limit text
-EndsPlay account k status.Later text = OnFiles k (SaysLater k text)
-EndsPlay account k status.Conflicts text = ⊥
+EndsPlay account k status.Later text = ⊥
 EndsPlay account k status.Words text = ⊥
 EndsPlay account k status.Reason text = ⊥
 EndsPlay account k status.Input text = ⊥
@@ -159,17 +158,13 @@ Comes status.Journal = Unit {0}
 Comes status.Reason = Unit {0}
 Comes status.Memory = Unit {0}
 Comes status.Limit = Unit {0}
-Comes status.Later = Unit {0}
+Comes status.Conflicts = Unit {0}
 Comes status.Input = Unit {0}
-Comes status.Conflicts = ⊥
+Comes status.Later = ⊥
 
 -- done, or memory is wanting
 abbrev pub IsDone : Status → Type 0
 IsDone s = (s ≡ status.Done) ⊎ (s ≡ status.Memory)
-
--- an action waits, or memory is wanting
-abbrev pub IsLater : Status → Type 0
-IsLater s = (s ≡ status.Later) ⊎ (s ≡ status.Memory)
 
 -- The files hold a book that takes the action: no reason is against it, and with it neither the queue nor the journal passes a
 -- limit.
@@ -185,9 +180,3 @@ pub record IsListable (name : List ℕ) (seen : Files) : Type 0 where
   pub book : Meaning
   pub holds : HasBook mail book seen
   pub known : is_unknown book.boxes name ≡ false
-
--- The files hold a book of which an action isn't settled.
-pub record HasWaiting (seen : Files) : Type 0 where
-  pub book : Meaning
-  pub holds : HasBook mail book seen
-  pub waits : AllSettled book.queue → ⊥

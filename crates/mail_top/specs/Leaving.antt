@@ -4,9 +4,7 @@ use Rattle.world_traits.specs.Files.{Files}
 use Rattle.world_traits.specs.Links.{Any}
 use Rattle.world_traits.specs.Moments.{Moment, Clock, Since, Within}
 use Rattle.journal_core.specs.declared.version.Version.{Version}
-use Rattle.mailbox_cache.specs.declared.delta.Delta.{Delta}
 use Rattle.action_queue.specs.Book.{Meaning}
-use Rattle.action_queue.specs.Queues.{AllSettled}
 use Rattle.action_queue.specs.declared.action.Action.{Action}
 use Rattle.action_queue.specs.declared.event.Event.{Event}
 use Rattle.action_queue.specs.declared.event.Event.TheVariants as events
@@ -17,7 +15,7 @@ use Rattle.store_core.specs.Books.{HasBook}
 use Rattle.store_core.specs.HeldActions.{IsHeld}
 use Rattle.store_core.specs.Steps.{Books, Begins, MakesFirm, Chooses}
 use Rattle.store_core.specs.Taking.{HasBooks, IsTaking, IsCreating}
-use Rattle.play_driver.specs.Learning.{IsLearning}
+use Rattle.play_driver.specs.Progress.{IsPlayEvent, IsPlaying}
 use Rattle.mail_top.specs.Actions.{next_id, accepts}
 use Rattle.mail_top.specs.Course.{end_behind}
 use Rattle.mail_top.specs.Weighing.{Admits}
@@ -33,21 +31,20 @@ pub record IsAdding (wanted : Wanted) (seen : Files) (m : Moment) : Type 0 where
   pub room : end_behind holds (accepts book action) ≤ max_accepted
   pub taking : IsTaking mail (Some book) (accepts book action) m
 
--- Each image holds the book that was read, but for what it knows of its mailboxes; and all its actions are settled.
-pub record IsPlaying (seen : Files) (m : Moment) : Type 0 where
+-- Each image holds the book that was read, or one further on: none of its actions is gone, and each outcome that was there stands.
+pub record IsPlayingRead (seen : Files) (m : Moment) : Type 0 where
   pub book : Meaning
   pub holds : HasBook mail book seen
-  pub settled : AllSettled book.queue
-  pub learning : IsLearning book m
+  pub playing : IsPlaying book m
 
 -- What a stop leaves while this is carried out: what a stop at entry could have left; or no journal, or the book of the names
--- that are asked for; or the book that was read, with the action that is asked for or without it, or with other caches.
+-- that are asked for; or the book that was read, with the action that is asked for or without it, or further on.
 abbrev pub MayBeLeft : Request → Moment → Files → Moment → Type 0
 MayBeLeft (Init names) entry seen m = IsCreating mail (events.Begin names) entry m
 MayBeLeft (Act wanted) entry seen m = Within entry m ⊎ IsAdding wanted seen m
 MayBeLeft (Rows name) entry seen m = Within entry m
 MayBeLeft Queue entry seen m = Within entry m
-MayBeLeft Play entry seen m = Within entry m ⊎ IsPlaying seen m
+MayBeLeft Play entry seen m = Within entry m ⊎ IsPlayingRead seen m
 
 -- the same of what the words and the input ask for
 pub record OnTheWay (words : List (List ℕ)) (input : List ℕ) (entry : Moment) (seen : Files) (m : Moment) : Type 0 where
@@ -85,7 +82,7 @@ IsDue (Act wanted) None event = ⊥
 IsDue (Act wanted) (Some b) event = (action : Action) × Admits wanted b (next_id b) action × (event ≡ accepts b action)
 IsDue (Rows name) book event = ⊥
 IsDue Queue book event = ⊥
-IsDue Play book event = (name : List ℕ) × (delta : Delta) × (event ≡ events.Learn name delta)
+IsDue Play book event = IsPlayEvent event
 
 -- an event that is due for the request is begun
 pub record BeginsDue (request : Request) (old new : Books mail) : Type 0 where

@@ -4,6 +4,7 @@ pub mod Course
 pub mod Ending
 pub mod Faults
 pub mod Going
+pub mod KeptNow
 pub mod Leaving
 pub mod Names
 pub mod Played
@@ -14,6 +15,6 @@ pub mod Runs
 pub mod Saying
 pub mod Telling
 pub mod Texts
-pub mod Unplayed
+pub mod TruePlay
 pub mod Words
 pub mod Weighing

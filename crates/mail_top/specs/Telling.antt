@@ -13,7 +13,7 @@ use Rattle.play_driver.specs.declared.fault.Why.TheVariants as whys
 use Rattle.play_driver.specs.declared.played.Played.{Played}
 use Rattle.mail_top.specs.Faults.{of_store}
 use Rattle.conflict_report.specs.StatusLines.{limit_actions, played, error_input, error_link, error_refused, error_reply_at, error_reply_lacks}
-use Rattle.conflict_report.specs.StatusLines.{error_reply_modseq, error_lacking, error_validity, error_limit, error_later}
+use Rattle.conflict_report.specs.StatusLines.{error_reply_modseq, error_lacking, error_validity, error_limit}
 use Rattle.mail_top.specs.Texts.{refused}
 use Rattle.mail_top.specs.declared.printed.Printed.{Printed}
 use Rattle.mail_top.specs.declared.printed.Printed.TheVariants as prints
@@ -102,14 +102,12 @@ status_of_conflicts (suc n) = status.Conflicts
 abbrev pub status_of_play : Result Played Unfinished → Status
 status_of_play (Ok done) = status_of_conflicts done.conflicts
 status_of_play (Err (ends.Unopened store)) = status_of_refusal (of_store store)
-status_of_play (Err (ends.Later number)) = status.Later
 status_of_play (Err (ends.Stopped fault)) = status_of_fault fault
 
 -- and its text
 abbrev pub text_of_play : Result Played Unfinished → List ℕ
 text_of_play (Ok done) = played done.settled done.conflicts
 text_of_play (Err (ends.Unopened store)) = text_of_refusal (of_store store)
-text_of_play (Err (ends.Later number)) = error_later number
 text_of_play (Err (ends.Stopped fault)) = text_of_fault fault
 
 -- the text tells what is wrong with a reply, and no place in the bytes that came

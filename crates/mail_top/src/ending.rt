@@ -77,10 +77,6 @@ pub fn ending_of_play(played: Result<Played, Unfinished>) -> Ending
             text: Printed::Told(Told::played(played.settled, played.conflicts)),
         },
         Err(Unfinished::Unopened(fault)) => ending_of_refusal(Refusal::from(fault)),
-        Err(Unfinished::Later(first)) => Ending {
-            status: Status::Later,
-            text: Printed::Told(Told::error_later(first)),
-        },
         Err(Unfinished::Stopped(fault)) => Ending {
             status: status_of_fault(&fault),
             text: text_of_fault(&fault),

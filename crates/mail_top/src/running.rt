@@ -9,17 +9,18 @@ ghost use Rattle.store_core.specs.Mail.{mail};
 ghost use Rattle.store_core.specs.Steps.{Books};
 ghost use Rattle.store_core.specs.Taking.{HasBooks};
 ghost use Rattle.play_driver.specs.Joining.{AllFair};
-ghost use Rattle.play_driver.specs.Unplayed.{unplayed};
+ghost use Rattle.play_driver.specs.Played.{played};
 ghost use Rattle.mail_top.specs.Connecting.{ConnectsAtFirst};
-ghost use Rattle.mail_top.specs.Ending.{Comes, IsDone, IsLater, IsTakable, IsListable, HasWaiting};
+ghost use Rattle.mail_top.specs.Ending.{Comes, IsDone, IsTakable, IsListable};
 ghost use Rattle.mail_top.specs.Going.{Goes, GoesRequest};
+ghost use Rattle.mail_top.specs.KeptNow.{IsKeptNow, StaysKept};
 ghost use Rattle.mail_top.specs.Leaving.{LosesNone};
 ghost use Rattle.mail_top.specs.Played.{AreSynced, CameThrough};
 ghost use Rattle.mail_top.specs.Printing.{IsSaid, Prints};
 ghost use Rattle.mail_top.specs.Reading.{AsksAppend, AwaitsAsked, AwaitsInput, IsAppend, IsInput, IsReadOut, NeedsInput, TakesFront};
 ghost use Rattle.mail_top.specs.Runs.{AreBook};
 ghost use Rattle.mail_top.specs.Telling.{printed, TellsNoPlace};
-ghost use Rattle.mail_top.specs.Unplayed.{IsUnplayedYet, StaysUnplayed};
+ghost use Rattle.mail_top.specs.TruePlay.{PlaysTruly};
 ghost use Rattle.mail_top.specs.Words.{Asks, AsksAction, AsksNothing, IsLawful, Wanted, Play, WritesInit, WritesRows, WritesQueue, WritesPlay, request_of};
 
 use crate::accepting::accept;
@@ -62,15 +63,20 @@ fn carry_out<W: World, I: Source>(
     ensures unread { (AsksAppend (map string_bytes words.now) → ⊥) → input.new ≡ input.old }
     ensures read { W.tells_files → (input.new ≡ input.old) ⊎ AwaitsInput (map string_bytes words.now) (W.seen world.old) }
     ensures taken { I.tells → TakesFront (I.rest input.old) (I.rest input.new) }
-    ensures whole { I.tells → AsksAppend (map string_bytes words.now) → result.status ≡ Status.Done → I.rest input.new ≡ [] }
+    ensures whole { I.tells → AsksAppend (map string_bytes words.now) → CameThrough result.status → I.rest input.new ≡ [] }
     ensures out { I.tells → (result.status ≢ Status.Input) → (result.status ≢ Status.Memory) →
         (input.new ≡ input.old) ⊎ IsReadOut (I.rest input.old) (I.rest input.new) }
     ensures honest { W.tells_server → result.status ≡ Status.Reply → TellsNoPlace (printed result.text) }
+    ensures faultless { W.tells_server → IsKeptNow (W.clock world.old).now →
+        AllFair mail played (W.clock world.old) (W.clock world.new) → result.status ≡ Status.Reply → ⊥ }
     ensures joined { W.tells_server → OneSideAtRest (W.clock world.old).now →
         (books : Books mail) → HasBooks mail books (W.clock world.old).now →
-        IsUnplayedYet (W.clock world.old).now → StaysUnplayed (W.clock world.old) (W.clock world.new) }
-    ensures synced { W.tells_server → WritesPlay (map string_bytes words.now) → result.status ≡ Status.Done →
-        IsUnplayedYet (W.clock world.old).now → AllFair mail unplayed (W.clock world.old) (W.clock world.new) →
+        IsKeptNow (W.clock world.old).now → StaysKept (W.clock world.old) (W.clock world.new) }
+    ensures truly { W.tells_server → WritesPlay (map string_bytes words.now) → IsKeptNow (W.clock world.old).now →
+        AllFair mail played (W.clock world.old) (W.clock world.new) →
+        PlaysTruly (W.seen world.old) (W.clock world.old) (W.clock world.new) }
+    ensures synced { W.tells_server → WritesPlay (map string_bytes words.now) → CameThrough result.status →
+        IsKeptNow (W.clock world.old).now → AllFair mail played (W.clock world.old) (W.clock world.new) →
         AreSynced (W.seen world.new) (W.clock world.old) (W.clock world.new) }
     ensures one_side { W.tells_files → OneSideAtRest (W.clock world.old).now → OneSideAtRest (W.clock world.new).now }
     ensures each_one_side { W.tells_files → OneSideAtRest (W.clock world.old).now →
@@ -115,15 +121,20 @@ fn answer<W: World, I: Source>(
     ensures unread { (IsAppend asked.now → ⊥) → input.new ≡ input.old }
     ensures read { W.tells_files → (input.new ≡ input.old) ⊎ AwaitsAsked asked.now (W.seen world.old) }
     ensures taken { I.tells → TakesFront (I.rest input.old) (I.rest input.new) }
-    ensures whole { I.tells → IsAppend asked.now → result.status ≡ Status.Done → I.rest input.new ≡ [] }
+    ensures whole { I.tells → IsAppend asked.now → CameThrough result.status → I.rest input.new ≡ [] }
     ensures out { I.tells → (result.status ≢ Status.Input) → (result.status ≢ Status.Memory) →
         (input.new ≡ input.old) ⊎ IsReadOut (I.rest input.old) (I.rest input.new) }
     ensures honest { W.tells_server → result.status ≡ Status.Reply → TellsNoPlace (printed result.text) }
+    ensures faultless { W.tells_server → IsKeptNow (W.clock world.old).now →
+        AllFair mail played (W.clock world.old) (W.clock world.new) → result.status ≡ Status.Reply → ⊥ }
     ensures joined { W.tells_server → OneSideAtRest (W.clock world.old).now →
         (books : Books mail) → HasBooks mail books (W.clock world.old).now →
-        IsUnplayedYet (W.clock world.old).now → StaysUnplayed (W.clock world.old) (W.clock world.new) }
-    ensures synced { W.tells_server → ((input : List ℕ) → request_of asked.now input ≡ Play) → result.status ≡ Status.Done →
-        IsUnplayedYet (W.clock world.old).now → AllFair mail unplayed (W.clock world.old) (W.clock world.new) →
+        IsKeptNow (W.clock world.old).now → StaysKept (W.clock world.old) (W.clock world.new) }
+    ensures truly { W.tells_server → ((input : List ℕ) → request_of asked.now input ≡ Play) → IsKeptNow (W.clock world.old).now →
+        AllFair mail played (W.clock world.old) (W.clock world.new) →
+        PlaysTruly (W.seen world.old) (W.clock world.old) (W.clock world.new) }
+    ensures synced { W.tells_server → ((input : List ℕ) → request_of asked.now input ≡ Play) → CameThrough result.status →
+        IsKeptNow (W.clock world.old).now → AllFair mail played (W.clock world.old) (W.clock world.new) →
         AreSynced (W.seen world.new) (W.clock world.old) (W.clock world.new) }
     ensures one_side { W.tells_files → OneSideAtRest (W.clock world.old).now → OneSideAtRest (W.clock world.new).now }
     ensures each_one_side { W.tells_files → OneSideAtRest (W.clock world.old).now →
@@ -172,13 +183,13 @@ fn say<S: Sink>(out: &mut S, ending: &Ending) -> Status
 ///   before each LF that has none; it is read where no reason speaks against it that the book can tell, to its end or 2^25 + 1
 ///   bytes. No other command reads the input;
 /// - `list BOX` prints the rows of a mailbox as the user sees them, and `queue` a line for each unsettled action;
-/// - `play` makes each cache the server's in one connection, with the account's user and password, and prints
-///   `played 0 conflicts 0`. While an action isn't settled nothing is sent: it ends with `error later n`, where n is the first
-///   one's number. The connection is left as it ended: the caller, who made the world, closes it.
+/// - `play` plays the actions back and makes each cache the server's, in one connection, with the account's user and password, and
+///   prints `played n conflicts c`: how many actions it settled, and how many of them as conflicts. The connection is left as it
+///   ended: the caller, who made the world, closes it.
 ///
 /// Refusals come in this order: the words, the disk and the journal as read, the reasons (with a fault of the input between
-/// `queue-full` and `too-large`), the limits, the actions that wait, and what befalls a session. Want of memory may come in place
-/// of any: before the first write, but of `play` also behind what it recorded of some mailboxes.
+/// `queue-full` and `too-large`), the limits, and what befalls a session. Want of memory may come in place of any: before the
+/// first write, but of `play` also behind what it recorded.
 pub fn run<W: World, I: Source, S: Sink>(
     alloc: Global,
     words: &[String],
@@ -241,27 +252,32 @@ pub fn run<W: World, I: Source, S: Sink>(
         (Rose (W.disk_faults world.old) (W.disk_faults world.new) → ⊥) → (Rose (S.sink_faults out.old) (S.sink_faults out.new) → ⊥) →
         IsDone result }
 
-    // A book of which an action isn't settled, and no fault of the disk: `play` waits for it, or memory is wanting.
-    ensures complete_later { W.tells_files → WritesPlay (map string_bytes words.now) → HasWaiting (W.seen world.old) →
-        (Rose (W.disk_faults world.old) (W.disk_faults world.new) → ⊥) → IsLater result }
-
     // No action that all images hold at entry is lost.
     ensures held { W.tells_files → LosesNone (W.clock world.old).now (W.clock world.new).now }
 
-    // As long as nothing was played, and others leave each UIDVALIDITY: each moment stays so, and is joined to the one before
-    // it by one step of the book beside the server.
+    // Where the book is kept at entry and others are fair, each moment is kept, and joined to the one before it by one step of the
+    // book beside the server: so no action takes effect twice.
     ensures joined { W.tells_server → OneSideAtRest (W.clock world.old).now →
         (books : Books mail) → HasBooks mail books (W.clock world.old).now →
-        IsUnplayedYet (W.clock world.old).now → StaysUnplayed (W.clock world.old) (W.clock world.new) }
+        IsKeptNow (W.clock world.old).now → StaysKept (W.clock world.old) (W.clock world.new) }
 
-    // And a `play` that came to its end leaves each mailbox with a cache that is the server's as it answered for its rows in
-    // this run.
+    // Then each intent and each outcome that a `play` recorded had its reason at that moment.
+    ensures truly { W.tells_server → WritesPlay (map string_bytes words.now) → IsKeptNow (W.clock world.old).now →
+        AllFair mail played (W.clock world.old) (W.clock world.new) →
+        PlaysTruly (W.seen world.old) (W.clock world.old) (W.clock world.new) }
+
+    // And one that came to its end leaves each mailbox with a cache that is the server's as it answered for its rows in this run,
+    // behind the last outcome.
     ensures synced { W.tells_server → WritesPlay (map string_bytes words.now) → CameThrough result →
-        IsUnplayedYet (W.clock world.old).now → AllFair mail unplayed (W.clock world.old) (W.clock world.new) →
+        IsKeptNow (W.clock world.old).now → AllFair mail played (W.clock world.old) (W.clock world.new) →
         AreSynced (W.seen world.new) (W.clock world.old) (W.clock world.new) }
 
-    // Over a link that tells its server a run connects before it asks for anything, and not again; and it asks for no change of a
-    // mailbox.
+    // Nor does such a run find a reply at fault: it prints no `error reply`.
+    ensures faultless { W.tells_server → IsKeptNow (W.clock world.old).now →
+        AllFair mail played (W.clock world.old) (W.clock world.new) → result ≡ Status.Reply → ⊥ }
+
+    // Over a link that tells its server a run connects before it asks for anything, questions and changes of mailboxes alike, and
+    // not again.
     ensures connects { W.tells_server → ConnectsAtFirst (W.clock world.old) (W.clock world.new) }
 
     // Where one side was at rest, one is at the end and at each moment: so a later run's syncs come to what it reads, wherever

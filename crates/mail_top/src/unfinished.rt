@@ -8,8 +8,6 @@ use store_core::StoreFault;
 pub enum Unfinished {
     /// The journal isn't opened.
     Unopened(StoreFault),
-    /// An action waits that can't be played yet: the first one's number.
-    Later(u32),
     /// The run ended early.
     Stopped(PlayFault),
 }

@@ -38,6 +38,12 @@ pub returns-in-Init-clause-connects : goal.returns-in-Init-clause-connects
 returns-in-Init-clause-connects g c tells =
     request_alone (Init _) (never_init _) _ _ _ (c.init.ensures.keeps (g.W.Clocked.server_with_files tells))
 
+pub returns-in-Init-clause-faultless : goal.returns-in-Init-clause-faultless
+returns-in-Init-clause-faultless g c tells kept fair is = no_reply _ _ c.ending_of_init.ensures.status is
+
+pub returns-in-Init-clause-truly : goal.returns-in-Init-clause-truly
+returns-in-Init-clause-truly g c tells asks = absurd (never_init _ (sym (ap (λ (a : Asked). request_of a []) c.in-Init.is) ∙ asks []))
+
 pub returns-in-Init-clause-synced : goal.returns-in-Init-clause-synced
 returns-in-Init-clause-synced g c tells asks = absurd (never_init _ (sym (ap (λ (a : Asked). request_of a []) c.in-Init.is) ∙ asks []))
 
@@ -93,6 +99,12 @@ returns-in-Act-clause-out g c tells unfailed enough =
     c.accept.ensures.out tells (λ is. unfailed (c.ending_of_action.ensures.status ∙ ap status_of is))
     (λ is. enough (c.ending_of_action.ensures.status ∙ ap status_of is))
 
+pub returns-in-Act-clause-faultless : goal.returns-in-Act-clause-faultless
+returns-in-Act-clause-faultless g c tells kept fair is = no_reply _ _ c.ending_of_action.ensures.status is
+
+pub returns-in-Act-clause-truly : goal.returns-in-Act-clause-truly
+returns-in-Act-clause-truly g c tells asks = absurd (never_act _ (sym (ap (λ (a : Asked). request_of a []) c.in-Act.is) ∙ asks []))
+
 pub returns-in-Act-clause-synced : goal.returns-in-Act-clause-synced
 returns-in-Act-clause-synced g c tells asks = absurd (never_act _ (sym (ap (λ (a : Asked). request_of a []) c.in-Act.is) ∙ asks []))
 
@@ -123,6 +135,12 @@ returns-in-Rows-clause-joined g c tells one books have kept =
 pub returns-in-Rows-clause-connects : goal.returns-in-Rows-clause-connects
 returns-in-Rows-clause-connects g c tells =
     request_alone (Rows _) (never_rows _) _ _ _ (c.list.ensures.keeps (g.W.Clocked.server_with_files tells))
+
+pub returns-in-Rows-clause-faultless : goal.returns-in-Rows-clause-faultless
+returns-in-Rows-clause-faultless g c tells kept fair is = no_reply _ _ c.ending_of_text.ensures.status is
+
+pub returns-in-Rows-clause-truly : goal.returns-in-Rows-clause-truly
+returns-in-Rows-clause-truly g c tells asks = absurd (never_rows _ (sym (ap (λ (a : Asked). request_of a []) c.in-Rows.is) ∙ asks []))
 
 pub returns-in-Rows-clause-synced : goal.returns-in-Rows-clause-synced
 returns-in-Rows-clause-synced g c tells asks = absurd (never_rows _ (sym (ap (λ (a : Asked). request_of a []) c.in-Rows.is) ∙ asks []))
@@ -161,6 +179,12 @@ pub returns-in-Queue-clause-connects : goal.returns-in-Queue-clause-connects
 returns-in-Queue-clause-connects g c tells =
     request_alone Queue never_queue _ _ _ (c.queue.ensures.keeps (g.W.Clocked.server_with_files tells))
 
+pub returns-in-Queue-clause-faultless : goal.returns-in-Queue-clause-faultless
+returns-in-Queue-clause-faultless g c tells kept fair is = no_reply _ _ c.ending_of_text-in-Queue.ensures.status is
+
+pub returns-in-Queue-clause-truly : goal.returns-in-Queue-clause-truly
+returns-in-Queue-clause-truly g c tells asks = absurd (never_queue (sym (ap (λ (a : Asked). request_of a []) c.in-Queue.is) ∙ asks []))
+
 pub returns-in-Queue-clause-synced : goal.returns-in-Queue-clause-synced
 returns-in-Queue-clause-synced g c tells asks = absurd (never_queue (sym (ap (λ (a : Asked). request_of a []) c.in-Queue.is) ∙ asks []))
 
@@ -187,20 +211,26 @@ pub returns-in-Play-clause-whole : goal.returns-in-Play-clause-whole
 returns-in-Play-clause-whole g c tells append done = absurd (subst IsAppend c.in-Play.is append)
 
 pub returns-in-Play-clause-comes : goal.returns-in-Play-clause-comes
-returns-in-Play-clause-comes g c = play_comes _ _ c.ending_of_play.ensures.status c.play.ensures.played
+returns-in-Play-clause-comes g c = play_comes _ _ c.ending_of_play.ensures.status
 
 pub returns-in-Play-clause-not_output : goal.returns-in-Play-clause-not_output
-returns-in-Play-clause-not_output g c = play_prints _ _ c.ending_of_play.ensures.status c.play.ensures.played
+returns-in-Play-clause-not_output g c = play_prints _ _ c.ending_of_play.ensures.status
 
 pub returns-in-Play-clause-not_words : goal.returns-in-Play-clause-not_words
-returns-in-Play-clause-not_words g c = play_asked _ _ c.ending_of_play.ensures.status c.play.ensures.played
+returns-in-Play-clause-not_words g c = play_asked _ _ c.ending_of_play.ensures.status
 
 pub returns-in-Play-clause-input_fault : goal.returns-in-Play-clause-input_fault
-returns-in-Play-clause-input_fault g c is = absurd (play_reads _ _ c.ending_of_play.ensures.status c.play.ensures.played is)
+returns-in-Play-clause-input_fault g c is = absurd (play_reads _ _ c.ending_of_play.ensures.status is)
 
 pub returns-in-Play-clause-honest : goal.returns-in-Play-clause-honest
 returns-in-Play-clause-honest g c tells is =
     no_place_told _ _ _ c.ending_of_play.ensures.status c.ending_of_play.ensures.text (c.play.ensures.honest tells) is
+
+pub returns-in-Play-clause-faultless : goal.returns-in-Play-clause-faultless
+returns-in-Play-clause-faultless g c tells kept fair is = c.play.ensures.faultless tells kept fair (sym c.ending_of_play.ensures.status ∙ is)
+
+pub returns-in-Play-clause-truly : goal.returns-in-Play-clause-truly
+returns-in-Play-clause-truly g c tells is kept fair = c.play.ensures.truly tells kept fair
 
 pub returns-in-Play-clause-synced : goal.returns-in-Play-clause-synced
 returns-in-Play-clause-synced g c tells is done kept fair = came_through _ _ _ c.ending_of_play.ensures.status done (c.play.ensures.synced tells kept fair)

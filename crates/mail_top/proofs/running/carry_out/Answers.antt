@@ -1,8 +1,9 @@
 use Rattle.std.proofs.Common.{inl, inr, ⊎_elim, [], refl, subst}
 use Rattle.std.specs.Prelude.{map, string_bytes}
 use Rattle.journal_core.proofs.AtRest.{each_none}
+use Rattle.playback.specs.Kept.{Kept}
 use Rattle.store_core.specs.Mail.{mail}
-use Rattle.play_driver.specs.Unplayed.{Unplayed, unplayed}
+use Rattle.play_driver.specs.Played.{played}
 use Rattle.play_driver.proofs.Calls.{stays_start}
 use Rattle.mail_top.specs.Words.{Play, Asks}
 use Rattle.mail_top.proofs.Connections.{nothing_made}
@@ -30,10 +31,13 @@ returns-in-None-clause-goes g c tells = (
 )
 
 pub returns-in-None-clause-joined : goal.returns-in-None-clause-joined
-returns-in-None-clause-joined g c tells one books have kept = stays_start mail Unplayed unplayed _
+returns-in-None-clause-joined g c tells one books have kept = stays_start mail Kept played _
 
 pub returns-in-None-clause-synced : goal.returns-in-None-clause-synced
 returns-in-None-clause-synced g c tells asks = absurd (c.in-None.ensures.none refl [] Play asks)
+
+pub returns-in-None-clause-truly : goal.returns-in-None-clause-truly
+returns-in-None-clause-truly g c tells asks = absurd (c.in-None.ensures.none refl [] Play asks)
 
 pub returns-in-None-clause-words : goal.returns-in-None-clause-words
 returns-in-None-clause-words g c = (λ is. c.in-None.ensures.none refl, λ nothing. c.ending_of_words.ensures.status)
@@ -66,6 +70,10 @@ returns-in-Some-clause-words g c = (λ is. absurd (c.answer.ensures.not_words is
 pub returns-in-Some-clause-synced : goal.returns-in-Some-clause-synced
 returns-in-Some-clause-synced g c tells asks =
     c.answer.ensures.synced tells (λ input. one_request (map string_bytes c.args.words.now) input _ Play (c.in-Some.ensures.some input) asks)
+
+pub returns-in-Some-clause-truly : goal.returns-in-Some-clause-truly
+returns-in-Some-clause-truly g c tells asks =
+    c.answer.ensures.truly tells (λ input. one_request (map string_bytes c.args.words.now) input _ Play (c.in-Some.ensures.some input) asks)
 
 pub returns-in-Some-clause-link : goal.returns-in-Some-clause-link
 returns-in-Some-clause-link g c never =

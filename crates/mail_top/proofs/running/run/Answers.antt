@@ -1,7 +1,7 @@
 use Rattle.mail_base.specs.declared.status.Status.TheVariants as status
-use Rattle.mail_top.proofs.Endings.{ended_so, said_ends, said_words, said_disk, said_link, said_input, said_reply, said_through}
-use Rattle.mail_top.proofs.Endings.{completes_act, completes_init, completes_rows, completes_queue, completes_later}
-use Rattle.mail_top.proofs.Goings.{asks_given, comes_without}
+use Rattle.mail_top.proofs.Endings.{ended_so, said_ends, said_words, said_disk, said_link, said_input, said_reply, said_through, said_comes}
+use Rattle.mail_top.proofs.Endings.{completes_act, completes_init, completes_rows, completes_queue}
+use Rattle.mail_top.proofs.Goings.{asks_given}
 use Rattle.mail_top.proofs.Repeated.{held_later, outside_later}
 use Rattle.mail_top.proofs.running.run.Goals as goal
 
@@ -19,6 +19,9 @@ returns-clause-goes g c tells =
       λ server is. c.carry_out-ending.ensures.honest server (said_reply _ _ c.say.ensures.status is),
       c.say.ensures.prints,
     )
+
+pub returns-clause-comes : goal.returns-clause-comes
+returns-clause-comes g c = said_comes _ _ c.say.ensures.status c.carry_out-ending.ensures.comes
 
 pub returns-clause-words : goal.returns-clause-words
 returns-clause-words g c = said_words _ _ _ c.say.ensures.status c.carry_out-ending.ensures.words
@@ -54,12 +57,11 @@ returns-clause-complete_queue g c tells asks set_up no_disk no_sink =
     completes_queue _ _ _ _ _ _ (said_ends _ _ _ _ _ _ _ said.status (begun.goes tells).2.ends) (said_words _ _ _ said.status begun.words).0
     (λ is. no_disk (begun.disk (said_disk _ _ said.status is))) (λ is. no_sink (said.output is)) asks set_up
 
-pub returns-clause-complete_later : goal.returns-clause-complete_later
-returns-clause-complete_later g c tells asks waiting no_disk =
-    let begun = c.carry_out-ending.ensures in
-    let said = c.say.ensures in
-    completes_later _ _ _ _ _ _ (said_ends _ _ _ _ _ _ _ said.status (begun.goes tells).2.ends) (said_words _ _ _ said.status begun.words).0
-    (λ is. no_disk (begun.disk (said_disk _ _ said.status is))) asks waiting
+pub returns-clause-truly : goal.returns-clause-truly
+returns-clause-truly g c tells asks kept fair = c.carry_out-ending.ensures.truly tells asks kept fair
+
+pub returns-clause-faultless : goal.returns-clause-faultless
+returns-clause-faultless g c tells kept fair is = c.carry_out-ending.ensures.faultless tells kept fair (said_reply _ _ c.say.ensures.status is)
 
 pub returns-clause-link_fault : goal.returns-clause-link_fault
 returns-clause-link_fault g c is = c.carry_out-ending.ensures.link_fault (said_link _ _ c.say.ensures.status is)
@@ -70,12 +72,12 @@ returns-clause-input_fault g c is = c.carry_out-ending.ensures.input_fault (said
 pub returns-clause-synced : goal.returns-clause-synced
 returns-clause-synced g c tells asks through kept fair =
     let ended = c.carry_out-ending.ensures in
-    ended.synced tells asks (said_through _ _ c.say.ensures.status ended.not_output (comes_without _ ended.comes) through) kept fair
+    ended.synced tells asks (said_through _ _ c.say.ensures.status through) kept fair
 
 pub returns-clause-whole : goal.returns-clause-whole
 returns-clause-whole g c tells append through =
     let ended = c.carry_out-ending.ensures in
-    ended.whole tells append (said_through _ _ c.say.ensures.status ended.not_output (comes_without _ ended.comes) through)
+    ended.whole tells append (said_through _ _ c.say.ensures.status through)
 
 pub returns-clause-out : goal.returns-clause-out
 returns-clause-out g c tells unfailed enough =

@@ -1,0 +1,30 @@
+-- That what `play` recorded had its reason (this client's profile of RFC 4549, section 4.2).
+use Rattle.std.specs.Prelude.{Some}
+use Rattle.world_traits.specs.Files.{Files}
+use Rattle.world_traits.specs.Moments.{Clock, Since, Within}
+use Rattle.action_queue.specs.Book.{Meaning}
+use Rattle.store_core.specs.Mail.{mail}
+use Rattle.store_core.specs.Books.{HasBook}
+use Rattle.store_core.specs.Steps.{Firm}
+use Rattle.store_core.specs.Taking.{HasBooks}
+use Rattle.play_driver.specs.TrueRecords.{RecordsTruly, StopsTruly}
+use Rattle.mail_top.specs.Connecting.{SameOutside}
+
+-- a time in which a stop leaves what one at its start could have left, and what isn't on the disk stays
+abbrev pub OnlyOpens : Clock → Clock → Type 0
+OnlyOpens old new = Since (Within old.now) SameOutside old new
+
+-- Nothing more was done up to this clock; and then each stop leaves the book that the files hold as read.
+pub record OpensBook (entry : Meaning) (seen : Files) (old opened : Clock) : Type 0 where
+  pub opens : OnlyOpens old opened
+  pub holds : HasBook mail entry seen
+  pub leaves : HasBooks mail (Firm (Some entry)) opened.now
+
+-- No book was read, and nothing was done. Or from the book as read to the one that each stop leaves now, each intent and each
+-- outcome was recorded for its reason, behind the opening. Or so it was up to a book, and the disk failed as an event that had its
+-- reason was recorded behind it: a stop leaves it or not.
+pub data PlaysTruly (seen : Files) (old new : Clock) : Type 0 where
+  unread : OnlyOpens old new → PlaysTruly seen old new
+  recorded : (entry b : Meaning) (opened : Clock) → OpensBook entry seen old opened → RecordsTruly entry b opened new →
+      HasBooks mail (Firm (Some b)) new.now → PlaysTruly seen old new
+  cut : (entry b : Meaning) (opened : Clock) → OpensBook entry seen old opened → StopsTruly entry b opened new → PlaysTruly seen old new
