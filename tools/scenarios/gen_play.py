@@ -99,7 +99,7 @@ def served(c):
 
     s = Scenario(); s.server(OFFERS, WORKED, left=BOTH_LEARNED); s.stand()
     s.run('flag', 'INBOX', '42', '+', '\\Seen'); s.run('play'); s.sent(); s.files()
-    c.add('an action isn\'t settled yet: nothing is sent', s)
+    c.add('an action is played back, and then each mailbox is synchronised', s)
 
     for title, files in [('there is no journal', b''), ('it has no records', HEAD + b'\0')]:
         s = Scenario(); s.server(OFFERS, WORKED, left=files); s.stand(); s.run('play'); s.sent(); c.add(title, s)

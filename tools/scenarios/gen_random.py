@@ -2,12 +2,12 @@
 with actions that wait, have begun or are settled, random commands, messages and failures. Runs of the program over them find where it and
 the model differ.
 
-usage: tools/scenarios/gen_random.py SEED COUNT FILE    (then: mail_scenario FILE)
+usage: tools/scenarios/gen_random.py SEED COUNT FILE [play]    (then: mail_scenario FILE; with `play` each is of actions played back)
 """
 import random, sys
 from model import *
 from gen import *
-from gen_play import Cases
+from gen_play import LOSSES, Cases
 from gen_words import HEADS, T, TEXTS, Told, add, over, state
 
 NAMES, UIDS, SOME = ['INBOX', 'Archive', 'Other'], [1, 2, 7, 40, 42, 43], ['\\Seen', 'work', '\\Flagged', 'b', 'a', '\\Draft']
@@ -96,7 +96,56 @@ class Draw(random.Random):
         for _ in range(self.randint(1, 12)): self.step(s)
         s.run('queue'); s.lists(*NAMES); s.files()
         return s
+    # what others do: mostly lawful changes of what is there
+    def change(self, world, polite=False):
+        "a polite one adds and takes away no message with an append's Message-ID"
+        if not world.boxes: return ('drop', 'INBOX', 1)
+        box = self.choice(world.boxes)
+        uids = [m['uid'] for m in box.messages if not polite or message_id(m['text']) in (None, b'<m40@x>', b'<m42@x>')]
+        verb = self.choice(['add', 'set', 'set', 'drop', 'shift'] if uids else ['add'])
+        uid = self.choice(uids or [1])
+        if verb == 'add': return (verb, box.name, box.uidnext + self.randint(0, 2), b'x' if polite else self.choice([b'x', T, b'Message-ID: <b@x>\r\n\r\nhi\r\n']), *self.some(SOME, 2))
+        if verb == 'set': return (verb, box.name, uid, *self.some(SOME, 3))
+        if verb == 'drop': return (verb, box.name, uid)
+        to = self.choice(world.boxes)
+        return (verb, box.name, uid, to.name, to.uidnext)
+    def played(self, s, polite=False):
+        "a run, in which a call may be lost and others may act"
+        for _ in range(self.choice([0, 0, 1, 2])): s.other(self.randint(1, 40), *self.change(s.world, polite))
+        if self.likely(0.5): s.link(self.randint(1, 45), self.choice(LOSSES + ['part 20']))
+        if self.likely(0.15): s.disk(self.randint(1, 45))
+        stops = self.likely(0.2)
+        if stops: s.stop(self.randint(0, 80))
+        s.run('play')
+        if stops: s.restart(self.choice([0, 1, 2, 3, 77]))
+        if self.likely(0.5): s.sent()
+        s.history(); s.run('queue')
+    def playing(self):
+        "actions that the book takes, runs that play them back, and others, in turn; it is played to the end, and no action took effect twice"
+        s = Told(); s.lines = [('', [])] * HEADS
+        known = journal(begin(*NAMES), INBOX_LEARNED, ARCHIVE_LEARNED)
+        s.server(OFFERS, WORKED + [('Other', 3, 1, 1, [], [])], left=known)
+        if self.likely(0.2): s.permit(self.choice(['any', 'only']), *self.some(['\\Seen', '\\Flagged', 'work'], 3))
+        if self.likely(0.1): s.refuse(self.choice(NAMES))
+        s.stand()
+        for _ in range(self.randint(2, 14)):
+            if self.likely(0.15): s.change(*self.change(s.world, True))
+            if self.likely(0.35): self.played(s, True); continue
+            words = self.aimed(s.world)
+            if words[0] == 'append': s.input(self.choice([T, b'Message-ID: <b@x>\n\nhi\n', b'Message-ID: <c@x>\n\nho\n']))
+            s.run(*words)
+        for _ in range(4):
+            if s.run('play') in (0, 1): break
+        s.history(); s.run('queue'); s.lists(*NAMES); s.files()
+        book, deeds = Store(World(left=s.world.files[0].seen)).book, [author for author, *_ in s.world.history]
+        for n, outcome in enumerate(book.outcomes, 1):
+            count = deeds.count('P%d' % n)
+            assert count <= 1, (n, deeds)
+            if outcome: assert count == 1 if outcome[0] == 'done' else count == 0 or outcome[1] > 7, (n, outcome, deeds)
+        return s
     def step(self, s):
+        if self.likely(0.2) and s.world.boxes: s.change(*self.change(s.world))
+        if self.likely(0.25): return self.played(s)
         words = self.aimed(s.world) if self.likely(0.6) else self.words()
         if self.likely(0.8 if words[:1] == ['append'] else 0.1): s.input(self.message())
         if self.likely(0.08): s.source(self.randint(1, 3))
@@ -113,6 +162,7 @@ if __name__ == '__main__':
     seed, count, name = int(sys.argv[1]), int(sys.argv[2]), sys.argv[3]
     draw, cases = Draw(seed), Cases('# Random scenarios of seed %d.\n\n' % seed)
     cases.head(state())
-    for number in range(1, count + 1): add(cases, 'random scenario %d of seed %d' % (number, seed), draw.scenario())
+    make = draw.playing if sys.argv[4:] == ['play'] else draw.scenario
+    for number in range(1, count + 1): add(cases, 'random scenario %d of seed %d' % (number, seed), make())
     open(name, 'w').write(cases.text)
     print(count, cases.text.count('\n'), len(cases.text))

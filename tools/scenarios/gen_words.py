@@ -68,13 +68,13 @@ def worked(c):
     s.says('list INBOX', '40 700 \\seen'); s.says('list Archive', 'd1 - \\flagged')
     s.says('queue', '1 waiting move INBOX 42 Archive', '2 waiting flag Archive d1 + \\flagged')
     s.files(); assert s.world.files[0].seen == journal(*STATE, accept(1, MOVED), accept(2, FLAGGED))
-    s.says('play', 'error later 1'); s.sent(); s.history()
+    s.says('play', 'played 2 conflicts 0'); s.sent(); s.history(); s.looks()
     add(c, 'a message is moved, and changed where it comes', s)
 
     s = state(); s.input(T); s.says('append Archive \\Seen', 'accepted 1'); s.says('list Archive', 'd1 - \\seen')
     s.says('list INBOX', '40 700 \\seen', '42 715')
     s.says('queue', '1 waiting append Archive <a1@x>'); s.files(); assert s.world.files[0].seen == journal(*STATE, accept(1, APPENDED))
-    s.says('play', 'error later 1'); s.sent()
+    s.says('play', 'played 1 conflicts 0'); s.sent(); s.looks()
     add(c, 'a message is put in', s)
 
     s = state()
@@ -89,7 +89,7 @@ def worked(c):
     s = state(); s.says('flag INBOX 40 + \\Seen', 'accepted 1'); s.says('list INBOX', '40 700 \\seen', '42 715')
     s.says('queue', '1 waiting flag INBOX 40 + \\seen')
     s.refuses('bad-flag', 'flag INBOX 42 + \\Foo'); s.refuses('same-mailbox', 'move INBOX 42 INBOX'); s.refuses('no-mailbox', 'list Sent')
-    s.says('play', 'error later 1'); s.sent()
+    s.says('play', 'played 1 conflicts 1'); s.sent(); s.looks()
     add(c, 'a flag that is there already waits too', s)
 
     s = Told(); s.lines = [('', [])] * HEADS; s.server(()); s.stand()
@@ -317,12 +317,12 @@ def views(c):
     accepted, shift = [accept(1, MOVED), accept(2, FLAGGED)], intend(1, ('shift', 'INBOX', 5, 42, 'Archive'))
     rows = learn('Archive', 0, 9, 301, 8, [], [(7, 301, [])])
     s = book(*accepted, shift); s.says('queue', '1 begun move INBOX 42 Archive', '2 waiting flag Archive d1 + \\flagged')
-    s.lists('INBOX', 'Archive'); s.says('play', 'error later 1'); s.says('flag Archive d1 - \\Flagged', 'accepted 3'); s.looks()
+    s.lists('INBOX', 'Archive'); s.says('play', 'error lacking QRESYNC'); s.says('flag Archive d1 - \\Flagged', 'accepted 3'); s.looks()
     add(c, 'a command is about to be sent: its action waits as it did', s)
     s = book(*accepted, shift, settle(1, ('done', 9, 7)))
     s.says('queue', '2 waiting flag Archive d1 + \\flagged'); s.says('list INBOX', '40 700 \\seen', '42 715'); s.says('list Archive')
     s.refuses('no-message', 'flag Archive d1 + x', 'flag Archive 7 + x', 'move Archive d1 INBOX')
-    s.says('play', 'error later 2'); s.says('flag INBOX 42 + \\Seen', 'accepted 3'); s.looks()
+    s.says('play', 'error lacking QRESYNC'); s.says('flag INBOX 42 + \\Seen', 'accepted 3'); s.looks()
     add(c, 'a settled action has no part: what was cached is shown as it is', s)
     s = book(*accepted, shift, settle(1, ('done', 9, 7)), rows, learn('INBOX', 0, 5, 716, 44, [42], []))
     s.says('queue', '2 waiting flag Archive d1 + \\flagged'); s.says('list INBOX', '40 700 \\seen'); s.says('list Archive', '7 301 \\flagged')
@@ -334,7 +334,6 @@ def views(c):
     add(c, 'a place under another UIDVALIDITY is no row', s)
     s = book(*accepted, settle(1, ('conflict', 1, []))); s.says('queue', '2 waiting flag Archive d1 + \\flagged')
     s.says('list INBOX', '40 700 \\seen', '42 715'); s.says('list Archive'); s.refuses('no-message', 'flag Archive d1 + x')
-    s.says('play', 'error later 2')
     add(c, 'the dummy of a conflict is no row', s)
     s = book(*accepted, accept(3, ('move', ('dummy', 1), 'INBOX')), settle(1, ('conflict', 1, [])))
     s.says('queue', '2 waiting flag Archive d1 + \\flagged', '3 waiting move Archive d1 INBOX'); s.says('list INBOX', '40 700 \\seen', '42 715')
@@ -362,8 +361,8 @@ def views(c):
     s = Told(); s.lines = [('', [])] * HEADS
     s.server(OFFERS, WORKED, left=journal(*STATE, *accepted, settle(1, ('conflict', 1, [])), settle(2, ('conflict', 7, [1])))); s.stand()
     s.says('queue'); s.looks(); s.change('set', 'INBOX', 42, 'work'); s.says('play', 'played 0 conflicts 0')
-    s.says('list INBOX', '40 700 \\seen', '42 716 work'); s.says('flag INBOX 42 - work', 'accepted 3'); s.says('play', 'error later 3'); s.looks()
-    add(c, 'where all are settled it is played, and the next action waits again', s)
+    s.says('list INBOX', '40 700 \\seen', '42 716 work'); s.says('flag INBOX 42 - work', 'accepted 3'); s.says('play', 'played 1 conflicts 0'); s.looks()
+    add(c, 'where all are settled it is played, and so is the next action', s)
 
 # ---- each call fails in turn, and each stop
 def faults(c):
@@ -395,7 +394,7 @@ def faults(c):
         s.sink(1); assert s.run(*ws.split()[:1]) == 2
         s.sink(1); s.disk(1); assert s.run(*ws.split()) == 3
         if text: s.sink(1); s.source(1); assert s.run(*ws.split()) == 13
-        s.sink(1); assert s.run('play') == 15
+        s.sink(1); assert s.run('play') == 12
         s.sink(2)
         if text: s.input(text)
         s.run(*(ws if text else 'move INBOX 40 Archive').split()); s.looks()

@@ -99,7 +99,8 @@ class World:
     def __init__(self, offers=(), boxes=(), left=b'', right=b'', account=('ann', 'pw')):
         self.offers, self.boxes, self.account = list(offers), list(boxes), account
         self.files = [File(left), File(right)]
-        self.on, self.was_sent = False, b''
+        self.permits, self.refused = None, None
+        self.on, self.was_sent, self.waiting = False, b'', None
         self.moments, self.history = 1, []
         self.plan()
     def plan(self, disk=(), link=None, other=(), stop=None, sink=(), source=()):
@@ -119,7 +120,7 @@ class World:
         if any(x.highest >= 2**63 - 1 for x in ([b, to] if verb == 'shift' else [b])): return 4
         if verb == 'add' and b'\0' in rest[1]: return 5
         return None
-    def change(self, verb, name, *rest):
+    def change(self, verb, name, *rest, author='other'):
         rule = self.broken(verb, name, *rest)
         if rule: return rule
         b = self.box(name)
@@ -135,7 +136,7 @@ class World:
                 to = self.box(rest[1])
                 to.messages.append(dict(uid=rest[2], modseq=next_of(to), text=m['text'], flags=m['flags']))
                 to.uidnext = rest[2] + 1
-        self.history.append(('other', verb, name_of(name)) + rest)
+        self.history.append((author, verb, name_of(name)) + rest)
         self.moments += 1
         return None
     # calls of the disk
@@ -166,13 +167,20 @@ class World:
     def connect(self):
         self.on = False
         if self.link_call(): raise LINK()
-        self.on, self.was_sent, self.selected = True, b'', None
-    def send(self, text):
+        # a command of the lost connection that waits is carried out before the greeting, or never
+        if self.waiting: self.waiting()
+        self.on, self.was_sent, self.waiting = True, b'', None
+    def send(self, text, carried=lambda: None):
+        """Sends a text; what it is carried out as, where it is a command's last part, gives what the server answers."""
         loss = self.link_call()
         if loss == 'stop' or not self.on: raise LINK()
-        if loss is None: self.was_sent += text; return
+        if loss is None: self.was_sent += text; return carried()
         n = {'nothing': 0, 'all': len(text), 'waits done': len(text), 'waits dropped': len(text)}.get(loss)
-        self.was_sent += text[:int(loss.split()[1]) if n is None else n]
+        n = min(int(loss.split()[1]) if n is None else n, len(text))
+        self.was_sent += text[:n]
+        if n == len(text):
+            if not loss.startswith('waits'): carried()
+            elif loss == 'waits done': self.waiting = carried
         self.on = False
         raise LINK()
     def recv(self):
@@ -411,52 +419,8 @@ def astring(s):
     return s if s and s.upper() != 'NIL' and all(33 <= ord(c) <= 126 and c not in '(){%*"\\' for c in s) else '"%s"' % s.replace('\\', '\\\\').replace('"', '\\"')
 
 def play(w):
-    """Over a server in memory: one call of the link a part of a command, and one a reply (docs/PROTOCOL.md)."""
-    s = Store(w)
-    if s.book.unsettled(): raise Fault(15, 'error later %d' % s.book.unsettled()[0])
-    w.connect(); w.recv()
-    count = [0]
-    def ask(text, *parts):
-        count[0] += 1
-        w.send(('C%d %s\r\n' % (count[0], text)).encode()); w.recv()
-        for p in parts: w.send(p); w.recv()
-    ask('CAPABILITY')
-    user, password = w.account
-    if w.is_offered('AUTH=PLAIN'):
-        import base64
-        ask('AUTHENTICATE PLAIN', base64.b64encode(b'\0' + user.encode() + b'\0' + password.encode()) + b'\r\n')
-    elif w.is_offered('LOGINDISABLED'): raise Fault(7, 'error lacking LOGIN')
-    else:
-        first, behind = login_parts(user, password)
-        ask(first, *behind)
-    ask('CAPABILITY')
-    rev2 = w.is_offered('IMAP4rev2')
-    for item in ['QRESYNC'] + ([] if rev2 else ['UIDPLUS', 'MOVE']):
-        if not w.is_offered(item): raise Fault(7, 'error lacking ' + item)
-    ask('ENABLE IMAP4rev2 QRESYNC' if rev2 else 'ENABLE QRESYNC')
-    for name in list(s.book.boxes):
-        cache = s.book.boxes[name]
-        mark = '' if cache is None else ' (QRESYNC (%d %d))' % (cache['validity'], cache['highest'])
-        seen = dict()
-        def select():
-            b = w.box(name)
-            if b is None: return
-            seen.update(validity=b.validity, highest=b.highest, uidnext=b.uidnext, empty=not b.messages,
-                gone=[u for u, m in b.gone if cache and m > cache['highest']],
-                rows=[(m['uid'], m['modseq'], m['flags']) for m in b.messages if cache and m['modseq'] > cache['highest']])
-        count[0] += 1
-        w.send(('C%d SELECT %s%s\r\n' % (count[0], astring(name), mark)).encode())
-        select()
-        w.recv()
-        if not seen: raise Fault(5, 'error refused: C%d NO ' % count[0])
-        if cache is None and not seen['empty']:
-            count[0] += 1
-            w.send(('C%d UID FETCH 1:* (UID FLAGS MODSEQ)\r\n' % count[0]).encode())
-            seen['rows'] = [(m['uid'], m['modseq'], m['flags']) for m in w.box(name).messages]
-            w.recv()
-        s.commit(('learn', name, int(cache is None), seen['validity'], seen['highest'], seen['uidnext'], seen['gone'], seen['rows']))
-    ask('LOGOUT')
-    return ['played 0 conflicts 0']
+    from playing import play
+    return play(w)
 
 COMMANDS = dict(init=init, flag=flag, move=move, append=append, list=list_rows, queue=queue, play=play)
 
@@ -485,6 +449,8 @@ class Scenario:
         if left or right: self.line('files %s %s' % (hexed(left), hexed(right)))
         if account: self.line('account ' + words(*account))
         self.world = World(offers, made, left, right, account or ('ann', 'pw'))
+    def permit(self, kind, *flags): self.line(' '.join(['permit', kind, *flags])); self.world.permits = (kind == 'any', keys(flags))
+    def refuse(self, name): self.line('refuse ' + word(name)); self.world.refused = name_of(name)
     def stand(self): self.line('world')
     # plans of the next run
     def disk(self, n): self.line('disk %d' % n); self.world.fails.add(n)
@@ -510,8 +476,9 @@ class Scenario:
         w, what = self.world, asked(ws)
         try: printed, status = (COMMANDS[what[0]](w, *what[1:]), 0) if what else (['error words'], 2)
         except Fault as f: printed, status = [f.line], f.status
+        if what == ('play',) and status == 0 and not printed[0].endswith(' conflicts 0'): status = 1
         if w.link_calls or w.calls and w.stop is not None and w.calls >= w.stop and status == 4: w.close()
-        if 1 in w.sink_fails: printed, status = [], (12 if status == 0 else status)
+        if 1 in w.sink_fails: printed, status = [], (12 if status in (0, 1) else status)
         w.plan()
         self.ran(words(*ws), status, *printed)
         return status

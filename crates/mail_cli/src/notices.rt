@@ -13,7 +13,8 @@ usage: mowerbean init BOX ..            sets up a journal for 1 to 32 mailboxes
        mowerbean append BOX FLAG ..     standard input is to be put into BOX
        mowerbean list BOX               shows the messages of a mailbox
        mowerbean queue                  shows the actions that wait
-       mowerbean play                   fetches what is new of each mailbox
+       mowerbean play                   plays the actions back, and fetches what is
+                                        new of each mailbox
        mowerbean --help | --version
 
 ID is a message's UID, or dN for the message that action N is to make. FLAG is
@@ -29,12 +30,13 @@ mowerbean append Archive < a.eml   prints `accepted 3`
 mowerbean list Archive             prints `d2 - \\seen` and `d3 -`
 mowerbean queue                    prints `1 waiting flag INBOX 42 + \\seen`, and
                                    a line each for actions 2 and 3
+mowerbean play                     prints `played 3 conflicts 0`
 
 The journal is kept in journal.0 and journal.1 of the folder MAIL_DIR (default:
 the present one). The server is MAIL_SERVER, as HOST:PORT (default:
-localhost:143), the user MAIL_USER, and the password MAIL_PASSWORD. Playing
-accepted actions back on the server isn't built yet: while one waits, `play`
-ends with `error later` and its number.
+localhost:143), the user MAIL_USER, and the password MAIL_PASSWORD. `play` plays
+accepted actions back on the server in their order, and then fetches what is new
+of each mailbox. Where a connection is lost, the next `play` goes on.
 ";
 
 /// The text of `--version`.
