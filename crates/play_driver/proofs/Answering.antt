@@ -1,13 +1,15 @@
 -- Questions of a session: the answer comes at one moment.
-use Rattle.std.proofs.Common.{◌≡◌, false, ℕ, List, Option, refl}
+use Rattle.std.proofs.Common.{◌≡◌, ◌++◌, false, ℕ, List, Option, refl}
 use Rattle.mail_base.specs.declared.tag.Tag.{Tag}
 use Rattle.imap_model.specs.CarriedOut.{CarriesOut}
 use Rattle.imap_model.specs.Mutating.{is_mutating}
+use Rattle.imap_model.specs.declared.response.Response.{Response}
 use Rattle.world_traits.specs.Asking.{Asking}
 use Rattle.world_traits.specs.Links.{Any, LinkStep, Linked}
 use Rattle.world_traits.specs.Moments.{Moment, Clock, Since, tick}
 use Rattle.world_traits.proofs.Passing.{since_then, since_tick, since_start}
 use Rattle.imap_session.specs.Enquiring.{Enquiring}
+use Rattle.imap_session.specs.Knowing.{Tells}
 use Rattle.imap_session.specs.Session.{waiting_of}
 use Rattle.imap_session.proofs.Talks.{asks_enquires}
 use Rattle.play_driver.specs.Exchanges.{Exchange, IsAnswered}
@@ -21,6 +23,8 @@ pub record AnsweredAt (selected : Option (List ℕ)) (tag : Tag) (x : Exchange) 
   pub behind : Linked Enquiring (tick at to) new
   pub selects : Option (List ℕ)
   pub carried : CarriesOut (waiting_of selected tag x.asked) at.now.outside.server x.replies to.outside.server selects
+  pub told : List Response
+  pub tells : Tells (waiting_of selected tag x.asked) told x.replies selects at.now.outside to.outside
 
 pub answered_at : (selected : Option (List ℕ)) (tag : Tag) (x : Exchange) (old new : Clock) → is_mutating x.asked ≡ false →
     IsAnswered selected tag x old new → AnsweredAt selected tag x old new
@@ -39,6 +43,8 @@ answered_at selected tag x old new question a =
       behind = asks_enquires told tag x.asked question (tick r.at r.to) new r.after;
       selects = a.answered.after;
       carried = r.is.is;
+      told = told ++ a.answered.asked;
+      tells = r.is;
     }
 
 -- the whole time

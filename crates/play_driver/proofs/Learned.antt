@@ -133,7 +133,8 @@ module _ (name : List ℕ) where
     replies = r;
     accepted = ok;
     selects = a.selects;
-    carried = a.carried;
+    told = a.told;
+    tells = a.tells;
     level = level;
   }
 
@@ -207,7 +208,8 @@ module _ (name : List ℕ) where
         replies = all;
         accepted = fine;
         selects = f.selects;
-        carried = f.carried;
+        told = f.told;
+        tells = f.tells;
         level = level;
       } in (
         (codes_of_box s.0, first_judged name None s.0 g.0 r all s.2 fetched),

@@ -49,8 +49,8 @@ pub record WasServer (s : Server) (old new : Clock) : Type 0 where
   pub later : Grows at new
   pub is : at.now.outside.server ≡ s
 
--- What was said was so at one moment of the time between: the command was carried out there, or refused, and this reply to it was told in
--- the connection.
+-- What was said was so at one moment of the time between: this reply, by which the server may carry the command out there, or refuse it,
+-- was told then in the connection, under the command's tag.
 pub record WasAnswered (e : Said) (old new : Clock) : Type 0 where
   pub told : List Response
   pub after : Option (List ℕ)

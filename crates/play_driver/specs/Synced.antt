@@ -1,17 +1,18 @@
 -- A cache that is the server's at a moment (RFC 7162, section 3.2.5).
 use Rattle.std.specs.Prelude.{◌≡◌, ◌⊎◌, ℕ, List, Option, Some}
-use Rattle.imap_model.specs.CarriedOut.{CarriesOut}
 use Rattle.imap_model.specs.Carrying.{Waiting}
 use Rattle.imap_model.specs.Lookups.{box_at}
 use Rattle.imap_model.specs.declared.command.Command.TheVariants as commands
 use Rattle.imap_model.specs.declared.ending.Ending.TheVariants as endings
 use Rattle.imap_model.specs.declared.mark.Mark.{Mark}
 use Rattle.imap_model.specs.declared.replies.Replies.{Replies}
+use Rattle.imap_model.specs.declared.response.Response.{Response}
 use Rattle.imap_model.specs.declared.server.Mailbox.{Mailbox}
 use Rattle.mailbox_cache.specs.Rows.{row_at}
 use Rattle.mailbox_cache.specs.declared.cache.Cache.{Cache}
 use Rattle.action_queue.specs.Book.{Meaning, cache_at}
 use Rattle.qresync_core.specs.Fresh.{server_row}
+use Rattle.imap_session.specs.Knowing.{Tells}
 use Rattle.world_traits.specs.Links.{Any}
 use Rattle.world_traits.specs.Moments.{Moment, Clock, Became}
 use Rattle.play_driver.specs.Joining.{AnyTwo}
@@ -34,7 +35,8 @@ pub record IsReadAt (name : List ℕ) (cache : Cache) (m n : Moment) : Type 0 wh
   pub replies : Replies
   pub accepted : replies.ending ≡ endings.Ok
   pub selects : Option (List ℕ)
-  pub carried : CarriesOut asked m.outside.server replies n.outside.server selects
+  pub told : List Response
+  pub tells : Tells asked told replies selects m.outside n.outside
   pub level : IsLevel name cache m
 
 -- the book has a cache of this name, which is the server's as it answered for its rows at a moment of this time

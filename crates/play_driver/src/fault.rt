@@ -32,13 +32,14 @@ pub enum PlayFault {
     Lacking {
         what: Item,
     },
-    /// The mailbox of this name has another UIDVALIDITY than its cache (RFC 9051, section 2.3.1.1).
+    /// The mailbox of this name has another UIDVALIDITY than its cache, or than an action's message or intent (RFC 9051,
+    /// section 2.3.1.1).
     Validity {
         name: BoxName,
         kept: Validity,
         told: Validity,
     },
-    /// A limit is passed: by how much is told.
+    /// A limit is passed by this number.
     Limit {
         which: Limit,
         number: u64,

@@ -69,7 +69,7 @@ pub fn play<W: World>(
 
     // At every moment a stop leaves the book that was, or one further on: no action is forgotten, nor how one ended. Where the book is
     // kept at entry and others are fair, each moment is kept and joined to the one before it by one step, so that no action takes effect
-    // twice; and each intent and each outcome that is recorded has its reason.
+    // twice; and each intent and each conflict that is recorded has its reason.
     ensures progress { W.tells_files → Progresses store.old.book (W.clock world.old) (W.clock world.new) }
     ensures joined { W.tells_server → IsKept mail Kept (W.clock world.old).now
         → StaysJoined mail Kept played (W.clock world.old) (W.clock world.new) }
