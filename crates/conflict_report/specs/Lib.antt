@@ -1,3 +1,4 @@
 -- The definitions that this crate's contracts cite.
 pub mod QueueLines
+pub mod ReportLines
 pub mod StatusLines

@@ -1,5 +1,5 @@
-//! Calls of `local_view` and `conflict_report`: a mailbox as the user sees it, and the text of the queue, of the book of a journal
-//! with the mailboxes INBOX and Archive after events.
+//! Calls of `local_view` and `conflict_report`: a mailbox as the user sees it, and the texts of the queue and of the conflicts, of the
+//! book of a journal with the mailboxes INBOX and Archive after events.
 
 use crate::books::{begun, enter};
 use crate::events::event;
@@ -7,7 +7,7 @@ use crate::numbers::known;
 use crate::plain_view::plain_view;
 use action_queue::Book;
 use case_words::{Answer, CaseFault, Input, name, put_flags, put_modseq, put_uid};
-use conflict_report::queue_text;
+use conflict_report::{queue_text, report};
 use local_view::{Ident, Seen, view};
 use std::alloc::Global;
 
@@ -16,6 +16,7 @@ pub fn answers(call: &str, input: &mut Input, answer: &mut Answer) -> Result<boo
     let done = match call {
         "view" => put_view(input, answer),
         "queue" => put_queue(input, answer),
+        "report" => put_report(input, answer),
         _ => return Ok(false),
     };
     known(done)
@@ -42,6 +43,13 @@ fn put_view(input: &mut Input, answer: &mut Answer) -> Result<(), CaseFault> {
 fn put_queue(input: &mut Input, answer: &mut Answer) -> Result<(), CaseFault> {
     let book = book(input)?;
     let text = queue_text(input.alloc, &book)?;
+    answer.text(text.as_slice())
+}
+
+// The text of the report.
+fn put_report(input: &mut Input, answer: &mut Answer) -> Result<(), CaseFault> {
+    let book = book(input)?;
+    let text = report(input.alloc, &book)?;
     answer.text(text.as_slice())
 }
 
