@@ -7,7 +7,7 @@ use Rattle.mail_cli.specs.declared.top_calls.TopCall.TheVariants.{Run}
 abbrev pub IsWordOf : TopCall → List ℕ → Type 0
 IsWordOf Run word =
     (word ≡ codes "init") ⊎ (word ≡ codes "flag") ⊎ (word ≡ codes "move") ⊎ (word ≡ codes "append") ⊎ (word ≡ codes "list") ⊎ (word ≡ codes "queue")
-    ⊎ (word ≡ codes "play")
+    ⊎ (word ≡ codes "report") ⊎ (word ≡ codes "play")
 
 -- the first of the words picks this top call
 abbrev pub Picks : List (List ℕ) → TopCall → Type 0

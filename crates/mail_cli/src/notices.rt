@@ -13,6 +13,7 @@ usage: mowerbean init BOX ..            sets up a journal for 1 to 32 mailboxes
        mowerbean append BOX FLAG ..     standard input is to be put into BOX
        mowerbean list BOX               shows the messages of a mailbox
        mowerbean queue                  shows the actions that wait
+       mowerbean report                 tells the actions that ended as conflicts
        mowerbean play                   plays the actions back, and fetches what is
                                         new of each mailbox
        mowerbean --help | --version
@@ -31,6 +32,7 @@ mowerbean list Archive             prints `d2 - \\seen` and `d3 -`
 mowerbean queue                    prints `1 waiting flag INBOX 42 + \\seen`, and
                                    a line each for actions 2 and 3
 mowerbean play                     prints `played 3 conflicts 0`
+mowerbean report                   prints nothing: none ended as a conflict
 
 The journal is kept in journal.0 and journal.1 of the folder MAIL_DIR (default:
 the present one). The server is MAIL_SERVER, as HOST:PORT (default:

@@ -19,7 +19,8 @@ pub fn top_call(words: &[String]) -> Option<TopCall>
 {
     let first = words.first()?;
     match first.as_str() {
-        "init" | "flag" | "move" | "append" | "list" | "queue" | "play" => Some(TopCall::Run),
+        "init" | "flag" | "move" | "append" => Some(TopCall::Run),
+        "list" | "queue" | "report" | "play" => Some(TopCall::Run),
         _ => None,
     }
 }

@@ -18,16 +18,18 @@ use Rattle.store_core.specs.Books.{HasBook}
 use Rattle.store_core.proofs.Folding.{one_held}
 use Rattle.store_core.proofs.MailBook.{one_mail_event}
 use Rattle.store_core.proofs.Wholeness.{never_both}
-use Rattle.mail_top.specs.Ending.{Comes, Ends, EndsInit, EndsAct, EndsRows, EndsQueue, EndsRequest, IsDone, IsTakable, IsListable}
+use Rattle.mail_top.specs.Ending.{Comes, Ends, EndsInit, EndsAct, EndsRows, EndsShown, EndsRequest, IsDone, IsTakable, IsListable}
 use Rattle.mail_top.specs.Runs.{AreBook}
 use Rattle.mail_top.specs.Saying.{SaysRefused, SaysUnknown, SaysFull, PassesPlace}
 use Rattle.mail_top.specs.Actions.{Becomes, accepts}
+use Rattle.conflict_report.specs.QueueLines.{queue_text}
+use Rattle.conflict_report.specs.ReportLines.{report_text}
 use Rattle.mail_top.specs.Course.{Course, end_behind}
 use Rattle.mail_top.specs.Played.{CameThrough}
 use Rattle.mail_top.specs.Printing.{IsSaid}
 use Rattle.mail_top.specs.Reasons.{IsFirst, Stops}
 use Rattle.conflict_report.specs.StatusLines.{limit_actions}
-use Rattle.mail_top.specs.Words.{Wanted, Request, Init, Act, Rows, Queue, Play, Asks, AsksNothing}
+use Rattle.mail_top.specs.Words.{Wanted, Request, Init, Act, Rows, Queue, Report, Play, Asks, AsksNothing}
 use Rattle.mail_top.specs.declared.reason.Reason.{Reason}
 use Rattle.mail_top.specs.declared.reason.Reason.TheVariants as reasons
 use Rattle.mail_top.proofs.Wording.{one_request}
@@ -39,6 +41,7 @@ output_as account (Init names) k text ends = ends
 output_as account (Act wanted) k text ends = ends
 output_as account (Rows name) k text ends = ends
 output_as account Queue k text ends = ends
+output_as account Report k text ends = ends
 output_as account Play k text ends = inl ends
 
 module _ (account : Credentials) (words : List (List ℕ)) (input : List ℕ) (k : Course) where
@@ -56,6 +59,7 @@ module _ (account : Credentials) (words : List (List ℕ)) (input : List ℕ) (k
       by_request (Act wanted) ends = absurd ends.says
       by_request (Rows name) ends = absurd ends.says
       by_request Queue ends = absurd ends.says
+      by_request Report ends = absurd ends.says
       by_request Play ends = inr ends
 
   pub said_ends : (r s : Status) (text : List ℕ) → IsSaid s r → Ends account words input k s text → Ends account words input k r text
@@ -114,7 +118,7 @@ module _ (files : Files) (b c : Meaning) (holds : HasBook mail b files) (held : 
       omega (arith, ap (λ (l : List (List ℕ)). length (records l)) same)
 
 -- the request of an end is the one that is asked for
-ended_as : (account : Credentials) (words : List (List ℕ)) (input : List ℕ) (k : Course) (r : Status) (text : List ℕ) (request : Request) →
+pub ended_as : (account : Credentials) (words : List (List ℕ)) (input : List ℕ) (k : Course) (r : Status) (text : List ℕ) (request : Request) →
     Asks words input request →
     Ends account words input k r text → (r ≡ status.Words → AsksNothing words) → EndsRequest account request k r text
 ended_as account words input k r text request asks (inl w) cause = absurd (w.nothing input request asks)
@@ -220,24 +224,24 @@ module _ (k : Course) (name : List ℕ) (t : IsListable name k.seen) where
   rows_done status.Input text ends no_disk no_output = absurd ends
   rows_done status.Later text ends no_disk no_output = absurd ends
 
-module _ (k : Course) (t : AreBook k.seen) where
-  queue_done : (r : Status) (text : List ℕ) → EndsQueue k r text → (r ≡ status.Disk → ⊥) → (r ≡ status.Output → ⊥) → IsDone r
-  queue_done status.Done text ends no_disk no_output = inl refl
-  queue_done status.Memory text ends no_disk no_output = inr refl
-  queue_done status.Output text ends no_disk no_output = absurd (no_output refl)
-  queue_done status.Disk text ends no_disk no_output = absurd (no_disk refl)
-  queue_done status.Journal text ends no_disk no_output = absurd (never_both mail one_mail_event t.book k.seen t.holds ends.why ends.broken)
-  queue_done status.Reason text ends no_disk no_output = absurd ends
-  queue_done status.Limit text ends no_disk no_output = absurd ends
-  queue_done status.Words text ends no_disk no_output = absurd ends
-  queue_done status.Conflicts text ends no_disk no_output = absurd ends
-  queue_done status.Link text ends no_disk no_output = absurd ends
-  queue_done status.Refused text ends no_disk no_output = absurd ends
-  queue_done status.Reply text ends no_disk no_output = absurd ends
-  queue_done status.Lacking text ends no_disk no_output = absurd ends
-  queue_done status.Validity text ends no_disk no_output = absurd ends
-  queue_done status.Input text ends no_disk no_output = absurd ends
-  queue_done status.Later text ends no_disk no_output = absurd ends
+module _ (shown : Meaning → List ℕ) (k : Course) (t : AreBook k.seen) where
+  shown_done : (r : Status) (text : List ℕ) → EndsShown shown k r text → (r ≡ status.Disk → ⊥) → (r ≡ status.Output → ⊥) → IsDone r
+  shown_done status.Done text ends no_disk no_output = inl refl
+  shown_done status.Memory text ends no_disk no_output = inr refl
+  shown_done status.Output text ends no_disk no_output = absurd (no_output refl)
+  shown_done status.Disk text ends no_disk no_output = absurd (no_disk refl)
+  shown_done status.Journal text ends no_disk no_output = absurd (never_both mail one_mail_event t.book k.seen t.holds ends.why ends.broken)
+  shown_done status.Reason text ends no_disk no_output = absurd ends
+  shown_done status.Limit text ends no_disk no_output = absurd ends
+  shown_done status.Words text ends no_disk no_output = absurd ends
+  shown_done status.Conflicts text ends no_disk no_output = absurd ends
+  shown_done status.Link text ends no_disk no_output = absurd ends
+  shown_done status.Refused text ends no_disk no_output = absurd ends
+  shown_done status.Reply text ends no_disk no_output = absurd ends
+  shown_done status.Lacking text ends no_disk no_output = absurd ends
+  shown_done status.Validity text ends no_disk no_output = absurd ends
+  shown_done status.Input text ends no_disk no_output = absurd ends
+  shown_done status.Later text ends no_disk no_output = absurd ends
 
 module _ (account : Credentials) (words : List (List ℕ)) (input : List ℕ) (k : Course) (r : Status) (text : List ℕ)
     (ends : Ends account words input k r text) (cause : r ≡ status.Words → AsksNothing words)
@@ -254,4 +258,7 @@ module _ (account : Credentials) (words : List (List ℕ)) (input : List ℕ) (k
   completes_rows name asks t = rows_done k name t r text (ended_as account words input k r text (Rows name) asks ends cause).says no_disk no_output
 
   pub completes_queue : Asks words input Queue → AreBook k.seen → IsDone r
-  completes_queue asks t = queue_done k t r text (ended_as account words input k r text Queue asks ends cause).says no_disk no_output
+  completes_queue asks t = shown_done queue_text k t r text (ended_as account words input k r text Queue asks ends cause).says no_disk no_output
+
+  pub completes_report : Asks words input Report → AreBook k.seen → IsDone r
+  completes_report asks t = shown_done report_text k t r text (ended_as account words input k r text Report asks ends cause).says no_disk no_output

@@ -8,14 +8,16 @@ use Rattle.world_traits.specs.Files.{Files}
 use Rattle.action_queue.specs.Book.{Meaning}
 use Rattle.store_core.specs.Mail.{mail}
 use Rattle.store_core.specs.Books.{HasBook}
+use Rattle.conflict_report.specs.QueueLines.{queue_text}
+use Rattle.conflict_report.specs.ReportLines.{report_text}
 use Rattle.mail_top.specs.Course.{Course}
-use Rattle.mail_top.specs.Ending.{EndsInit, EndsRows, EndsQueue, EndsPlay}
+use Rattle.mail_top.specs.Ending.{EndsInit, EndsRows, EndsShown, EndsPlay}
 use Rattle.mail_top.specs.Going.{GoesBy, GoesAction, GoesRequest}
 use Rattle.mail_top.specs.Leaving.{MayBeLeft}
 use Rattle.mail_top.specs.Played.{CameThrough}
 use Rattle.mail_top.specs.Reading.{AsksAppend, Awaits, AwaitsAsked, AwaitsInput, AwaitsOn, IsAppend, IsInput, NeedsInput, TakesFront}
 use Rattle.mail_top.specs.Telling.{status_of}
-use Rattle.mail_top.specs.Words.{Wanted, Flag, Move, Append, Request, Init, Act, Rows, Queue, Play, Asks, AsksAction, HasFewFlags, addition_of}
+use Rattle.mail_top.specs.Words.{Wanted, Flag, Move, Append, Request, Init, Act, Rows, Queue, Report, Play, Asks, AsksAction, HasFewFlags, addition_of}
 use Rattle.mail_top.specs.Words.{request_of, wanted_of}
 use Rattle.mail_top.specs.declared.refusal.Refusal.{Refusal}
 use Rattle.mail_top.specs.declared.refusal.Refusal.TheVariants as refusals
@@ -24,7 +26,7 @@ use Rattle.mail_top.specs.declared.request.Asked.TheVariants as asked
 use Rattle.mail_top.specs.declared.request.AskedAction.{AskedAction}
 use Rattle.mail_top.specs.declared.request.AskedAction.TheVariants as asked_action
 use Rattle.mail_top.proofs.Repeated.{outside_stays}
-use Rattle.mail_top.proofs.Sayings.{never_init, never_act, never_rows, never_queue, said_so}
+use Rattle.mail_top.proofs.Sayings.{never_init, never_act, never_rows, never_queue, never_report, said_so}
 use Rattle.mail_top.proofs.Wording.{one_request}
 
 module _ (account : Credentials) (k : Course) where
@@ -61,9 +63,15 @@ module _ (account : Credentials) (k : Course) where
       goes = goes;
     }
 
-    pub went_queue : (t : Status) (y : List ℕ) → EndsQueue k t y → GoesBy Queue k → GoesRequest account Queue k t y
+    pub went_queue : (t : Status) (y : List ℕ) → EndsShown queue_text k t y → GoesBy Queue k → GoesRequest account Queue k t y
     went_queue t y ends goes = record {
       ends = record { link = link; outside = outside Queue never_queue goes; says = ends };
+      goes = goes;
+    }
+
+    pub went_report : (t : Status) (y : List ℕ) → EndsShown report_text k t y → GoesBy Report k → GoesRequest account Report k t y
+    went_report t y ends goes = record {
+      ends = record { link = link; outside = outside Report never_report goes; says = ends };
       goes = goes;
     }
 
@@ -121,6 +129,7 @@ module _ (words : List (List ℕ)) where
   append_asks (asked.Act (asked_action.Append addition)) asks append = record { addition = addition_of addition; asks = (asks []).0 }
   append_asks (asked.Rows name) asks append = absurd append
   append_asks asked.Queue asks append = absurd append
+  append_asks asked.Report asks append = absurd append
   append_asks asked.Play asks append = absurd append
 
   as_append : (a : Asked) (wanted : Wanted) → request_of a [] ≡ Act wanted → (x : AsksAppend words) → wanted ≡ Append x.addition [] → IsAppend a
@@ -130,6 +139,7 @@ module _ (words : List (List ℕ)) where
   as_append (asked.Act (asked_action.Append addition)) wanted is x same = tt
   as_append (asked.Rows name) wanted is x same = absurd cc
   as_append asked.Queue wanted is x same = absurd cc
+  as_append asked.Report wanted is x same = absurd cc
   as_append asked.Play wanted is x same = absurd cc
 
   pub asks_append : (a : Asked) → ((input : List ℕ) → Asks words input (request_of a input)) → AsksAppend words → IsAppend a
@@ -147,6 +157,7 @@ module _ (words : List (List ℕ)) where
   }
   awaits_asked (asked.Rows name) seen asks awaits = absurd awaits
   awaits_asked asked.Queue seen asks awaits = absurd awaits
+  awaits_asked asked.Report seen asks awaits = absurd awaits
   awaits_asked asked.Play seen asks awaits = absurd awaits
 
   -- what the words and the source's rest ask for, they and the input ask for

@@ -28,7 +28,7 @@ use Rattle.mail_top.specs.Actions.{next_id, accepts}
 use Rattle.mail_top.specs.KeptNow.{IsKeptNow, StaysKept}
 use Rattle.mail_top.specs.Leaving.{IsDue, BeginsDue, RequestStep}
 use Rattle.mail_top.specs.Weighing.{Admits}
-use Rattle.mail_top.specs.Words.{Wanted, Request, Init, Act, Rows, Queue, Play, HasFewFlags}
+use Rattle.mail_top.specs.Words.{Wanted, Request, Init, Act, Rows, Queue, Report, Play, HasFewFlags}
 use Rattle.mail_top.proofs.Repeated.{outside_same}
 use Rattle.mail_top.proofs.Admitting.{admitted_writable}
 
@@ -46,6 +46,9 @@ rows_records name wanted b action is admits = absurd cc
 pub queue_records : HasRecords Queue
 queue_records wanted b action is admits = absurd cc
 
+pub report_records : HasRecords Report
+report_records wanted b action is admits = absurd cc
+
 pub action_records : (wanted : Wanted) → HasFewFlags wanted → HasRecords (Act wanted)
 action_records wanted few other b action is admits =
     let same : wanted ≡ other = cc in admitted_writable other b (next_id b) action (subst HasFewFlags same few) admits
@@ -62,6 +65,7 @@ permitted (Act wanted) never writable (Some b) e s w due u =
     subst (λ (y : Event). Permits (Some b) y s w) (sym due.2) (writable wanted b due.0 refl due.1)
 permitted (Rows name) never writable b e s w due u = absurd due
 permitted Queue never writable b e s w due u = absurd due
+permitted Report never writable b e s w due u = absurd due
 permitted Play never writable b e s w due u = absurd (never refl)
 
 module _ (request : Request) (never : request ≡ Play → ⊥) (writable : HasRecords request) where

@@ -3,8 +3,10 @@ pub mod Beginnings
 pub mod Connections
 pub mod Endings
 pub mod Goings
+pub mod Headlines
 pub mod Inputs
 pub mod Joinings
+pub mod KeptRuns
 pub mod Losing
 pub mod Moving
 pub mod Naming

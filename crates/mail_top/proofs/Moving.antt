@@ -23,7 +23,7 @@ use Rattle.mail_top.specs.Actions.{accepts, next_id}
 use Rattle.mail_top.specs.Course.{end_behind}
 use Rattle.mail_top.specs.Leaving.{MayBeLeft, OnTheWay, IsDue, StaysOutside, KeepsStep, WordsKeep, RequestStep, WordsStep, KeepsOn, GoesOnBy}
 use Rattle.mail_top.specs.Weighing.{Admits}
-use Rattle.mail_top.specs.Words.{Wanted, Request, Init, Act, Rows, Queue, Play, Asks}
+use Rattle.mail_top.specs.Words.{Wanted, Request, Init, Act, Rows, Queue, Report, Play, Asks}
 
 -- a step of the disk leaves what isn't on it
 pub stays_outside : (request : Request) (m n : Moment) → n.outside ≡ m.outside → StaysOutside request m n
@@ -31,6 +31,7 @@ stays_outside (Init names) m n same = same
 stays_outside (Act wanted) m n same = same
 stays_outside (Rows name) m n same = same
 stays_outside Queue m n same = same
+stays_outside Report m n same = same
 stays_outside Play m n same = tt
 
 pub keeps_step : (request : Request) (m n : Moment) → KeepsActions m n → KeepsStep request m n
@@ -155,6 +156,7 @@ left_start (Init names) seen m = inl (within_self m)
 left_start (Act wanted) seen m = inl (within_self m)
 left_start (Rows name) seen m = within_self m
 left_start Queue seen m = within_self m
+left_start Report seen m = within_self m
 left_start Play seen m = inl (within_self m)
 
 -- what words and an input ask for

@@ -34,8 +34,7 @@ use Rattle.store_core.specs.declared.fault.CommitFault.{CommitFault}
 use Rattle.store_core.specs.declared.fault.CommitFault.TheVariants as commits
 use Rattle.store_core.proofs.Choosing.{only_left}
 use Rattle.journal_core.proofs.UpTo.{up_to_here}
-use Rattle.conflict_report.specs.QueueLines.{queue_text}
-use Rattle.mail_top.specs.Ending.{EndsAct, EndsRows, EndsQueue}
+use Rattle.mail_top.specs.Ending.{EndsAct, EndsRows, EndsShown}
 use Rattle.mail_top.specs.Saying.{SaysMemory, SaysBroken, SaysAccepted}
 use Rattle.mail_top.specs.Texts.{refused}
 use Rattle.mail_top.specs.Telling.{line_of, status_of, text_of, status_of_refusal, text_of_refusal}
@@ -180,20 +179,21 @@ module _ {S T : Type 0} (o : Result S StoreFault) (r : Result T Refusal) (x : St
       (λ other. reads (λ is. other (back is))) (λ is. only.0 (at stores.Already is)) (λ end wanted is. only.1 end wanted (at (stores.Full end wanted) is))
       (λ why is. broken why (at (stores.NotAJournal why) is)))
 
-  pub unopened_queue : EndsQueue k (status_of r) (text_of told r)
-  unopened_queue = subst (λ (q : Result T Refusal). EndsQueue k (status_of q) (text_of told q)) (sym (raised r (of_store x) given))
-      (unopened (EndsQueue k) k (λ s. s) (λ w. record { leaves = w; text_is = refl }) (λ why s. s) x within
+  pub unopened_shown : (shown : Meaning → List ℕ) → EndsShown shown k (status_of r) (text_of told r)
+  unopened_shown shown = subst (λ (q : Result T Refusal). EndsShown shown k (status_of q) (text_of told q)) (sym (raised r (of_store x) given))
+      (unopened (EndsShown shown k) k (λ s. s) (λ w. record { leaves = w; text_is = refl }) (λ why s. s) x within
       (λ other. reads (λ is. other (back is))) (λ is. only.0 (at stores.Already is)) (λ end wanted is. only.1 end wanted (at (stores.Full end wanted) is))
       (λ why is. broken why (at (stores.NotAJournal why) is)))
 
--- the text of the queue, or want of memory
-pub listed_queue : (k : Course) (b : Meaning) (stays : Stays k b) (text : List ℕ) → text ≡ queue_text b → EndsQueue k status.Done text
-listed_queue k b stays text is = record { book = b; stays = stays; text_is = is }
+-- the text that shows a book, or want of memory
+pub listed_shown : (shown : Meaning → List ℕ) (k : Course) (b : Meaning) (stays : Stays k b) (text : List ℕ) → text ≡ shown b →
+    EndsShown shown k status.Done text
+listed_shown shown k b stays text is = record { book = b; stays = stays; text_is = is }
 
-pub unlisted_queue : {T : Type 0} (told : T → List ℕ) (k : Course) (r : Result T Refusal) → Within k.old.now k.new.now → k.seen_after ≡ k.seen →
-    IsErrAnd r (λ refusal. refusal ≡ refusals.Memory) → EndsQueue k (status_of r) (text_of told r)
-unlisted_queue told k r within same given =
-    subst (λ (q : Result _ Refusal). EndsQueue k (status_of q) (text_of told q)) (sym (raised r refusals.Memory given))
+pub unlisted_shown : {T : Type 0} (shown : Meaning → List ℕ) (told : T → List ℕ) (k : Course) (r : Result T Refusal) → Within k.old.now k.new.now → k.seen_after ≡ k.seen →
+    IsErrAnd r (λ refusal. refusal ≡ refusals.Memory) → EndsShown shown k (status_of r) (text_of told r)
+unlisted_shown shown told k r within same given =
+    subst (λ (q : Result _ Refusal). EndsShown shown k (status_of q) (text_of told q)) (sym (raised r refusals.Memory given))
     (record { keeps = record { leaves = within; reads = same }; text_is = refl })
 
 -- At a result that handed on what the book says of an action.

@@ -39,7 +39,7 @@ use Rattle.mail_top.specs.Leaving.{MayBeLeft, OnTheWay, LosesNone, StaysOutside,
 use Rattle.mail_top.specs.Runs.{RunsOn, Follows, at_once, by_run, by_stop, by_others, SameFiles, BeginsWith, AcceptsAt, AreBook, AreUnbegunOrBook}
 use Rattle.mail_top.specs.Runs.{HasNames}
 use Rattle.mail_top.specs.Runs.{IsReady, AnyBook}
-use Rattle.mail_top.specs.Words.{Wanted, Request, Init, Act, Rows, Queue, Play, Asks, WritesPlay}
+use Rattle.mail_top.specs.Words.{Wanted, Request, Init, Act, Rows, Queue, Report, Play, Asks, WritesPlay}
 
 held_self : (m : Moment) → LosesNone m m
 held_self m = record { held = λ place action named h. h }
@@ -58,6 +58,7 @@ outside_same (Init names) m n never same = same
 outside_same (Act wanted) m n never same = same
 outside_same (Rows name) m n never same = same
 outside_same Queue m n never same = same
+outside_same Report m n never same = same
 outside_same Play m n never same = absurd (never refl)
 
 pub outside_stays : (request : Request) → (request ≡ Play → ⊥) → (P : Moment → Type 0) (k l : Clock) → Since P (KeepsStep request) k l →
@@ -141,6 +142,7 @@ module _ (words : List (List ℕ)) (input : List ℕ) (seen : Files) (entry : Mo
   }
   left_ready (Rows name) m w = within_ready m w
   left_ready Queue m w = within_ready m w
+  left_ready Report m w = within_ready m w
   left_ready Play m (inl w) = within_ready m w
   left_ready Play m (inr p) = record {
     each = λ files h. let held = p.playing.each files h in inr (book_as held.book files held.holds);
@@ -325,6 +327,7 @@ names_stay names (Init others) (Some b) e due has = absurd (let is = due.0 in cc
 names_stay names (Act wanted) (Some b) e due has = subst (λ (x : Event). HasNames names (Some (after b x))) (sym due.2) has
 names_stay names (Rows name) (Some b) e due has = absurd due
 names_stay names Queue (Some b) e due has = absurd due
+names_stay names Report (Some b) e due has = absurd due
 names_stay names Play (Some b) e due has = play_names names b e due has
 
 pub follows_names : (names : List (List ℕ)) (first last : Moment) → IsReady (HasNames names) first → Follows first last → IsReady (HasNames names) last

@@ -32,7 +32,7 @@ use Rattle.mail_top.specs.Faults.{of_store}
 use Rattle.mail_top.specs.Played.{CameThrough, IsOpened, SaysPlayed, SaysStopped}
 use Rattle.mail_top.specs.Telling.{TellsNoPlace, status_of, status_of_refusal, status_of_fault, text_of_fault}
 use Rattle.mail_top.specs.Telling.{status_of_conflicts, status_of_play, text_of_play}
-use Rattle.mail_top.specs.Words.{Wanted, Request, Init, Act, Rows, Queue, Play}
+use Rattle.mail_top.specs.Words.{Wanted, Request, Init, Act, Rows, Queue, Report, Play}
 use Rattle.mail_top.specs.declared.refusal.Refusal.{Refusal}
 use Rattle.mail_top.specs.declared.refusal.Refusal.TheVariants as refusals
 use Rattle.mail_top.specs.declared.unfinished.Unfinished.{Unfinished}
@@ -294,6 +294,9 @@ never_rows name is = absurd cc
 
 pub never_queue : Queue ≡ Play → ⊥
 never_queue is = absurd cc
+
+pub never_report : Report ≡ Play → ⊥
+never_report is = absurd cc
 
 -- What is said of what became of a request is said of its ending.
 module _ (account : Credentials) (r : Request) (k : Course) (s t : Status) (x y : List ℕ) (status_is : s ≡ t) (text_is : x ≡ y) where

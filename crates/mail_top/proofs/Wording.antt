@@ -11,7 +11,7 @@ use Rattle.mail_base.specs.Number.{IsNumberUpTo}
 use Rattle.conflict_report.specs.QueueLines.{sign_of}
 use Rattle.local_view.specs.declared.seen.Ident.{Ident}
 use Rattle.local_view.specs.declared.seen.Ident.TheVariants as ident
-use Rattle.mail_top.specs.Words.{Change, Transfer, Addition, Flag, Move, Append, Request, Init, Act, Rows, Queue, Play, Asks}
+use Rattle.mail_top.specs.Words.{Change, Transfer, Addition, Flag, Move, Append, Request, Init, Act, Rows, Queue, Report, Play, Asks}
 use Rattle.mail_top.specs.Words.{WritesBox, WritesIdent, WritesInit, WritesFlag, WritesMove, WritesAppend, WritesRows}
 use Rattle.mail_top.specs.Names.{name_of}
 use Rattle.mail_top.proofs.Naming.{kept_name}
@@ -140,6 +140,7 @@ byte_of (Act (Move transfer)) = 109
 byte_of (Act (Append addition text)) = 97
 byte_of (Rows name) = 108
 byte_of Queue = 113
+byte_of Report = 114
 byte_of Play = 112
 
 module _ (words : List (List ℕ)) (input : List ℕ) where
@@ -150,6 +151,7 @@ module _ (words : List (List ℕ)) (input : List ℕ) where
   asked_byte (Act (Append addition text)) asks = ap first_byte asks.0.are
   asked_byte (Rows name) asks = ap first_byte asks.are
   asked_byte Queue asks = ap first_byte asks.are
+  asked_byte Report asks = ap first_byte asks.are
   asked_byte Play asks = ap first_byte asks.are
 
   same_byte : (one other : Request) → Asks words input one → Asks words input other → byte_of one ≡ byte_of other
@@ -163,6 +165,7 @@ module _ (words : List (List ℕ)) (input : List ℕ) where
   append_of (Act (Move transfer)) asks is = absurd (omega (arith, asked_byte (Act (Move transfer)) asks, is))
   append_of (Rows name) asks is = absurd (omega (arith, asked_byte (Rows name) asks, is))
   append_of Queue asks is = absurd (omega (arith, asked_byte Queue asks, is))
+  append_of Report asks is = absurd (omega (arith, asked_byte Report asks, is))
   append_of Play asks is = absurd (omega (arith, asked_byte Play asks, is))
 
   pub no_append : (arguments : List (List ℕ)) → words ≡ codes "append" ∷ arguments →
@@ -179,46 +182,61 @@ module _ (words : List (List ℕ)) (input : List ℕ) where
       ap (λ (t : List ℕ). Act (Append addition t)) (a.1 ∙ sym b.1) ∙ ap (λ (x : Addition). Act (Append x read)) (one_addition words addition other a.0 b.0)
   one_request (Rows name) (Rows other) a b = ap Rows (one_rows words name other a b)
   one_request Queue Queue a b = refl
+  one_request Report Report a b = refl
   one_request Play Play a b = refl
   one_request (Init names) (Act (Flag change)) a b = absurd (omega (arith, same_byte (Init names) (Act (Flag change)) a b))
   one_request (Init names) (Act (Move transfer)) a b = absurd (omega (arith, same_byte (Init names) (Act (Move transfer)) a b))
   one_request (Init names) (Act (Append addition text)) a b = absurd (omega (arith, same_byte (Init names) (Act (Append addition text)) a b))
   one_request (Init names) (Rows name) a b = absurd (omega (arith, same_byte (Init names) (Rows name) a b))
   one_request (Init names) Queue a b = absurd (omega (arith, same_byte (Init names) Queue a b))
+  one_request (Init names) Report a b = absurd (omega (arith, same_byte (Init names) Report a b))
   one_request (Init names) Play a b = absurd (omega (arith, same_byte (Init names) Play a b))
   one_request (Act (Flag change)) (Init names) a b = absurd (omega (arith, same_byte (Act (Flag change)) (Init names) a b))
   one_request (Act (Flag change)) (Act (Move transfer)) a b = absurd (omega (arith, same_byte (Act (Flag change)) (Act (Move transfer)) a b))
   one_request (Act (Flag change)) (Act (Append addition text)) a b = absurd (omega (arith, same_byte (Act (Flag change)) (Act (Append addition text)) a b))
   one_request (Act (Flag change)) (Rows name) a b = absurd (omega (arith, same_byte (Act (Flag change)) (Rows name) a b))
   one_request (Act (Flag change)) Queue a b = absurd (omega (arith, same_byte (Act (Flag change)) Queue a b))
+  one_request (Act (Flag change)) Report a b = absurd (omega (arith, same_byte (Act (Flag change)) Report a b))
   one_request (Act (Flag change)) Play a b = absurd (omega (arith, same_byte (Act (Flag change)) Play a b))
   one_request (Act (Move transfer)) (Init names) a b = absurd (omega (arith, same_byte (Act (Move transfer)) (Init names) a b))
   one_request (Act (Move transfer)) (Act (Flag change)) a b = absurd (omega (arith, same_byte (Act (Move transfer)) (Act (Flag change)) a b))
   one_request (Act (Move transfer)) (Act (Append addition text)) a b = absurd (omega (arith, same_byte (Act (Move transfer)) (Act (Append addition text)) a b))
   one_request (Act (Move transfer)) (Rows name) a b = absurd (omega (arith, same_byte (Act (Move transfer)) (Rows name) a b))
   one_request (Act (Move transfer)) Queue a b = absurd (omega (arith, same_byte (Act (Move transfer)) Queue a b))
+  one_request (Act (Move transfer)) Report a b = absurd (omega (arith, same_byte (Act (Move transfer)) Report a b))
   one_request (Act (Move transfer)) Play a b = absurd (omega (arith, same_byte (Act (Move transfer)) Play a b))
   one_request (Act (Append addition text)) (Init names) a b = absurd (omega (arith, same_byte (Act (Append addition text)) (Init names) a b))
   one_request (Act (Append addition text)) (Act (Flag change)) a b = absurd (omega (arith, same_byte (Act (Append addition text)) (Act (Flag change)) a b))
   one_request (Act (Append addition text)) (Act (Move transfer)) a b = absurd (omega (arith, same_byte (Act (Append addition text)) (Act (Move transfer)) a b))
   one_request (Act (Append addition text)) (Rows name) a b = absurd (omega (arith, same_byte (Act (Append addition text)) (Rows name) a b))
   one_request (Act (Append addition text)) Queue a b = absurd (omega (arith, same_byte (Act (Append addition text)) Queue a b))
+  one_request (Act (Append addition text)) Report a b = absurd (omega (arith, same_byte (Act (Append addition text)) Report a b))
   one_request (Act (Append addition text)) Play a b = absurd (omega (arith, same_byte (Act (Append addition text)) Play a b))
   one_request (Rows name) (Init names) a b = absurd (omega (arith, same_byte (Rows name) (Init names) a b))
   one_request (Rows name) (Act (Flag change)) a b = absurd (omega (arith, same_byte (Rows name) (Act (Flag change)) a b))
   one_request (Rows name) (Act (Move transfer)) a b = absurd (omega (arith, same_byte (Rows name) (Act (Move transfer)) a b))
   one_request (Rows name) (Act (Append addition text)) a b = absurd (omega (arith, same_byte (Rows name) (Act (Append addition text)) a b))
   one_request (Rows name) Queue a b = absurd (omega (arith, same_byte (Rows name) Queue a b))
+  one_request (Rows name) Report a b = absurd (omega (arith, same_byte (Rows name) Report a b))
   one_request (Rows name) Play a b = absurd (omega (arith, same_byte (Rows name) Play a b))
   one_request Queue (Init names) a b = absurd (omega (arith, same_byte Queue (Init names) a b))
   one_request Queue (Act (Flag change)) a b = absurd (omega (arith, same_byte Queue (Act (Flag change)) a b))
   one_request Queue (Act (Move transfer)) a b = absurd (omega (arith, same_byte Queue (Act (Move transfer)) a b))
   one_request Queue (Act (Append addition text)) a b = absurd (omega (arith, same_byte Queue (Act (Append addition text)) a b))
   one_request Queue (Rows name) a b = absurd (omega (arith, same_byte Queue (Rows name) a b))
+  one_request Queue Report a b = absurd (omega (arith, same_byte Queue Report a b))
   one_request Queue Play a b = absurd (omega (arith, same_byte Queue Play a b))
+  one_request Report (Init names) a b = absurd (omega (arith, same_byte Report (Init names) a b))
+  one_request Report (Act (Flag change)) a b = absurd (omega (arith, same_byte Report (Act (Flag change)) a b))
+  one_request Report (Act (Move transfer)) a b = absurd (omega (arith, same_byte Report (Act (Move transfer)) a b))
+  one_request Report (Act (Append addition text)) a b = absurd (omega (arith, same_byte Report (Act (Append addition text)) a b))
+  one_request Report (Rows name) a b = absurd (omega (arith, same_byte Report (Rows name) a b))
+  one_request Report Queue a b = absurd (omega (arith, same_byte Report Queue a b))
+  one_request Report Play a b = absurd (omega (arith, same_byte Report Play a b))
   one_request Play (Init names) a b = absurd (omega (arith, same_byte Play (Init names) a b))
   one_request Play (Act (Flag change)) a b = absurd (omega (arith, same_byte Play (Act (Flag change)) a b))
   one_request Play (Act (Move transfer)) a b = absurd (omega (arith, same_byte Play (Act (Move transfer)) a b))
   one_request Play (Act (Append addition text)) a b = absurd (omega (arith, same_byte Play (Act (Append addition text)) a b))
   one_request Play (Rows name) a b = absurd (omega (arith, same_byte Play (Rows name) a b))
   one_request Play Queue a b = absurd (omega (arith, same_byte Play Queue a b))
+  one_request Play Report a b = absurd (omega (arith, same_byte Play Report a b))

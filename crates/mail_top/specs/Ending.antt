@@ -13,14 +13,16 @@ use Rattle.action_queue.specs.Rules.{is_unknown}
 use Rattle.action_queue.specs.declared.action.Action.{Action}
 use Rattle.store_core.specs.Mail.{mail}
 use Rattle.store_core.specs.Books.{HasBook}
+use Rattle.conflict_report.specs.QueueLines.{queue_text}
+use Rattle.conflict_report.specs.ReportLines.{report_text}
 use Rattle.mail_top.specs.Actions.{Becomes, accepts}
 use Rattle.mail_top.specs.Course.{Course, OnFiles, end_behind}
 use Rattle.mail_top.specs.Leaving.{MayBeLeft}
 use Rattle.mail_top.specs.Played.{SaysPlayed, SaysStopped}
 use Rattle.mail_top.specs.Reasons.{IsFree}
-use Rattle.mail_top.specs.Saying.{SaysReady, SaysTaken, SaysAccepted, SaysRows, SaysUnknown, SaysQueue, SaysBroken, SaysRefused, SaysUnread}
+use Rattle.mail_top.specs.Saying.{SaysReady, SaysTaken, SaysAccepted, SaysRows, SaysUnknown, SaysShown, SaysBroken, SaysRefused, SaysUnread}
 use Rattle.mail_top.specs.Saying.{SaysFull, SaysMemory, SaysDisk}
-use Rattle.mail_top.specs.Words.{Wanted, Request, Init, Act, Rows, Queue, Play, Asks, AsksNothing}
+use Rattle.mail_top.specs.Words.{Wanted, Request, Init, Act, Rows, Queue, Report, Play, Asks, AsksNothing}
 
 -- What each status says of `init BOX ..`. The others don't come.
 abbrev pub EndsInit : List (List ℕ) → Course → Status → List ℕ → Type 0
@@ -79,24 +81,24 @@ EndsRows name k status.Validity text = ⊥
 EndsRows name k status.Input text = ⊥
 EndsRows name k status.Later text = ⊥
 
--- What each status says of `queue`.
-abbrev pub EndsQueue : Course → Status → List ℕ → Type 0
-EndsQueue k status.Done text = SaysQueue k text
-EndsQueue k status.Output text = SaysQueue k text
-EndsQueue k status.Disk text = SaysDisk (Within k.old.now k.new.now) text
-EndsQueue k status.Journal text = SaysBroken k text
-EndsQueue k status.Memory text = SaysMemory k text
-EndsQueue k status.Words text = ⊥
-EndsQueue k status.Reason text = ⊥
-EndsQueue k status.Limit text = ⊥
-EndsQueue k status.Conflicts text = ⊥
-EndsQueue k status.Link text = ⊥
-EndsQueue k status.Refused text = ⊥
-EndsQueue k status.Reply text = ⊥
-EndsQueue k status.Lacking text = ⊥
-EndsQueue k status.Validity text = ⊥
-EndsQueue k status.Input text = ⊥
-EndsQueue k status.Later text = ⊥
+-- What each status says of `queue` and of `report`, which show the book by a text.
+abbrev pub EndsShown : (Meaning → List ℕ) → Course → Status → List ℕ → Type 0
+EndsShown shown k status.Done text = SaysShown shown k text
+EndsShown shown k status.Output text = SaysShown shown k text
+EndsShown shown k status.Disk text = SaysDisk (Within k.old.now k.new.now) text
+EndsShown shown k status.Journal text = SaysBroken k text
+EndsShown shown k status.Memory text = SaysMemory k text
+EndsShown shown k status.Words text = ⊥
+EndsShown shown k status.Reason text = ⊥
+EndsShown shown k status.Limit text = ⊥
+EndsShown shown k status.Conflicts text = ⊥
+EndsShown shown k status.Link text = ⊥
+EndsShown shown k status.Refused text = ⊥
+EndsShown shown k status.Reply text = ⊥
+EndsShown shown k status.Lacking text = ⊥
+EndsShown shown k status.Validity text = ⊥
+EndsShown shown k status.Input text = ⊥
+EndsShown shown k status.Later text = ⊥
 
 -- What each status says of `play`. The others don't come.
 abbrev pub EndsPlay : Credentials → Course → Status → List ℕ → Type 0
@@ -122,7 +124,8 @@ abbrev pub EndsRequest : Credentials → Request → Course → Status → List 
 EndsRequest account (Init names) k s text = OnFiles k (EndsInit names k s text)
 EndsRequest account (Act wanted) k s text = OnFiles k (EndsAct wanted k s text)
 EndsRequest account (Rows name) k s text = OnFiles k (EndsRows name k s text)
-EndsRequest account Queue k s text = OnFiles k (EndsQueue k s text)
+EndsRequest account Queue k s text = OnFiles k (EndsShown queue_text k s text)
+EndsRequest account Report k s text = OnFiles k (EndsShown report_text k s text)
 EndsRequest account Play k s text = EndsPlay account k s text
 
 -- the words ask for nothing, and nothing was done

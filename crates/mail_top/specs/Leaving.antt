@@ -19,7 +19,7 @@ use Rattle.play_driver.specs.Progress.{IsPlayEvent, IsPlaying}
 use Rattle.mail_top.specs.Actions.{next_id, accepts}
 use Rattle.mail_top.specs.Course.{end_behind}
 use Rattle.mail_top.specs.Weighing.{Admits}
-use Rattle.mail_top.specs.Words.{Wanted, Request, Init, Act, Rows, Queue, Play, Asks}
+use Rattle.mail_top.specs.Words.{Wanted, Request, Init, Act, Rows, Queue, Report, Play, Asks}
 
 -- Each image holds the book that was read, or the one with the action that is asked for behind the others: the book admits
 -- it, and there is room for it.
@@ -44,6 +44,7 @@ MayBeLeft (Init names) entry seen m = IsCreating mail (events.Begin names) entry
 MayBeLeft (Act wanted) entry seen m = Within entry m ⊎ IsAdding wanted seen m
 MayBeLeft (Rows name) entry seen m = Within entry m
 MayBeLeft Queue entry seen m = Within entry m
+MayBeLeft Report entry seen m = Within entry m
 MayBeLeft Play entry seen m = Within entry m ⊎ IsPlayingRead seen m
 
 -- the same of what the words and the input ask for
@@ -62,6 +63,7 @@ StaysOutside (Init names) m n = n.outside ≡ m.outside
 StaysOutside (Act wanted) m n = n.outside ≡ m.outside
 StaysOutside (Rows name) m n = n.outside ≡ m.outside
 StaysOutside Queue m n = n.outside ≡ m.outside
+StaysOutside Report m n = n.outside ≡ m.outside
 StaysOutside Play m n = ⊤
 
 -- a step of what is asked for, whatever is known of the books
@@ -82,6 +84,7 @@ IsDue (Act wanted) None event = ⊥
 IsDue (Act wanted) (Some b) event = (action : Action) × Admits wanted b (next_id b) action × (event ≡ accepts b action)
 IsDue (Rows name) book event = ⊥
 IsDue Queue book event = ⊥
+IsDue Report book event = ⊥
 IsDue Play book event = IsPlayEvent event
 
 -- an event that is due for the request is begun

@@ -2,8 +2,10 @@ pub mod Actions
 pub mod Connecting
 pub mod Course
 pub mod Ending
+pub mod FairRuns
 pub mod Faults
 pub mod Going
+pub mod Headline
 pub mod KeptNow
 pub mod Leaving
 pub mod Names

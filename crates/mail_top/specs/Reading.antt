@@ -116,6 +116,7 @@ IsAppend (asked.Init texts) = ⊥
 IsAppend (asked.Act action) = IsAppendAsked action
 IsAppend (asked.Rows name) = ⊥
 IsAppend asked.Queue = ⊥
+IsAppend asked.Report = ⊥
 IsAppend asked.Play = ⊥
 
 -- and the book that the files hold awaits its input
@@ -124,6 +125,7 @@ AwaitsAsked (asked.Init texts) seen = ⊥
 AwaitsAsked (asked.Act action) seen = AwaitsOn (wanted_of action []) seen
 AwaitsAsked (asked.Rows name) seen = ⊥
 AwaitsAsked asked.Queue seen = ⊥
+AwaitsAsked asked.Report seen = ⊥
 AwaitsAsked asked.Play seen = ⊥
 
 -- where the action is an append, its source tells

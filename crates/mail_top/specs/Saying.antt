@@ -15,7 +15,6 @@ use Rattle.store_core.specs.Broken.{IsBroken}
 use Rattle.store_core.specs.HeldActions.{IsHeld}
 use Rattle.store_core.specs.Steps.{Firm}
 use Rattle.store_core.specs.Taking.{HasBooks}
-use Rattle.conflict_report.specs.QueueLines.{queue_text}
 use Rattle.conflict_report.specs.StatusLines.{error_input, limit_actions}
 use Rattle.local_view.specs.Listing.{view}
 use Rattle.mail_top.specs.Actions.{Becomes, next_id, accepts}
@@ -67,11 +66,11 @@ pub record SaysUnknown (name : List ℕ) (k : Course) (text : List ℕ) : Type 0
   pub unknown : is_unknown book.boxes name ≡ true
   pub text_is : text ≡ refused reasons.NoMailbox
 
--- The files as read hold a book, and this is the text of its queue.
-pub record SaysQueue (k : Course) (text : List ℕ) : Type 0 where
+-- The files as read hold a book, and this is the text that shows it.
+pub record SaysShown (shown : Meaning → List ℕ) (k : Course) (text : List ℕ) : Type 0 where
   pub book : Meaning
   pub stays : Stays k book
-  pub text_is : text ≡ queue_text book
+  pub text_is : text ≡ shown book
 
 -- The files as read hold no book, for the text's reason.
 pub record SaysBroken (k : Course) (text : List ℕ) : Type 0 where

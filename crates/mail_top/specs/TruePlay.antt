@@ -21,7 +21,7 @@ pub record OpensBook (entry : Meaning) (seen : Files) (old opened : Clock) : Typ
   pub leaves : HasBooks mail (Firm (Some entry)) opened.now
 
 -- No book was read, and nothing was done. Or from the book as read to the one that each stop leaves now, each intent and each
--- outcome was recorded for its reason, behind the opening. Or so it was up to a book, and the disk failed as an event that had its
+-- conflict was recorded for its reason, behind the opening (what is done is what the history has, by what is kept). Or so it was up to a book, and the disk failed as an event that had its
 -- reason was recorded behind it: a stop leaves it or not.
 pub data PlaysTruly (seen : Files) (old new : Clock) : Type 0 where
   unread : OnlyOpens old new → PlaysTruly seen old new

@@ -37,12 +37,14 @@ pub data Wanted : Type 0 where
   Move : Transfer → Wanted
   Append : Addition → List ℕ → Wanted
 
--- what a command asks for: that a journal is set up for mailboxes, an action, a mailbox's rows, the queue, or that it is played
+-- what a command asks for: that a journal is set up for mailboxes, an action, a mailbox's rows, the queue, the conflicts, or that the queue is
+-- played
 pub data Request : Type 0 where
   Init : List (List ℕ) → Request
   Act : Wanted → Request
   Rows : List ℕ → Request
   Queue : Request
+  Report : Request
   Play : Request
 
 -- a message, as it is written: its UID, or `d` and the number of the action that makes it
@@ -110,6 +112,10 @@ pub record WritesRows (words : List (List ℕ)) (name : List ℕ) : Type 0 where
 pub record WritesQueue (words : List (List ℕ)) : Type 0 where
   pub are : words ≡ codes "queue" ∷ []
 
+-- The words are `report`.
+pub record WritesReport (words : List (List ℕ)) : Type 0 where
+  pub are : words ≡ codes "report" ∷ []
+
 -- The words are `play`.
 pub record WritesPlay (words : List (List ℕ)) : Type 0 where
   pub are : words ≡ codes "play" ∷ []
@@ -126,6 +132,7 @@ Asks words input (Init names) = WritesInit words names
 Asks words input (Act wanted) = AsksAction words input wanted
 Asks words input (Rows name) = WritesRows words name
 Asks words input Queue = WritesQueue words
+Asks words input Report = WritesReport words
 Asks words input Play = WritesPlay words
 
 -- the words ask for nothing, whatever the input is
@@ -152,6 +159,7 @@ request_of (asked.Init texts) input = Init (map name_of (map string_bytes texts.
 request_of (asked.Act action) input = Act (wanted_of action input)
 request_of (asked.Rows name) input = Rows name
 request_of asked.Queue input = Queue
+request_of asked.Report input = Report
 request_of asked.Play input = Play
 
 -- an action is asked for with as many flags as words may have
@@ -166,4 +174,5 @@ IsLawful (asked.Init texts) = WriteNames (map string_bytes texts.now)
 IsLawful (asked.Act action) = HasFewFlags (wanted_of action [])
 IsLawful (asked.Rows name) = ⊤
 IsLawful asked.Queue = ⊤
+IsLawful asked.Report = ⊤
 IsLawful asked.Play = ⊤

@@ -55,7 +55,7 @@ pub fn ending_of_action(taken: Result<u32, Refusal>) -> Ending
     }
 }
 
-/// The ending for what became of a text that is to be shown: the rows of a mailbox, or the queue.
+/// The ending for what became of a text that is to be shown: the rows of a mailbox, the queue, or the conflicts.
 pub fn ending_of_text(listed: Result<Bytes, Refusal>) -> Ending
     ensures status { result.status ≡ status_of listed }
     ensures text { printed result.text ≡ text_of (λ text. text) listed }

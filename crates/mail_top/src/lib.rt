@@ -13,6 +13,7 @@ mod printed;
 mod queue_listing;
 mod reason;
 mod refusal;
+mod reporting;
 mod request;
 mod running;
 mod runs;

@@ -14,6 +14,7 @@ ghost use Rattle.play_driver.specs.declared.fault.PlayFault.TheVariants as fault
 ghost use Rattle.play_driver.specs.declared.fault.Why.TheVariants as whys;
 ghost use Rattle.mail_top.specs.Connecting.{ConnectsAtFirst};
 ghost use Rattle.mail_top.specs.Ending.{EndsPlay};
+ghost use Rattle.mail_top.specs.Headline.{NeverTwice};
 ghost use Rattle.mail_top.specs.KeptNow.{IsKeptNow, StaysKept};
 ghost use Rattle.mail_top.specs.Leaving.{KeepsStep, MayBeLeft, RequestStep};
 ghost use Rattle.mail_top.specs.Played.{AreSynced};
@@ -58,9 +59,9 @@ pub fn play<W: World>(alloc: Global, account: &Account, world: &mut W) -> Result
     ensures each_one_side { W.tells_files → OneSideAtRest (W.clock world.old).now →
         EachOneSide (W.clock world.old) (W.clock world.new) }
 
-    // Where the book is kept at entry and others are fair: each moment is kept, and joined to the one before it, so that no action
-    // takes effect twice; each intent and each outcome that is recorded has its reason; after Ok each mailbox has a cache that is the
-    // server's as it answered for its rows in this call, behind the last outcome; and no reply is found at fault.
+    // Where the book is kept at entry and others are fair: each moment is kept, and joined to the one before it; each intent and each
+    // conflict that is recorded has its reason; after Ok each mailbox has a cache that is the server's as it answered for its rows in
+    // this call, behind the last outcome; no reply is found at fault; the book is kept at the end; and no action takes effect twice.
     ensures joined { W.tells_server → OneSideAtRest (W.clock world.old).now →
         (books : Books mail) → HasBooks mail books (W.clock world.old).now →
         IsKeptNow (W.clock world.old).now → StaysKept (W.clock world.old) (W.clock world.new) }
@@ -72,6 +73,10 @@ pub fn play<W: World>(alloc: Global, account: &Account, world: &mut W) -> Result
         OnOk result (AreSynced (W.seen world.new) (W.clock world.old) (W.clock world.new)) }
     ensures faultless { W.tells_server → IsKeptNow (W.clock world.old).now →
         AllFair mail played (W.clock world.old) (W.clock world.new) → status_of_play result ≡ status.Reply → ⊥ }
+    ensures kept { W.tells_server → IsKeptNow (W.clock world.old).now →
+        AllFair mail played (W.clock world.old) (W.clock world.new) → IsKeptNow (W.clock world.new).now }
+    ensures twice { W.tells_server → IsKeptNow (W.clock world.old).now →
+        AllFair mail played (W.clock world.old) (W.clock world.new) → NeverTwice (W.clock world.old) (W.clock world.new) }
 
     // It connects before it asks for anything, and not again.
     ensures connects { W.tells_server → ConnectsAtFirst (W.clock world.old) (W.clock world.new) }

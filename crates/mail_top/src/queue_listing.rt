@@ -5,10 +5,11 @@ ghost use Rattle.world_traits.specs.Calls.{Rose};
 ghost use Rattle.world_traits.specs.Links.{Any};
 ghost use Rattle.world_traits.specs.Moments.{OneSideAtRest, Since};
 ghost use Rattle.journal_core.specs.OneSide.{EachOneSide};
+ghost use Rattle.conflict_report.specs.QueueLines.{queue_text};
 ghost use Rattle.store_core.specs.Mail.{mail};
 ghost use Rattle.store_core.specs.Steps.{Books};
 ghost use Rattle.store_core.specs.Taking.{HasBooks};
-ghost use Rattle.mail_top.specs.Ending.{EndsQueue};
+ghost use Rattle.mail_top.specs.Ending.{EndsShown};
 ghost use Rattle.mail_top.specs.Telling.{status_of, text_of};
 ghost use Rattle.mail_top.specs.Leaving.{KeepsStep, MayBeLeft, RequestStep};
 ghost use Rattle.mail_top.specs.Words.{Queue};
@@ -27,7 +28,7 @@ use world_traits::{Clocked, Disk};
 /// the one that is read.
 pub fn queue<D: Disk>(alloc: Global, disk: &mut D) -> Result<Bytes, Refusal>
     // What became of it, as its status says it.
-    ensures ends { D.tells_files → EndsQueue
+    ensures ends { D.tells_files → EndsShown queue_text
         (record {
           old = D.clock disk.old;
           new = D.clock disk.new;

@@ -14,6 +14,8 @@ pub enum Asked<'a> {
     Rows(BoxName),
     /// The queue.
     Queue,
+    /// The actions that ended as conflicts.
+    Report,
     /// That the queue is played.
     Play,
 }

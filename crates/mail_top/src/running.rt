@@ -13,6 +13,7 @@ ghost use Rattle.play_driver.specs.Played.{played};
 ghost use Rattle.mail_top.specs.Connecting.{ConnectsAtFirst};
 ghost use Rattle.mail_top.specs.Ending.{Comes, IsDone, IsTakable, IsListable};
 ghost use Rattle.mail_top.specs.Going.{Goes, GoesRequest};
+ghost use Rattle.mail_top.specs.Headline.{AlwaysOwned, Finishes, NeverTwice, OnceOrReported};
 ghost use Rattle.mail_top.specs.KeptNow.{IsKeptNow, StaysKept};
 ghost use Rattle.mail_top.specs.Leaving.{LosesNone};
 ghost use Rattle.mail_top.specs.Played.{AreSynced, CameThrough};
@@ -21,7 +22,7 @@ ghost use Rattle.mail_top.specs.Reading.{AsksAppend, AwaitsAsked, AwaitsInput, I
 ghost use Rattle.mail_top.specs.Runs.{AreBook};
 ghost use Rattle.mail_top.specs.Telling.{printed, TellsNoPlace};
 ghost use Rattle.mail_top.specs.TruePlay.{PlaysTruly};
-ghost use Rattle.mail_top.specs.Words.{Asks, AsksAction, AsksNothing, IsLawful, Wanted, Play, WritesInit, WritesRows, WritesQueue, WritesPlay, request_of};
+ghost use Rattle.mail_top.specs.Words.{Asks, AsksAction, AsksNothing, IsLawful, Wanted, Play, WritesInit, WritesRows, WritesQueue, WritesReport, WritesPlay, request_of};
 
 use crate::accepting::accept;
 use crate::creating::init;
@@ -31,6 +32,7 @@ use crate::ending::{
 use crate::listing::list;
 use crate::playing::play;
 use crate::queue_listing::queue;
+use crate::reporting::report;
 use crate::{Asked, asked};
 use mail_base::{Account, Status};
 use std::alloc::Global;
@@ -72,6 +74,10 @@ fn carry_out<W: World, I: Source>(
     ensures joined { W.tells_server → OneSideAtRest (W.clock world.old).now →
         (books : Books mail) → HasBooks mail books (W.clock world.old).now →
         IsKeptNow (W.clock world.old).now → StaysKept (W.clock world.old) (W.clock world.new) }
+    ensures twice { W.tells_server → IsKeptNow (W.clock world.old).now →
+        AllFair mail played (W.clock world.old) (W.clock world.new) → NeverTwice (W.clock world.old) (W.clock world.new) }
+    ensures kept { W.tells_server → WritesPlay (map string_bytes words.now) → IsKeptNow (W.clock world.old).now →
+        AllFair mail played (W.clock world.old) (W.clock world.new) → IsKeptNow (W.clock world.new).now }
     ensures truly { W.tells_server → WritesPlay (map string_bytes words.now) → IsKeptNow (W.clock world.old).now →
         AllFair mail played (W.clock world.old) (W.clock world.new) →
         PlaysTruly (W.seen world.old) (W.clock world.old) (W.clock world.new) }
@@ -130,6 +136,10 @@ fn answer<W: World, I: Source>(
     ensures joined { W.tells_server → OneSideAtRest (W.clock world.old).now →
         (books : Books mail) → HasBooks mail books (W.clock world.old).now →
         IsKeptNow (W.clock world.old).now → StaysKept (W.clock world.old) (W.clock world.new) }
+    ensures twice { W.tells_server → IsKeptNow (W.clock world.old).now →
+        AllFair mail played (W.clock world.old) (W.clock world.new) → NeverTwice (W.clock world.old) (W.clock world.new) }
+    ensures kept { W.tells_server → ((input : List ℕ) → request_of asked.now input ≡ Play) → IsKeptNow (W.clock world.old).now →
+        AllFair mail played (W.clock world.old) (W.clock world.new) → IsKeptNow (W.clock world.new).now }
     ensures truly { W.tells_server → ((input : List ℕ) → request_of asked.now input ≡ Play) → IsKeptNow (W.clock world.old).now →
         AllFair mail played (W.clock world.old) (W.clock world.new) →
         PlaysTruly (W.seen world.old) (W.clock world.old) (W.clock world.new) }
@@ -150,6 +160,7 @@ fn answer<W: World, I: Source>(
         Asked::Act(action) => ending_of_action(accept(alloc, world, input, action)),
         Asked::Rows(name) => ending_of_text(list(alloc, world, name)),
         Asked::Queue => ending_of_text(queue(alloc, world)),
+        Asked::Report => ending_of_text(report(alloc, world)),
         Asked::Play => ending_of_play(play(alloc, account, world)),
     }
 }
@@ -182,7 +193,8 @@ fn say<S: Sink>(out: &mut S, ending: &Ending) -> Status
 ///   `accepted n` is printed. ID is a UID, or `dk` for the message that action k makes. An append's message is the input, with a CR
 ///   before each LF that has none; it is read where no reason speaks against it that the book can tell, to its end or 2^25 + 1
 ///   bytes. No other command reads the input;
-/// - `list BOX` prints the rows of a mailbox as the user sees them, and `queue` a line for each unsettled action;
+/// - `list BOX` prints the rows of a mailbox as the user sees them, `queue` a line for each unsettled action, and `report` one for
+///   each that ended as a conflict;
 /// - `play` plays the actions back and makes each cache the server's, in one connection, with the account's user and password, and
 ///   prints `played n conflicts c`: how many actions it settled, and how many of them as conflicts. The connection is left as it
 ///   ended: the caller, who made the world, closes it.
@@ -252,16 +264,30 @@ pub fn run<W: World, I: Source, S: Sink>(
         (Rose (W.disk_faults world.old) (W.disk_faults world.new) → ⊥) → (Rose (S.sink_faults out.old) (S.sink_faults out.new) → ⊥) →
         IsDone result }
 
+    // A book, and no fault: its conflicts are printed, or memory is wanting.
+    ensures complete_report { W.tells_files → WritesReport (map string_bytes words.now) → AreBook (W.seen world.old) →
+        (Rose (W.disk_faults world.old) (W.disk_faults world.new) → ⊥) → (Rose (S.sink_faults out.old) (S.sink_faults out.new) → ⊥) →
+        IsDone result }
+
     // No action that all images hold at entry is lost.
     ensures held { W.tells_files → LosesNone (W.clock world.old).now (W.clock world.new).now }
 
     // Where the book is kept at entry and others are fair, each moment is kept, and joined to the one before it by one step of the
-    // book beside the server: so no action takes effect twice.
+    // book beside the server.
     ensures joined { W.tells_server → OneSideAtRest (W.clock world.old).now →
         (books : Books mail) → HasBooks mail books (W.clock world.old).now →
         IsKeptNow (W.clock world.old).now → StaysKept (W.clock world.old) (W.clock world.new) }
 
-    // Then each intent and each outcome that a `play` recorded had its reason at that moment.
+    // And then no action takes effect twice: at each moment the server's history has at most one change of each.
+    ensures twice { W.tells_server → IsKeptNow (W.clock world.old).now →
+        AllFair mail played (W.clock world.old) (W.clock world.new) → NeverTwice (W.clock world.old) (W.clock world.new) }
+
+    // Nor has the server's history a change of this client's that no action wants of the book that a stop leaves.
+    ensures owned { W.tells_server → OneSideAtRest (W.clock world.old).now →
+        (books : Books mail) → HasBooks mail books (W.clock world.old).now → IsKeptNow (W.clock world.old).now →
+        AllFair mail played (W.clock world.old) (W.clock world.new) → AlwaysOwned (W.clock world.old) (W.clock world.new) }
+
+    // Then each intent and each conflict that a `play` recorded had its reason at that moment.
     ensures truly { W.tells_server → WritesPlay (map string_bytes words.now) → IsKeptNow (W.clock world.old).now →
         AllFair mail played (W.clock world.old) (W.clock world.new) →
         PlaysTruly (W.seen world.old) (W.clock world.old) (W.clock world.new) }
@@ -271,6 +297,17 @@ pub fn run<W: World, I: Source, S: Sink>(
     ensures synced { W.tells_server → WritesPlay (map string_bytes words.now) → CameThrough result →
         IsKeptNow (W.clock world.old).now → AllFair mail played (W.clock world.old) (W.clock world.new) →
         AreSynced (W.seen world.new) (W.clock world.old) (W.clock world.new) }
+
+    // A `play` that came to its end has settled every action: the files hold the book at entry further on, each stop leaves it, and
+    // each of its actions has an outcome.
+    ensures finishes { W.tells_files → WritesPlay (map string_bytes words.now) → CameThrough result →
+        Finishes (W.seen world.old) (W.seen world.new) (W.clock world.new).now }
+
+    // And each of them took effect once or is reported: the server's history has one change of an action that is done, the one that it
+    // wants, at the place that the outcome names; none of a conflict that says so; and at most one where a conflict leaves it open.
+    ensures once_or_reported { W.tells_server → WritesPlay (map string_bytes words.now) → CameThrough result →
+        IsKeptNow (W.clock world.old).now → AllFair mail played (W.clock world.old) (W.clock world.new) →
+        OnceOrReported (W.seen world.old) (W.seen world.new) (W.clock world.new).now }
 
     // Nor does such a run find a reply at fault: it prints no `error reply`.
     ensures faultless { W.tells_server → IsKeptNow (W.clock world.old).now →

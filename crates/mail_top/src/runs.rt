@@ -1,26 +1,39 @@
 //! What holds of many runs, one behind another.
 
-ghost use Rattle.std.specs.Prelude.{◌≡◌, ◌<◌, ℕ, List, None, length};
+ghost use Rattle.std.specs.Prelude.{◌≡◌, ◌<◌, ◌≤◌, ℕ, List, None, length};
+ghost use Rattle.mail_base.specs.Account.{Credentials};
+ghost use Rattle.mail_base.specs.declared.status.Status.{Status};
+ghost use Rattle.imap_model.specs.Ours.{ours};
 ghost use Rattle.world_traits.specs.Files.{Files};
-ghost use Rattle.world_traits.specs.Moments.{Moment, MayLeave, Images, restarted};
+ghost use Rattle.world_traits.specs.Moments.{Moment, MayLeave, Clock, Images, OneSideAtRest, restarted};
+ghost use Rattle.journal_core.specs.OneSide.{EachOneSide};
 ghost use Rattle.store_core.specs.HeldActions.{IsHeld};
 ghost use Rattle.action_queue.specs.Book.{Meaning};
 ghost use Rattle.action_queue.specs.Writable.{IsWritable};
 ghost use Rattle.action_queue.specs.declared.action.Action.{Action};
+ghost use Rattle.play_driver.specs.Joining.{Grows};
 ghost use Rattle.mail_top.specs.Actions.{Becomes, accepts};
 ghost use Rattle.mail_top.specs.Course.{Course};
+ghost use Rattle.mail_top.specs.FairRuns.{FollowsFairly};
+ghost use Rattle.mail_top.specs.Going.{Goes};
+ghost use Rattle.mail_top.specs.KeptNow.{IsKeptNow};
 ghost use Rattle.mail_top.specs.Leaving.{LosesNone};
-ghost use Rattle.mail_top.specs.Runs.{Follows, BeginsWith, AcceptsAt, AreUnbegunOrBook, IsReady, HasNames, AnyBook};
+ghost use Rattle.mail_top.specs.Runs.{CutOff, Follows, BeginsWith, AcceptsAt, AreUnbegunOrBook, IsReady, HasNames, AnyBook};
 ghost use Rattle.mail_top.specs.Saying.{SaysAccepted};
 ghost use Rattle.mail_top.specs.Weighing.{Admits};
 ghost use Rattle.mail_top.specs.Words.{Request, Wanted, Asks, AsksAction};
 
 /// Whatever runs come one behind another, wherever each is cut off, whatever image each stop leaves, and whatever happens at
 /// the server between two runs: no action that every image held is lost, with its outcome, and the n-th that was accepted
-/// stays in the queue behind n - 1 others.
+/// stays in the queue behind n - 1 others. Where the book is kept at first, and others are fair, no action takes effect twice.
 pub fn runs_one_behind_another()
     // What a stop leaves is where the next run begins.
     ensures begins { (m : Moment) (files : Files) → MayLeave m files → BeginsWith files m (restarted files m) }
+
+    // A run that goes as `run` promises, by its clauses `goes` and `each_one_side`, may be cut off at each of its moments.
+    ensures cut_off { (account : Credentials) (words : List (List ℕ)) (input : List ℕ) (k : Course) (s : Status) (text : List ℕ) →
+        Goes account words input k s text → (OneSideAtRest k.old.now → EachOneSide k.old k.new) → (at : Clock) →
+        Grows k.old at → Grows at k.new → CutOff words input k.seen k.old at k.new }
 
     // The action that each image holds at a place, with its outcome, each image of each later moment holds there.
     ensures held { (first last : Moment) → Follows first last → LosesNone first last }
@@ -39,6 +52,15 @@ pub fn runs_one_behind_another()
     ensures ready { (first last : Moment) → IsReady AnyBook first → Follows first last → IsReady AnyBook last }
     ensures journal { (names : List (List ℕ)) (first last : Moment) → IsReady (HasNames names) first → Follows first last →
         IsReady (HasNames names) last }
+
+    // Where others are fair all this is so too, and a book that is kept stays kept: at every moment of each run, behind each stop,
+    // and between the runs.
+    ensures fair { (first last : Moment) → FollowsFairly first last → Follows first last }
+    ensures kept { (first last : Moment) → IsReady AnyBook first → IsKeptNow first → FollowsFairly first last → IsKeptNow last }
+
+    // So over all of them no action's number has two changes in the server's history.
+    ensures twice { (first last : Moment) → IsReady AnyBook first → IsKeptNow first → FollowsFairly first last → (n : ℕ) →
+        length (ours n last.outside.server.history) ≤ 1 }
 {}
 
 /// Words and an input ask for one thing at most.

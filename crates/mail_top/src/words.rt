@@ -2,7 +2,7 @@
 
 ghost use Rattle.std.specs.Prelude.{◌≡◌, ℕ, List, [], ◌∷◌, IsNone, IfSome, string_bytes, map, codes};
 ghost use Rattle.mail_top.specs.Words.{Asks, AsksAction, AsksNothing, HasFewFlags, IsLawful, WritesInit, WritesFlag, WritesMove, WritesAppend};
-ghost use Rattle.mail_top.specs.Words.{WritesRows, WritesQueue, WritesPlay, Change, Transfer, Addition, Queue, Play};
+ghost use Rattle.mail_top.specs.Words.{WritesRows, WritesQueue, WritesReport, WritesPlay, Change, Transfer, Addition, Queue, Report, Play};
 ghost use Rattle.mail_top.specs.Words.{change_of, transfer_of, addition_of, wanted_of, request_of};
 ghost use Rattle.mail_top.specs.Names.{name_of, WriteNames};
 
@@ -20,7 +20,7 @@ use mail_base::BoxName;
 /// - `flag BOX ID SIGN FLAG ..`, where SIGN is `+` or `-`, with 1 to 32 flags, which may be any words;
 /// - `move BOX ID BOX`;
 /// - `append BOX FLAG ..` with at most 32 flags;
-/// - `list BOX`, `queue` or `play`.
+/// - `list BOX`, `queue`, `report` or `play`.
 ///
 /// ID is a UID from 1 without leading zeros, or `d` and such a number: that of the action that makes the message.
 pub fn asked(words: &[String]) -> Option<Asked<'_>>
@@ -36,6 +36,7 @@ pub fn asked(words: &[String]) -> Option<Asked<'_>>
         "append" => Some(Asked::Act(AskedAction::Append(append_asked(arguments)?))),
         "list" => Some(Asked::Rows(box_asked(arguments)?)),
         "queue" => queue_asked(arguments),
+        "report" => report_asked(arguments),
         "play" => play_asked(arguments),
         _ => None,
     }
@@ -71,6 +72,20 @@ fn queue_asked(arguments: &[String]) -> Option<Asked<'static>>
 {
     if arguments.is_empty() {
         Some(Asked::Queue)
+    } else {
+        None
+    }
+}
+
+// Nothing stands behind `report`.
+fn report_asked(arguments: &[String]) -> Option<Asked<'static>>
+    ensures some { IfSome result (λ asked. ((input : List ℕ) → request_of asked input ≡ Report)
+        × WritesReport (codes "report" ∷ map string_bytes arguments.now)) }
+    ensures none { IsNone result → WritesReport (codes "report" ∷ map string_bytes arguments.now) → ⊥ }
+    ensures lawful { IfSome result IsLawful }
+{
+    if arguments.is_empty() {
+        Some(Asked::Report)
     } else {
         None
     }

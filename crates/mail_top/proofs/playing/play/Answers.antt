@@ -4,6 +4,7 @@ use Rattle.store_core.proofs.Choosing.{only_left}
 use Rattle.mail_top.specs.TruePlay.PlaysTruly.{unread, recorded}
 use Rattle.mail_top.specs.Words.{Play}
 use Rattle.mail_top.proofs.Connections.{opens_alone, opens_then}
+use Rattle.mail_top.proofs.Headlines.{kept_last, play_once, still_once}
 use Rattle.mail_top.proofs.PlaySteps.{opening_keeps, opening_joined, play_steps, play_keeps, playing_now, playing_start, opened_kept, play_joined, play_fair}
 use Rattle.mail_top.proofs.PlaySteps.{play_synced, only_opens, opens_store, truly_stopped, one_last}
 use Rattle.mail_top.proofs.Moving.{chooses_steps}
@@ -148,3 +149,40 @@ returns-in_err-played-clause-connects g c tells = opens_then _ _ _ _ (c.open.ens
 
 pub returns-clause-connects : goal.returns-clause-connects
 returns-clause-connects g c tells = opens_then _ _ _ _ (c.open.ensures.held (g.W.Clocked.server_with_files tells)) (c.play.ensures.once tells)
+
+pub returns-in_err-store-clause-kept : goal.returns-in_err-store-clause-kept
+returns-in_err-store-clause-kept g c tells kept fair =
+    opened_kept (g.W.Clocked.clock c.args.world.now) (g.W.Clocked.clock c.open.new.disk) kept
+    (narrowed _ _ (c.open.ensures.told (g.W.Clocked.server_with_files tells)))
+
+pub returns-in_err-store-clause-twice : goal.returns-in_err-store-clause-twice
+returns-in_err-store-clause-twice g c tells kept fair =
+    still_once _ _ _ kept (only_opens _ _ (c.open.ensures.held (g.W.Clocked.server_with_files tells)))
+
+pub returns-in_err-played-clause-kept : goal.returns-in_err-played-clause-kept
+returns-in_err-played-clause-kept g c tells kept fair =
+    let files = g.W.Clocked.server_with_files tells in
+    let here = opened_kept (g.W.Clocked.clock c.args.world.now) (g.W.Clocked.clock c.open.new.disk) kept (narrowed _ _ (c.open.ensures.told files)) in
+    kept_last _ _ here (c.play.ensures.joined tells here) (play_fair _ _ _ _ _ (c.open.ensures.held files) (c.play.ensures.progress files) fair)
+
+pub returns-in_err-played-clause-twice : goal.returns-in_err-played-clause-twice
+returns-in_err-played-clause-twice g c tells kept fair =
+    let files = g.W.Clocked.server_with_files tells in
+    let opens = c.open.ensures.held files in
+    let here = opened_kept (g.W.Clocked.clock c.args.world.now) (g.W.Clocked.clock c.open.new.disk) kept (narrowed _ _ (c.open.ensures.told files)) in
+    play_once _ _ _ _ kept (only_opens _ _ opens) (c.play.ensures.joined tells here)
+    (play_fair _ _ _ _ _ opens (c.play.ensures.progress files) fair)
+
+pub returns-clause-kept : goal.returns-clause-kept
+returns-clause-kept g c tells kept fair =
+    let files = g.W.Clocked.server_with_files tells in
+    let here = opened_kept (g.W.Clocked.clock c.args.world.now) (g.W.Clocked.clock c.open.new.disk) kept (narrowed _ _ (c.open.ensures.told files)) in
+    kept_last _ _ here (c.play.ensures.joined tells here) (play_fair _ _ _ _ _ (c.open.ensures.held files) (c.play.ensures.progress files) fair)
+
+pub returns-clause-twice : goal.returns-clause-twice
+returns-clause-twice g c tells kept fair =
+    let files = g.W.Clocked.server_with_files tells in
+    let opens = c.open.ensures.held files in
+    let here = opened_kept (g.W.Clocked.clock c.args.world.now) (g.W.Clocked.clock c.open.new.disk) kept (narrowed _ _ (c.open.ensures.told files)) in
+    play_once _ _ _ _ kept (only_opens _ _ opens) (c.play.ensures.joined tells here)
+    (play_fair _ _ _ _ _ opens (c.play.ensures.progress files) fair)

@@ -6,13 +6,13 @@ use Rattle.world_traits.specs.Moments.{Within}
 use Rattle.mail_top.specs.Leaving.{MayBeLeft}
 use Rattle.mail_top.specs.Words.{Queue}
 use Rattle.mail_top.proofs.Moving.{chooses_steps, keeps_steps}
-use Rattle.mail_top.proofs.Openings.{unopened_queue, unlisted_queue, listed_queue, opened_stays, store_disk, store_already, store_input, never_err}
+use Rattle.mail_top.proofs.Openings.{unopened_shown, unlisted_shown, listed_shown, opened_stays, store_disk, store_already, store_input, never_err}
 use Rattle.mail_top.proofs.queue_listing.queue.Goals as goal
 
 pub returns-in_err-store-clause-ends : goal.returns-in_err-store-clause-ends
 returns-in_err-store-clause-ends g c tells =
-    unopened_queue _ _ _ c.in_err-store.was c.from_residual.ensures.1 _ _ (narrowed _ _ (c.open.ensures.told tells)) (c.open.ensures.seen tells)
-    c.open.ensures.only (c.open.ensures.broken tells)
+    unopened_shown _ _ _ c.in_err-store.was c.from_residual.ensures.1 _ _ (narrowed _ _ (c.open.ensures.told tells)) (c.open.ensures.seen tells)
+    c.open.ensures.only (c.open.ensures.broken tells) queue_text
 
 pub returns-in_err-store-clause-keeps : goal.returns-in_err-store-clause-keeps
 returns-in_err-store-clause-keeps g c tells =
@@ -33,7 +33,7 @@ returns-in_err-store-clause-unread g c is = store_input _ _ _ c.in_err-store.was
 
 pub returns-in_err-text-clause-ends : goal.returns-in_err-text-clause-ends
 returns-in_err-text-clause-ends g c tells =
-    unlisted_queue _ _ _ (narrowed _ _ (c.open.ensures.told tells)) (c.in_ok-store.ensures.seen tells (never_err _ _)) c.from_residual-in_err-text.ensures.1
+    unlisted_shown queue_text _ _ _ (narrowed _ _ (c.open.ensures.told tells)) (c.in_ok-store.ensures.seen tells (never_err _ _)) c.from_residual-in_err-text.ensures.1
 
 pub returns-in_err-text-clause-keeps : goal.returns-in_err-text-clause-keeps
 returns-in_err-text-clause-keeps g c tells =
@@ -45,7 +45,7 @@ returns-in_err-text-clause-books g c tells one books have = chooses_steps Queue 
 
 pub returns-clause-ends : goal.returns-clause-ends
 returns-clause-ends g c tells =
-    listed_queue _ _ (opened_stays _ _ (c.in_ok-store.ensures.still tells) (c.in_ok-store.ensures.seen tells (never_err _ _))) _
+    listed_shown queue_text _ _ (opened_stays _ _ (c.in_ok-store.ensures.still tells) (c.in_ok-store.ensures.seen tells (never_err _ _))) _
     (c.in_ok-text.ensures ∙ ap (λ (b : Meaning). queue_text b) c.book.ensures)
 
 pub returns-clause-keeps : goal.returns-clause-keeps

@@ -1,12 +1,13 @@
 use Rattle.std.proofs.Common.{inl, inr, ⊎_elim, [], ap, sym, refl, ◌∙◌, subst}
 use Rattle.mail_top.specs.Reading.{AwaitsAsked, IsAppend}
 use Rattle.mail_top.specs.Telling.{status_of}
-use Rattle.mail_top.specs.Words.{Init, Act, Rows, Queue, IsLawful, request_of, wanted_of}
+use Rattle.mail_top.specs.Words.{Init, Act, Rows, Queue, Report, IsLawful, request_of, wanted_of}
 use Rattle.mail_top.specs.declared.request.Asked.{Asked}
 use Rattle.mail_top.proofs.Connections.{request_alone}
-use Rattle.mail_top.proofs.Goings.{went_so, went_init, went_act, went_rows, went_queue, went_play, few_with, nothing_taken, action_done, input_failed}
-use Rattle.mail_top.proofs.Joinings.{request_joins, init_records, action_records, rows_records, queue_records}
-use Rattle.mail_top.proofs.Sayings.{never_init, never_act, never_rows, never_queue}
+use Rattle.mail_top.proofs.Goings.{went_so, went_init, went_act, went_rows, went_queue, went_report, went_play, few_with, nothing_taken, action_done, input_failed}
+use Rattle.mail_top.proofs.Headlines.{request_once}
+use Rattle.mail_top.proofs.Joinings.{request_joins, init_records, action_records, rows_records, queue_records, report_records}
+use Rattle.mail_top.proofs.Sayings.{never_init, never_act, never_rows, never_queue, never_report}
 use Rattle.mail_top.proofs.Sayings.{no_reply, no_link, no_place_told, came_through, play_comes, play_prints, play_asked, play_reads}
 use Rattle.mail_top.proofs.running.answer.Goals as goal
 
@@ -46,6 +47,13 @@ returns-in-Init-clause-truly g c tells asks = absurd (never_init _ (sym (ap (λ 
 
 pub returns-in-Init-clause-synced : goal.returns-in-Init-clause-synced
 returns-in-Init-clause-synced g c tells asks = absurd (never_init _ (sym (ap (λ (a : Asked). request_of a []) c.in-Init.is) ∙ asks []))
+
+pub returns-in-Init-clause-kept : goal.returns-in-Init-clause-kept
+returns-in-Init-clause-kept g c tells asks = absurd (never_init _ (sym (ap (λ (a : Asked). request_of a []) c.in-Init.is) ∙ asks []))
+
+pub returns-in-Init-clause-twice : goal.returns-in-Init-clause-twice
+returns-in-Init-clause-twice g c tells kept fair =
+    request_once (Init _) (never_init _) _ _ _ kept (c.init.ensures.keeps (g.W.Clocked.server_with_files tells))
 
 pub returns-in-Init-clause-taken : goal.returns-in-Init-clause-taken
 returns-in-Init-clause-taken g c tells = nothing_taken _
@@ -108,6 +116,14 @@ returns-in-Act-clause-truly g c tells asks = absurd (never_act _ (sym (ap (λ (a
 pub returns-in-Act-clause-synced : goal.returns-in-Act-clause-synced
 returns-in-Act-clause-synced g c tells asks = absurd (never_act _ (sym (ap (λ (a : Asked). request_of a []) c.in-Act.is) ∙ asks []))
 
+pub returns-in-Act-clause-kept : goal.returns-in-Act-clause-kept
+returns-in-Act-clause-kept g c tells asks = absurd (never_act _ (sym (ap (λ (a : Asked). request_of a []) c.in-Act.is) ∙ asks []))
+
+pub returns-in-Act-clause-twice : goal.returns-in-Act-clause-twice
+returns-in-Act-clause-twice g c tells kept fair =
+    let went = c.accept.ensures.goes (g.W.Clocked.server_with_files tells) in
+    request_once (Act (wanted_of _ went.0)) (never_act _) _ _ _ kept went.2.goes.keeps
+
 pub returns-in-Rows-clause-goes : goal.returns-in-Rows-clause-goes
 returns-in-Rows-clause-goes g c tells = (
   g.I.Source.rest c.args.input.now,
@@ -144,6 +160,13 @@ returns-in-Rows-clause-truly g c tells asks = absurd (never_rows _ (sym (ap (λ 
 
 pub returns-in-Rows-clause-synced : goal.returns-in-Rows-clause-synced
 returns-in-Rows-clause-synced g c tells asks = absurd (never_rows _ (sym (ap (λ (a : Asked). request_of a []) c.in-Rows.is) ∙ asks []))
+
+pub returns-in-Rows-clause-kept : goal.returns-in-Rows-clause-kept
+returns-in-Rows-clause-kept g c tells asks = absurd (never_rows _ (sym (ap (λ (a : Asked). request_of a []) c.in-Rows.is) ∙ asks []))
+
+pub returns-in-Rows-clause-twice : goal.returns-in-Rows-clause-twice
+returns-in-Rows-clause-twice g c tells kept fair =
+    request_once (Rows _) (never_rows _) _ _ _ kept (c.list.ensures.keeps (g.W.Clocked.server_with_files tells))
 
 pub returns-in-Rows-clause-taken : goal.returns-in-Rows-clause-taken
 returns-in-Rows-clause-taken g c tells = nothing_taken _
@@ -188,11 +211,68 @@ returns-in-Queue-clause-truly g c tells asks = absurd (never_queue (sym (ap (λ 
 pub returns-in-Queue-clause-synced : goal.returns-in-Queue-clause-synced
 returns-in-Queue-clause-synced g c tells asks = absurd (never_queue (sym (ap (λ (a : Asked). request_of a []) c.in-Queue.is) ∙ asks []))
 
+pub returns-in-Queue-clause-kept : goal.returns-in-Queue-clause-kept
+returns-in-Queue-clause-kept g c tells asks = absurd (never_queue (sym (ap (λ (a : Asked). request_of a []) c.in-Queue.is) ∙ asks []))
+
+pub returns-in-Queue-clause-twice : goal.returns-in-Queue-clause-twice
+returns-in-Queue-clause-twice g c tells kept fair =
+    request_once Queue never_queue _ _ _ kept (c.queue.ensures.keeps (g.W.Clocked.server_with_files tells))
+
 pub returns-in-Queue-clause-taken : goal.returns-in-Queue-clause-taken
 returns-in-Queue-clause-taken g c tells = nothing_taken _
 
 pub returns-in-Queue-clause-whole : goal.returns-in-Queue-clause-whole
 returns-in-Queue-clause-whole g c tells append done = absurd (subst IsAppend c.in-Queue.is append)
+
+pub returns-in-Report-clause-goes : goal.returns-in-Report-clause-goes
+returns-in-Report-clause-goes g c tells = (
+  g.I.Source.rest c.args.input.now,
+  λ _. refl,
+  went_so c.args.account.now _ (request_of c.args.asked.now (g.I.Source.rest c.args.input.now)) _ _ _ _ _ c.ending_of_text-in-Report.ensures.status
+      c.ending_of_text-in-Report.ensures.text (ap (λ (a : Asked). request_of a (g.I.Source.rest c.args.input.now)) c.in-Report.is)
+      (went_report c.args.account.now _ c.report.ensures.link _ _ (c.report.ensures.ends tells)
+      (record { keeps = c.report.ensures.keeps tells; books = λ one books have. c.report.ensures.books tells one books have })),
+)
+
+pub returns-in-Report-clause-link_fault : goal.returns-in-Report-clause-link_fault
+returns-in-Report-clause-link_fault g c is = absurd (no_link _ _ c.ending_of_text-in-Report.ensures.status is)
+
+pub returns-in-Report-clause-honest : goal.returns-in-Report-clause-honest
+returns-in-Report-clause-honest g c tells is = absurd (no_reply _ _ c.ending_of_text-in-Report.ensures.status is)
+
+pub returns-in-Report-clause-input_fault : goal.returns-in-Report-clause-input_fault
+returns-in-Report-clause-input_fault g c is = absurd (c.report.ensures.unread (input_failed _ _ c.ending_of_text-in-Report.ensures.status is))
+
+pub returns-in-Report-clause-joined : goal.returns-in-Report-clause-joined
+returns-in-Report-clause-joined g c tells one books have kept =
+    request_joins Report never_report report_records _ _ kept
+    (c.report.ensures.books (g.W.Clocked.server_with_files tells) one books have)
+
+pub returns-in-Report-clause-connects : goal.returns-in-Report-clause-connects
+returns-in-Report-clause-connects g c tells =
+    request_alone Report never_report _ _ _ (c.report.ensures.keeps (g.W.Clocked.server_with_files tells))
+
+pub returns-in-Report-clause-faultless : goal.returns-in-Report-clause-faultless
+returns-in-Report-clause-faultless g c tells kept fair is = no_reply _ _ c.ending_of_text-in-Report.ensures.status is
+
+pub returns-in-Report-clause-truly : goal.returns-in-Report-clause-truly
+returns-in-Report-clause-truly g c tells asks = absurd (never_report (sym (ap (λ (a : Asked). request_of a []) c.in-Report.is) ∙ asks []))
+
+pub returns-in-Report-clause-synced : goal.returns-in-Report-clause-synced
+returns-in-Report-clause-synced g c tells asks = absurd (never_report (sym (ap (λ (a : Asked). request_of a []) c.in-Report.is) ∙ asks []))
+
+pub returns-in-Report-clause-kept : goal.returns-in-Report-clause-kept
+returns-in-Report-clause-kept g c tells asks = absurd (never_report (sym (ap (λ (a : Asked). request_of a []) c.in-Report.is) ∙ asks []))
+
+pub returns-in-Report-clause-twice : goal.returns-in-Report-clause-twice
+returns-in-Report-clause-twice g c tells kept fair =
+    request_once Report never_report _ _ _ kept (c.report.ensures.keeps (g.W.Clocked.server_with_files tells))
+
+pub returns-in-Report-clause-taken : goal.returns-in-Report-clause-taken
+returns-in-Report-clause-taken g c tells = nothing_taken _
+
+pub returns-in-Report-clause-whole : goal.returns-in-Report-clause-whole
+returns-in-Report-clause-whole g c tells append done = absurd (subst IsAppend c.in-Report.is append)
 
 pub returns-in-Play-clause-goes : goal.returns-in-Play-clause-goes
 returns-in-Play-clause-goes g c tells = (
@@ -234,6 +314,9 @@ returns-in-Play-clause-truly g c tells is kept fair = c.play.ensures.truly tells
 
 pub returns-in-Play-clause-synced : goal.returns-in-Play-clause-synced
 returns-in-Play-clause-synced g c tells is done kept fair = came_through _ _ _ c.ending_of_play.ensures.status done (c.play.ensures.synced tells kept fair)
+
+pub returns-in-Play-clause-kept : goal.returns-in-Play-clause-kept
+returns-in-Play-clause-kept g c tells is kept fair = c.play.ensures.kept tells kept fair
 
 pub returns-in-Play-clause-link : goal.returns-in-Play-clause-link
 returns-in-Play-clause-link g c never = absurd (never (λ input. ap (λ (a : Asked). request_of a input) c.in-Play.is))

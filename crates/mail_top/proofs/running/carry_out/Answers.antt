@@ -8,6 +8,7 @@ use Rattle.play_driver.proofs.Calls.{stays_start}
 use Rattle.mail_top.specs.Words.{Play, Asks}
 use Rattle.mail_top.proofs.Connections.{nothing_made}
 use Rattle.mail_top.proofs.Goings.{append_asks, asks_append, awaits_asked, nothing_taken}
+use Rattle.mail_top.proofs.Headlines.{nothing_twice}
 use Rattle.mail_top.proofs.Moving.{words_keep, words_go, nothing_keeps, nothing_goes}
 use Rattle.mail_top.proofs.Wording.{one_request}
 use Rattle.mail_top.proofs.running.carry_out.Goals as goal
@@ -38,6 +39,12 @@ returns-in-None-clause-synced g c tells asks = absurd (c.in-None.ensures.none re
 
 pub returns-in-None-clause-truly : goal.returns-in-None-clause-truly
 returns-in-None-clause-truly g c tells asks = absurd (c.in-None.ensures.none refl [] Play asks)
+
+pub returns-in-None-clause-kept : goal.returns-in-None-clause-kept
+returns-in-None-clause-kept g c tells asks kept fair = kept
+
+pub returns-in-None-clause-twice : goal.returns-in-None-clause-twice
+returns-in-None-clause-twice g c tells kept fair = nothing_twice _
 
 pub returns-in-None-clause-words : goal.returns-in-None-clause-words
 returns-in-None-clause-words g c = (λ is. c.in-None.ensures.none refl, λ nothing. c.ending_of_words.ensures.status)
@@ -74,6 +81,10 @@ returns-in-Some-clause-synced g c tells asks =
 pub returns-in-Some-clause-truly : goal.returns-in-Some-clause-truly
 returns-in-Some-clause-truly g c tells asks =
     c.answer.ensures.truly tells (λ input. one_request (map string_bytes c.args.words.now) input _ Play (c.in-Some.ensures.some input) asks)
+
+pub returns-in-Some-clause-kept : goal.returns-in-Some-clause-kept
+returns-in-Some-clause-kept g c tells asks =
+    c.answer.ensures.kept tells (λ input. one_request (map string_bytes c.args.words.now) input _ Play (c.in-Some.ensures.some input) asks)
 
 pub returns-in-Some-clause-link : goal.returns-in-Some-clause-link
 returns-in-Some-clause-link g c never =

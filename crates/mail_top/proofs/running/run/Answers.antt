@@ -1,7 +1,8 @@
 use Rattle.mail_base.specs.declared.status.Status.TheVariants as status
 use Rattle.mail_top.proofs.Endings.{ended_so, said_ends, said_words, said_disk, said_link, said_input, said_reply, said_through, said_comes}
-use Rattle.mail_top.proofs.Endings.{completes_act, completes_init, completes_rows, completes_queue}
+use Rattle.mail_top.proofs.Endings.{completes_act, completes_init, completes_rows, completes_queue, completes_report}
 use Rattle.mail_top.proofs.Goings.{asks_given}
+use Rattle.mail_top.proofs.Headlines.{once_or_reported, run_finished, stays_owned}
 use Rattle.mail_top.proofs.Repeated.{held_later, outside_later}
 use Rattle.mail_top.proofs.running.run.Goals as goal
 
@@ -57,6 +58,13 @@ returns-clause-complete_queue g c tells asks set_up no_disk no_sink =
     completes_queue _ _ _ _ _ _ (said_ends _ _ _ _ _ _ _ said.status (begun.goes tells).2.ends) (said_words _ _ _ said.status begun.words).0
     (λ is. no_disk (begun.disk (said_disk _ _ said.status is))) (λ is. no_sink (said.output is)) asks set_up
 
+pub returns-clause-complete_report : goal.returns-clause-complete_report
+returns-clause-complete_report g c tells asks set_up no_disk no_sink =
+    let begun = c.carry_out-ending.ensures in
+    let said = c.say.ensures in
+    completes_report _ _ _ _ _ _ (said_ends _ _ _ _ _ _ _ said.status (begun.goes tells).2.ends) (said_words _ _ _ said.status begun.words).0
+    (λ is. no_disk (begun.disk (said_disk _ _ said.status is))) (λ is. no_sink (said.output is)) asks set_up
+
 pub returns-clause-truly : goal.returns-clause-truly
 returns-clause-truly g c tells asks kept fair = c.carry_out-ending.ensures.truly tells asks kept fair
 
@@ -73,6 +81,21 @@ pub returns-clause-synced : goal.returns-clause-synced
 returns-clause-synced g c tells asks through kept fair =
     let ended = c.carry_out-ending.ensures in
     ended.synced tells asks (said_through _ _ c.say.ensures.status through) kept fair
+
+pub returns-clause-owned : goal.returns-clause-owned
+returns-clause-owned g c tells one books have kept fair = stays_owned _ _ (c.carry_out-ending.ensures.joined tells one books have kept) fair
+
+pub returns-clause-finishes : goal.returns-clause-finishes
+returns-clause-finishes g c tells asks through =
+    let ended = c.carry_out-ending.ensures in
+    run_finished _ _ _ _ _ _ asks (said_through _ _ c.say.ensures.status through) (ended.goes tells).2.ends
+
+pub returns-clause-once_or_reported : goal.returns-clause-once_or_reported
+returns-clause-once_or_reported g c tells asks through kept fair =
+    let ended = c.carry_out-ending.ensures in
+    let goes = ended.goes (g.W.Clocked.server_with_files tells) in
+    once_or_reported _ _ _ (run_finished _ _ _ _ _ _ asks (said_through _ _ c.say.ensures.status through) goes.2.ends)
+    (ended.kept tells asks kept fair)
 
 pub returns-clause-whole : goal.returns-clause-whole
 returns-clause-whole g c tells append through =

@@ -1,0 +1,37 @@
+-- Runs one behind another, at a server that others change fairly (this client's profile of RFC 4549, section 4.2).
+use Rattle.std.specs.Prelude.{ℕ, List}
+use Rattle.imap_model.specs.Talking.{Connecting}
+use Rattle.world_traits.specs.Files.{Files}
+use Rattle.world_traits.specs.Links.{LinkStep}
+use Rattle.world_traits.specs.Moments.{Moment, MayLeave, Clock, OneSideAtRest, restarted}
+use Rattle.store_core.specs.Mail.{mail}
+use Rattle.store_core.specs.Steps.{Books}
+use Rattle.store_core.specs.Taking.{HasBooks}
+use Rattle.play_driver.specs.Joining.{IsFair, AllFair}
+use Rattle.play_driver.specs.Played.{played}
+use Rattle.mail_top.specs.KeptNow.{IsKeptNow, StaysKept}
+use Rattle.mail_top.specs.Runs.{CutOff}
+
+-- A run, and a clock on its way: its last, or one at which the run was cut off. Its moments are as `run` promises over a link that
+-- tells its server, by the clauses `goes`, `each_one_side` and `joined`, and others were fair in it. (Of a run that was cut off the
+-- moments behind the cut are those that might have come: any in which others are fair.)
+pub record FairRun (words : List (List ℕ)) (input : List ℕ) (seen : Files) (old at new : Clock) : Type 0 where
+  pub cut : CutOff words input seen old at new
+  pub joined : OneSideAtRest old.now → (books : Books mail) → HasBooks mail books old.now → IsKeptNow old.now → StaysKept old new
+  pub fair : AllFair mail played old new
+
+-- Between two runs the files stay, and the server goes on by one step: others change something, and are fair; the command of a
+-- connection that ended is carried out, or dropped.
+pub record FairlyGoesOn (m n : Moment) : Type 0 where
+  pub step : LinkStep Connecting m n
+  pub fair : IsFair mail played m n
+
+-- The moments that may follow a moment where others are fair: that one; the last of a run that began at such a moment and read its
+-- files, or any at which the run was cut off; what is there again after a stop that left one of the images; and one at which the
+-- server went on.
+pub data FollowsFairly (first : Moment) : Moment → Type 0 where
+  at_once : FollowsFairly first first
+  by_run : (words : List (List ℕ)) → (input : List ℕ) → (seen : Files) → (old at new : Clock) → FollowsFairly first old.now → MayLeave old.now seen
+      → FairRun words input seen old at new → FollowsFairly first at.now
+  by_stop : (m : Moment) → (files : Files) → FollowsFairly first m → MayLeave m files → FollowsFairly first (restarted files m)
+  by_others : (m n : Moment) → FollowsFairly first m → FairlyGoesOn m n → FollowsFairly first n
