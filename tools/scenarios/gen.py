@@ -136,7 +136,7 @@ def flags(s):
     s.gap()
     s.note('Words that are none of a command: nothing is read or written.')
     s.server((), left=BOTH_LEARNED); s.stand()
-    for w in ['', '""', 'init', 'INIT INBOX', 'play now', 'queue now', 'report', '"init INBOX"', 'init ""', 'init "a\\"b"', 'init a&b', 'init %', 'init INBOX "\\xc3\\xa4"',
+    for w in ['', '""', 'init', 'INIT INBOX', 'play now', 'queue now', 'report now', '"init INBOX"', 'init ""', 'init "a\\"b"', 'init a&b', 'init %', 'init INBOX "\\xc3\\xa4"',
         'flag', 'flag INBOX 42 +', 'flag INBOX 0 + \\Seen', 'flag INBOX 042 + \\Seen', 'flag INBOX 4294967296 + \\Seen', 'flag INBOX -1 + \\Seen', 'flag INBOX 42 * \\Seen',
         'flag a*b 42 + \\Seen', 'Flag INBOX 42 + \\Seen', 'list', 'list a*b', 'list INBOX Archive', 'List INBOX', 'init ' + ' '.join('b%d' % k for k in range(33)), 'init ' + 'x' * 129,
         'flag INBOX 42 + ' + ' '.join('f%d' % k for k in range(33))]: s.ran(w, 2, 'error words')

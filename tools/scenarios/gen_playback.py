@@ -1,4 +1,4 @@
-"""Makes the scenarios in which actions are played back as files of cases (playback, lost_moves, lost_appends, lost_one_move), by the plain model beside it.
+"""Makes the scenarios in which actions are played back as files of cases (playback, drawn, lost_moves, lost_appends, lost_one_move), by the plain model beside it.
 
 usage: tools/scenarios/gen_playback.py FOLDER    (crates/mail_scenario, or a folder with a folder data in it)
 """
@@ -29,7 +29,7 @@ class Played(Told):
         return self
     def ends(self):
         "what the server did, what is still to be done, what is shown and what was recorded"
-        self.history(); self.run('queue'); self.lists('INBOX', 'Archive'); self.files()
+        self.history(); self.run('queue'); self.run('report'); self.lists('INBOX', 'Archive'); self.files()
         return self
     # what must hold of every history: no action took effect twice, and one that is done took effect once
     def holds(self):
@@ -208,7 +208,13 @@ if __name__ == '__main__':
     folder = sys.argv[1]
     cases = Cases('# Actions are played back. A line that begins with a space is what the line before it is to print.\n'); worked(cases); reasons(cases); several(cases); older(cases)
     lost = lambda what, begun: losses('# %s played back, and a call is lost or fails, or the world stops behind it; then it is played to the end. Each action took\n# effect once, or is a conflict; none took effect twice.\n\n' % what, begun)
-    for name, file in [('playback', cases), ('lost_moves', lost('A move and a change of flags where it comes are', moved)), ('lost_appends', lost('An append is', appended)),
+    # after the others, since it imports this one's scenarios' makers
+    from gen_random import Draw, add as add_drawn, state
+    drawn, draw = Cases('# Two hundred scenarios that were drawn: actions, runs, losses, stops and polite other clients in turn; then all is played to the end. No\n# action took effect twice, and each that is done once.\n\n'), Draw(28)
+    draw.sents = 0.1
+    drawn.head(state())
+    for number in range(1, 201): add_drawn(drawn, 'drawn %d' % number, draw.playing())
+    for name, file in [('playback', cases), ('drawn', drawn), ('lost_moves', lost('A move and a change of flags where it comes are', moved)), ('lost_appends', lost('An append is', appended)),
         ('lost_one_move', lost('A move is', lambda: new().asks('move INBOX 42 Archive')))]:
         open('%s/data/%s.txt' % (folder, name), 'w').write(file.text)
         print(name, file.text.count('\n== '), file.text.count('\n'), len(file.text))

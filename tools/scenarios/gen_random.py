@@ -16,6 +16,7 @@ ODD_FLAGS = ['\\SEEN', 'Work', 'WORK', '$x', '\\Foo', '\\Recent', 'a(b', '', 'se
 IDENTS = ['1', '2', '7', '40', '42', '43', '118'] * 3 + ['d%d' % n for n in range(1, 7)] * 4 + ['0', 'd0', 'd01', '042', '4294967295', '4294967296', 'd4294967295', 'd4294967296', '', 'd']
 
 class Draw(random.Random):
+    sents = 0.5
     def likely(self, share): return self.random() < share
     def some(self, items, most): return self.sample(items, self.randint(0, most))
     def name(self): return self.choice(NAMES if self.likely(0.8) else ODD_NAMES)
@@ -118,8 +119,8 @@ class Draw(random.Random):
         if stops: s.stop(self.randint(0, 80))
         s.run('play')
         if stops: s.restart(self.choice([0, 1, 2, 3, 77]))
-        if self.likely(0.5): s.sent()
-        s.history(); s.run('queue')
+        if self.likely(self.sents): s.sent()
+        if self.likely(0.5): s.history(); s.run('queue')
     def playing(self):
         "actions that the book takes, runs that play them back, and others, in turn; it is played to the end, and no action took effect twice"
         s = Told(); s.lines = [('', [])] * HEADS
@@ -136,7 +137,7 @@ class Draw(random.Random):
             s.run(*words)
         for _ in range(4):
             if s.run('play') in (0, 1): break
-        s.history(); s.run('queue'); s.lists(*NAMES); s.files()
+        s.history(); s.run('queue'); s.lists(*NAMES)
         book, deeds = Store(World(left=s.world.files[0].seen)).book, [author for author, *_ in s.world.history]
         for n, outcome in enumerate(book.outcomes, 1):
             count = deeds.count('P%d' % n)

@@ -93,7 +93,7 @@ def worked(c):
     add(c, 'a flag that is there already waits too', s)
 
     s = Told(); s.lines = [('', [])] * HEADS; s.server(()); s.stand()
-    for w in ['queue', 'list INBOX', 'flag INBOX 42 + \\Foo', 'move Sent 42 Sent', 'append Sent \\Foo', 'play']: s.source(1); s.says(w, 'error journal none')
+    for w in ['queue', 'report', 'list INBOX', 'flag INBOX 42 + \\Foo', 'move Sent 42 Sent', 'append Sent \\Foo', 'play']: s.source(1); s.says(w, 'error journal none')
     s.moments(); s.says('append', 'error words')
     add(c, 'without a journal there are no reasons', s)
 
@@ -119,7 +119,7 @@ def worked(c):
 def grammar(c):
     many = ['f%d' % k for k in range(33)]
     s = state()
-    for w in ['queue x', 'queue INBOX', 'Queue', 'QUEUE', 'queues', 'report', 'report x', 'Report', 'move', 'move INBOX', 'move INBOX 42', 'move INBOX 42 Archive INBOX', 'move 42 Archive', 'Move INBOX 42 Archive',
+    for w in ['queue x', 'queue INBOX', 'Queue', 'QUEUE', 'queues', 'reports', 'report x', 'Report', 'move', 'move INBOX', 'move INBOX 42', 'move INBOX 42 Archive INBOX', 'move 42 Archive', 'Move INBOX 42 Archive',
         'append', 'Append INBOX', 'appends INBOX', 'append IN*BOX', 'append a&b', 'append a\\b', 'append a%b \\Seen', 'append a"b', 'move IN*BOX 42 Archive', 'move INBOX 42 Arch*ive', 'move INBOX 42 a%b', 'move INBOX Archive 42',
         'append ' + 'x' * 129, 'move INBOX 42 ' + 'x' * 129, 'flag INBOX 42 \\Seen', 'flag INBOX 42 +', 'flag INBOX d1 -', 'flag INBOX d1', 'flag INBOX d1 * \\Seen', 'flag INBOX d1 ++ \\Seen', 'list', 'list INBOX d1', 'list a*b', 'play d1',
         'append INBOX ' + ' '.join(many), 'flag INBOX 42 + ' + ' '.join(many), 'flag INBOX d1 - ' + ' '.join(many)]:
@@ -212,7 +212,7 @@ def reasons(c):
     add(c, 'the words before the disk, the disk as it is read before the reasons, and these before it is written', s)
 
     s = over(journal(*STATE)[:-1] + b'\x01')
-    for w in ['queue', 'list Sent', 'move Sent 42 Sent', 'append Sent \\Foo', 'flag Sent 1 + \\Foo']: s.source(1); s.says(w, 'error journal record 144')
+    for w in ['queue', 'report', 'list Sent', 'move Sent 42 Sent', 'append Sent \\Foo', 'flag Sent 1 + \\Foo']: s.source(1); s.says(w, 'error journal record 144')
     add(c, 'a journal that isn\'t whole before the reasons', s)
 
 # ---- messages
@@ -258,7 +258,7 @@ def messages(c):
     s.says('queue', '1 waiting flag INBOX 42 + \\seen', '2 waiting append Archive <a1@x>'); s.refuses('no-message-id', 'append Archive')
     add(c, 'an input is that of one run', s)
 
-    for ws in ['init INBOX', 'flag INBOX 42 + \\Seen', 'move INBOX 42 Archive', 'list INBOX', 'queue', 'play']:
+    for ws in ['init INBOX', 'flag INBOX 42 + \\Seen', 'move INBOX 42 Archive', 'list INBOX', 'queue', 'report', 'play']:
         s = state(); s.source(1); s.source(2); s.input(T); s.run(*ws.split()); s.files()
         add(c, 'the input isn\'t read: ' + ws, s)
 

@@ -207,7 +207,7 @@ def asked(words):
     if verb == 'move' and len(a) == 3 and is_box(a[0]) and ident_of(a[1]) and is_box(a[2]): return (verb, name_of(a[0]), ident_of(a[1]), name_of(a[2]))
     if verb == 'append' and 1 <= len(a) <= 33 and is_box(a[0]): return (verb, name_of(a[0]), a[1:])
     if verb == 'list' and len(a) == 1 and is_box(a[0]): return (verb, name_of(a[0]))
-    if verb in ('queue', 'play') and not a: return (verb,)
+    if verb in ('queue', 'report', 'play') and not a: return (verb,)
     return None
 
 SYSTEM = ('\\answered', '\\flagged', '\\deleted', '\\seen', '\\draft')
@@ -283,6 +283,10 @@ class Book:
             'move': lambda t, to: 'move %s %s' % (self.named(t), to),
             'append': lambda to, flags, text: 'append %s %s' % (to, message_id(text).decode())}[self.queue[n - 1][0]](*self.queue[n - 1][1:])
             for n in self.unsettled()]
+    def report_lines(self):
+        names = 'message-gone already-so flags-changed refused-no refused-bad not-permanent target-unknown found-so store-unsure source-gone gone-after-loss ambiguous'.split()
+        return [' '.join([str(n), 'nothing' if o[1] <= 7 else 'unsure', names[o[1] - 1]] + [str(x) for x in o[2]])
+            for n, o in enumerate(self.outcomes, 1) if o and o[0] == 'conflict']
 
 def body_of(e): return dict(begin=lambda names: begin(*names), accept=accept, intend=intend, settle=settle, learn=learn)[e[0]](*e[1:])
 
@@ -406,6 +410,7 @@ def append(w, to, flags):
     return take(s, ('append', to, keys(flags), text))
 def list_rows(w, box): return opened(w, box).book.list(box)
 def queue(w): return Store(w).book.queue_lines()
+def report(w): return Store(w).book.report_lines()
 
 def login_parts(user, password):
     "the text of LOGIN in parts: one that isn't ASCII is a literal, which begins a part of its own"
@@ -422,7 +427,7 @@ def play(w):
     from playing import play
     return play(w)
 
-COMMANDS = dict(init=init, flag=flag, move=move, append=append, list=list_rows, queue=queue, play=play)
+COMMANDS = dict(init=init, flag=flag, move=move, append=append, list=list_rows, queue=queue, report=report, play=play)
 
 # ---- scenarios: what is read, and what is printed
 class Scenario:
