@@ -82,7 +82,3 @@ error_limit which number = codes "error limit " ++ limit_name which ++ 32 ∷ de
 -- the queue would have more actions than it may
 abbrev pub limit_actions : List ℕ
 limit_actions = error_limit limits.Actions 1000001
-
--- the action of this number waits, which can't be played yet
-abbrev pub error_later : ℕ → List ℕ
-error_later number = numbered (codes "error later ") number

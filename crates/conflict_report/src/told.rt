@@ -2,7 +2,7 @@
 
 ghost use Rattle.std.specs.Prelude.{◌≡◌, ◌++◌, ◌≤◌, ◌<◌, ◌+◌, ◌∷◌, [], ℕ, length, decimal};
 ghost use Rattle.conflict_report.specs.StatusLines.{played, shown_byte, error_refused, item_name, error_reply_at, error_reply_lacks, error_reply_modseq};
-ghost use Rattle.conflict_report.specs.StatusLines.{error_lacking, error_validity, limit_name, error_limit, error_later};
+ghost use Rattle.conflict_report.specs.StatusLines.{error_lacking, error_validity, limit_name, error_limit};
 ghost use Rattle.imap_model.specs.declared.limit.Limit.TheVariants as limits;
 ghost use Rattle.mail_base.specs.Lines.{limit_journal, numbered};
 
@@ -119,13 +119,6 @@ impl Told {
         line.put_spaced(number);
         line.end();
         line
-    }
-
-    /// `error later N`: the action of this number waits, which can't be played yet.
-    pub fn error_later(number: u32) -> Told
-        ensures { result ≡ error_later number }
-    {
-        Told::numbered(b"error later ", u64::from(number))
     }
 
     // A line of a front and a number.

@@ -78,6 +78,5 @@ pub fn status_text(status: Status) -> &'static str {
         Status::Output => "output",
         Status::Input => "input",
         Status::Limit => "limit",
-        Status::Later => "later",
     }
 }

@@ -36,8 +36,6 @@ pub enum Status {
     Input,
     /// A limit is passed.
     Limit,
-    /// An action waits that can't be played yet.
-    Later,
 }
 
 impl Status {
@@ -61,7 +59,6 @@ impl Status {
             Status::Output => 12,
             Status::Input => 13,
             Status::Limit => 14,
-            Status::Later => 15,
         }
     }
 }

@@ -18,7 +18,7 @@ use Rattle.store_core.specs.Books.{HasBook}
 use Rattle.store_core.proofs.Folding.{one_held}
 use Rattle.store_core.proofs.MailBook.{one_mail_event}
 use Rattle.store_core.proofs.Wholeness.{never_both}
-use Rattle.mail_top.specs.Ending.{Comes, Ends, EndsInit, EndsAct, EndsRows, EndsShown, EndsRequest, IsDone, IsTakable, IsListable}
+use Rattle.mail_top.specs.Ending.{Ends, EndsInit, EndsAct, EndsRows, EndsShown, EndsRequest, IsDone, IsTakable, IsListable}
 use Rattle.mail_top.specs.Runs.{AreBook}
 use Rattle.mail_top.specs.Saying.{SaysRefused, SaysUnknown, SaysFull, PassesPlace}
 use Rattle.mail_top.specs.Actions.{Becomes, accepts}
@@ -103,11 +103,6 @@ said_through r s (inl same) through = subst CameThrough same through
 said_through r s (inr (inl done, is)) through = subst CameThrough (sym done) tt
 said_through r s (inr (inr conflicts, is)) through = subst CameThrough (sym conflicts) tt
 
--- a status that comes comes also where its text wasn't printed
-pub said_comes : (r s : Status) → IsSaid s r → Comes s → Comes r
-said_comes r s (inl same) comes = subst Comes (sym same) comes
-said_comes r s (inr (ended, is)) comes = subst Comes (sym is) tt
-
 -- one book is held
 module _ (files : Files) (b c : Meaning) (holds : HasBook mail b files) (held : HasBook mail c files) where
   same_book : b ≡ c
@@ -176,7 +171,6 @@ module _ (k : Course) (wanted : Wanted) (t : IsTakable wanted k.seen) where
   act_done status.Lacking text ends no_disk no_output no_input = absurd ends
   act_done status.Validity text ends no_disk no_output no_input = absurd ends
   act_done status.Input text ends no_disk no_output no_input = absurd (no_input refl)
-  act_done status.Later text ends no_disk no_output no_input = absurd ends
 
 module _ (k : Course) (names : List (List ℕ)) (unbegun : IsUnbegun k.seen) where
   init_done : (r : Status) (text : List ℕ) → EndsInit names k r text → (r ≡ status.Disk → ⊥) → (r ≡ status.Output → ⊥) → IsDone r
@@ -197,7 +191,6 @@ module _ (k : Course) (names : List (List ℕ)) (unbegun : IsUnbegun k.seen) whe
   init_done status.Lacking text ends no_disk no_output = absurd ends
   init_done status.Validity text ends no_disk no_output = absurd ends
   init_done status.Input text ends no_disk no_output = absurd ends
-  init_done status.Later text ends no_disk no_output = absurd ends
 
 module _ (k : Course) (name : List ℕ) (t : IsListable name k.seen) where
   never_unknown : (text : List ℕ) → SaysUnknown name k text → ⊥
@@ -222,7 +215,6 @@ module _ (k : Course) (name : List ℕ) (t : IsListable name k.seen) where
   rows_done status.Lacking text ends no_disk no_output = absurd ends
   rows_done status.Validity text ends no_disk no_output = absurd ends
   rows_done status.Input text ends no_disk no_output = absurd ends
-  rows_done status.Later text ends no_disk no_output = absurd ends
 
 module _ (shown : Meaning → List ℕ) (k : Course) (t : AreBook k.seen) where
   shown_done : (r : Status) (text : List ℕ) → EndsShown shown k r text → (r ≡ status.Disk → ⊥) → (r ≡ status.Output → ⊥) → IsDone r
@@ -241,7 +233,6 @@ module _ (shown : Meaning → List ℕ) (k : Course) (t : AreBook k.seen) where
   shown_done status.Lacking text ends no_disk no_output = absurd ends
   shown_done status.Validity text ends no_disk no_output = absurd ends
   shown_done status.Input text ends no_disk no_output = absurd ends
-  shown_done status.Later text ends no_disk no_output = absurd ends
 
 module _ (account : Credentials) (words : List (List ℕ)) (input : List ℕ) (k : Course) (r : Status) (text : List ℕ)
     (ends : Ends account words input k r text) (cause : r ≡ status.Words → AsksNothing words)

@@ -27,7 +27,7 @@ use Rattle.play_driver.specs.declared.fault.Why.{Why}
 use Rattle.play_driver.specs.declared.fault.Why.TheVariants as whys
 use Rattle.play_driver.specs.declared.played.Played.{Played}
 use Rattle.mail_top.specs.Course.{Course}
-use Rattle.mail_top.specs.Ending.{Comes, EndsPlay, EndsRequest}
+use Rattle.mail_top.specs.Ending.{EndsPlay, EndsRequest}
 use Rattle.mail_top.specs.Faults.{of_store}
 use Rattle.mail_top.specs.Played.{CameThrough, IsOpened, SaysPlayed, SaysStopped}
 use Rattle.mail_top.specs.Telling.{TellsNoPlace, status_of, status_of_refusal, status_of_fault, text_of_fault}
@@ -346,9 +346,6 @@ module _ (P : Status → Type 0) (done : P status.Done) (conflicts : P status.Co
 
   pub of_play : (r : Result Played Unfinished) (s : Status) → s ≡ status_of_play r → P s
   of_play r s status_is = subst P (sym status_is) (at_end r)
-
-pub play_comes : (r : Result Played Unfinished) (s : Status) → s ≡ status_of_play r → Comes s
-play_comes r s = of_play Comes tt tt tt tt tt tt tt tt tt tt tt r s
 
 pub play_prints : (r : Result Played Unfinished) (s : Status) → s ≡ status_of_play r → s ≡ status.Output → ⊥
 play_prints r s = of_play (λ (t : Status). t ≡ status.Output → ⊥)

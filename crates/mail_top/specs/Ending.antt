@@ -41,7 +41,6 @@ EndsInit names k status.Reply text = ⊥
 EndsInit names k status.Lacking text = ⊥
 EndsInit names k status.Validity text = ⊥
 EndsInit names k status.Input text = ⊥
-EndsInit names k status.Later text = ⊥
 
 -- What each status says of an action that is asked for: `flag`, `move` and `append`.
 abbrev pub EndsAct : Wanted → Course → Status → List ℕ → Type 0
@@ -60,7 +59,6 @@ EndsAct wanted k status.Refused text = ⊥
 EndsAct wanted k status.Reply text = ⊥
 EndsAct wanted k status.Lacking text = ⊥
 EndsAct wanted k status.Validity text = ⊥
-EndsAct wanted k status.Later text = ⊥
 
 -- What each status says of `list BOX`.
 abbrev pub EndsRows : List ℕ → Course → Status → List ℕ → Type 0
@@ -79,7 +77,6 @@ EndsRows name k status.Reply text = ⊥
 EndsRows name k status.Lacking text = ⊥
 EndsRows name k status.Validity text = ⊥
 EndsRows name k status.Input text = ⊥
-EndsRows name k status.Later text = ⊥
 
 -- What each status says of `queue` and of `report`, which show the book by a text.
 abbrev pub EndsShown : (Meaning → List ℕ) → Course → Status → List ℕ → Type 0
@@ -98,7 +95,6 @@ EndsShown shown k status.Reply text = ⊥
 EndsShown shown k status.Lacking text = ⊥
 EndsShown shown k status.Validity text = ⊥
 EndsShown shown k status.Input text = ⊥
-EndsShown shown k status.Later text = ⊥
 
 -- What each status says of `play`. The others don't come.
 abbrev pub EndsPlay : Credentials → Course → Status → List ℕ → Type 0
@@ -114,7 +110,6 @@ EndsPlay account k status.Validity text = SaysStopped account k status.Validity 
 EndsPlay account k status.Journal text = OnFiles k (SaysBroken k text)
 EndsPlay account k status.Memory text = OnFiles k (SaysMemory k text) ⊎ SaysStopped account k status.Memory text
 EndsPlay account k status.Limit text = SaysStopped account k status.Limit text
-EndsPlay account k status.Later text = ⊥
 EndsPlay account k status.Words text = ⊥
 EndsPlay account k status.Reason text = ⊥
 EndsPlay account k status.Input text = ⊥
@@ -145,25 +140,6 @@ pub record SaysRequest (account : Credentials) (words : List (List ℕ)) (input 
 
 abbrev pub Ends : Credentials → List (List ℕ) → List ℕ → Course → Status → List ℕ → Type 0
 Ends account words input k s text = SaysWords words k s text ⊎ SaysRequest account words input k s text
-
--- the statuses that come
-abbrev pub Comes : Status → Type 0
-Comes status.Done = Unit {0}
-Comes status.Output = Unit {0}
-Comes status.Words = Unit {0}
-Comes status.Disk = Unit {0}
-Comes status.Link = Unit {0}
-Comes status.Refused = Unit {0}
-Comes status.Reply = Unit {0}
-Comes status.Lacking = Unit {0}
-Comes status.Validity = Unit {0}
-Comes status.Journal = Unit {0}
-Comes status.Reason = Unit {0}
-Comes status.Memory = Unit {0}
-Comes status.Limit = Unit {0}
-Comes status.Conflicts = Unit {0}
-Comes status.Input = Unit {0}
-Comes status.Later = ⊥
 
 -- done, or memory is wanting
 abbrev pub IsDone : Status → Type 0

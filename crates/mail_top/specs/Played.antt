@@ -85,7 +85,6 @@ CameThrough status.Reason = ⊥
 CameThrough status.Memory = ⊥
 CameThrough status.Limit = ⊥
 CameThrough status.Input = ⊥
-CameThrough status.Later = ⊥
 
 -- The files hold a book. Behind a moment of this time at which every action had an outcome, each of its mailboxes has a cache that is
 -- the server's as it answered for its rows since.

@@ -11,7 +11,7 @@ ghost use Rattle.store_core.specs.Taking.{HasBooks};
 ghost use Rattle.play_driver.specs.Joining.{AllFair};
 ghost use Rattle.play_driver.specs.Played.{played};
 ghost use Rattle.mail_top.specs.Connecting.{ConnectsAtFirst};
-ghost use Rattle.mail_top.specs.Ending.{Comes, IsDone, IsTakable, IsListable};
+ghost use Rattle.mail_top.specs.Ending.{IsDone, IsTakable, IsListable};
 ghost use Rattle.mail_top.specs.Going.{Goes, GoesRequest};
 ghost use Rattle.mail_top.specs.Headline.{AlwaysOwned, Finishes, NeverTwice, OnceOrReported};
 ghost use Rattle.mail_top.specs.KeptNow.{IsKeptNow, StaysKept};
@@ -56,7 +56,6 @@ fn carry_out<W: World, I: Source>(
           link_after = W.link world.new;
         })
         result.status (printed result.text) }
-    ensures comes { Comes result.status }
     ensures not_output { result.status ≢ Status.Output }
     ensures words { (result.status ≡ Status.Words) ↔ AsksNothing (map string_bytes words.now) }
     ensures disk { result.status ≡ Status.Disk → Rose (W.disk_faults world.old) (W.disk_faults world.new) }
@@ -118,7 +117,6 @@ fn answer<W: World, I: Source>(
           link_after = W.link world.new;
         })
         result.status (printed result.text) }
-    ensures comes { Comes result.status }
     ensures not_output { result.status ≢ Status.Output }
     ensures not_words { result.status ≢ Status.Words }
     ensures disk { result.status ≡ Status.Disk → Rose (W.disk_faults world.old) (W.disk_faults world.new) }
@@ -233,7 +231,6 @@ pub fn run<W: World, I: Source, S: Sink>(
         × (S.tells → Prints result text (S.written out.old) (S.written out.new) (S.sink_faults out.old) (S.sink_faults out.new)) }
 
     // Each answer has its cause, whatever the world tells.
-    ensures comes { Comes result }
     ensures words { (result ≡ Status.Words) ↔ AsksNothing (map string_bytes words.now) }
     ensures disk { result ≡ Status.Disk → Rose (W.disk_faults world.old) (W.disk_faults world.new) }
     ensures link_fault { result ≡ Status.Link → Rose (W.link world.old).faults (W.link world.new).faults }

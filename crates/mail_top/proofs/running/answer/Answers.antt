@@ -8,7 +8,7 @@ use Rattle.mail_top.proofs.Goings.{went_so, went_init, went_act, went_rows, went
 use Rattle.mail_top.proofs.Headlines.{request_once}
 use Rattle.mail_top.proofs.Joinings.{request_joins, init_records, action_records, rows_records, queue_records, report_records}
 use Rattle.mail_top.proofs.Sayings.{never_init, never_act, never_rows, never_queue, never_report}
-use Rattle.mail_top.proofs.Sayings.{no_reply, no_link, no_place_told, came_through, play_comes, play_prints, play_asked, play_reads}
+use Rattle.mail_top.proofs.Sayings.{no_reply, no_link, no_place_told, came_through, play_prints, play_asked, play_reads}
 use Rattle.mail_top.proofs.running.answer.Goals as goal
 
 pub returns-in-Init-clause-goes : goal.returns-in-Init-clause-goes
@@ -289,9 +289,6 @@ returns-in-Play-clause-taken g c tells = nothing_taken _
 
 pub returns-in-Play-clause-whole : goal.returns-in-Play-clause-whole
 returns-in-Play-clause-whole g c tells append done = absurd (subst IsAppend c.in-Play.is append)
-
-pub returns-in-Play-clause-comes : goal.returns-in-Play-clause-comes
-returns-in-Play-clause-comes g c = play_comes _ _ c.ending_of_play.ensures.status
 
 pub returns-in-Play-clause-not_output : goal.returns-in-Play-clause-not_output
 returns-in-Play-clause-not_output g c = play_prints _ _ c.ending_of_play.ensures.status

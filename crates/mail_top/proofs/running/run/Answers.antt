@@ -1,5 +1,5 @@
 use Rattle.mail_base.specs.declared.status.Status.TheVariants as status
-use Rattle.mail_top.proofs.Endings.{ended_so, said_ends, said_words, said_disk, said_link, said_input, said_reply, said_through, said_comes}
+use Rattle.mail_top.proofs.Endings.{ended_so, said_ends, said_words, said_disk, said_link, said_input, said_reply, said_through}
 use Rattle.mail_top.proofs.Endings.{completes_act, completes_init, completes_rows, completes_queue, completes_report}
 use Rattle.mail_top.proofs.Goings.{asks_given}
 use Rattle.mail_top.proofs.Headlines.{once_or_reported, run_finished, stays_owned}
@@ -20,9 +20,6 @@ returns-clause-goes g c tells =
       λ server is. c.carry_out-ending.ensures.honest server (said_reply _ _ c.say.ensures.status is),
       c.say.ensures.prints,
     )
-
-pub returns-clause-comes : goal.returns-clause-comes
-returns-clause-comes g c = said_comes _ _ c.say.ensures.status c.carry_out-ending.ensures.comes
 
 pub returns-clause-words : goal.returns-clause-words
 returns-clause-words g c = said_words _ _ _ c.say.ensures.status c.carry_out-ending.ensures.words
