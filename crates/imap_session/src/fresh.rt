@@ -3,7 +3,7 @@
 ghost use Rattle.std.specs.Prelude.{◌≡◌, ◌⊎◌, ◌≤◌, ℕ, List, [], ◌∷◌, None, IfOk, OnOk, OnErr, IsErrOf};
 ghost use Rattle.imap_model.specs.Talking.{Answering, Connecting};
 ghost use Rattle.world_traits.specs.Calls.{Rose};
-ghost use Rattle.world_traits.specs.Connected.{IsGreeted};
+ghost use Rattle.world_traits.specs.Connected.{IsGreeted, WasConnected};
 ghost use Rattle.world_traits.specs.Links.{Linked, AnyStep};
 ghost use Rattle.imap_session.specs.Faults.{NoHello};
 ghost use Rattle.imap_session.specs.Greeting.{Greets, IsBegun};
@@ -33,6 +33,8 @@ impl Fresh {
         ensures told { L.tells_server → Linked Connecting (L.clock link.old) (L.clock link.new) }
         ensures fresh { L.tells_files
             → IfOk result (λ s. IsFresh (L.link link.new) s.conversation.feed) }
+        ensures anew { L.tells_server
+            → OnOk result (WasConnected (L.clock link.old) (L.clock link.new)) }
         ensures greeted { L.tells_server → OnOk result (IsGreeted (L.clock link.new).now.outside) }
         ensures counted { IfOk result (λ s. s.conversation.count ≡ 0) }
         ensures sent { L.tells_files → OnOk result ((L.link link.new).sent ≡ []) }

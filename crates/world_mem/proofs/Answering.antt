@@ -10,7 +10,7 @@ use Rattle.world_traits.specs.Moments.{Clock}
 use Rattle.world_traits.proofs.Passing.{since_start, since_tick, since_then, since_weaker}
 use Rattle.world_mem.specs.Others.{OthersChange}
 use Rattle.server_mem.specs.Greeting.{greeting}
-use Rattle.world_traits.specs.Connected.{IsGreeted}
+use Rattle.world_traits.specs.Connected.{IsGreeted, WasConnected}
 use Rattle.world_mem.specs.Running.{Run, step, begins_with}
 use Rattle.world_mem.specs.declared.did.Did.TheVariants as did
 
@@ -52,6 +52,20 @@ one_greeting r = one_step Connecting (begins_with (greeting r.state.choices.offe
 
 pub greeted_now : (r : Run) → IsGreeted (step did.Greeted r).clock.now.outside
 greeted_now r = record { greeting = greeting r.state.choices.offers; greets = greets r.state.choices.offers; quiet = refl; talk = refl }
+
+pub connected_now : (old : Clock) (r : Run) → Linked Connecting old r.clock → WasConnected old (step did.Greeted r).clock
+connected_now old r before =
+    let first = greeting r.state.choices.offers in
+    let is_one = greets r.state.choices.offers in
+    record {
+      at = r.clock;
+      to = (step did.Greeted r).clock.now;
+      before = before;
+      has = tt;
+      step = record { left = refl; right = refl; outside = begins first is_one };
+      after = since_start Any (LinkStep Connecting) (step did.Greeted r).clock;
+      is = record { greeting = first; greets = is_one; is = refl };
+    }
 
 -- answering is a case of connecting
 pub connecting : (old new : Clock) → Linked Answering old new → Linked Connecting old new

@@ -450,7 +450,7 @@ impl Link for MemWorld {
     ghost use Rattle.imap_model.specs.Talking.{Answering, Connecting, Awaits, IsPartOf};
     ghost use Rattle.imap_model.specs.declared.command.Command.{Command};
     ghost use Rattle.mail_base.specs.declared.tag.Tag.{Tag};
-    ghost use Rattle.world_traits.specs.Connected.{IsGreeted};
+    ghost use Rattle.world_traits.specs.Connected.{IsGreeted, WasConnected};
     ghost use Rattle.world_traits.specs.LinkState.{fresh};
     ghost use Rattle.world_traits.specs.Links.{AnyStep, Linked};
     ghost use Rattle.world_traits.specs.Sends.{Sent, Arrives};
@@ -471,6 +471,7 @@ impl Link for MemWorld {
         ensures files { Linked AnyStep (run_in self.old).clock (run_in self.new).clock }
         ensures told { Linked Connecting (run_in self.old).clock (run_in self.new).clock }
         ensures begins { OnOk result (connection_at self.new ≡ Some fresh) }
+        ensures anew { OnOk result (WasConnected (run_in self.old).clock (run_in self.new).clock) }
         ensures greets { OnOk result (IsGreeted (run_in self.new).clock.now.outside) }
         ensures free { (run_in self.old).held ≡ None
             → OnOk result (run_in self.new ≡ step did.Greeted (entered self.old self.new)) }

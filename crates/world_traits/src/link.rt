@@ -23,7 +23,7 @@ pub trait Link: Clocked {
     ghost use Rattle.imap_model.specs.Talking.{Answering, Connecting, Awaits, IsPartOf};
     ghost use Rattle.imap_model.specs.declared.command.Command.{Command};
     ghost use Rattle.world_traits.specs.Calls.{Rose};
-    ghost use Rattle.world_traits.specs.Connected.{IsGreeted, IsReplyDue};
+    ghost use Rattle.world_traits.specs.Connected.{IsGreeted, IsReplyDue, WasConnected};
     ghost use Rattle.world_traits.specs.LinkState.{Connection, fresh};
     ghost use Rattle.world_traits.specs.Links.{AnyStep, Linked};
     ghost use Rattle.world_traits.specs.Sends.{Sent};
@@ -38,6 +38,8 @@ pub trait Link: Clocked {
             Linked Connecting (Self.clock self.old) (Self.clock self.new) }
         ensures begins { Self.tells_files →
             OnOk result ((Self.link self.new).connection ≡ Some fresh) }
+        ensures anew { Self.tells_server →
+            OnOk result (WasConnected (Self.clock self.old) (Self.clock self.new)) }
         ensures greets { Self.tells_server →
             OnOk result (IsGreeted (Self.clock self.new).now.outside) }
         ensures sent { Self.tells_files → OnOk result ((Self.link self.new).sent ≡ []) }

@@ -2,6 +2,7 @@ use Rattle.std.proofs.Common.{◌≡◌, inl, inr, OnOk, Ok, Result, true, false
 use Rattle.std.specs.Prelude.{is_some}
 use Rattle.std.specs.declared.alloc.AllocError.{AllocError}
 use Rattle.imap_model.specs.Talking.{Connecting}
+use Rattle.world_traits.specs.Connected.{WasConnected}
 use Rattle.world_traits.specs.Links.{Linked}
 use Rattle.world_mem.specs.Memory.{run_of}
 use Rattle.world_mem.specs.Others.{OthersSome, others_in}
@@ -9,7 +10,7 @@ use Rattle.world_mem.specs.Planned.{Planned}
 use Rattle.world_mem.specs.Running.{Run, step}
 use Rattle.world_mem.specs.declared.did.Did.TheVariants as did
 use Rattle.world_mem.specs.Worlds.{course_of, planned_of, refused_of, LinkIsToFail}
-use Rattle.world_mem.proofs.Answering.{connecting, linked_then, any_linked}
+use Rattle.world_mem.proofs.Answering.{connected_now, connecting, linked_then, any_linked}
 use Rattle.world_mem.proofs.Lines.{is_lost, failed_by, no_loss}
 use Rattle.world_mem.proofs.mem_world.MemWorldLink.connect.Goals as goal
 
@@ -56,6 +57,16 @@ returns-clause-told c =
     (connecting (run_of c.lose.new.self).clock (run_of (course_of c.enter.new.self)).clock c.enter.ensures.told.told))
     c.settle.ensures.told)
     greets
+
+pub returns-clause-anew : goal.returns-clause-anew
+returns-clause-anew c =
+    let greeted : run_of c.greet.new.self ≡ step did.Greeted (run_of c.settle.new.self) = search rules in
+    subst (λ (r : Run). WasConnected (run_of (course_of c.args.self.now)).clock r.clock) (sym greeted)
+    (connected_now (run_of (course_of c.args.self.now)).clock (run_of c.settle.new.self)
+    (linked_then Connecting (run_of (course_of c.args.self.now)).clock (run_of (course_of c.enter.new.self)).clock (run_of c.settle.new.self).clock
+    (subst (λ (r : Run). Linked Connecting r.clock (run_of (course_of c.enter.new.self)).clock) c.lose.ensures.run
+    (connecting (run_of c.lose.new.self).clock (run_of (course_of c.enter.new.self)).clock c.enter.ensures.told.told))
+    c.settle.ensures.told))
 
 pub returns-in_err-enter-clause-files : goal.returns-in_err-enter-clause-files
 returns-in_err-enter-clause-files c = any_linked Connecting (run_of (course_of c.args.self.now)).clock
