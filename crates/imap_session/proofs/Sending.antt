@@ -200,6 +200,7 @@ module _ (w : Waiting) (before : List (List ℕ)) (part : List ℕ) (old k l : C
                 is = refusal_carries w m.outside.server n.outside.server (read_as rows e code) keeps x.refusal.ending
                     (subst (λ (sel : Option (List ℕ)). SaysRemarks (selected_box sel m.outside.server.boxes) (read_as rows e code)) x.selects
                     x.refusal.says) x.server;
+                waits = λ ok. absurd (x.refusal.ending ok);
                 before = x.before ∙ half.as_told;
                 behind = x.behind ∙ ap (λ (t : List Response). t ++ (rows ++ responses.Done w.tag e code ∷ [])) half.as_told;
               }) old l

@@ -88,7 +88,12 @@ whole_step w told o p (carries v r t after is out) b =
     inr (
       (r, after),
       record { nothing = refl; no_part = b.no_part; selects = refl; all = tells },
-      record { is = subst (λ (x : Waiting). CarriesOut x o.server r t after) same out; before = b.before; behind = tells },
+      record {
+        is = subst (λ (x : Waiting). CarriesOut x o.server r t after) same out;
+        waits = λ ok. b.waits;
+        before = b.before;
+        behind = tells;
+      },
     )
 
 pub finished_step : (told : List Response) (selected : Option (List ℕ)) (o p : Peer) → Answering o p → Finished told selected o

@@ -4,6 +4,7 @@ use Rattle.mail_base.specs.declared.tag.Tag.{Tag}
 use Rattle.imap_model.specs.CarriedOut.{CarriesOut, told_in}
 use Rattle.imap_model.specs.Carrying.{Waiting}
 use Rattle.imap_model.specs.Talking.{Peer, Arriving, IsRefusal}
+use Rattle.imap_model.specs.declared.ending.Ending.TheVariants as endings
 use Rattle.imap_model.specs.declared.replies.Replies.{Replies}
 use Rattle.imap_model.specs.declared.response.Response.{Response}
 use Rattle.imap_model.specs.declared.response.Response.TheVariants as responses
@@ -37,9 +38,10 @@ pub record Went (a : Arriving) (selected : Option (List ℕ)) (told : List Respo
   pub all : p.talk.told ≡ told ++ responses.Go ∷ []
 
 -- The replies are the table's answer to the step from one to the next; before it this was told, and behind it the replies
--- besides.
+-- besides. Where they say OK, the command was waiting: it may be refused as its text arrives.
 pub record Tells (w : Waiting) (told : List Response) (r : Replies) (after : Option (List ℕ)) (p q : Peer) : Type 0 where
   pub is : CarriesOut w p.server r q.server after
+  pub waits : r.ending ≡ endings.Ok → p.waiting ≡ Some w
   pub before : p.talk.told ≡ told
   pub behind : q.talk.told ≡ told ++ told_in w.tag r
 
