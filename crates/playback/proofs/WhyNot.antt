@@ -46,9 +46,9 @@ abbrev SoUnder : (ℕ → Type 0) → Option ℕ → Type 0
 SoUnder So None = Unit {0}
 SoUnder So (Some validity) = So validity
 
-abbrev Under : (ℕ → Type 0) → Step → Type 0
+abbrev Under : (List ℕ → ℕ → Type 0) → Step → Type 0
 Under So steps.Learn = Unit {0}
-Under So (steps.Select name under) = SoUnder So under
+Under So (steps.Select name under) = SoUnder (So name) under
 Under So (steps.AskRow uid) = Unit {0}
 Under So (steps.Search uidnext) = Unit {0}
 Under So steps.AskIds = Unit {0}
@@ -57,12 +57,12 @@ Under So (steps.Settle outcome) = Unit {0}
 Under So steps.Send = Unit {0}
 Under So steps.Finished = Unit {0}
 
-module _ (So : ℕ → Type 0) where
+module _ (So : List ℕ → ℕ → Type 0) where
   either : (t : Bool) (x y : Step) → Under So x → Under So y → Under So (cond t x y)
   either true x y a b = a
   either false x y a b = b
 
-  module _ (spot : Spot) (so : So spot.validity) where
+  module _ (spot : Spot) (so : So spot.name spot.validity) where
     boxed : (selected : Option Selected) (step : Step) → Under So step → Under So (in_box selected spot step)
     boxed selected step u = either (is_selected selected spot) step (select_box spot) u so
 
@@ -166,7 +166,7 @@ module _ (So : ℕ → Type 0) where
   judged_append (verdicts.There uid) validity = tt {0}
   judged_append (verdicts.Several u v) validity = tt {0}
 
-  module _ (to : List ℕ) (validity uidnext : ℕ) (so : So validity) where
+  module _ (to : List ℕ) (validity uidnext : ℕ) (so : So to validity) where
     open_append : (told : Finding) → Under So (append_open told to validity uidnext)
     open_append findings.Nothing = so
     open_append findings.NoRow = so
@@ -198,38 +198,38 @@ module _ (So : ℕ → Type 0) where
 -- the UIDVALIDITY is that of the message, or of the intent
 module _ (p : Player) (b : Meaning) where
   flag_place : (target : Target) (add : Bool) (flags : List (List ℕ)) (place : Found) → resolved b.queue target ≡ place →
-      Under (λ v. IsToHave v b (actions.Flag target add flags)) (step_flag_found p b.pending place)
+      Under (λ n v. IsToHave n v b (actions.Flag target add flags)) (step_flag_found p b.pending place)
   flag_place target add flags (found.Real name validity uid) e =
-      flag_under (λ v. IsToHave v b (actions.Flag target add flags)) (record { name = name; validity = validity; uid = uid }) (name, uid, e)
+      flag_under (λ n v. IsToHave n v b (actions.Flag target add flags)) (record { name = name; validity = validity; uid = uid }) (uid, e)
       p b.pending
   flag_place target add flags (found.NotYet by) e = tt {0}
   flag_place target add flags (found.Never by) e = tt {0}
 
   move_place : (target : Target) (to : List ℕ) (place : Found) → resolved b.queue target ≡ place →
-      Under (λ v. IsToHave v b (actions.Move target to)) (step_move_found p b.pending to place)
+      Under (λ n v. IsToHave n v b (actions.Move target to)) (step_move_found p b.pending to place)
   move_place target to (found.Real name validity uid) e =
-      move_under (λ v. IsToHave v b (actions.Move target to)) (record { name = name; validity = validity; uid = uid }) (name, uid, e)
+      move_under (λ n v. IsToHave n v b (actions.Move target to)) (record { name = name; validity = validity; uid = uid }) (uid, e)
       p b.pending to
   move_place target to (found.NotYet by) e = tt {0}
   move_place target to (found.Never by) e = tt {0}
 
   append_place : (to : List ℕ) (flags : List (List ℕ)) (text id : List ℕ) (pending : Option Intent) → b.pending ≡ pending →
-      Under (λ v. IsToHave v b (actions.Append to flags text id)) (step_append p pending to)
-  append_place to flags text id None e = first_append (λ v. IsToHave v b (actions.Append to flags text id)) p.selected p.told to
+      Under (λ n v. IsToHave n v b (actions.Append to flags text id)) (step_append p pending to)
+  append_place to flags text id None e = first_append (λ n v. IsToHave n v b (actions.Append to flags text id)) p.selected p.told to
   append_place to flags text id (Some (intents.Store name validity uid modseq)) e = tt {0}
   append_place to flags text id (Some (intents.Shift from validity uid other)) e = tt {0}
   append_place to flags text id (Some (intents.Put other validity uidnext)) e =
-      meant_append (λ v. IsToHave v b (actions.Append to flags text id)) to validity uidnext (uidnext, other, e) p p.told
+      meant_append (λ n v. IsToHave n v b (actions.Append to flags text id)) to validity uidnext (uidnext, other, refl, e) p p.told
 
-  action_under : (action : Action) → Under (λ v. IsToHave v b action) (step_action p b action)
+  action_under : (action : Action) → Under (λ n v. IsToHave n v b action) (step_action p b action)
   action_under (actions.Flag target add flags) = flag_place target add flags (resolved b.queue target) refl
   action_under (actions.Move target to) = move_place target to (resolved b.queue target) refl
   action_under (actions.Append to flags text id) = append_place to flags text id b.pending refl
 
-  under_maps : (P Q : ℕ → Type 0) → ((v : ℕ) → P v → Q v) → (step : Step) → Under P step → Under Q step
+  under_maps : (P Q : List ℕ → ℕ → Type 0) → ((n : List ℕ) (v : ℕ) → P n v → Q n v) → (step : Step) → Under P step → Under Q step
   under_maps P Q f steps.Learn u = u
   under_maps P Q f (steps.Select name None) u = u
-  under_maps P Q f (steps.Select name (Some v)) u = f v u
+  under_maps P Q f (steps.Select name (Some v)) u = f name v u
   under_maps P Q f (steps.AskRow uid) u = u
   under_maps P Q f (steps.Search uidnext) u = u
   under_maps P Q f steps.AskIds u = u
@@ -238,21 +238,21 @@ module _ (p : Player) (b : Meaning) where
   under_maps P Q f steps.Send u = u
   under_maps P Q f steps.Finished u = u
 
-  last_under : (known : Option Known) → Under (λ v. OfDue (IsToHave v b) b) (step_box known)
+  last_under : (known : Option Known) → Under (λ n v. OfDue (IsToHave n v b) b) (step_box known)
   last_under None = tt {0}
   last_under (Some known) = tt {0}
 
-  due_under : (queued : Option Queued) → due_action b.queue ≡ queued → Under (λ v. OfDue (IsToHave v b) b) (step_due p b queued)
+  due_under : (queued : Option Queued) → due_action b.queue ≡ queued → Under (λ n v. OfDue (IsToHave n v b) b) (step_due p b queued)
   due_under None e = last_under (slice_get b.boxes p.resynced)
   due_under (Some q) e =
-      under_maps (λ v. IsToHave v b q.action) (λ v. OfDue (IsToHave v b) b) (λ v so. record { queued = q; there = e; holds = so })
+      under_maps (λ n v. IsToHave n v b q.action) (λ n v. OfDue (IsToHave n v b) b) (λ n v so. record { queued = q; there = e; holds = so })
       (step_action p b q.action) (action_under q.action)
 
-  learn_under : (learns : Option Resynced) → Under (λ v. OfDue (IsToHave v b) b) (step_learn p b learns)
+  learn_under : (learns : Option Resynced) → Under (λ n v. OfDue (IsToHave n v b) b) (step_learn p b learns)
   learn_under None = due_under (due_action b.queue) refl
   learn_under (Some told) = tt {0}
 
-  step_under : Under (λ v. OfDue (IsToHave v b) b) (step_of p b)
+  step_under : Under (λ n v. OfDue (IsToHave n v b) b) (step_of p b)
   step_under = learn_under p.learns
 
 -- the step that selects a mailbox needs that
@@ -275,7 +275,7 @@ module _ (p : Player) (b : Meaning) (delta : Delta) (name : List ℕ) (unheard :
       subst (λ (x : Unheard). WhyNotChosen x (Ok delta) p b) (sym many.1)
       (delta, refl, record { name = name; selects = selects; many = many.0; is = refl })
 
-  other_why : (old : ℕ) → need_of p b ≡ needs.Select name → OfDue (IsToHave old b) b →
+  other_why : (old : ℕ) → need_of p b ≡ needs.Select name → OfDue (IsToHave name old b) b →
       target_fault (is_other (Some old) delta.validity) (rows_fault (is_many (rows_with name b delta))) ≡ Some unheard →
       WhyNotChosen unheard (Ok delta) p b
   other_why old selects have =
@@ -291,18 +291,20 @@ module _ (p : Player) (b : Meaning) (delta : Delta) (name : List ℕ) (unheard :
         record {
           apart = λ same. absurd (both_ways (old == delta.validity) apart (eq-eqb old delta.validity same));
           is_told = refl;
+          name = name;
+          selects = selects;
           to_have = have;
         },
       ))
 
-  select_why : (under : Option ℕ) → need_of p b ≡ needs.Select name → SoUnder (λ v. OfDue (IsToHave v b) b) under →
+  select_why : (under : Option ℕ) → need_of p b ≡ needs.Select name → SoUnder (λ v. OfDue (IsToHave name v b) b) under →
       target_fault (is_other under delta.validity) (rows_fault (is_many (rows_with name b delta))) ≡ Some unheard →
       WhyNotChosen unheard (Ok delta) p b
   select_why None selects so e = rows_why selects e
   select_why (Some old) selects so e = other_why old selects so e
 
 box_why : (p : Player) (b : Meaning) (delta : Delta) (unheard : Unheard) (step : Step) → step_of p b ≡ step →
-    Under (λ v. OfDue (IsToHave v b) b) step →
+    Under (λ n v. OfDue (IsToHave n v b) b) step →
     box_fault b delta (wanted_by step) ≡ Some unheard → WhyNotChosen unheard (Ok delta) p b
 box_why p b delta unheard steps.Learn is u e = absurd (cc)
 box_why p b delta unheard (steps.Select name under) is u e = select_why p b delta name unheard under (selects_box p b name under is) u e

@@ -121,17 +121,20 @@ Records (needs.Settle n outcome) event = event ≡ events.Settle n outcome
 Records (needs.Send n command) event = ⊥
 Records needs.Finished event = ⊥
 
--- The UIDVALIDITY that the mailbox of the action that is due is to have: that of its message, or of its intent.
-abbrev pub IsToHave : ℕ → Meaning → Action → Type 0
-IsToHave validity b (actions.Flag target add flags) = (name : List ℕ) × (uid : ℕ) × (resolved b.queue target ≡ found.Real name validity uid)
-IsToHave validity b (actions.Move target to) = (name : List ℕ) × (uid : ℕ) × (resolved b.queue target ≡ found.Real name validity uid)
-IsToHave validity b (actions.Append to flags text id) = (uidnext : ℕ) × (other : List ℕ) × (b.pending ≡ Some (intents.Put other validity uidnext))
+-- The UIDVALIDITY that this mailbox is to have for the action that is due: it is that of its message, or of its intent.
+abbrev pub IsToHave : List ℕ → ℕ → Meaning → Action → Type 0
+IsToHave name validity b (actions.Flag target add flags) = (uid : ℕ) × (resolved b.queue target ≡ found.Real name validity uid)
+IsToHave name validity b (actions.Move target to) = (uid : ℕ) × (resolved b.queue target ≡ found.Real name validity uid)
+IsToHave name validity b (actions.Append to flags text id) =
+    (uidnext : ℕ) × (other : List ℕ) × (name ≡ to) × (b.pending ≡ Some (intents.Put other validity uidnext))
 
--- a SELECT told another UIDVALIDITY than that
-pub record IsOtherValidity (old told : ℕ) (delta : Delta) (b : Meaning) : Type 0 where
+-- the SELECT of that mailbox told another UIDVALIDITY than that
+pub record IsOtherValidity (old told : ℕ) (delta : Delta) (p : Player) (b : Meaning) : Type 0 where
   pub apart : old ≢ told
   pub is_told : delta.validity ≡ told
-  pub to_have : OfDue (IsToHave old b) b
+  pub name : List ℕ
+  pub selects : need_of p b ≡ needs.Select name
+  pub to_have : OfDue (IsToHave name old b) b
 
 -- the cache of the mailbox that is selected would have too many rows
 pub record IsTooManyRows (count : ℕ) (delta : Delta) (p : Player) (b : Meaning) : Type 0 where
@@ -144,6 +147,6 @@ pub record IsTooManyRows (count : ℕ) (delta : Delta) (p : Player) (b : Meaning
 abbrev pub WhyNotChosen : Unheard → Result Delta ResyncFault → Player → Meaning → Type 0
 WhyNotChosen unheards.Memory told p b = Unit {0}
 WhyNotChosen (unheards.Resync fault) told p b = told ≡ Err fault
-WhyNotChosen (unheards.Target old new) told p b = (delta : Delta) × (told ≡ Ok delta) × IsOtherValidity old new delta b
+WhyNotChosen (unheards.Target old new) told p b = (delta : Delta) × (told ≡ Ok delta) × IsOtherValidity old new delta p b
 WhyNotChosen (unheards.Lacks item) told p b = ⊥
 WhyNotChosen (unheards.Rows count) told p b = (delta : Delta) × (told ≡ Ok delta) × IsTooManyRows count delta p b
