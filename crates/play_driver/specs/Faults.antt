@@ -57,3 +57,14 @@ IsReplyFault (faults.BadReply why) = Unit {0}
 IsReplyFault (faults.Lacking what) = Unit {0}
 IsReplyFault (faults.Validity name kept told) = ⊥
 IsReplyFault (faults.Limit which number) = ⊥
+
+-- what may end a run whose server serves it: want of memory, the disk, the link, or a limit that is passed
+abbrev pub ComesAnyway : PlayFault → Type 0
+ComesAnyway faults.Memory = Unit {0}
+ComesAnyway faults.Disk = Unit {0}
+ComesAnyway faults.Link = Unit {0}
+ComesAnyway (faults.Refused line) = ⊥
+ComesAnyway (faults.BadReply why) = ⊥
+ComesAnyway (faults.Lacking what) = ⊥
+ComesAnyway (faults.Validity name kept told) = ⊥
+ComesAnyway (faults.Limit which number) = Unit {0}

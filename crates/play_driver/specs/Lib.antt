@@ -19,6 +19,9 @@ pub mod Recording
 pub mod Turning
 pub mod Running
 pub mod Playing
+pub mod Refusals
+pub mod Serving
+pub mod Renewed
 pub mod Counted
 pub mod Settled
 pub mod Played

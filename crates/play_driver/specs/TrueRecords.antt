@@ -15,7 +15,7 @@ use Rattle.world_traits.specs.Moments.{Clock, Since}
 use Rattle.play_driver.specs.Joining.{AnyTwo}
 use Rattle.play_driver.specs.KnownAt.{WasAnswered, WasServer}
 use Rattle.play_driver.specs.Progress.{IsPlayEvent}
-use Rattle.play_driver.specs.Questioning.{TalkStep}
+use Rattle.play_driver.specs.Questioning.{RunStep}
 
 -- An event of playback may be recorded now behind this book, which each stop leaves, and it has its reason, in a run that began with the
 -- entry's book: over a course whose servers are those of moments since the run's connection was made, and in which what was said was told
@@ -56,7 +56,7 @@ pub record IsTrueBefore (event : Event) (entry b : Meaning) (made now : Clock) :
 pub record RecordsTruly (entry b : Meaning) (old new : Clock) : Type 0 where
   pub made : Clock
   pub connects : Linked Connecting old made
-  pub behind : Since Any TalkStep made new
+  pub behind : Since Any RunStep made new
   pub truly : IsTrueSince entry made new b
 
 -- And so it was where the disk failed in a record.
@@ -64,5 +64,5 @@ pub record StopsTruly (entry b : Meaning) (old new : Clock) : Type 0 where
   pub event : Event
   pub made : Clock
   pub connects : Linked Connecting old made
-  pub behind : Since Any TalkStep made new
+  pub behind : Since Any RunStep made new
   pub truly : IsTrueBefore event entry b made new

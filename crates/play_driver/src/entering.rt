@@ -1,6 +1,7 @@
 //! A run enters: it connects, reads the greeting, logs the user in and enables QRESYNC.
 
-ghost use Rattle.std.specs.Prelude.{◌≡◌, ◌≤◌, ℕ, None, IfOk, IsErrOf, OnOk};
+ghost use Rattle.std.specs.Prelude.{◌≡◌, ◌≤◌, ℕ, List, None, IfOk, IsErrOf, OnOk};
+ghost use Rattle.imap_model.specs.declared.item.Item.{Item};
 ghost use Rattle.world_traits.specs.Calls.{Rose};
 ghost use Rattle.world_traits.specs.Links.{Linked, LinkStep, AnyStep};
 ghost use Rattle.imap_session.specs.Enquiring.{Enquiring};
@@ -9,6 +10,7 @@ ghost use Rattle.imap_session.specs.declared.fault.SessionFault.{SessionFault};
 ghost use Rattle.imap_session.specs.declared.fault.SessionFault.TheVariants as faults;
 ghost use Rattle.play_driver.specs.Entering.{HasEntered, NotEntered, OpensFrom};
 ghost use Rattle.play_driver.specs.Questioning.{ConnectsFirst, Questioning};
+ghost use Rattle.play_driver.specs.Serving.{AllServing, IsServed};
 ghost use Rattle.play_driver.specs.Stages.{stage_of};
 ghost use Rattle.play_driver.specs.declared.session.Session.TheVariants as sessions;
 
@@ -36,6 +38,12 @@ pub(crate) fn enter<L: Link>(
     ensures why { L.tells_files → (fault : SessionFault) → IsErrOf result fault
         → NotEntered account.now (L.link link.old) (L.link link.new) fault }
     ensures honest { L.tells_server → (at : ℕ) → IsErrOf result (faults.BadReply at) → ⊥ }
+
+    // Where the server serves, it neither refuses nor lacks a thing, and nothing that it told so far is a refusal.
+    ensures serves { L.tells_server → AllServing (L.clock link.old) (L.clock link.new)
+        → ((line : List ℕ) → IsErrOf result (faults.Refused line) → ⊥) × ((item : Item) → IsErrOf result (faults.Lacking item) → ⊥) }
+    ensures served { L.tells_server → AllServing (L.clock link.old) (L.clock link.new)
+        → OnOk result (IsServed (L.clock link.new).now.outside) }
     ensures disk { L.disk_faults link.new ≡ L.disk_faults link.old }
     ensures count { (L.link link.old).faults ≤ (L.link link.new).faults }
     ensures cause { IsErrOf result faults.Link → Rose (L.link link.old).faults (L.link link.new).faults }

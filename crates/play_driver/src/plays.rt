@@ -1,6 +1,6 @@
 //! A run: the book's actions are played back, and each of its caches becomes the server's.
 
-ghost use Rattle.std.specs.Prelude.{◌≡◌, ◌↔◌, ◌≤◌, ◌<◌, ◌+◌, ◌*◌, ℕ, Some, IfOk, IsErr, IsErrOf, IsTrue, OnOk, false};
+ghost use Rattle.std.specs.Prelude.{◌≡◌, ◌↔◌, ◌≤◌, ◌<◌, ◌+◌, ◌*◌, ℕ, List, Some, IfOk, IsErr, IsErrOf, IsTrue, OnOk, false};
 ghost use Rattle.action_queue.specs.Book.{Meaning};
 ghost use Rattle.action_queue.specs.Queues.{AllSettled};
 ghost use Rattle.action_queue.specs.declared.event.Event.{Event};
@@ -20,14 +20,16 @@ ghost use Rattle.world_traits.specs.Calls.{Rose};
 ghost use Rattle.world_traits.specs.Links.{Any};
 ghost use Rattle.world_traits.specs.Moments.{Clock, Since};
 ghost use Rattle.play_driver.specs.Counted.{played_since};
-ghost use Rattle.play_driver.specs.Faults.{IsReplyFault};
+ghost use Rattle.play_driver.specs.Faults.{ComesAnyway, IsReplyFault};
 ghost use Rattle.play_driver.specs.Joining.{AllFair, Grows, IsKept, StaysJoined};
 ghost use Rattle.play_driver.specs.KnownAt.{KnownAt};
 ghost use Rattle.play_driver.specs.Played.{played};
 ghost use Rattle.play_driver.specs.Playing.{EndsEarly, Plays};
 ghost use Rattle.play_driver.specs.Progress.{IsLater, IsPlayEvent, Progresses};
-ghost use Rattle.play_driver.specs.Questioning.{ConnectsFirst, TalkStep};
+ghost use Rattle.play_driver.specs.Questioning.{ConnectsFirst, RunStep, TalkStep};
+ghost use Rattle.play_driver.specs.Renewed.{NoneRenewed};
 ghost use Rattle.play_driver.specs.Running.{RunsBetween, StopsBehind};
+ghost use Rattle.play_driver.specs.Serving.{AllServing};
 ghost use Rattle.play_driver.specs.Sessions.{count_of, feed_of, permits_in, selected_in};
 ghost use Rattle.play_driver.specs.Settled.{AreSyncedBehind, IsSyncedSoFar};
 ghost use Rattle.play_driver.specs.TrueRecords.{IsTrueBefore, IsTrueSince, RecordsTruly, StopsTruly};
@@ -97,7 +99,7 @@ pub fn play<W: World>(
         → AllFair mail played (W.clock world.old) (W.clock world.new)
         → StopsTruly store.old.book store.new.book (W.clock world.old) (W.clock world.new) }
     ensures each_one_side { W.tells_files → EachOneSide (W.clock world.old) (W.clock world.new) }
-    ensures once { W.tells_server → ConnectsFirst TalkStep (W.clock world.old) (W.clock world.new) }
+    ensures once { W.tells_server → ConnectsFirst RunStep (W.clock world.old) (W.clock world.new) }
 
     // Why it ends early, on the bytes received; and what was sent then.
     ensures why { W.tells_files → (fault : PlayFault) → IsErrOf result fault
@@ -105,6 +107,12 @@ pub fn play<W: World>(
     ensures honest { W.tells_server → (at : ℕ) → IsErrOf result (faults.BadReply (whys.At at)) → ⊥ }
     ensures faultless { W.tells_server → IsKept mail Kept (W.clock world.old).now
         → AllFair mail played (W.clock world.old) (W.clock world.new) → (why : Why) → IsErrOf result (faults.BadReply why) → ⊥ }
+
+    // A server that serves it, with no mailbox made anew that an action waits for, ends no run: what else ends one is want of memory, the
+    // disk, the link, or a limit.
+    ensures complete { W.tells_server → IsKept mail Kept (W.clock world.old).now
+        → AllFair mail played (W.clock world.old) (W.clock world.new) → AllServing (W.clock world.old) (W.clock world.new)
+        → NoneRenewed store.old.book (W.clock world.old).now.outside.server → (fault : PlayFault) → IsErrOf result fault → ComesAnyway fault }
     ensures disk_count { W.disk_faults world.old ≤ W.disk_faults world.new }
     ensures link_count { (W.link world.old).faults ≤ (W.link world.new).faults }
     ensures disk_cause { IsErrOf result faults.Disk → Rose (W.disk_faults world.old) (W.disk_faults world.new) }
@@ -173,6 +181,10 @@ fn play_on<W: World>(
         → KnownAt made (W.clock world.old) (permits_in session) player.old store.old.book
         → AllFair mail played (W.clock world.old) (W.clock world.new)
         → (fault : PlayFault) → IsErrOf result fault → IsReplyFault fault → ⊥ }
+    ensures valid { W.tells_server → (made : Clock) → IsKept mail Kept (W.clock world.old).now
+        → KnownAt made (W.clock world.old) (permits_in session) player.old store.old.book
+        → AllFair mail played (W.clock world.old) (W.clock world.new) → NoneRenewed store.old.book (W.clock world.old).now.outside.server
+        → (name : List ℕ) (kept told : ℕ) → IsErrOf result (faults.Validity name kept told) → ⊥ }
     ensures honest { W.tells_server → (at : ℕ) → IsErrOf result (faults.BadReply (whys.At at)) → ⊥ }
     ensures disk_count { W.disk_faults world.old ≤ W.disk_faults world.new }
     ensures link_count { (W.link world.old).faults ≤ (W.link world.new).faults }

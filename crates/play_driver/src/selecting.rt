@@ -1,6 +1,6 @@
 //! A mailbox is resynchronised that playback needs, and the player takes what was told.
 
-ghost use Rattle.std.specs.Prelude.{◌≡◌, ◌≤◌, ◌<◌, ◌+◌, ℕ, Some, Ok, IfOk, IsErrOf, OnOk};
+ghost use Rattle.std.specs.Prelude.{◌≡◌, ◌≤◌, ◌<◌, ◌+◌, ℕ, List, Some, Ok, IfOk, IsErrOf, OnOk};
 ghost use Rattle.std.specs.Option.{option_copied};
 ghost use Rattle.action_queue.specs.Book.{Meaning, cache_at, learned, meaning};
 ghost use Rattle.imap_session.specs.Session.{Follows, Stands};
@@ -23,6 +23,7 @@ ghost use Rattle.play_driver.specs.Joining.{AllFair, AnyTwo, StaysJoined};
 ghost use Rattle.play_driver.specs.KnownAt.{KnownAt, StandsKept};
 ghost use Rattle.play_driver.specs.Played.{played};
 ghost use Rattle.play_driver.specs.Questioning.{Questioning};
+ghost use Rattle.play_driver.specs.Renewed.{NoneRenewed};
 ghost use Rattle.play_driver.specs.Sessions.{count_of, feed_of, permits_in, selected_in};
 ghost use Rattle.play_driver.specs.Stages.{DeltaCameOf, stage_of};
 ghost use Rattle.play_driver.specs.Synced.{IsReadAt};
@@ -101,6 +102,9 @@ pub(crate) fn select<L: Link>(
     ensures honest { L.tells_server → (at : ℕ) → IsErrOf result (faults.BadReply (whys.At at)) → ⊥ }
     ensures faultless { L.tells_server → StandsKept (meaning book.now) (L.clock link.old) → AllFair mail played (L.clock link.old) (L.clock link.new)
         → (fault : PlayFault) → IsErrOf result fault → IsReplyFault fault → ⊥ }
+    ensures valid { L.tells_server → StandsKept (meaning book.now) (L.clock link.old) → AllFair mail played (L.clock link.old) (L.clock link.new)
+        → NoneRenewed (meaning book.now) (L.clock link.old).now.outside.server
+        → (name : List ℕ) (kept told : ℕ) → IsErrOf result (faults.Validity name kept told) → ⊥ }
     ensures no_disk { IsErrOf result faults.Disk → ⊥ }
     ensures disk { L.disk_faults link.new ≡ L.disk_faults link.old }
     ensures count { (L.link link.old).faults ≤ (L.link link.new).faults }

@@ -1,6 +1,6 @@
 //! A turn of playback: what is needed next is done, and the player takes what came of it.
 
-ghost use Rattle.std.specs.Prelude.{◌≡◌, ◌≢◌, ◌≤◌, ◌<◌, ◌+◌, ℕ, Some, IfOk, IsErr, IsErrOf, IsTrue, OnOk, false, is_some, true};
+ghost use Rattle.std.specs.Prelude.{◌≡◌, ◌≢◌, ◌≤◌, ◌<◌, ◌+◌, ℕ, List, Some, IfOk, IsErr, IsErrOf, IsTrue, OnOk, false, is_some, true};
 ghost use Rattle.action_queue.specs.Book.{Meaning};
 ghost use Rattle.action_queue.specs.declared.event.Event.{Event};
 ghost use Rattle.imap_session.specs.Session.{Follows, Stands};
@@ -26,6 +26,7 @@ ghost use Rattle.play_driver.specs.KnownAt.{KnownAt};
 ghost use Rattle.play_driver.specs.Played.{played};
 ghost use Rattle.play_driver.specs.Progress.{IsLater, IsPlayEvent, Progresses};
 ghost use Rattle.play_driver.specs.Questioning.{TalkStep};
+ghost use Rattle.play_driver.specs.Renewed.{NoneRenewed};
 ghost use Rattle.play_driver.specs.Sessions.{count_of, feed_of, permits_in, selected_in};
 ghost use Rattle.play_driver.specs.Settled.{IsSyncedSoFar};
 ghost use Rattle.play_driver.specs.TrueRecords.{IsTrueBefore, IsTrueSince};
@@ -126,6 +127,10 @@ pub(crate) fn turn<W: World>(
         → KnownAt made (W.clock world.old) (permits_in session) player.old store.old.book
         → AllFair mail played (W.clock world.old) (W.clock world.new)
         → (fault : PlayFault) → IsErrOf result fault → IsReplyFault fault → ⊥ }
+    ensures valid { W.tells_server → (made : Clock) → IsKept mail Kept (W.clock world.old).now
+        → KnownAt made (W.clock world.old) (permits_in session) player.old store.old.book
+        → AllFair mail played (W.clock world.old) (W.clock world.new) → NoneRenewed store.old.book (W.clock world.old).now.outside.server
+        → (name : List ℕ) (kept told : ℕ) → IsErrOf result (faults.Validity name kept told) → ⊥ }
     ensures honest { W.tells_server → (at : ℕ) → IsErrOf result (faults.BadReply (whys.At at)) → ⊥ }
     ensures disk_count { W.disk_faults world.old ≤ W.disk_faults world.new }
     ensures link_count { (W.link world.old).faults ≤ (W.link world.new).faults }
@@ -212,6 +217,10 @@ fn turn_selects<W: World>(
         → KnownAt made (W.clock world.old) (permits_in session) player.old store.now.book
         → AllFair mail played (W.clock world.old) (W.clock world.new)
         → (fault : PlayFault) → IsErrOf result fault → IsReplyFault fault → ⊥ }
+    ensures valid { W.tells_server → (made : Clock) → IsKept mail Kept (W.clock world.old).now
+        → KnownAt made (W.clock world.old) (permits_in session) player.old store.now.book
+        → AllFair mail played (W.clock world.old) (W.clock world.new) → NoneRenewed store.now.book (W.clock world.old).now.outside.server
+        → (name : List ℕ) (kept told : ℕ) → IsErrOf result (faults.Validity name kept told) → ⊥ }
     ensures honest { W.tells_server → (at : ℕ) → IsErrOf result (faults.BadReply (whys.At at)) → ⊥ }
     ensures no_disk { IsErrOf result faults.Disk → ⊥ }
     ensures disk_count { W.disk_faults world.old ≤ W.disk_faults world.new }

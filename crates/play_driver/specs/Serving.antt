@@ -1,0 +1,67 @@
+-- A server that serves a run: it doesn't greet with BYE, offers what this client needs, refuses no question, and says BYE to LOGOUT alone
+-- (RFC 9051, sections 6.1.1, 6.2, 6.3.1 and 7.1; RFC 7162, section 3.2.3).
+use Rattle.std.specs.Prelude.{◌≡◌, ◌≢◌, ◌⊎◌, true, false, List, ◌++◌, Option, Some, codes}
+use Rattle.mail_base.specs.declared.tag.Tag.{Tag}
+use Rattle.mail_base.specs.declared.tag.Tag.TheVariants as tags
+use Rattle.imap_model.specs.CarriedOut.{told_in}
+use Rattle.imap_model.specs.Carrying.{Waiting}
+use Rattle.imap_model.specs.Talking.{Arriving, Peer, greeted}
+use Rattle.imap_model.specs.declared.command.Command.{Command}
+use Rattle.imap_model.specs.declared.command.Command.TheVariants as commands
+use Rattle.imap_model.specs.declared.ending.Ending.TheVariants as endings
+use Rattle.imap_model.specs.declared.replies.Replies.{Replies}
+use Rattle.imap_model.specs.declared.response.Response.TheVariants as responses
+use Rattle.imap_session.specs.Enabled.{is_enabled}
+use Rattle.imap_session.specs.Offers.{offers}
+use Rattle.world_traits.specs.Links.{Any}
+use Rattle.world_traits.specs.Moments.{Moment, Clock, Since}
+use Rattle.play_driver.specs.Refusals.{DeniesQuestion, IsBye, NeverTold, RefusesRun}
+
+-- a user may log in
+abbrev pub AllowsLogin : Replies → Type 0
+AllowsLogin r = (offers r (codes "AUTH=PLAIN") ≡ true) ⊎ (offers r (codes "LOGINDISABLED") ≡ false)
+
+-- QRESYNC is offered, and IMAP4rev2, which has UIDPLUS and MOVE in it, or both of them
+pub record IsFit (r : Replies) : Type 0 where
+  pub qresync : offers r (codes "QRESYNC") ≡ true
+  pub moves : (offers r (codes "IMAP4rev2") ≡ true) ⊎ ((offers r (codes "UIDPLUS") ≡ true) × (offers r (codes "MOVE") ≡ true))
+
+-- What this client needs is offered, and is enabled. A connection's first question is CAPABILITY: less may be offered to a user who isn't
+-- logged in yet.
+abbrev pub Provides : Command → Tag → Replies → Type 0
+Provides commands.Capability tag r = AllowsLogin r × (tag ≢ tags.Count 1 → IsFit r)
+Provides (commands.Login account) tag r = Unit {0}
+Provides (commands.Plain account) tag r = Unit {0}
+Provides (commands.Enable rev2) tag r = is_enabled (codes "QRESYNC") r.untagged ≡ true
+Provides (commands.Select name since) tag r = Unit {0}
+Provides commands.FetchAll tag r = Unit {0}
+Provides (commands.FetchRow uid) tag r = Unit {0}
+Provides (commands.Search from id) tag r = Unit {0}
+Provides (commands.FetchIds uids) tag r = Unit {0}
+Provides (commands.Store uid since add flags) tag r = Unit {0}
+Provides (commands.Shift uid to) tag r = Unit {0}
+Provides (commands.Append to flags text) tag r = Unit {0}
+Provides commands.Logout tag r = Unit {0}
+
+-- the reply to a command refuses no question, says BYE to LOGOUT alone, and provides what is needed
+pub record Serves (w : Waiting) (r : Replies) : Type 0 where
+  pub grants : NeverTold DeniesQuestion (told_in w.tag r)
+  pub remains : w.command ≢ commands.Logout → NeverTold IsBye (told_in w.tag r)
+  pub provides : r.ending ≡ endings.Ok → Provides w.command w.tag r
+
+-- From one moment to the next: where the command that waits is answered, the reply serves; where a command is refused as its text arrives,
+-- that refuses no question, nor the run; and the greeting isn't BYE.
+pub record IsServing (m n : Moment) : Type 0 where
+  pub replies : (w : Waiting) (r : Replies) → m.outside.waiting ≡ Some w → n.outside.talk.told ≡ m.outside.talk.told ++ told_in w.tag r → Serves w r
+  pub texts : (a : Arriving) (r : Replies) → m.outside.talk.arriving ≡ Some a → n.outside.talk.told ≡ m.outside.talk.told ++ told_in a.tag r →
+      NeverTold RefusesRun (told_in a.tag r)
+  pub greets : n.outside.talk ≢ greeted responses.Bye
+
+-- so it is all the time
+abbrev pub AllServing : Clock → Clock → Type 0
+AllServing old new = Since Any IsServing old new
+
+-- in this connection nothing was refused, and no LOGOUT waits
+pub record IsServed (p : Peer) : Type 0 where
+  pub told : NeverTold RefusesRun p.talk.told
+  pub stays : (w : Waiting) → p.waiting ≡ Some w → w.command ≢ commands.Logout
