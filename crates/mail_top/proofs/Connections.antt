@@ -5,7 +5,7 @@ use Rattle.world_traits.specs.Links.{Any, LinkStep}
 use Rattle.world_traits.specs.Moments.{Moment, Clock, Since, Within}
 use Rattle.world_traits.proofs.Passing.{since_start, since_weaker}
 use Rattle.store_core.specs.HeldActions.{KeepsActions}
-use Rattle.play_driver.specs.Questioning.{ConnectsFirst, TalkStep}
+use Rattle.play_driver.specs.Questioning.{ConnectsFirst, RunStep}
 use Rattle.mail_top.specs.Connecting.{ConnectsAtFirst, SameOutside}
 use Rattle.mail_top.specs.Leaving.{KeepsStep}
 use Rattle.mail_top.specs.Words.{Request, Play}
@@ -16,7 +16,7 @@ none_made : (k l : Clock) → Since Any SameOutside k l → ConnectsAtFirst k l
 none_made k l stays = record {
   first = l;
   opens = stays;
-  run = record { at = l; connects = since_start Any (LinkStep Connecting) l; behind = since_start Any TalkStep l };
+  run = record { at = l; connects = since_start Any (LinkStep Connecting) l; behind = since_start Any RunStep l };
 }
 
 pub nothing_made : (k : Clock) → ConnectsAtFirst k k
@@ -35,5 +35,5 @@ pub opens_alone : (entry : Moment) (k l : Clock) → Since (Within entry) KeepsA
 opens_alone entry k l s = none_made k l (opening entry k l s)
 
 -- behind that the run makes one
-pub opens_then : (entry : Moment) (k l n : Clock) → Since (Within entry) KeepsActions k l → ConnectsFirst TalkStep l n → ConnectsAtFirst k n
+pub opens_then : (entry : Moment) (k l n : Clock) → Since (Within entry) KeepsActions k l → ConnectsFirst RunStep l n → ConnectsAtFirst k n
 opens_then entry k l n s run = record { first = l; opens = opening entry k l s; run = run }

@@ -18,12 +18,13 @@ use Rattle.store_core.specs.Books.{HasBook}
 use Rattle.store_core.proofs.Folding.{one_held}
 use Rattle.store_core.proofs.MailBook.{one_mail_event}
 use Rattle.store_core.proofs.Wholeness.{never_both}
-use Rattle.mail_top.specs.Ending.{Ends, EndsInit, EndsAct, EndsRows, EndsShown, EndsRequest, IsDone, IsTakable, IsListable}
+use Rattle.mail_top.specs.Ending.{Ends, EndsInit, EndsAct, EndsRows, EndsPlay, EndsShown, EndsRequest, IsDone, IsTakable, IsListable}
 use Rattle.mail_top.specs.Runs.{AreBook}
 use Rattle.mail_top.specs.Saying.{SaysRefused, SaysUnknown, SaysFull, PassesPlace}
 use Rattle.mail_top.specs.Actions.{Becomes, accepts}
 use Rattle.conflict_report.specs.QueueLines.{queue_text}
 use Rattle.conflict_report.specs.ReportLines.{report_text}
+use Rattle.mail_top.specs.CompletePlay.{IsPlayed, IsTheServers}
 use Rattle.mail_top.specs.Course.{Course, end_behind}
 use Rattle.mail_top.specs.Played.{CameThrough}
 use Rattle.mail_top.specs.Printing.{IsSaid}
@@ -96,6 +97,10 @@ said_input r s said is = said_as status.Input r s (λ e. cc e) said is
 
 pub said_reply : (r s : Status) → IsSaid s r → r ≡ status.Reply → s ≡ status.Reply
 said_reply r s said is = said_as status.Reply r s (λ e. cc e) said is
+
+pub said_servers : (r s : Status) → IsSaid s r → IsTheServers r → IsTheServers s
+said_servers r s (inl same) bad = subst IsTheServers same bad
+said_servers r s (inr (ended, is)) bad = absurd (subst IsTheServers is bad)
 
 -- a command that came to its end did so before its text was printed
 pub said_through : (r s : Status) → IsSaid s r → CameThrough r → CameThrough s
@@ -234,6 +239,27 @@ module _ (shown : Meaning → List ℕ) (k : Course) (t : AreBook k.seen) where
   shown_done status.Validity text ends no_disk no_output = absurd ends
   shown_done status.Input text ends no_disk no_output = absurd ends
 
+-- a `play` that the server serves
+module _ (account : Credentials) (k : Course) (b : Meaning) (holds : HasBook mail b k.seen) where
+  play_done : (r : Status) (text : List ℕ) → EndsPlay account k r text → (r ≡ status.Disk → ⊥) → (r ≡ status.Output → ⊥) → (r ≡ status.Link → ⊥) →
+      (r ≡ status.Limit → ⊥) → (IsTheServers r → ⊥) → IsPlayed r
+  play_done status.Done text ends no_disk no_output no_link no_limit serves = inl refl
+  play_done status.Conflicts text ends no_disk no_output no_link no_limit serves = inr (inl refl)
+  play_done status.Memory text ends no_disk no_output no_link no_limit serves = inr (inr refl)
+  play_done status.Output text ends no_disk no_output no_link no_limit serves = absurd (no_output refl)
+  play_done status.Disk text ends no_disk no_output no_link no_limit serves = absurd (no_disk refl)
+  play_done status.Journal text ends no_disk no_output no_link no_limit serves =
+      absurd (never_both mail one_mail_event b k.seen holds ends.says.why ends.says.broken)
+  play_done status.Reason text ends no_disk no_output no_link no_limit serves = absurd ends
+  play_done status.Limit text ends no_disk no_output no_link no_limit serves = absurd (no_limit refl)
+  play_done status.Words text ends no_disk no_output no_link no_limit serves = absurd ends
+  play_done status.Link text ends no_disk no_output no_link no_limit serves = absurd (no_link refl)
+  play_done status.Refused text ends no_disk no_output no_link no_limit serves = absurd (serves tt)
+  play_done status.Reply text ends no_disk no_output no_link no_limit serves = absurd (serves tt)
+  play_done status.Lacking text ends no_disk no_output no_link no_limit serves = absurd (serves tt)
+  play_done status.Validity text ends no_disk no_output no_link no_limit serves = absurd (serves tt)
+  play_done status.Input text ends no_disk no_output no_link no_limit serves = absurd ends
+
 module _ (account : Credentials) (words : List (List ℕ)) (input : List ℕ) (k : Course) (r : Status) (text : List ℕ)
     (ends : Ends account words input k r text) (cause : r ≡ status.Words → AsksNothing words)
     (no_disk : r ≡ status.Disk → ⊥) (no_output : r ≡ status.Output → ⊥) where
@@ -253,3 +279,8 @@ module _ (account : Credentials) (words : List (List ℕ)) (input : List ℕ) (k
 
   pub completes_report : Asks words input Report → AreBook k.seen → IsDone r
   completes_report asks t = shown_done report_text k t r text (ended_as account words input k r text Report asks ends cause).says no_disk no_output
+
+  pub completes_play : Asks words input Play → (b : Meaning) → HasBook mail b k.seen → (r ≡ status.Link → ⊥) → (r ≡ status.Limit → ⊥) →
+      (IsTheServers r → ⊥) → IsPlayed r
+  completes_play asks b holds no_link no_limit serves =
+      play_done account k b holds r text (ended_as account words input k r text Play asks ends cause).says no_disk no_output no_link no_limit serves

@@ -16,3 +16,4 @@ pub mod Recording
 pub mod Repeated
 pub mod Sayings
 pub mod Wording
+pub mod PlayServed

@@ -2,15 +2,15 @@
 use Rattle.std.specs.Prelude.{◌≡◌}
 use Rattle.world_traits.specs.Links.{Any}
 use Rattle.world_traits.specs.Moments.{Moment, Clock, Since}
-use Rattle.play_driver.specs.Questioning.{ConnectsFirst, TalkStep}
+use Rattle.play_driver.specs.Questioning.{ConnectsFirst, RunStep}
 
 -- what isn't on the disk stays
 abbrev pub SameOutside : Moment → Moment → Type 0
 SameOutside m n = n.outside ≡ m.outside
 
--- Up to a first clock what isn't on the disk stays; up to a second one a connection is made, if any is; and behind that none is
--- made: the server answers, or is asked something, or for a change of a mailbox.
+-- Up to a first clock what isn't on the disk stays; up to a second one connections are made, if any is; and behind that none is
+-- made: the server answers, or is asked something, or for a change of a mailbox, or to end the connection.
 pub record ConnectsAtFirst (old new : Clock) : Type 0 where
   pub first : Clock
   pub opens : Since Any SameOutside old first
-  pub run : ConnectsFirst TalkStep first new
+  pub run : ConnectsFirst RunStep first new

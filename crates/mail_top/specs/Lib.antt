@@ -10,6 +10,7 @@ pub mod KeptNow
 pub mod Leaving
 pub mod Names
 pub mod Played
+pub mod CompletePlay
 pub mod Printing
 pub mod Reading
 pub mod Reasons

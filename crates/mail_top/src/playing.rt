@@ -10,8 +10,10 @@ ghost use Rattle.store_core.specs.Steps.{Books};
 ghost use Rattle.store_core.specs.Taking.{HasBooks};
 ghost use Rattle.play_driver.specs.Joining.{AllFair};
 ghost use Rattle.play_driver.specs.Played.{played};
+ghost use Rattle.play_driver.specs.Serving.{AllServing};
 ghost use Rattle.play_driver.specs.declared.fault.PlayFault.TheVariants as faults;
 ghost use Rattle.play_driver.specs.declared.fault.Why.TheVariants as whys;
+ghost use Rattle.mail_top.specs.CompletePlay.{IsTheServers, WaitsForNone};
 ghost use Rattle.mail_top.specs.Connecting.{ConnectsAtFirst};
 ghost use Rattle.mail_top.specs.Ending.{EndsPlay};
 ghost use Rattle.mail_top.specs.Headline.{NeverTwice};
@@ -61,7 +63,8 @@ pub fn play<W: World>(alloc: Global, account: &Account, world: &mut W) -> Result
 
     // Where the book is kept at entry and others are fair: each moment is kept, and joined to the one before it; each intent and each
     // conflict that is recorded has its reason; after Ok each mailbox has a cache that is the server's as it answered for its rows in
-    // this call, behind the last outcome; no reply is found at fault; the book is kept at the end; and no action takes effect twice.
+    // this call, behind the last outcome; no reply is found at fault; a server that serves ends nothing; the book is kept at the end;
+    // and no action takes effect twice.
     ensures joined { W.tells_server → OneSideAtRest (W.clock world.old).now →
         (books : Books mail) → HasBooks mail books (W.clock world.old).now →
         IsKeptNow (W.clock world.old).now → StaysKept (W.clock world.old) (W.clock world.new) }
@@ -73,6 +76,9 @@ pub fn play<W: World>(alloc: Global, account: &Account, world: &mut W) -> Result
         OnOk result (AreSynced (W.seen world.new) (W.clock world.old) (W.clock world.new)) }
     ensures faultless { W.tells_server → IsKeptNow (W.clock world.old).now →
         AllFair mail played (W.clock world.old) (W.clock world.new) → status_of_play result ≡ status.Reply → ⊥ }
+    ensures serves { W.tells_server → IsKeptNow (W.clock world.old).now →
+        AllFair mail played (W.clock world.old) (W.clock world.new) → AllServing (W.clock world.old) (W.clock world.new) →
+        WaitsForNone (W.seen world.old) (W.clock world.old).now.outside.server → IsTheServers (status_of_play result) → ⊥ }
     ensures kept { W.tells_server → IsKeptNow (W.clock world.old).now →
         AllFair mail played (W.clock world.old) (W.clock world.new) → IsKeptNow (W.clock world.new).now }
     ensures twice { W.tells_server → IsKeptNow (W.clock world.old).now →

@@ -10,6 +10,8 @@ ghost use Rattle.store_core.specs.Steps.{Books};
 ghost use Rattle.store_core.specs.Taking.{HasBooks};
 ghost use Rattle.play_driver.specs.Joining.{AllFair};
 ghost use Rattle.play_driver.specs.Played.{played};
+ghost use Rattle.play_driver.specs.Serving.{AllServing};
+ghost use Rattle.mail_top.specs.CompletePlay.{IsPlayed, IsTheServers, WaitsForNone};
 ghost use Rattle.mail_top.specs.Connecting.{ConnectsAtFirst};
 ghost use Rattle.mail_top.specs.Ending.{IsDone, IsTakable, IsListable};
 ghost use Rattle.mail_top.specs.Going.{Goes, GoesRequest};
@@ -70,6 +72,9 @@ fn carry_out<W: World, I: Source>(
     ensures honest { W.tells_server → result.status ≡ Status.Reply → TellsNoPlace (printed result.text) }
     ensures faultless { W.tells_server → IsKeptNow (W.clock world.old).now →
         AllFair mail played (W.clock world.old) (W.clock world.new) → result.status ≡ Status.Reply → ⊥ }
+    ensures serves { W.tells_server → WritesPlay (map string_bytes words.now) → IsKeptNow (W.clock world.old).now →
+        AllFair mail played (W.clock world.old) (W.clock world.new) → AllServing (W.clock world.old) (W.clock world.new) →
+        WaitsForNone (W.seen world.old) (W.clock world.old).now.outside.server → IsTheServers result.status → ⊥ }
     ensures joined { W.tells_server → OneSideAtRest (W.clock world.old).now →
         (books : Books mail) → HasBooks mail books (W.clock world.old).now →
         IsKeptNow (W.clock world.old).now → StaysKept (W.clock world.old) (W.clock world.new) }
@@ -131,6 +136,9 @@ fn answer<W: World, I: Source>(
     ensures honest { W.tells_server → result.status ≡ Status.Reply → TellsNoPlace (printed result.text) }
     ensures faultless { W.tells_server → IsKeptNow (W.clock world.old).now →
         AllFair mail played (W.clock world.old) (W.clock world.new) → result.status ≡ Status.Reply → ⊥ }
+    ensures serves { W.tells_server → ((input : List ℕ) → request_of asked.now input ≡ Play) → IsKeptNow (W.clock world.old).now →
+        AllFair mail played (W.clock world.old) (W.clock world.new) → AllServing (W.clock world.old) (W.clock world.new) →
+        WaitsForNone (W.seen world.old) (W.clock world.old).now.outside.server → IsTheServers result.status → ⊥ }
     ensures joined { W.tells_server → OneSideAtRest (W.clock world.old).now →
         (books : Books mail) → HasBooks mail books (W.clock world.old).now →
         IsKeptNow (W.clock world.old).now → StaysKept (W.clock world.old) (W.clock world.new) }
@@ -265,6 +273,14 @@ pub fn run<W: World, I: Source, S: Sink>(
     ensures complete_report { W.tells_files → WritesReport (map string_bytes words.now) → AreBook (W.seen world.old) →
         (Rose (W.disk_faults world.old) (W.disk_faults world.new) → ⊥) → (Rose (S.sink_faults out.old) (S.sink_faults out.new) → ⊥) →
         IsDone result }
+
+    // `play` over a kept book, at a server that serves it, with no mailbox made anew under which an action waits, and no fault or limit:
+    // each action is settled and each mailbox resynchronised, or memory is wanting.
+    ensures complete_play { W.tells_server → WritesPlay (map string_bytes words.now) → IsKeptNow (W.clock world.old).now →
+        AllFair mail played (W.clock world.old) (W.clock world.new) → AllServing (W.clock world.old) (W.clock world.new) →
+        WaitsForNone (W.seen world.old) (W.clock world.old).now.outside.server →
+        (Rose (W.disk_faults world.old) (W.disk_faults world.new) → ⊥) → (Rose (W.link world.old).faults (W.link world.new).faults → ⊥) →
+        (Rose (S.sink_faults out.old) (S.sink_faults out.new) → ⊥) → (result ≡ Status.Limit → ⊥) → IsPlayed result }
 
     // No action that all images hold at entry is lost.
     ensures held { W.tells_files → LosesNone (W.clock world.old).now (W.clock world.new).now }

@@ -166,6 +166,15 @@ lawful_fold p b fold beside = lawful_need parts p b (fold_sound b fold) beside
 pub no_select : (command : Command) → IsAsked command → (name : List ℕ) (since : Option Mark) → command ≢ commands.Select name since
 no_select command asked name since is = subst IsAsked is asked
 
+no_logout : (command : Command) → IsAsked command → command ≢ commands.Logout
+no_logout command asked is = subst IsAsked is asked
+
+-- nor is what is needed LOGOUT
+pub asked_remains : (p : Player) (b : Meaning) (count : ℕ) (tag : Tag) (command : Command) → IsFold b → IsBeside p b →
+    IsAskedFor (need_of p b) count tag command → command ≢ commands.Logout
+asked_remains p b count tag command fold beside needed =
+    no_logout command (askable (need_of p b) p b count tag command needed (lawful_fold p b fold beside)).asked
+
 -- a reply is awaited for it
 pub asked_awaits : (need : Need) (count : ℕ) (tag : Tag) (command : Command) → IsAskedFor need count tag command → Awaits need
 asked_awaits (needs.Select name) count tag command is = absurd is

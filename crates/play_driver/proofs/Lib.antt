@@ -46,3 +46,10 @@ pub mod OneTurn
 pub mod Shortness
 pub mod ManyTurns
 pub mod WholeRun
+pub mod Remaining
+pub mod ToldRefusals
+pub mod Served
+pub mod Longer
+pub mod Fitness
+pub mod EntersServed
+pub mod CompleteRun

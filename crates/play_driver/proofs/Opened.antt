@@ -17,6 +17,7 @@ use Rattle.play_driver.specs.Entering.{OpensFrom}
 use Rattle.play_driver.specs.Questioning.{Questioning}
 use Rattle.play_driver.specs.Questioning.Questioning.{answering, asking}
 use Rattle.play_driver.proofs.OverOne.{answers_over, talks_over}
+use Rattle.play_driver.proofs.Remaining.{enabling_remains, entering_remains}
 
 -- a connection was made, its greeting was read, the user was logged in, and QRESYNC was enabled
 pub opens_from : (old made greeted known new : Clock) → Linked Connecting old made → IsGreeted made.now.outside → Linked Answering made greeted →
@@ -30,14 +31,14 @@ opens_from old made greeted known new connects says greets at before after last 
   asks =
       since_then Any (LinkStep Questioning) made known new
       (since_then Any (LinkStep Questioning) made greeted known (answers_over made greeted greets)
-      (talks_over (entering preauth account) (entering_asks preauth account) first (so_far greeted at) (so_far known before) logs_in))
-      (talks_over (enabling rev2) (enabling_asks rev2) second (so_far known after) (so_far new last) enables);
+      (talks_over (entering preauth account) (entering_asks preauth account) (entering_remains preauth account) first (so_far greeted at) (so_far known before) logs_in))
+      (talks_over (enabling rev2) (enabling_asks rev2) (enabling_remains rev2) second (so_far known after) (so_far new last) enables);
 }
 
 -- questions over one connection are enquiries
 enquiring : (p q : Peer) → Questioning p q → Enquiring p q
 enquiring p q (answering step) = connecting (as_before step)
-enquiring p q (asking told tag command question step) = enquires told tag command question step
+enquiring p q (asking told tag command question remains step) = enquires told tag command question step
 
 pub opens_enquiring : (made new : Clock) → Linked Questioning made new → Linked Enquiring made new
 opens_enquiring made new s =

@@ -6,7 +6,7 @@ use Rattle.world_traits.proofs.Passing.{since_start, since_then, since_weaker}
 use Rattle.world_traits.proofs.Traces.{grow_same}
 use Rattle.play_driver.specs.Joining.{Grows, AnyTwo}
 
-grow_more : (c : Clock) (xs ys : List Moment) → grow (grow c xs) ys ≡ grow c (ys ++ xs)
+pub grow_more : (c : Clock) (xs ys : List Moment) → grow (grow c xs) ys ≡ grow c (ys ++ xs)
 grow_more c xs [] = refl
 grow_more c xs (y ∷ ys) = ap (λ (k : Clock). tick k y) (grow_more c xs ys)
 

@@ -1,20 +1,23 @@
 -- Where a run ends by a refusal, a refusal was told: each line that was read is one that was told.
-use Rattle.std.proofs.Common.{◌≡◌, ◌≢◌, inl, inr, ℕ, ◌+◌, ◌<◌, true, List, [], ◌∷◌, ◌++◌, length, drop, Option}
+use Rattle.std.proofs.Common.{◌≡◌, ◌≢◌, inl, inr, ℕ, ◌+◌, ◌<◌, true, List, [], ◌∷◌, ◌++◌, length, drop, Option, Some}
 use Rattle.std.proofs.Common.{sym, ◌∙◌, ap, subst, append_assoc}
 use Rattle.std.proofs.Math.Logic.{∥∥₁_map}
 use Rattle.action_queue.specs.Book.{cache_at}
+use Rattle.mail_base.specs.Account.{Credentials}
 use Rattle.mail_base.specs.declared.frame.Frame.{Frame}
 use Rattle.mail_base.specs.declared.tag.Tag.{Tag}
 use Rattle.mail_base.proofs.MoreBytes.{frames_stay}
 use Rattle.literal_feed.specs.Stream.{Stream}
 use Rattle.imap_model.proofs.SameResponses.{goes_on_behind}
+use Rattle.imap_model.specs.Lines.{Received}
+use Rattle.imap_model.specs.declared.command.Command.{Command}
 use Rattle.imap_model.specs.declared.response.Response.{Response}
 use Rattle.imap_model.specs.declared.response.Response.TheVariants as responses
 use Rattle.imap_response.proofs.Heard.{front}
 use Rattle.imap_session.specs.Causes.{FailsBehind, LastLine}
 use Rattle.imap_session.specs.Dialogue.{BrokeOff, Dialogue, next_tag, next_text}
 use Rattle.imap_session.specs.Dialogue.Dialogue.{Ends, Lacks, Asks}
-use Rattle.imap_session.specs.Faults.{Unfit, more_parts}
+use Rattle.imap_session.specs.Faults.{NoHello, Unfit, more_parts}
 use Rattle.imap_session.specs.Hearing.{Took}
 use Rattle.imap_session.specs.Knowing.{requests}
 use Rattle.imap_session.specs.Leaving.{Staying}
@@ -30,14 +33,34 @@ use Rattle.play_driver.specs.Entering.{NotEntered}
 use Rattle.play_driver.specs.Entering.NotEntered.{unconnected, ungreeted, not_logged_in, not_enabled}
 use Rattle.play_driver.specs.Faults.{of_resync, of_session, of_unheard}
 use Rattle.play_driver.specs.Playing.{NotLeft}
-use Rattle.play_driver.specs.Playing.EndsEarly.{not_entered, turn_failed, not_left}
 use Rattle.play_driver.specs.Recording.NotRecorded.{wanting as record_wanting, disk, full}
-use Rattle.play_driver.specs.Refusals.{DeniesQuestion, IsHonest, RefusesRun, ServesAll, WasTold}
-use Rattle.play_driver.specs.Refusals.{RefusedAnswer, RefusedEntry, RefusedGreeting, RefusedLeave, RefusedRun, RefusedTurn}
+use Rattle.play_driver.specs.Refusals.{DeniesQuestion, NeverTold, RefusesRun}
 use Rattle.play_driver.specs.Resynchronising.{resync}
 use Rattle.play_driver.specs.Stages.{Broke, Stage}
+use Rattle.play_driver.specs.Turning.{Standing}
 use Rattle.play_driver.specs.Turning.TurnFails.{wanting, not_recorded, not_told, not_chosen, not_answered, not_heard}
 use Rattle.play_driver.specs.declared.fault.PlayFault.TheVariants as faults
+
+-- such a response was told
+pub record WasTold (P : Response → Type 0) (told : List Response) : Type 0 where
+  pub before : List Response
+  pub response : Response
+  pub behind : List Response
+  pub among : told ≡ before ++ response ∷ behind
+  pub is : P response
+
+-- where none was told, that is absurd
+never_among : (P : Response → Type 0) (before : List Response) (response : Response) (behind : List Response) → P response →
+    NeverTold P (before ++ response ∷ behind) → ⊥
+never_among P [] response behind is never = never.0 is
+never_among P (r ∷ before) response behind is never = never_among P before response behind is never.1
+
+pub never_told : (P : Response → Type 0) (told : List Response) → NeverTold P told → WasTold P told → ⊥
+never_told P told never w = never_among P w.before w.response w.behind w.is (subst (NeverTold P) w.among never)
+
+-- what was received is a front of the lines of what was told, as of each link that tells its server
+abbrev pub IsHonest : List Response → Option Connection → Type 0
+IsHonest told c = (k : Connection) → c ≡ Some k → ∥ Received told k.received ∥₁
 
 -- what was taken of an honest connection is a front of what was told
 took_front : (heard told : List Response) (taken : List Frame) (left : Stream) (had : List ℕ) (c : Option Connection)
@@ -67,21 +90,25 @@ line_told P heard frame response had c told line is honest =
 -- the line refuses
 unfit_refuses : (tag : Tag) (Early : Type 0) (frame : Frame) (response : Response) (line : List ℕ)
     → Unfit tag Early frame response (sessions.Refused line) → RefusesRun response
-unfit_refuses tag Early frame response line (same, inl bye) = subst RefusesRun (sym bye) tt
-unfit_refuses tag Early frame response line (same, inr (count, (ending, code, done, bad))) = subst RefusesRun (sym done) (count, bad)
+unfit_refuses tag Early frame response line (same, inl bye) = inl bye
+unfit_refuses tag Early frame response line (same, inr (count, (ending, code, done, bad))) = inr (subst DeniesQuestion (sym done) (count, bad))
 
 unfit_denies : (tag : Tag) (Early : Type 0) (frame : Frame) (response : Response) (line : List ℕ)
     → Unfit tag Early frame response (sessions.Refused line) → response ≢ responses.Bye → DeniesQuestion response
 unfit_denies tag Early frame response line (same, inl bye) other = absurd (other bye)
 unfit_denies tag Early frame response line (same, inr (count, (ending, code, done, bad))) other = subst DeniesQuestion (sym done) (count, bad)
 
-pub answer_told : RefusedAnswer
+-- where a question, or the command of an action, was refused
+answer_told : (heard : List Response) (tag : Tag) (command : Command) (had : List ℕ) (c : Option Connection) (line : List ℕ)
+    (told : List Response) → FailsBehind heard tag command had c (sessions.Refused line) → IsHonest told c → WasTold RefusesRun told
 answer_told heard tag command had c line told (inl r) honest = absurd r.reading
 answer_told heard tag command had c line told (inr u) honest =
     line_told RefusesRun heard u.frame u.response had c told u.line
     (unfit_refuses tag (requests u.line.told < more_parts tag command) u.frame u.response line u.unfit) honest
 
-pub greeting_told : RefusedGreeting
+-- where the greeting was BYE
+greeting_told : (c : Option Connection) (line : List ℕ) (told : List Response) → NoHello c (sessions.Refused line) → IsHonest told c →
+    WasTold RefusesRun told
 greeting_told c line told (inl r) honest = absurd r
 greeting_told c line told (inr u) honest =
     let more = drop 1 told in
@@ -90,7 +117,7 @@ greeting_told c line told (inr u) honest =
       response = u.response;
       behind = more;
       among = took_front (u.response ∷ []) told (u.frame ∷ []) u.line.left [] c u.line.took honest;
-      is = subst RefusesRun (sym u.unfit.1) tt;
+      is = inl u.unfit.1;
     }
 
 -- in a dialogue
@@ -108,14 +135,16 @@ broke_told : (d : Dialogue) (p : Stage) (link : LinkState) (line : List ℕ) (to
 broke_told d p link line told b honest =
     dialogue_told d p.count p.link.sent b.hears.connection.received b.heard link line told b.broke honest
 
-pub entry_told : RefusedEntry
+-- where a run didn't enter
+pub entry_told : (account : Credentials) (old link : LinkState) (line : List ℕ) (told : List Response) →
+    NotEntered account old link (sessions.Refused line) → IsHonest told link.connection → WasTold RefusesRun told
 entry_told account old link line told (unconnected is sent) honest = absurd cc
 entry_told account old link line told (ungreeted none sent) honest = greeting_told link.connection line told none honest
 entry_told account old link line told (not_logged_in preauth p hello b) honest = broke_told (entering preauth account) p link line told b honest
 entry_told account old link line told (not_enabled rev2 p logged b) honest = broke_told (enabling rev2) p link line told b honest
 
 -- a refusal of a run is one of its session's
-refused_as : (line : List ℕ) (f : SessionFault) → faults.Refused line ≡ of_session f → f ≡ sessions.Refused line
+pub refused_as : (line : List ℕ) (f : SessionFault) → faults.Refused line ≡ of_session f → f ≡ sessions.Refused line
 refused_as line sessions.Memory is = absurd cc
 refused_as line sessions.Link is = absurd cc
 refused_as line (sessions.Refused other) is = cc
@@ -139,7 +168,9 @@ unheard_no_refusal line name (unheards.Target kept told) is = cc
 unheard_no_refusal line name (unheards.Lacks item) is = cc
 unheard_no_refusal line name (unheards.Rows count) is = cc
 
-pub turn_told : RefusedTurn
+-- where a turn failed
+pub turn_told : (p : Standing) (link : LinkState) (line : List ℕ) (told : List Response) → TurnFails p link (faults.Refused line) →
+    IsHonest told link.connection → WasTold RefusesRun told
 turn_told p link line told (wanting dear same is) honest = absurd cc
 turn_told p link line told (not_recorded event records same (record_wanting takes is)) honest = absurd cc
 turn_told p link line told (not_recorded event records same (disk is)) honest = absurd cc
@@ -162,39 +193,7 @@ staying_told heard tag had c line told (inl r) honest = absurd r.reading
 staying_told heard tag had c line told (inr u) honest =
     line_told DeniesQuestion heard u.frame u.response had c told u.line (unfit_denies tag ⊥ u.frame u.response line u.unfit u.other) honest
 
-pub leave_told : RefusedLeave
+-- where LOGOUT was refused, a completion says so: a BYE refuses no LOGOUT
+pub leave_told : (p : Stage) (link : LinkState) (line : List ℕ) (told : List Response) → NotLeft p link (sessions.Refused line) →
+    IsHonest told link.connection → WasTold DeniesQuestion told
 leave_told p link line told n honest = staying_told n.heard (next_tag p.count) n.hears.connection.received link.connection line told n.staying honest
-
-denial_refuses : (r : Response) → DeniesQuestion r → RefusesRun r
-denial_refuses (responses.Done tag ending code) d = d
-denial_refuses (responses.Untagged ending code) d = absurd d
-denial_refuses responses.Bye d = tt
-denial_refuses (responses.Preauth code) d = absurd d
-denial_refuses responses.Go d = absurd d
-denial_refuses (responses.Capability words) d = absurd d
-denial_refuses (responses.Enabled words) d = absurd d
-denial_refuses (responses.Exists count) d = absurd d
-denial_refuses (responses.Fetch fetched) d = absurd d
-denial_refuses (responses.Vanished earlier uids) d = absurd d
-denial_refuses (responses.Found uids) d = absurd d
-denial_refuses responses.Other d = absurd d
-
-denied_refused : (told : List Response) → WasTold DeniesQuestion told → WasTold RefusesRun told
-denied_refused told w =
-    record { before = w.before; response = w.response; behind = w.behind; among = w.among; is = denial_refuses w.response w.is }
-
-pub run_told : RefusedRun
-run_told account s store old link line told (not_entered f is n same) honest =
-    entry_told account old link line told (subst (λ (x : SessionFault). NotEntered account old link x) (refused_as line f is) n) honest
-run_told account s store old link line told (turn_failed p q entered came fails same still) honest = turn_told q link line told fails honest
-run_told account s store old link line told (not_left f p q is entered came finished n same) honest =
-    denied_refused told (leave_told q.stage link line told (subst (λ (x : SessionFault). NotLeft q.stage link x) (refused_as line f is) n) honest)
-
--- a server that refuses nothing told no refusal
-serves_among : (before : List Response) (response : Response) (behind : List Response) → RefusesRun response
-    → ServesAll (before ++ response ∷ behind) → ⊥
-serves_among [] response behind refuses serves = serves.0 refuses
-serves_among (r ∷ before) response behind refuses serves = serves_among before response behind refuses serves.1
-
-pub never_refused : (told : List Response) → ServesAll told → WasTold RefusesRun told → ⊥
-never_refused told serves w = serves_among w.before w.response w.behind w.is (subst ServesAll w.among serves)

@@ -20,7 +20,7 @@ use Rattle.play_driver.proofs.Parts.{became_later, grows, grows_start, grows_the
 use Rattle.play_driver.proofs.Progressing.{later_start, linked_progress, progress_then}
 use Rattle.play_driver.proofs.BookAtRest.{book_rests_linked}
 use Rattle.play_driver.proofs.Opened.{opens_enquiring}
-use Rattle.play_driver.proofs.OverOne.{over_talks, talks_then}
+use Rattle.play_driver.proofs.OverOne.{over_talks, run_then, talks_run, talks_then}
 use Rattle.play_driver.proofs.Shortness.{place_before, short_first, short_last}
 use Rattle.imap_session.specs.Session.{Stands}
 use Rattle.literal_feed.specs.Stream.{Stream}
@@ -31,7 +31,7 @@ use Rattle.play_driver.specs.KnownAt.{KnownAt, StandsKept}
 use Rattle.play_driver.specs.Played.{played}
 use Rattle.play_driver.specs.Playing.{CameTo, EndsEarly, HasLeft, NotLeft, Plays}
 use Rattle.play_driver.specs.Playing.EndsEarly.{turn_failed, not_left}
-use Rattle.play_driver.specs.Questioning.{ConnectsFirst, Questioning, TalkStep}
+use Rattle.play_driver.specs.Questioning.{ConnectsFirst, Questioning, RunStep, TalkStep}
 use Rattle.play_driver.specs.TrueRecords.IsTrueSince.{enters, rests}
 use Rattle.play_driver.specs.Progress.{IsLater, Progresses, has_name}
 use Rattle.play_driver.specs.Running.{RunsBetween, StopsBehind, first_standing}
@@ -198,7 +198,7 @@ module _ (b : Meaning) (p : Player) (old k : Clock) (r : HasBegun b p old k) whe
           run_so (RecordsTruly b c old l) fair (λ here knows second. record {
             made = r.opened.made;
             connects = r.opened.connects;
-            behind = talks_then r.opened.made k l (over_talks r.opened.made k r.opened.asks) talks;
+            behind = talks_run r.opened.made l (talks_then r.opened.made k l (over_talks r.opened.made k r.opened.asks) talks);
             truly = turns here knows second r.entered true_entered;
           })
 
@@ -210,7 +210,7 @@ module _ (b : Meaning) (p : Player) (old k : Clock) (r : HasBegun b p old k) whe
             event = event;
             made = r.opened.made;
             connects = r.opened.connects;
-            behind = talks_then r.opened.made k l (over_talks r.opened.made k r.opened.asks) talks;
+            behind = talks_run r.opened.made l (talks_then r.opened.made k l (over_talks r.opened.made k r.opened.asks) talks);
             truly = turns here knows second r.entered true_entered;
           })
 
@@ -237,11 +237,11 @@ module _ (old l m : Clock) (before : Grows old l) (c : Meaning) (firm : HasBooks
   pub fair_run : AllFair mail played old m → AllFair mail played old l
   fair_run fair = since_first Any (IsFair mail played) old l m before (leaves_grow l m leaves) fair
 
-  pub true_three : (b : Meaning) → Since Any TalkStep l m → RecordsTruly b c old l → RecordsTruly b c old m
+  pub true_three : (b : Meaning) → Since Any RunStep l m → RecordsTruly b c old l → RecordsTruly b c old m
   true_three b talks r = record {
     made = r.made;
     connects = r.connects;
-    behind = talks_then r.made l m r.behind talks;
+    behind = run_then r.made l m r.behind talks;
     truly = rests l m c r.truly (book_rests_linked c Enquiring l m firm leaves);
   }
 
@@ -251,7 +251,7 @@ pub true_one : (b : Meaning) (old new : Clock) → HasBooks mail (Firm (Some b))
 true_one b old new firm first = record {
   made = first.at;
   connects = first.connects;
-  behind = over_talks first.at new first.behind;
+  behind = talks_run first.at new (over_talks first.at new first.behind);
   truly = rests first.at new b enters
       (book_rests_linked b Questioning first.at new (firm_there Connecting b old first.at firm first.connects) first.behind);
 }

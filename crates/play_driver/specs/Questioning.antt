@@ -1,4 +1,5 @@
--- How a server with its connection goes on while a session asks over the connection that it has (RFC 9051, section 3).
+-- How a server with its connection goes on while a run asks, sends commands and leaves over the connection that it has (RFC 9051,
+-- section 3).
 use Rattle.std.specs.Prelude.{◌≡◌, ◌≢◌, ◌⊎◌, false, List}
 use Rattle.mail_base.specs.declared.tag.Tag.{Tag}
 use Rattle.imap_model.specs.Mutating.{is_mutating}
@@ -26,17 +27,17 @@ pub data Conversing (p : Peer) : Peer → Type 0 where
 abbrev pub TalkStep : Moment → Moment → Type 0
 TalkStep m n = (n.outside ≡ m.outside) ⊎ LinkStep Conversing m n
 
--- LOGOUT is asked, once
-pub record Leaving (p q : Peer) : Type 0 where
+-- LOGOUT is asked
+pub record AsksToLeave (p q : Peer) : Type 0 where
   pub told : List Response
   pub tag : Tag
   pub asks : Asking told tag commands.Logout p q
 
--- so a run goes on over its connection, up to its end
+-- so a run goes on over its connection
 abbrev pub RunStep : Moment → Moment → Type 0
-RunStep m n = TalkStep m n ⊎ LinkStep Leaving m n
+RunStep m n = TalkStep m n ⊎ LinkStep AsksToLeave m n
 
--- up to a clock between the two a connection is made, and behind it there are such steps alone
+-- connections are made up to a clock between the two alone, and behind it there are such steps
 pub record ConnectsFirst (S : Moment → Moment → Type 0) (old new : Clock) : Type 0 where
   pub at : Clock
   pub connects : Linked Connecting old at

@@ -20,10 +20,10 @@ DeniesQuestion (responses.Vanished earlier uids) = ⊥
 DeniesQuestion (responses.Found uids) = ⊥
 DeniesQuestion responses.Other = ⊥
 
--- BYE is a refusal too
 abbrev pub IsBye : Response → Type 0
 IsBye r = r ≡ responses.Bye
 
+-- BYE is a refusal too
 abbrev pub RefusesRun : Response → Type 0
 RefusesRun r = IsBye r ⊎ DeniesQuestion r
 

@@ -13,23 +13,26 @@ use Rattle.imap_model.specs.declared.replies.Replies.{Replies}
 use Rattle.imap_model.specs.declared.response.Response.TheVariants as responses
 use Rattle.imap_session.specs.Enabled.{is_enabled}
 use Rattle.imap_session.specs.Offers.{offers}
+use Rattle.world_traits.specs.Connected.{IsGreeted}
 use Rattle.world_traits.specs.Links.{Any}
 use Rattle.world_traits.specs.Moments.{Moment, Clock, Since}
+use Rattle.play_driver.specs.Joining.{Grows}
 use Rattle.play_driver.specs.Refusals.{DeniesQuestion, IsBye, NeverTold, RefusesRun}
 
 -- a user may log in
 abbrev pub AllowsLogin : Replies → Type 0
 AllowsLogin r = (offers r (codes "AUTH=PLAIN") ≡ true) ⊎ (offers r (codes "LOGINDISABLED") ≡ false)
 
--- QRESYNC is offered, and IMAP4rev2, which has UIDPLUS and MOVE in it, or both of them
+-- QRESYNC is offered, and IMAP4rev2, which has UIDPLUS and MOVE in it, or both of them. (NOMODSEQ and UIDNOTSTICKY are told by no server
+-- that keeps to the tables of commands: they have no place in a reply there.)
 pub record IsFit (r : Replies) : Type 0 where
   pub qresync : offers r (codes "QRESYNC") ≡ true
   pub moves : (offers r (codes "IMAP4rev2") ≡ true) ⊎ ((offers r (codes "UIDPLUS") ≡ true) × (offers r (codes "MOVE") ≡ true))
 
--- What this client needs is offered, and is enabled. A connection's first question is CAPABILITY: less may be offered to a user who isn't
--- logged in yet.
+-- What this client needs is offered, and is enabled. A connection's first question is CAPABILITY, before a login, and its reply says how a
+-- user may log in; what is offered to one who is logged in, the reply to a later one says.
 abbrev pub Provides : Command → Tag → Replies → Type 0
-Provides commands.Capability tag r = AllowsLogin r × (tag ≢ tags.Count 1 → IsFit r)
+Provides commands.Capability tag r = (tag ≡ tags.Count 1 → AllowsLogin r) × (tag ≢ tags.Count 1 → IsFit r)
 Provides (commands.Login account) tag r = Unit {0}
 Provides (commands.Plain account) tag r = Unit {0}
 Provides (commands.Enable rev2) tag r = is_enabled (codes "QRESYNC") r.untagged ≡ true
@@ -50,18 +53,26 @@ pub record Serves (w : Waiting) (r : Replies) : Type 0 where
   pub provides : r.ending ≡ endings.Ok → Provides w.command w.tag r
 
 -- From one moment to the next: where the command that waits is answered, the reply serves; where a command is refused as its text arrives,
--- that refuses no question, nor the run; and the greeting isn't BYE.
-pub record IsServing (m n : Moment) : Type 0 where
-  pub replies : (w : Waiting) (r : Replies) → m.outside.waiting ≡ Some w → n.outside.talk.told ≡ m.outside.talk.told ++ told_in w.tag r → Serves w r
-  pub texts : (a : Arriving) (r : Replies) → m.outside.talk.arriving ≡ Some a → n.outside.talk.told ≡ m.outside.talk.told ++ told_in a.tag r →
+-- that refuses no question, nor the run; and no greeting is BYE.
+pub record ServesOn (p q : Peer) : Type 0 where
+  pub replies : (w : Waiting) (r : Replies) → p.waiting ≡ Some w → q.talk.told ≡ p.talk.told ++ told_in w.tag r → Serves w r
+  pub texts : (a : Arriving) (r : Replies) → p.talk.arriving ≡ Some a → q.talk.told ≡ p.talk.told ++ told_in a.tag r →
       NeverTold RefusesRun (told_in a.tag r)
-  pub greets : n.outside.talk ≢ greeted responses.Bye
+  pub greets : q.talk ≢ greeted responses.Bye
 
--- so it is all the time
-abbrev pub AllServing : Clock → Clock → Type 0
-AllServing old new = Since Any IsServing old new
+abbrev pub IsServing : Moment → Moment → Type 0
+IsServing m n = ServesOn m.outside n.outside
+
+-- From the moment on at which a connection had just been made, which wasn't greeted by BYE, the server serves. (What came of an older
+-- connection before isn't asked.)
+pub record AllServing (old new : Clock) : Type 0 where
+  pub made : Clock
+  pub before : Grows old made
+  pub fresh : IsGreeted made.now.outside
+  pub hello : made.now.outside.talk ≢ greeted responses.Bye
+  pub later : Since Any IsServing made new
 
 -- in this connection nothing was refused, and no LOGOUT waits
 pub record IsServed (p : Peer) : Type 0 where
   pub told : NeverTold RefusesRun p.talk.told
-  pub stays : (w : Waiting) → p.waiting ≡ Some w → w.command ≢ commands.Logout
+  pub remains : (w : Waiting) → p.waiting ≡ Some w → w.command ≢ commands.Logout

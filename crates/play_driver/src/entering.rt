@@ -10,7 +10,7 @@ ghost use Rattle.imap_session.specs.declared.fault.SessionFault.{SessionFault};
 ghost use Rattle.imap_session.specs.declared.fault.SessionFault.TheVariants as faults;
 ghost use Rattle.play_driver.specs.Entering.{HasEntered, NotEntered, OpensFrom};
 ghost use Rattle.play_driver.specs.Questioning.{ConnectsFirst, Questioning};
-ghost use Rattle.play_driver.specs.Serving.{AllServing, IsServed};
+ghost use Rattle.play_driver.specs.Serving.{AllServing};
 ghost use Rattle.play_driver.specs.Stages.{stage_of};
 ghost use Rattle.play_driver.specs.declared.session.Session.TheVariants as sessions;
 
@@ -39,11 +39,9 @@ pub(crate) fn enter<L: Link>(
         → NotEntered account.now (L.link link.old) (L.link link.new) fault }
     ensures honest { L.tells_server → (at : ℕ) → IsErrOf result (faults.BadReply at) → ⊥ }
 
-    // Where the server serves, it neither refuses nor lacks a thing, and nothing that it told so far is a refusal.
+    // Where the server serves, it neither refuses nor lacks a thing.
     ensures serves { L.tells_server → AllServing (L.clock link.old) (L.clock link.new)
         → ((line : List ℕ) → IsErrOf result (faults.Refused line) → ⊥) × ((item : Item) → IsErrOf result (faults.Lacking item) → ⊥) }
-    ensures served { L.tells_server → AllServing (L.clock link.old) (L.clock link.new)
-        → OnOk result (IsServed (L.clock link.new).now.outside) }
     ensures disk { L.disk_faults link.new ≡ L.disk_faults link.old }
     ensures count { (L.link link.old).faults ≤ (L.link link.new).faults }
     ensures cause { IsErrOf result faults.Link → Rose (L.link link.old).faults (L.link link.new).faults }

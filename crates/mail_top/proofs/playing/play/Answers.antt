@@ -8,6 +8,7 @@ use Rattle.mail_top.proofs.Headlines.{kept_last, play_once, still_once}
 use Rattle.mail_top.proofs.PlaySteps.{opening_keeps, opening_joined, play_steps, play_keeps, playing_now, playing_start, opened_kept, play_joined, play_fair}
 use Rattle.mail_top.proofs.PlaySteps.{play_synced, only_opens, opens_store, truly_stopped, one_last}
 use Rattle.mail_top.proofs.Moving.{chooses_steps}
+use Rattle.mail_top.proofs.PlayServed.{none_behind, opening_serves, played_serves, run_serves, serving_behind}
 use Rattle.mail_top.proofs.Openings.{never_err, opened_book}
 use Rattle.mail_top.proofs.Sayings.{unopened_play, is_opened, played_play, played_disk, played_link, stopped_play}
 use Rattle.mail_top.proofs.Sayings.{opening_reply, run_reply, played_reply}
@@ -125,6 +126,24 @@ returns-in_err-played-clause-faultless g c tells kept fair is =
 
 pub returns-clause-faultless : goal.returns-clause-faultless
 returns-clause-faultless g c tells kept fair is = played_reply c.in_ok-played.played is
+
+pub returns-in_err-store-clause-serves : goal.returns-in_err-store-clause-serves
+returns-in_err-store-clause-serves g c tells kept fair serving none bad = opening_serves _ _ c.from_residual.ensures.1 bad
+
+pub returns-in_err-played-clause-serves : goal.returns-in_err-played-clause-serves
+returns-in_err-played-clause-serves g c tells kept fair serving none bad =
+    let files = g.W.Clocked.server_with_files tells in
+    let opens = c.open.ensures.held files in
+    let within = narrowed _ _ (c.open.ensures.told files) in
+    let opened = opens_store _ _ _ _ _ opens (c.in_ok-store.ensures.still files) (c.in_ok-store.ensures.seen files (never_err _ _)) in
+    let here = opened_kept (g.W.Clocked.clock c.args.world.now) (g.W.Clocked.clock c.open.new.disk) kept within in
+    let spared = play_fair _ _ _ _ _ opens (c.play.ensures.progress files) fair in
+    let served = serving_behind _ _ _ _ _ opens (c.play.ensures.progress files) serving in
+    let waits = none_behind _ _ _ _ opened.holds within none in
+    run_serves _ _ c.from_residual-in_err-played.ensures.1 (c.play.ensures.complete tells here spared served waits _ c.in_err-played.was) bad
+
+pub returns-clause-serves : goal.returns-clause-serves
+returns-clause-serves g c tells kept fair serving none bad = played_serves c.in_ok-played.played bad
 
 pub returns-clause-synced : goal.returns-clause-synced
 returns-clause-synced g c tells kept fair =

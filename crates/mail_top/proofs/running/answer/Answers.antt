@@ -1,4 +1,5 @@
 use Rattle.std.proofs.Common.{inl, inr, ⊎_elim, [], ap, sym, refl, ◌∙◌, subst}
+use Rattle.mail_top.specs.CompletePlay.{IsTheServers}
 use Rattle.mail_top.specs.Reading.{AwaitsAsked, IsAppend}
 use Rattle.mail_top.specs.Telling.{status_of}
 use Rattle.mail_top.specs.Words.{Init, Act, Rows, Queue, Report, IsLawful, request_of, wanted_of}
@@ -44,6 +45,9 @@ returns-in-Init-clause-faultless g c tells kept fair is = no_reply _ _ c.ending_
 
 pub returns-in-Init-clause-truly : goal.returns-in-Init-clause-truly
 returns-in-Init-clause-truly g c tells asks = absurd (never_init _ (sym (ap (λ (a : Asked). request_of a []) c.in-Init.is) ∙ asks []))
+
+pub returns-in-Init-clause-serves : goal.returns-in-Init-clause-serves
+returns-in-Init-clause-serves g c tells asks = absurd (never_init _ (sym (ap (λ (a : Asked). request_of a []) c.in-Init.is) ∙ asks []))
 
 pub returns-in-Init-clause-synced : goal.returns-in-Init-clause-synced
 returns-in-Init-clause-synced g c tells asks = absurd (never_init _ (sym (ap (λ (a : Asked). request_of a []) c.in-Init.is) ∙ asks []))
@@ -113,6 +117,9 @@ returns-in-Act-clause-faultless g c tells kept fair is = no_reply _ _ c.ending_o
 pub returns-in-Act-clause-truly : goal.returns-in-Act-clause-truly
 returns-in-Act-clause-truly g c tells asks = absurd (never_act _ (sym (ap (λ (a : Asked). request_of a []) c.in-Act.is) ∙ asks []))
 
+pub returns-in-Act-clause-serves : goal.returns-in-Act-clause-serves
+returns-in-Act-clause-serves g c tells asks = absurd (never_act _ (sym (ap (λ (a : Asked). request_of a []) c.in-Act.is) ∙ asks []))
+
 pub returns-in-Act-clause-synced : goal.returns-in-Act-clause-synced
 returns-in-Act-clause-synced g c tells asks = absurd (never_act _ (sym (ap (λ (a : Asked). request_of a []) c.in-Act.is) ∙ asks []))
 
@@ -157,6 +164,9 @@ returns-in-Rows-clause-faultless g c tells kept fair is = no_reply _ _ c.ending_
 
 pub returns-in-Rows-clause-truly : goal.returns-in-Rows-clause-truly
 returns-in-Rows-clause-truly g c tells asks = absurd (never_rows _ (sym (ap (λ (a : Asked). request_of a []) c.in-Rows.is) ∙ asks []))
+
+pub returns-in-Rows-clause-serves : goal.returns-in-Rows-clause-serves
+returns-in-Rows-clause-serves g c tells asks = absurd (never_rows _ (sym (ap (λ (a : Asked). request_of a []) c.in-Rows.is) ∙ asks []))
 
 pub returns-in-Rows-clause-synced : goal.returns-in-Rows-clause-synced
 returns-in-Rows-clause-synced g c tells asks = absurd (never_rows _ (sym (ap (λ (a : Asked). request_of a []) c.in-Rows.is) ∙ asks []))
@@ -208,6 +218,9 @@ returns-in-Queue-clause-faultless g c tells kept fair is = no_reply _ _ c.ending
 pub returns-in-Queue-clause-truly : goal.returns-in-Queue-clause-truly
 returns-in-Queue-clause-truly g c tells asks = absurd (never_queue (sym (ap (λ (a : Asked). request_of a []) c.in-Queue.is) ∙ asks []))
 
+pub returns-in-Queue-clause-serves : goal.returns-in-Queue-clause-serves
+returns-in-Queue-clause-serves g c tells asks = absurd (never_queue (sym (ap (λ (a : Asked). request_of a []) c.in-Queue.is) ∙ asks []))
+
 pub returns-in-Queue-clause-synced : goal.returns-in-Queue-clause-synced
 returns-in-Queue-clause-synced g c tells asks = absurd (never_queue (sym (ap (λ (a : Asked). request_of a []) c.in-Queue.is) ∙ asks []))
 
@@ -257,6 +270,9 @@ returns-in-Report-clause-faultless g c tells kept fair is = no_reply _ _ c.endin
 
 pub returns-in-Report-clause-truly : goal.returns-in-Report-clause-truly
 returns-in-Report-clause-truly g c tells asks = absurd (never_report (sym (ap (λ (a : Asked). request_of a []) c.in-Report.is) ∙ asks []))
+
+pub returns-in-Report-clause-serves : goal.returns-in-Report-clause-serves
+returns-in-Report-clause-serves g c tells asks = absurd (never_report (sym (ap (λ (a : Asked). request_of a []) c.in-Report.is) ∙ asks []))
 
 pub returns-in-Report-clause-synced : goal.returns-in-Report-clause-synced
 returns-in-Report-clause-synced g c tells asks = absurd (never_report (sym (ap (λ (a : Asked). request_of a []) c.in-Report.is) ∙ asks []))
@@ -308,6 +324,10 @@ returns-in-Play-clause-faultless g c tells kept fair is = c.play.ensures.faultle
 
 pub returns-in-Play-clause-truly : goal.returns-in-Play-clause-truly
 returns-in-Play-clause-truly g c tells is kept fair = c.play.ensures.truly tells kept fair
+
+pub returns-in-Play-clause-serves : goal.returns-in-Play-clause-serves
+returns-in-Play-clause-serves g c tells is kept fair serving none servers =
+    c.play.ensures.serves tells kept fair serving none (subst IsTheServers c.ending_of_play.ensures.status servers)
 
 pub returns-in-Play-clause-synced : goal.returns-in-Play-clause-synced
 returns-in-Play-clause-synced g c tells is done kept fair = came_through _ _ _ c.ending_of_play.ensures.status done (c.play.ensures.synced tells kept fair)

@@ -99,3 +99,6 @@ returns-in-Some-clause-read g c tells =
 
 pub returns-in-Some-clause-whole : goal.returns-in-Some-clause-whole
 returns-in-Some-clause-whole g c tells append = c.answer.ensures.whole tells (asks_append _ _ c.in-Some.ensures.some append)
+
+pub returns-in-None-clause-serves : goal.returns-in-None-clause-serves
+returns-in-None-clause-serves g c tells asks = absurd (c.in-None.ensures.none refl [] Play asks)

@@ -1,6 +1,6 @@
 use Rattle.mail_base.specs.declared.status.Status.TheVariants as status
-use Rattle.mail_top.proofs.Endings.{ended_so, said_ends, said_words, said_disk, said_link, said_input, said_reply, said_through}
-use Rattle.mail_top.proofs.Endings.{completes_act, completes_init, completes_rows, completes_queue, completes_report}
+use Rattle.mail_top.proofs.Endings.{ended_so, said_ends, said_words, said_disk, said_link, said_input, said_reply, said_servers, said_through}
+use Rattle.mail_top.proofs.Endings.{completes_act, completes_init, completes_rows, completes_play, completes_queue, completes_report}
 use Rattle.mail_top.proofs.Goings.{asks_given}
 use Rattle.mail_top.proofs.Headlines.{once_or_reported, run_finished, stays_owned}
 use Rattle.mail_top.proofs.Repeated.{held_later, outside_later}
@@ -61,6 +61,16 @@ returns-clause-complete_report g c tells asks set_up no_disk no_sink =
     let said = c.say.ensures in
     completes_report _ _ _ _ _ _ (said_ends _ _ _ _ _ _ _ said.status (begun.goes tells).2.ends) (said_words _ _ _ said.status begun.words).0
     (λ is. no_disk (begun.disk (said_disk _ _ said.status is))) (λ is. no_sink (said.output is)) asks set_up
+
+pub returns-clause-complete_play : goal.returns-clause-complete_play
+returns-clause-complete_play g c tells asks kept fair serving none no_disk no_link no_sink no_limit =
+    let files = g.W.Clocked.server_with_files tells in
+    let begun = c.carry_out-ending.ensures in
+    let said = c.say.ensures in
+    completes_play _ _ _ _ _ _ (said_ends _ _ _ _ _ _ _ said.status (begun.goes files).2.ends) (said_words _ _ _ said.status begun.words).0
+    (λ is. no_disk (begun.disk (said_disk _ _ said.status is))) (λ is. no_sink (said.output is)) asks none.book none.holds
+    (λ is. no_link (begun.link_fault (said_link _ _ said.status is))) no_limit
+    (λ bad. begun.serves tells asks kept fair serving none (said_servers _ _ said.status bad))
 
 pub returns-clause-truly : goal.returns-clause-truly
 returns-clause-truly g c tells asks kept fair = c.carry_out-ending.ensures.truly tells asks kept fair

@@ -1,12 +1,21 @@
-use Rattle.std.proofs.Common.{◌∙◌, arith, rules}
-use Rattle.imap_session.proofs.Talks.{answers_enquires, connects_enquires}
+use Rattle.std.proofs.Common.{◌∙◌, ℕ, arith, rules, subst, sym}
+use Rattle.imap_session.proofs.Talks.{answers_enquires, connects_enquires, enabling_asks, entering_asks}
 use Rattle.imap_session.proofs.Talking.{linked_then}
+use Rattle.imap_session.specs.Dialogue.{so_far}
+use Rattle.imap_session.specs.LogIn.{enabling, entering}
+use Rattle.imap_session.specs.declared.fault.SessionFault.TheVariants as faults
 use Rattle.imap_session.specs.Enquiring.{Enquiring}
 use Rattle.world_traits.specs.Links.{AnyStep, LinkStep}
 use Rattle.play_driver.specs.Questioning.{Questioning}
 use Rattle.play_driver.proofs.OverOne.{answers_over, connects_first, enabling_over, entering_over, goes_behind}
 use Rattle.play_driver.specs.Entering.NotEntered.{unconnected, ungreeted}
 use Rattle.play_driver.specs.Stages.{Stage}
+use Rattle.play_driver.specs.Refusals.{RefusesRun}
+use Rattle.play_driver.proofs.EntersServed.{asks_behind, enters_talking, greeting_lacks, lacks_behind, link_lacks, link_refuses}
+use Rattle.play_driver.proofs.Fitness.{LacksNothing, enabling_lacks_none, entering_lacks_none}
+use Rattle.play_driver.proofs.Remaining.{enabling_remains, entering_remains}
+use Rattle.play_driver.proofs.Served.{served_end}
+use Rattle.play_driver.proofs.ToldRefusals.{entry_told, never_told}
 use Rattle.play_driver.proofs.Enters.{enabling_told, entered_so, entering_told, unfit_so, unknown_so}
 use Rattle.play_driver.proofs.Faulting.{at_err}
 use Rattle.play_driver.proofs.Opened.{in_any, opens_from}
@@ -21,6 +30,12 @@ returns-in_err-fresh-clause-once g c = λ t. connects_first (LinkStep Questionin
 pub returns-in_err-fresh-clause-why : goal.returns-in_err-fresh-clause-why
 returns-in_err-fresh-clause-why g c = λ t fault is.
     unconnected (c.connect.ensures.only fault (search rules)) (at_err c.connect.result fault _ (search rules) (c.connect.ensures.unsent t))
+
+pub returns-in_err-fresh-clause-serves : goal.returns-in_err-fresh-clause-serves
+returns-in_err-fresh-clause-serves g c = λ t serving. (
+  λ line is. link_refuses line (c.connect.ensures.only (faults.Refused line) (search rules)),
+  λ item is. link_lacks item (c.connect.ensures.only (faults.Lacking item) (search rules)),
+)
 
 pub returns-in_err-greeted-clause-files : goal.returns-in_err-greeted-clause-files
 returns-in_err-greeted-clause-files g c = λ t. linked_then AnyStep _ _ _ (c.connect.ensures.files t) (c.greet.ensures.files t)
@@ -37,6 +52,16 @@ returns-in_err-greeted-clause-once g c = λ t.
 pub returns-in_err-greeted-clause-why : goal.returns-in_err-greeted-clause-why
 returns-in_err-greeted-clause-why g c = λ t fault is.
     ungreeted (c.greet.ensures.why t fault (search rules)) (c.greet.ensures.sent t ∙ c.in_ok-fresh.ensures.sent t)
+
+pub returns-in_err-greeted-clause-serves : goal.returns-in_err-greeted-clause-serves
+returns-in_err-greeted-clause-serves g c = λ t serving.
+    let f = g.L.Clocked.server_with_files t in
+    let served = served_end _ _ (enters_talking _ _ (returns-in_err-greeted-clause-once g c t)) serving in (
+      λ line is.
+          let why = returns-in_err-greeted-clause-why g c f (faults.Refused line) is in
+          never_told RefusesRun _ served.told (entry_told _ _ _ line _ why (g.met.L.Link.honest c.greet.new.link t)),
+      λ item is. greeting_lacks _ item (c.greet.ensures.why f (faults.Lacking item) (search rules)),
+    )
 
 pub returns-in_err-known-clause-files : goal.returns-in_err-known-clause-files
 returns-in_err-known-clause-files g c = λ t.
@@ -66,6 +91,25 @@ returns-in_err-known-clause-why g c = λ t fault is.
       unsent = c.greet.ensures.sent t ∙ c.in_ok-fresh.ensures.sent t;
       greets = c.in_ok-greeted.ensures.greeting t;
     }) (c.in_ok-greeted.ensures.still t) c.authenticate.result (g.L.Clocked.link c.authenticate.new.link) (c.authenticate.ensures.why t) fault (search rules)
+
+pub returns-in_err-known-clause-serves : goal.returns-in_err-known-clause-serves
+returns-in_err-known-clause-serves g c = λ t serving.
+    let f = g.L.Clocked.server_with_files t in
+    let greeted = c.in_ok-greeted.greeted in
+    let d = entering greeted.preauth c.args.account.now in
+    let at = so_far (g.L.Clocked.clock c.greet.new.link) (g.L.Clocked.link c.greet.new.link) in
+    let new = so_far (g.L.Clocked.clock c.authenticate.new.link) (g.L.Clocked.link c.authenticate.new.link) in
+    let served = served_end _ _ (enters_talking _ _ (returns-in_err-known-clause-once g c t)) serving in (
+      λ line is.
+          let why = returns-in_err-known-clause-why g c f (faults.Refused line) is in
+          never_told RefusesRun _ served.told (entry_told _ _ _ line _ why (g.met.L.Link.honest c.authenticate.new.link t)),
+      λ item is. lacks_behind _ _ (c.connect.ensures.told t) (c.in_ok-fresh.ensures.greeted t) at new d
+          (entering_asks greeted.preauth c.args.account.now) (entering_remains greeted.preauth c.args.account.now) greeted.conversation.count item
+          (answers_over _ _ (c.greet.ensures.told t))
+          (subst (λ (n : ℕ). LacksNothing d n) (sym (c.in_ok-greeted.ensures.counted ∙ c.in_ok-fresh.ensures.counted))
+          (entering_lacks_none greeted.preauth c.args.account.now))
+          (c.authenticate.ensures.lacking t item (search rules)) serving,
+    )
 
 pub enable-requires-clause-room : goal.enable-requires-clause-room
 enable-requires-clause-room g c = omega (arith, c.in_ok-known.ensures.counted, c.in_ok-greeted.ensures.counted, c.in_ok-fresh.ensures.counted)
@@ -131,3 +175,23 @@ returns-clause-opened g c = λ t.
     (opens_from _ _ _ _ _ (c.connect.ensures.told t) (c.in_ok-fresh.ensures.greeted t) (c.greet.ensures.told t) greeted known known
     (g.L.Clocked.link c.enable.new.link) c.in_ok-greeted.greeted.conversation.count c.in_ok-known.known.conversation.count
     c.in_ok-greeted.greeted.preauth c.in_ok-known.known.rev2 c.args.account.now (c.authenticate.ensures.told t) (c.enable.ensures.told t))
+
+pub returns-clause-serves : goal.returns-clause-serves
+returns-clause-serves g c = λ t serving.
+    let f = g.L.Clocked.server_with_files t in
+    let greeted = c.in_ok-greeted.greeted in
+    let known = c.in_ok-known.known in
+    let at = so_far (g.L.Clocked.clock c.greet.new.link) (g.L.Clocked.link c.greet.new.link) in
+    let mid = so_far (g.L.Clocked.clock c.authenticate.new.link) (g.L.Clocked.link c.authenticate.new.link) in
+    let new = so_far (g.L.Clocked.clock c.enable.new.link) (g.L.Clocked.link c.enable.new.link) in
+    let asks = asks_behind (g.L.Clocked.clock c.connect.new.link) at mid _ (entering_asks greeted.preauth c.args.account.now)
+    (entering_remains greeted.preauth c.args.account.now) greeted.conversation.count (answers_over _ _ (c.greet.ensures.told t))
+    (c.authenticate.ensures.told t) in
+    let served = served_end _ _ (enters_talking _ _ (returns-clause-once g c t)) serving in (
+      λ line is.
+          let why = returns-clause-why g c f (faults.Refused line) is in
+          never_told RefusesRun _ served.told (entry_told _ _ _ line _ why (g.met.L.Link.honest c.enable.new.link t)),
+      λ item is. lacks_behind _ _ (c.connect.ensures.told t) (c.in_ok-fresh.ensures.greeted t) mid new (enabling known.rev2)
+          (enabling_asks known.rev2) (enabling_remains known.rev2) known.conversation.count item asks
+          (enabling_lacks_none known.rev2 known.conversation.count) (c.enable.ensures.lacking t item is) serving,
+    )

@@ -1,6 +1,9 @@
+use Rattle.play_driver.proofs.CompleteRun.{comes_session, comes_turn, leaving_lacks, unrefused_leave, unrefused_turn}
+use Rattle.play_driver.proofs.EntersServed.{enters_talking}
 use Rattle.play_driver.proofs.Links.{left_there}
+use Rattle.play_driver.proofs.RenewedEntered.{renewed_entered}
 use Rattle.play_driver.proofs.Faulting.{ok_no_err, told_as}
-use Rattle.play_driver.proofs.OverOne.{enters_talks, goes_behind, leave_talks}
+use Rattle.play_driver.proofs.OverOne.{enters_run, goes_behind, leave_run, talks_run}
 use Rattle.play_driver.proofs.Progressing.{firm_left, linked_progress, linked_sides, progress_grows, rests_left, sides_then}
 use Rattle.play_driver.proofs.WholeRun.{HasBegun, all_synced, fair_run, has_begun, has_room, leaves_asking, leaves_grow, plays_so, progress_three}
 use Rattle.play_driver.proofs.WholeRun.{bad_at, begins_so, faultless_two, progress_two, questions_stay}
@@ -8,10 +11,11 @@ use Rattle.play_driver.proofs.WholeRun.{run_grows, run_three, run_two, stays_on_
 use Rattle.play_driver.proofs.WholeRun.{true_two}
 use Rattle.play_driver.specs.Faults.{of_session}
 use Rattle.play_driver.specs.Playing.EndsEarly.{not_entered}
-use Rattle.play_driver.specs.Questioning.{TalkStep}
+use Rattle.play_driver.specs.Questioning.{RunStep, TalkStep}
 use Rattle.play_driver.specs.Turning.{standing_of}
-use Rattle.std.proofs.Common.{Err, ap, refl, ◌∙◌}
+use Rattle.std.proofs.Common.{Err, ap, refl, ◌≡◌, ◌∙◌}
 use Rattle.imap_session.specs.declared.fault.SessionFault.{SessionFault}
+use Rattle.play_driver.specs.declared.fault.PlayFault.{PlayFault}
 use Rattle.play_driver.specs.declared.fault.PlayFault.TheVariants as faults
 use Rattle.store_core.specs.Mail.{mail}
 use Rattle.world_traits.specs.Links.{AnyStep}
@@ -51,12 +55,21 @@ returns-in_err-ready-clause-each_one_side g c = λ t.
     linked_sides AnyStep _ _ (rests_left c.args.store.now (g.W.Clocked.clock c.args.world.now) _ (c.requires.left t)) (c.enter.ensures.files t)
 
 pub returns-in_err-ready-clause-once : goal.returns-in_err-ready-clause-once
-returns-in_err-ready-clause-once g c = λ t. enters_talks _ _ (c.enter.ensures.once t)
+returns-in_err-ready-clause-once g c = λ t. enters_run _ _ (c.enter.ensures.once t)
 
 pub returns-in_err-ready-clause-why : goal.returns-in_err-ready-clause-why
 returns-in_err-ready-clause-why g c = λ t fault is.
     let x = c.in_err-ready.field-0.0 in
     not_entered x (told_as of_session c.from_residual.result x c.from_residual.ensures.1 fault is) (c.enter.ensures.why t x c.in_err-ready.was) refl
+
+pub returns-in_err-ready-clause-complete : goal.returns-in_err-ready-clause-complete
+returns-in_err-ready-clause-complete g c = λ t kept fair serving renewed fault is.
+    let x = c.in_err-ready.field-0.0 in
+    let serves = c.enter.ensures.serves t serving in
+    comes_session x (λ line e. serves.0 line (c.in_err-ready.was ∙ ap (λ (f : SessionFault). Err f) e))
+    (λ item e. serves.1 item (c.in_err-ready.was ∙ ap (λ (f : SessionFault). Err f) e))
+    (λ at e. c.enter.ensures.honest t at (c.in_err-ready.was ∙ ap (λ (f : SessionFault). Err f) e)) fault
+    (told_as of_session c.from_residual.result x c.from_residual.ensures.1 fault is)
 
 -- it takes its turns
 pub play_on-requires-clause-room : goal.play_on-requires-clause-room
@@ -126,13 +139,31 @@ returns-in_err-last-clause-each_one_side g c = λ t.
     (c.play_on.ensures.each_one_side t)
 
 pub returns-in_err-last-clause-once : goal.returns-in_err-last-clause-once
-returns-in_err-last-clause-once g c = λ t. goes_behind TalkStep _ _ _ (enters_talks _ _ (c.enter.ensures.once t)) (c.play_on.ensures.talks t)
+returns-in_err-last-clause-once g c = λ t. goes_behind RunStep _ _ _ (enters_run _ _ (c.enter.ensures.once t)) (talks_run _ _ (c.play_on.ensures.talks t))
 
 pub returns-in_err-last-clause-why : goal.returns-in_err-last-clause-why
 returns-in_err-last-clause-why g c = λ t fault is.
     let begun = begins_so c.args.alloc _ _ _ c.begin-player.ensures.value c.book-2.ensures in
     stops_early c.args.account.now c.args.alloc c.args.store.now c.begin-player.result begun (g.W.Clocked.link c.enter.new.link) c.in_ok-ready.ready
     (c.in_ok-ready.ensures.entered t) c.play_on.new.store _ _ fault (c.play_on.ensures.why t fault (search rules))
+
+pub returns-in_err-last-clause-complete : goal.returns-in_err-last-clause-complete
+returns-in_err-last-clause-complete g c = λ t kept fair serving renewed fault is.
+    let f = g.W.Clocked.server_with_files t in
+    let r : HasBegun c.args.store.now.book c.begin-player.result (g.W.Clocked.clock c.args.world.now) (g.W.Clocked.clock c.enter.new.link) =
+    has_begun c.args.alloc _ _ _ c.begin-player.ensures.value c.begin-player.ensures.entered c.book-2.ensures _ _
+    (firm_left c.args.store.now (g.W.Clocked.clock c.args.world.now) _ (c.requires.left f)) (c.enter.ensures.told t)
+    (c.in_ok-ready.ensures.opened t) _ _ (c.in_ok-ready.ensures.stands t) in
+    let more = progress_grows _ _ _ (c.play_on.ensures.progress f) in
+    let is_on : c.play_on.result ≡ Err fault = search rules in
+    comes_turn fault
+    (unrefused_turn _ _ (goes_behind TalkStep _ _ _ (enters_talking _ _ (c.enter.ensures.once t)) (c.play_on.ensures.talks t)) serving _ _ _ fault
+    (c.play_on.ensures.why f fault is_on) (g.met.W.Link.honest c.play_on.new.world t))
+    (λ reply. faultless_two _ _ _ _ r kept _ more fair
+    (λ here knows second. c.play_on.ensures.faultless t r.opened.made here knows second fault is_on reply))
+    (λ name before told e. faultless_two _ _ _ _ r kept _ more fair
+    (λ here knows second. c.play_on.ensures.valid t r.opened.made here knows second
+    (renewed_entered c.args.store.now.book _ _ (c.enter.ensures.told t) renewed) name before told (is_on ∙ ap (λ (x : PlayFault). Err x) e)))
 
 -- it didn't leave
 pub returns-in_err-leave-clause-progress : goal.returns-in_err-leave-clause-progress
@@ -170,7 +201,7 @@ returns-in_err-leave-clause-truly g c = λ t kept fair no_disk.
     let q = leaves_asking _ _ _ _ (c.leave.ensures.told t) in
     true_three _ _ _ before c.play_on.new.store.book
     (firm_left c.play_on.new.store (g.W.Clocked.clock c.play_on.new.world) _ later) q c.args.store.now.book
-    (leave_talks _ _ _ _ (c.leave.ensures.told t))
+    (leave_run _ _ _ _ (c.leave.ensures.told t))
     (true_two _ _ _ _ r kept _ more c.play_on.new.store.book
     (fair_run _ _ _ before c.play_on.new.store.book
     (firm_left c.play_on.new.store (g.W.Clocked.clock c.play_on.new.world) _ later) q fair) (c.play_on.ensures.talks t)
@@ -211,8 +242,19 @@ returns-in_err-leave-clause-each_one_side g c = λ t.
 
 pub returns-in_err-leave-clause-once : goal.returns-in_err-leave-clause-once
 returns-in_err-leave-clause-once g c = λ t.
-    goes_behind TalkStep _ _ _ (goes_behind TalkStep _ _ _ (enters_talks _ _ (c.enter.ensures.once t)) (c.play_on.ensures.talks t))
-    (leave_talks _ _ _ _ (c.leave.ensures.told t))
+    goes_behind RunStep _ _ _ (goes_behind RunStep _ _ _ (enters_run _ _ (c.enter.ensures.once t)) (talks_run _ _ (c.play_on.ensures.talks t)))
+    (leave_run _ _ _ _ (c.leave.ensures.told t))
+
+pub returns-in_err-leave-clause-complete : goal.returns-in_err-leave-clause-complete
+returns-in_err-leave-clause-complete g c = λ t kept fair serving renewed fault is.
+    let f = g.W.Clocked.server_with_files t in
+    let x = c.in_err-leave.field-0.0 in
+    let why = c.leave.ensures.why f x c.in_err-leave.was in
+    comes_session x
+    (unrefused_leave _ _ (returns-in_err-leave-clause-once g c t) serving _ _ x why (g.met.W.Link.honest c.leave.new.link t))
+    (leaving_lacks _ _ x why)
+    (λ at e. c.leave.ensures.honest t at (c.in_err-leave.was ∙ ap (λ (f : SessionFault). Err f) e)) fault
+    (told_as of_session c.from_residual-in_err-leave.result x c.from_residual-in_err-leave.ensures.1 fault is)
 
 -- it left
 pub returns-clause-progress : goal.returns-clause-progress
@@ -250,7 +292,7 @@ returns-clause-truly g c = λ t kept fair no_disk.
     let q = leaves_asking _ _ _ _ (c.leave.ensures.told t) in
     true_three _ _ _ before c.play_on.new.store.book
     (firm_left c.play_on.new.store (g.W.Clocked.clock c.play_on.new.world) _ later) q c.args.store.now.book
-    (leave_talks _ _ _ _ (c.leave.ensures.told t))
+    (leave_run _ _ _ _ (c.leave.ensures.told t))
     (true_two _ _ _ _ r kept _ more c.play_on.new.store.book
     (fair_run _ _ _ before c.play_on.new.store.book
     (firm_left c.play_on.new.store (g.W.Clocked.clock c.play_on.new.world) _ later) q fair) (c.play_on.ensures.talks t)
@@ -299,5 +341,5 @@ returns-clause-each_one_side g c = λ t.
 
 pub returns-clause-once : goal.returns-clause-once
 returns-clause-once g c = λ t.
-    goes_behind TalkStep _ _ _ (goes_behind TalkStep _ _ _ (enters_talks _ _ (c.enter.ensures.once t)) (c.play_on.ensures.talks t))
-    (leave_talks _ _ _ _ (c.leave.ensures.told t))
+    goes_behind RunStep _ _ _ (goes_behind RunStep _ _ _ (enters_run _ _ (c.enter.ensures.once t)) (talks_run _ _ (c.play_on.ensures.talks t)))
+    (leave_run _ _ _ _ (c.leave.ensures.told t))

@@ -6,6 +6,7 @@ use Rattle.store_core.specs.Mail.{mail}
 use Rattle.world_traits.specs.Links.{Any, AnyStep, LinkStep}
 use Rattle.play_driver.specs.KnownAt.{KnownAt}
 use Rattle.play_driver.specs.TrueRecords.IsTrueSince.{rests}
+use Rattle.play_driver.proofs.Asked.{asked_remains}
 use Rattle.play_driver.proofs.Links.{left_there}
 use Rattle.play_driver.proofs.BookAtRest.{book_rests_linked}
 use Rattle.play_driver.proofs.OneTurn.{asked_fails, asked_selected, asks_turn, joined_of, known_in}
@@ -47,7 +48,9 @@ returns-in_err-chosen-clause-each_one_side g c = λ t.
     linked_sides AnyStep _ _ (rests_left c.args.store.now (g.W.Clocked.clock c.args.world.now) _ (c.requires.left t)) (c.ask.ensures.files t)
 
 pub returns-in_err-chosen-clause-talks : goal.returns-in_err-chosen-clause-talks
-returns-in_err-chosen-clause-talks g c = λ t. asked_talks _ c.args.tag c.args.command.now _ _ (c.ask.ensures.told t)
+returns-in_err-chosen-clause-talks g c = λ t. asked_talks _ c.args.tag c.args.command.now
+    (asked_remains c.args.player.now c.args.store.now.book _ c.args.tag c.args.command.now c.requires.fold c.requires.beside c.requires.needed) _ _
+    (c.ask.ensures.told t)
 
 pub returns-in_err-chosen-clause-why : goal.returns-in_err-chosen-clause-why
 returns-in_err-chosen-clause-why g c = λ t fault is.
@@ -102,7 +105,9 @@ returns-clause-each_one_side g c = λ t.
     linked_sides AnyStep _ _ (rests_left c.args.store.now (g.W.Clocked.clock c.args.world.now) _ (c.requires.left t)) (c.ask.ensures.files t)
 
 pub returns-clause-talks : goal.returns-clause-talks
-returns-clause-talks g c = λ t. asked_talks _ c.args.tag c.args.command.now _ _ (c.ask.ensures.told t)
+returns-clause-talks g c = λ t. asked_talks _ c.args.tag c.args.command.now
+    (asked_remains c.args.player.now c.args.store.now.book _ c.args.tag c.args.command.now c.requires.fold c.requires.beside c.requires.needed) _ _
+    (c.ask.ensures.told t)
 
 pub returns-in_err-chosen-clause-faultless : goal.returns-in_err-chosen-clause-faultless
 returns-in_err-chosen-clause-faultless g c = λ t made kept known fair fault is.

@@ -1,0 +1,100 @@
+-- A `play` at a server that serves it.
+use Rattle.std.proofs.Common.{◌≡◌, inl, inr, ⊎_elim, ℕ, zero, suc, Some, Result, Ok, Err, refl, sym, ◌∙◌, ap, subst}
+use Rattle.std.specs.Result.{IsErrAnd}
+use Rattle.mail_base.specs.declared.status.Status.{Status}
+use Rattle.mail_base.specs.declared.status.Status.TheVariants as status
+use Rattle.imap_model.specs.Talking.{Peer, greeted}
+use Rattle.imap_model.specs.declared.response.Response.TheVariants as responses
+use Rattle.imap_model.specs.declared.server.Server.{Server}
+use Rattle.world_traits.specs.Connected.{IsGreeted}
+use Rattle.world_traits.specs.Files.{Files}
+use Rattle.world_traits.specs.Links.{Any}
+use Rattle.world_traits.specs.Moments.{Clock, Moment, Since, Within}
+use Rattle.world_traits.proofs.Traces.{carried_now}
+use Rattle.action_queue.specs.Book.{Meaning}
+use Rattle.store_core.specs.Books.{HasBook}
+use Rattle.store_core.specs.HeldActions.{KeepsActions}
+use Rattle.store_core.specs.Mail.{mail}
+use Rattle.store_core.specs.declared.fault.StoreFault.{StoreFault}
+use Rattle.store_core.specs.declared.fault.StoreFault.TheVariants as stores
+use Rattle.store_core.proofs.MailBook.{one_mail_event}
+use Rattle.store_core.proofs.Folding.{one_held}
+use Rattle.play_driver.specs.Faults.{ComesAnyway}
+use Rattle.play_driver.specs.Joining.{Grows}
+use Rattle.play_driver.specs.Progress.{IsPlaying, PlayStep, Progresses}
+use Rattle.play_driver.specs.Renewed.{NoneRenewed}
+use Rattle.play_driver.specs.Serving.{AllServing, IsServing}
+use Rattle.play_driver.specs.declared.fault.PlayFault.{PlayFault}
+use Rattle.play_driver.specs.declared.fault.PlayFault.TheVariants as faults
+use Rattle.play_driver.specs.declared.played.Played.{Played}
+use Rattle.play_driver.proofs.Longer.{in_order}
+use Rattle.play_driver.proofs.Parts.{grows, grows_start, since_second}
+use Rattle.mail_top.specs.CompletePlay.{IsTheServers, WaitsForNone}
+use Rattle.mail_top.specs.Faults.{of_store}
+use Rattle.mail_top.specs.Telling.{status_of_conflicts, status_of_fault, status_of_play, status_of_refusal}
+use Rattle.mail_top.specs.declared.unfinished.Unfinished.{Unfinished}
+use Rattle.mail_top.specs.declared.unfinished.Unfinished.TheVariants as ends
+use Rattle.mail_top.proofs.Sayings.{ended_by}
+
+-- behind an opening, which leaves the server with its connection, the server serves still
+same_peer : (entry : Moment) (k l : Clock) → Since (Within entry) KeepsActions k l → l.now.outside ≡ k.now.outside
+same_peer entry k l opens =
+    carried_now (Within entry) (λ m. m.outside ≡ k.now.outside) KeepsActions (λ m n here step so. step.outside ∙ so) k refl l opens
+
+pub serving_behind : (entry : Moment) (b : Meaning) (k l n : Clock) → Since (Within entry) KeepsActions k l → Progresses b l n → AllServing k n →
+    AllServing l n
+serving_behind entry b k l n opens goes a =
+    let first = grows (Within entry) KeepsActions k l opens in
+    let more = grows (IsPlaying b) PlayStep l n goes in
+    let rest = grows Any IsServing a.made n a.later in
+    ⊎_elim (λ (g : Grows a.made l).
+    let same = same_peer entry a.made l (since_second (Within entry) KeepsActions k a.made l a.before g opens) in
+    record {
+      made = l;
+      before = grows_start l;
+      fresh = subst IsGreeted (sym same) a.fresh;
+      hello = subst (λ (p : Peer). p.talk ≡ greeted responses.Bye → ⊥) (sym same) a.hello;
+      later = since_second Any IsServing a.made l n g more a.later;
+    })
+    (λ (g : Grows l a.made). record { made = a.made; before = g; fresh = a.fresh; hello = a.hello; later = a.later })
+    (in_order k a.made l n a.before rest first more)
+
+-- nor was a mailbox made anew
+pub none_behind : (files : Files) (b : Meaning) (m n : Moment) → HasBook mail b files → Within m n → WaitsForNone files m.outside.server →
+    NoneRenewed b n.outside.server
+none_behind files b m n holds within w =
+    subst (λ (p : Peer). NoneRenewed b p.server) (sym within.outside)
+    (subst (λ (x : Meaning). NoneRenewed x m.outside.server) (one_held mail one_mail_event files w.book b w.holds holds) w.none)
+
+-- what else ends it is none of the server's
+fault_serves : (x : PlayFault) → ComesAnyway x → IsTheServers (status_of_fault x) → ⊥
+fault_serves faults.Memory comes bad = bad
+fault_serves faults.Disk comes bad = bad
+fault_serves faults.Link comes bad = bad
+fault_serves (faults.Refused line) comes bad = comes
+fault_serves (faults.BadReply why) comes bad = comes
+fault_serves (faults.Lacking what) comes bad = comes
+fault_serves (faults.Validity name kept told) comes bad = comes
+fault_serves (faults.Limit which number) comes bad = bad
+
+store_serves : (x : StoreFault) → IsTheServers (status_of_refusal (of_store x)) → ⊥
+store_serves stores.Memory bad = bad
+store_serves stores.Disk bad = bad
+store_serves stores.Already bad = bad
+store_serves (stores.Full end wanted) bad = bad
+store_serves (stores.NotAJournal why) bad = bad
+
+conflicts_serve : (n : ℕ) → IsTheServers (status_of_conflicts n) → ⊥
+conflicts_serve zero bad = bad
+conflicts_serve (suc n) bad = bad
+
+module _ (r : Result Played Unfinished) where
+  pub opening_serves : (x : StoreFault) → IsErrAnd r (λ end. end ≡ ends.Unopened x) → IsTheServers (status_of_play r) → ⊥
+  opening_serves x given bad = store_serves x (subst (λ (s : Result Played Unfinished). IsTheServers (status_of_play s)) (ended_by r (ends.Unopened x) given) bad)
+
+  pub run_serves : (x : PlayFault) → IsErrAnd r (λ end. end ≡ ends.Stopped x) → ComesAnyway x → IsTheServers (status_of_play r) → ⊥
+  run_serves x given comes bad =
+      fault_serves x comes (subst (λ (s : Result Played Unfinished). IsTheServers (status_of_play s)) (ended_by r (ends.Stopped x) given) bad)
+
+pub played_serves : (p : Played) → IsTheServers (status_of_play (Ok p)) → ⊥
+played_serves p bad = conflicts_serve p.conflicts bad

@@ -1,0 +1,113 @@
+-- Over one connection what was told grows longer; so a moment at which a greeting alone was told comes before each reply.
+use Rattle.std.proofs.Common.{◌≡◌, ◌⊎◌, inl, inr, ⊎_elim, ℕ, ◌≤◌, ◌<◌, List, [], ◌∷◌, ◌++◌, length, refl, sym, ◌∙◌, ap, subst, arith}
+use Rattle.std.proofs.Common.{length-append}
+use Rattle.mail_base.specs.declared.tag.Tag.{Tag}
+use Rattle.imap_model.specs.CarriedOut.{told_in}
+use Rattle.imap_model.specs.Talking.{Answering, Peer, Talk, arrived}
+use Rattle.imap_model.specs.Talking.Answering.{carries, goes_on, others, refuses, stays}
+use Rattle.imap_model.specs.declared.command.Command.{Command}
+use Rattle.imap_model.specs.declared.replies.Replies.{Replies}
+use Rattle.imap_model.specs.declared.response.Response.{Response}
+use Rattle.imap_model.specs.declared.response.Response.TheVariants as responses
+use Rattle.world_traits.specs.Asking.{Asking}
+use Rattle.world_traits.specs.Asking.Asking.{answers, arrives}
+use Rattle.world_traits.specs.Connected.{IsGreeted}
+use Rattle.world_traits.specs.Links.{Any, LinkStep, Linked}
+use Rattle.world_traits.specs.Moments.{Chain, Clock, Moment, Since, grow, tick}
+use Rattle.world_traits.proofs.Traces.{carried_now, grow_same}
+use Rattle.play_driver.specs.Joining.{AnyTwo, Grows}
+use Rattle.play_driver.specs.Questioning.{Questioning}
+use Rattle.play_driver.specs.Questioning.Questioning.{answering, asking}
+use Rattle.play_driver.proofs.Parts.{grow_more, grows, grows_then, since_first}
+
+abbrev pub Told : Moment → ℕ
+Told m = length m.outside.talk.told
+
+pub longer : (told : List Response) (tag : Tag) (r : Replies) → length told < length (told ++ told_in tag r)
+longer told tag r = omega (arith, length-append told (told_in tag r), length-append r.untagged (responses.Done tag r.ending r.code ∷ []))
+
+longer_by : (told : List Response) (x : Response) → length told ≤ length (told ++ x ∷ [])
+longer_by told x = omega (arith, length-append told (x ∷ []))
+
+longer_answer : (p q : Peer) → Answering p q → length p.talk.told ≤ length q.talk.told
+longer_answer p q stays = omega arith
+longer_answer p q (others t batch) = omega arith
+longer_answer p q (goes_on a is unasked) = longer_by p.talk.told responses.Go
+longer_answer p q (refuses a r is unasked refusal) = omega (arith, longer p.talk.told a.tag r)
+longer_answer p q (carries w r t after is out) = omega (arith, longer p.talk.told w.tag r)
+
+longer_arrives : (tag : Tag) (command : Command) (before : List (List ℕ)) (part : List ℕ) (behind : List (List ℕ)) (p : Peer) →
+    length p.talk.told ≤ length (arrived tag command before part behind p).talk.told
+longer_arrives tag command before part [] p = omega arith
+longer_arrives tag command before part (next ∷ behind) p = omega arith
+
+longer_asking : (told : List Response) (tag : Tag) (command : Command) (p q : Peer) → Asking told tag command p q →
+    length p.talk.told ≤ length q.talk.told
+longer_asking told tag command p q (answers step) = longer_answer p q step
+longer_asking told tag command p q (arrives before part behind is awaits first) = longer_arrives tag command before part behind p
+
+longer_question : (p q : Peer) → Questioning p q → length p.talk.told ≤ length q.talk.told
+longer_question p q (answering step) = longer_answer p q step
+longer_question p q (asking told tag command question remains step) = longer_asking told tag command p q step
+
+pub longer_on : (old new : Clock) → Linked Questioning old new → Told old.now ≤ Told new.now
+longer_on old new s =
+    carried_now Any (λ m. Told old.now ≤ Told m) (LinkStep Questioning)
+    (λ m n here step so. omega (arith, so, longer_question m.outside n.outside step.outside)) old (omega arith) new s
+
+-- as a connection has been made, one thing was told
+pub one_told : (m : Moment) → IsGreeted m.outside → Told m ≡ 1
+one_told m fresh = ap (λ (t : Talk). length t.told) fresh.talk
+
+any_chain : (c : Clock) (xs : List Moment) → Chain Any AnyTwo c xs
+any_chain c [] = tt
+any_chain c (x ∷ xs) = (tt, tt, any_chain c xs)
+
+up : (old : Clock) (as bs cs : List Moment) → cs ≡ bs ++ as → Grows (grow old as) (grow old cs)
+up old as bs cs e = record { added = bs; grown = ap (grow old) e ∙ sym (grow_more old as bs); each = any_chain (grow old as) bs }
+
+same_rest : (b d : Moment) (xs ys : List Moment) → b ∷ xs ≡ d ∷ ys → xs ≡ ys
+same_rest b d xs ys e = cc
+
+-- of two clocks of one time the one comes before the other
+front_of : (old : Clock) (as bs cs ds : List Moment) → bs ++ as ≡ ds ++ cs → Grows (grow old as) (grow old cs) ⊎ Grows (grow old cs) (grow old as)
+front_of old as [] cs ds e = inr (up old cs ds as e)
+front_of old as (b ∷ bs) cs [] e = inl (up old as (b ∷ bs) cs (sym e))
+front_of old as (b ∷ bs) cs (d ∷ ds) e = front_of old as bs cs ds (same_rest b d (bs ++ as) (ds ++ cs) e)
+
+pub in_order : (old k l new : Clock) → Grows old k → Grows k new → Grows old l → Grows l new → Grows k l ⊎ Grows l k
+in_order old k l new a b c d =
+    let one = grows_then old k new a b in
+    let two = grows_then old l new c d in
+    let same = grow_same old one.added two.added (sym one.grown ∙ two.grown) in
+    subst (λ (x : Clock). Grows x l ⊎ Grows l x) (sym a.grown)
+    (subst (λ (x : Clock). Grows (grow old a.added) x ⊎ Grows x (grow old a.added)) (sym c.grown)
+    (front_of old a.added b.added c.added d.added same))
+
+same_clock : (k l : Clock) → k.now ≡ l.now → k.past ≡ l.past → k ≡ l
+same_clock k l n p = ap (λ (m : Moment). record { now = m; past = k.past }) n ∙ ap (λ (ms : List Moment). record { now = l.now; past = ms }) p
+
+same_head : (b d : Moment) (xs ys : List Moment) → b ∷ xs ≡ d ∷ ys → b ≡ d
+same_head b d xs ys e = cc
+
+-- the clock before a tick
+tick_same : (k l : Clock) (m n : Moment) → tick k m ≡ tick l n → k ≡ l
+tick_same k l m n e =
+    let pasts = ap (λ (x : Clock). x.past) e in
+    same_clock k l (same_head k.now l.now k.past l.past pasts) (same_rest k.now l.now k.past l.past pasts)
+
+before_tick : (k at : Clock) (to : Moment) (xs : List Moment) → tick at to ≡ grow k xs → (tick at to ≡ k → ⊥) → Grows k at
+before_tick k at to [] e other = absurd (other e)
+before_tick k at to (x ∷ xs) e other = record { added = xs; grown = tick_same at (grow k xs) to x e; each = any_chain k xs }
+
+-- A moment at which a greeting alone was told comes before one behind which more than that was told, over the same connection.
+pub greeted_before : (old k at new : Clock) (to : Moment) → Grows old k → Grows k new → Grows old at → Linked Questioning (tick at to) new →
+    IsGreeted k.now.outside → 1 < Told to → Grows k at
+greeted_before old k at new to a b c behind fresh more =
+    let t = tick at to in
+    let reach = grows_then old at t c (record { added = to ∷ []; grown = refl; each = (tt, tt, tt) }) in
+    let left = grows Any (LinkStep Questioning) t new behind in
+    let other : t ≡ k → ⊥ = λ same. omega (arith, more, one_told k.now fresh, ap (λ (x : Clock). Told x.now) same) in
+    ⊎_elim (λ (g : Grows k t). before_tick k at to g.added g.grown other)
+    (λ (g : Grows t k). absurd (omega (arith, more, one_told k.now fresh,
+    longer_on t k (since_first Any (LinkStep Questioning) t k new g b behind)))) (in_order old k t new a b reach left)
