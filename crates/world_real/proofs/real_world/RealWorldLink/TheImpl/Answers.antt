@@ -9,6 +9,7 @@ connect-tells g c = record {
   files = λ tells. absurd tells;
   told = λ tells. absurd tells;
   begins = λ tells. absurd tells;
+  anew = λ tells. absurd tells;
   greets = λ tells. absurd tells;
   sent = λ tells. absurd tells;
   unsent = λ tells. absurd tells;
