@@ -106,11 +106,11 @@ pub lacks_none : (d : Dialogue) → Questions d → Remains d → (count : ℕ) 
 lacks_none (Ends rev2) q s count item old x y fit first some t serving = t
 lacks_none (Lacks what) q s count item old x y fit first some t serving = fit
 lacks_none (Asks command next) q s count item old x y fit first some (r, at, replied, rest) serving =
-    let then : Point = record { clock = at; sent = x.sent ++ next_text count command } in
-    let more = talked_asks (next r) (q.1 r) (s.1 r) (count + 1) item then y rest in
+    let later : Point = record { clock = at; sent = x.sent ++ next_text count command } in
+    let more = talked_asks (next r) (q.1 r) (s.1 r) (count + 1) item later y rest in
     let asks = replied_asks count command r x.clock at replied q.0 s.0 in
     let serves = replied_serves count command r x.clock at replied q.0 s.0 old y.clock first some more serving in
-    lacks_none (next r) (q.1 r) (s.1 r) (count + 1) item old then y (fit r (serves.provides replied.accepted))
+    lacks_none (next r) (q.1 r) (s.1 r) (count + 1) item old later y (fit r (serves.provides replied.accepted))
     (grows_then old x.clock at first (grows Any (LinkStep Questioning) x.clock at asks)) (omega (arith, some, longer_on x.clock at asks)) rest serving
 
 -- what is offered is enough

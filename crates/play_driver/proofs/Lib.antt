@@ -52,4 +52,9 @@ pub mod Served
 pub mod Longer
 pub mod Fitness
 pub mod EntersServed
+pub mod Unrenewed
+pub mod Renewing
+pub mod ToHave
+pub mod ValidFaults
+pub mod RenewedEntered
 pub mod CompleteRun

@@ -63,23 +63,24 @@ any_chain : (c : Clock) (xs : List Moment) → Chain Any AnyTwo c xs
 any_chain c [] = tt
 any_chain c (x ∷ xs) = (tt, tt, any_chain c xs)
 
-up : (old : Clock) (as bs cs : List Moment) → cs ≡ bs ++ as → Grows (grow old as) (grow old cs)
-up old as bs cs e = record { added = bs; grown = ap (grow old) e ∙ sym (grow_more old as bs); each = any_chain (grow old as) bs }
+up : (old : Clock) (ks ls ms : List Moment) → ms ≡ ls ++ ks → Grows (grow old ks) (grow old ms)
+up old ks ls ms e = record { added = ls; grown = ap (grow old) e ∙ sym (grow_more old ks ls); each = any_chain (grow old ks) ls }
 
 same_rest : (b d : Moment) (xs ys : List Moment) → b ∷ xs ≡ d ∷ ys → xs ≡ ys
 same_rest b d xs ys e = cc
 
 -- of two clocks of one time the one comes before the other
-front_of : (old : Clock) (as bs cs ds : List Moment) → bs ++ as ≡ ds ++ cs → Grows (grow old as) (grow old cs) ⊎ Grows (grow old cs) (grow old as)
-front_of old as [] cs ds e = inr (up old cs ds as e)
-front_of old as (b ∷ bs) cs [] e = inl (up old as (b ∷ bs) cs (sym e))
-front_of old as (b ∷ bs) cs (d ∷ ds) e = front_of old as bs cs ds (same_rest b d (bs ++ as) (ds ++ cs) e)
+front_of : (old : Clock) (ks ls ms ns : List Moment) → ls ++ ks ≡ ns ++ ms → Grows (grow old ks) (grow old ms) ⊎ Grows (grow old ms) (grow old ks)
+front_of old ks [] ms ns e = inr (up old ms ns ks e)
+front_of old ks (b ∷ ls) ms [] e = inl (up old ks (b ∷ ls) ms (sym e))
+front_of old ks (b ∷ ls) ms (d ∷ ns) e = front_of old ks ls ms ns (same_rest b d (ls ++ ks) (ns ++ ms) e)
+
+whole : (old mid new : Clock) (a : Grows old mid) (b : Grows mid new) → new ≡ grow old (b.added ++ a.added)
+whole old mid new a b = b.grown ∙ ap (λ (x : Clock). grow x b.added) a.grown ∙ grow_more old a.added b.added
 
 pub in_order : (old k l new : Clock) → Grows old k → Grows k new → Grows old l → Grows l new → Grows k l ⊎ Grows l k
 in_order old k l new a b c d =
-    let one = grows_then old k new a b in
-    let two = grows_then old l new c d in
-    let same = grow_same old one.added two.added (sym one.grown ∙ two.grown) in
+    let same = grow_same old (b.added ++ a.added) (d.added ++ c.added) (sym (whole old k new a b) ∙ whole old l new c d) in
     subst (λ (x : Clock). Grows x l ⊎ Grows l x) (sym a.grown)
     (subst (λ (x : Clock). Grows (grow old a.added) x ⊎ Grows x (grow old a.added)) (sym c.grown)
     (front_of old a.added b.added c.added d.added same))
@@ -109,5 +110,9 @@ greeted_before old k at new to a b c behind fresh more =
     let left = grows Any (LinkStep Questioning) t new behind in
     let other : t ≡ k → ⊥ = λ same. omega (arith, more, one_told k.now fresh, ap (λ (x : Clock). Told x.now) same) in
     ⊎_elim (λ (g : Grows k t). before_tick k at to g.added g.grown other)
-    (λ (g : Grows t k). absurd (omega (arith, more, one_told k.now fresh,
-    longer_on t k (since_first Any (LinkStep Questioning) t k new g b behind)))) (in_order old k t new a b reach left)
+    (λ (g : Grows t k). absurd (omega (
+      arith,
+      more,
+      one_told k.now fresh,
+      longer_on t k (since_first Any (LinkStep Questioning) t k new g b behind),
+    ))) (in_order old k t new a b reach left)

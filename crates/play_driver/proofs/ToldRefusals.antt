@@ -37,7 +37,7 @@ use Rattle.play_driver.specs.Recording.NotRecorded.{wanting as record_wanting, d
 use Rattle.play_driver.specs.Refusals.{DeniesQuestion, NeverTold, RefusesRun}
 use Rattle.play_driver.specs.Resynchronising.{resync}
 use Rattle.play_driver.specs.Stages.{Broke, Stage}
-use Rattle.play_driver.specs.Turning.{Standing}
+use Rattle.play_driver.specs.Turning.{Standing, TurnFails}
 use Rattle.play_driver.specs.Turning.TurnFails.{wanting, not_recorded, not_told, not_chosen, not_answered, not_heard}
 use Rattle.play_driver.specs.declared.fault.PlayFault.TheVariants as faults
 

@@ -4,7 +4,9 @@ use Rattle.play_driver.proofs.ManyTurns.{gone_on, gone_start, is_sound, joined_o
 use Rattle.play_driver.proofs.OverOne.{talks_then}
 use Rattle.play_driver.proofs.Parts.{grows_then}
 use Rattle.play_driver.proofs.Progressing.{later_start, later_then, progress_grows, progress_start, progress_then, sides_start, sides_then}
+use Rattle.play_driver.proofs.Renewing.{renewed_on}
 use Rattle.play_driver.proofs.Shortness.{runs_on, runs_start}
+use Rattle.play_driver.proofs.ValidFaults.{memory_valid}
 use Rattle.play_driver.specs.Faults.{IsReplyFault}
 use Rattle.play_driver.specs.Sessions.{permits_in}
 use Rattle.play_driver.specs.Settled.{IsSyncedSoFar}
@@ -58,6 +60,12 @@ returns-in_err-need-clause-faultless g c = λ t made kept known fair fault is at
     subst IsReplyFault
     (told_as (λ (e : AllocError). faults.Memory) c.from_residual.result c.in_err-need.field-0.0 c.from_residual.ensures.1 fault is) at_reply
 
+pub returns-in_err-need-clause-valid : goal.returns-in_err-need-clause-valid
+returns-in_err-need-clause-valid g c = λ t made kept known fair none box was now is.
+    memory_valid box was now
+    (told_as (λ (e : AllocError). faults.Memory) c.from_residual.result c.in_err-need.field-0.0 c.from_residual.ensures.1
+    (faults.Validity box was now) is)
+
 -- nothing is needed
 pub returns-then-is_finished-clause-joined : goal.returns-then-is_finished-clause-joined
 returns-then-is_finished-clause-joined g c = λ t made kept known fair. (c.loop-at.invariant.gone t made kept known fair).joined
@@ -97,6 +105,18 @@ returns-in_err-at-clause-faultless g c = λ t made kept known fair fault is at_r
     kept (progress_grows _ _ _ (c.loop-at.invariant.progress f)) (c.loop-at.invariant.gone t made kept known) (g.W.Clocked.clock c.turn.new.world)
     (progress_grows _ _ _ (c.turn.ensures.progress f)) ⊥ fair
     (λ first here knows second. c.turn.ensures.faultless t made here knows second fault (search rules) at_reply)
+
+pub returns-in_err-at-clause-valid : goal.returns-in_err-at-clause-valid
+returns-in_err-at-clause-valid g c = λ t made kept known fair none box was now is.
+    let f = g.W.Clocked.server_with_files t in
+    so_on made (g.W.Clocked.clock c.args.world.now) (g.W.Clocked.clock c.loop-at.world) (permits_in c.loop-at.at) c.loop-at.player
+    c.loop-at.store.book
+    kept (progress_grows _ _ _ (c.loop-at.invariant.progress f)) (c.loop-at.invariant.gone t made kept known) (g.W.Clocked.clock c.turn.new.world)
+    (progress_grows _ _ _ (c.turn.ensures.progress f)) ⊥ fair
+    (λ first here knows second. c.turn.ensures.valid t made here knows second
+    (renewed_on c.args.store.now.book c.loop-at.store.book (g.W.Clocked.clock c.args.world.now) (g.W.Clocked.clock c.loop-at.world)
+    (c.loop-at.invariant.talks t) c.loop-at.invariant.later none)
+    box was now (search rules))
 
 pub returns-in_err-at-clause-each_one_side : goal.returns-in_err-at-clause-each_one_side
 returns-in_err-at-clause-each_one_side g c = λ t. sides_then _ _ _ (c.loop-at.invariant.each_one_side t) (c.turn.ensures.each_one_side t)

@@ -1,14 +1,17 @@
 use Rattle.std.specs.Option.{option_copied}
+use Rattle.std.proofs.Common.{refl}
 use Rattle.action_queue.specs.Book.{cache_at, meaning}
 use Rattle.play_driver.specs.Faults.{of_session, of_unheard}
 use Rattle.play_driver.specs.Sessions.{count_of, permits_in, selected_in}
 use Rattle.play_driver.specs.Stages.{stage_of}
+use Rattle.play_driver.specs.declared.fault.PlayFault.TheVariants as faults
 use Rattle.play_driver.specs.declared.session.Session.TheVariants as sessions
 use Rattle.play_driver.proofs.Faulting.{told_as}
 use Rattle.play_driver.proofs.Faultless.{chosen_faultless, resync_whole, session_faultless}
 use Rattle.play_driver.proofs.Folds.{fold_sound}
 use Rattle.play_driver.proofs.GatheredKnown.{asks_joined, chosen_known, chosen_read}
 use Rattle.play_driver.proofs.GatheredTaken.{came_chosen, chosen_takes, chosen_keeps, not_asked, not_taken, refused_as, taken_delta}
+use Rattle.play_driver.proofs.ValidFaults.{chosen_valid, session_valid}
 use Rattle.play_driver.proofs.selecting.select.Goals as goal
 
 pub returns-in_err-answer-clause-joined : goal.returns-in_err-answer-clause-joined
@@ -97,3 +100,19 @@ returns-in-Err-clause-faultless g c = λ t stands fair fault is.
     c.in_ok-answer.answer.1 (selected_in c.args.session) (count_of c.args.session) c.in_ok-answer.answer.0.conversation.count
     c.in_ok-answer.answer.0.permits (c.in_ok-answer.ensures.value t) c.args.player.now c.in-Err.unheard fault c.in-Err.ensures.why
     (refused_as c.unheard_of.result fault (of_unheard c.args.name.now c.in-Err.unheard) is c.unheard_of.ensures)
+
+pub returns-in_err-answer-clause-valid : goal.returns-in_err-answer-clause-valid
+returns-in_err-answer-clause-valid g c = λ t stands fair none box was now is.
+    let f = c.in_err-answer.field-0.0 in
+    session_valid f (faults.Validity box was now)
+    (told_as of_session c.from_residual.result f c.from_residual.ensures.1 (faults.Validity box was now) is) box was now refl
+
+pub returns-in-Err-clause-valid : goal.returns-in-Err-clause-valid
+returns-in-Err-clause-valid g c = λ t stands fair none box was now is.
+    chosen_valid (meaning c.args.book.now) _ _ stands fair none (c.resynchronise.ensures.asks t) c.args.name.now
+    (option_copied c.cache_in-kept.result) c.cache_in-kept.ensures
+    c.in_ok-answer.answer.1 (selected_in c.args.session) (count_of c.args.session) c.in_ok-answer.answer.0.conversation.count
+    c.in_ok-answer.answer.0.permits (c.in_ok-answer.ensures.value t) c.args.player.now c.requires.needed c.in-Err.unheard
+    (faults.Validity box was now) c.in-Err.ensures.why
+    (refused_as c.unheard_of.result (faults.Validity box was now) (of_unheard c.args.name.now c.in-Err.unheard) is c.unheard_of.ensures)
+    box was now refl

@@ -9,6 +9,7 @@ use Rattle.play_driver.proofs.OneTurn.{known_of, selects_turn, stands_back, stan
 use Rattle.play_driver.proofs.OverOne.{over_talks}
 use Rattle.play_driver.proofs.Parts.{grows}
 use Rattle.play_driver.proofs.Progressing.{firm_left, linked_progress, linked_sides, rests_left}
+use Rattle.play_driver.proofs.Renewing.{renewed_back}
 use Rattle.play_driver.proofs.turning.turn_selects.Goals as goal
 
 pub returns-in_err-chosen-clause-progress : goal.returns-in_err-chosen-clause-progress
@@ -95,3 +96,10 @@ returns-in_err-chosen-clause-faultless g c = λ t made kept known fair fault is.
     (stands_back _ _ c.book.ensures _
     (stands_kept c.args.store.now _ _ _ _ _ (c.requires.left (g.W.Clocked.server_with_files t)) (c.requires.stands t) kept))
     fair fault (search rules)
+
+pub returns-in_err-chosen-clause-valid : goal.returns-in_err-chosen-clause-valid
+returns-in_err-chosen-clause-valid g c = λ t made kept known fair none box was now is.
+    c.select.ensures.valid t
+    (stands_back _ _ c.book.ensures _
+    (stands_kept c.args.store.now _ _ _ _ _ (c.requires.left (g.W.Clocked.server_with_files t)) (c.requires.stands t) kept))
+    fair (renewed_back _ _ c.book.ensures _ none) box was now (search rules)
