@@ -184,7 +184,8 @@ returns-clause-serves g c = λ t serving.
     let at = so_far (g.L.Clocked.clock c.greet.new.link) (g.L.Clocked.link c.greet.new.link) in
     let mid = so_far (g.L.Clocked.clock c.authenticate.new.link) (g.L.Clocked.link c.authenticate.new.link) in
     let new = so_far (g.L.Clocked.clock c.enable.new.link) (g.L.Clocked.link c.enable.new.link) in
-    let asks = asks_behind (g.L.Clocked.clock c.connect.new.link) at mid _ (entering_asks greeted.preauth c.args.account.now)
+    let asks = asks_behind (g.L.Clocked.clock c.connect.new.link) at mid (entering greeted.preauth c.args.account.now)
+    (entering_asks greeted.preauth c.args.account.now)
     (entering_remains greeted.preauth c.args.account.now) greeted.conversation.count (answers_over _ _ (c.greet.ensures.told t))
     (c.authenticate.ensures.told t) in
     let served = served_end _ _ (enters_talking _ _ (returns-clause-once g c t)) serving in (
