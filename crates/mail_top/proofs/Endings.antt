@@ -283,4 +283,4 @@ module _ (account : Credentials) (words : List (List ℕ)) (input : List ℕ) (k
   pub completes_play : Asks words input Play → (b : Meaning) → HasBook mail b k.seen → (r ≡ status.Link → ⊥) → (r ≡ status.Limit → ⊥) →
       (IsTheServers r → ⊥) → IsPlayed r
   completes_play asks b holds no_link no_limit serves =
-      play_done account k b holds r text (ended_as account words input k r text Play asks ends cause).says no_disk no_output no_link no_limit serves
+      play_done account k b holds r text (ended_as account words input k r text Play asks ends cause) no_disk no_output no_link no_limit serves

@@ -86,7 +86,7 @@ book_owned None s w kept = kept.none
 book_owned (Some b) s w kept = kept.once.owned
 
 -- where the book is kept, each change is of an action that wants it
-kept_owned : (m : Moment) → IsKeptNow m → IsOwnedNow m
+pub kept_owned : (m : Moment) → IsKeptNow m → IsOwnedNow m
 kept_owned m kept = record {
   each = λ files left b holds.
       let held = kept.each files left in

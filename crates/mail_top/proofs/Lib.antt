@@ -17,3 +17,4 @@ pub mod Repeated
 pub mod Sayings
 pub mod Wording
 pub mod PlayServed
+pub mod Effects

@@ -1,6 +1,6 @@
 //! What holds of many runs, one behind another.
 
-ghost use Rattle.std.specs.Prelude.{◌≡◌, ◌<◌, ◌≤◌, ℕ, List, None, length};
+ghost use Rattle.std.specs.Prelude.{◌≡◌, ◌<◌, ◌≤◌, ℕ, List, None, codes, if◌then◌else◌, length};
 ghost use Rattle.mail_base.specs.Account.{Credentials};
 ghost use Rattle.mail_base.specs.declared.status.Status.{Status};
 ghost use Rattle.imap_model.specs.Ours.{ours};
@@ -11,11 +11,15 @@ ghost use Rattle.store_core.specs.HeldActions.{IsHeld};
 ghost use Rattle.action_queue.specs.Book.{Meaning};
 ghost use Rattle.action_queue.specs.Writable.{IsWritable};
 ghost use Rattle.action_queue.specs.declared.action.Action.{Action};
+ghost use Rattle.action_queue.specs.declared.outcome.Kind.{Kind};
+ghost use Rattle.conflict_report.specs.ReportLines.{effect_text};
+ghost use Rattle.playback.specs.Once.{is_unsure};
 ghost use Rattle.play_driver.specs.Joining.{Grows};
 ghost use Rattle.mail_top.specs.Actions.{Becomes, accepts};
 ghost use Rattle.mail_top.specs.Course.{Course};
 ghost use Rattle.mail_top.specs.FairRuns.{FollowsFairly};
 ghost use Rattle.mail_top.specs.Going.{Goes};
+ghost use Rattle.mail_top.specs.Headline.{IsOwnedNow};
 ghost use Rattle.mail_top.specs.KeptNow.{IsKeptNow};
 ghost use Rattle.mail_top.specs.Leaving.{LosesNone};
 ghost use Rattle.mail_top.specs.Runs.{CutOff, Follows, BeginsWith, AcceptsAt, AreUnbegunOrBook, IsReady, HasNames, AnyBook};
@@ -61,6 +65,9 @@ pub fn runs_one_behind_another()
     // So over all of them no action's number has two changes in the server's history.
     ensures twice { (first last : Moment) → IsReady AnyBook first → IsKeptNow first → FollowsFairly first last → (n : ℕ) →
         length (ours n last.outside.server.history) ≤ 1 }
+
+    // And each change that is this client's is one that an action wants of the book that a stop leaves.
+    ensures owned { (first last : Moment) → IsReady AnyBook first → IsKeptNow first → FollowsFairly first last → IsOwnedNow last }
 {}
 
 /// Words and an input ask for one thing at most.
@@ -78,4 +85,9 @@ pub fn one_action_is_asked_for()
 pub fn admitted_actions_have_records()
     ensures { (words : List (List ℕ)) (input : List ℕ) (wanted : Wanted) (b : Meaning) (id : ℕ) (action : Action) →
         AsksAction words input wanted → Admits wanted b id action → IsWritable (accepts b action) }
+{}
+
+/// The line by which `report` tells a conflict says `unsure` where its action may have taken effect, and `nothing` where it has not.
+pub fn reports_tell_the_effect()
+    ensures { (kind : Kind) → effect_text kind ≡ (if is_unsure kind then codes " unsure" else codes " nothing") }
 {}

@@ -1,4 +1,5 @@
 use Rattle.mail_top.proofs.Repeated.{restart_begins, follows_held, accepted_stays, accepted_before, follows_ready, follows_any, follows_names}
+use Rattle.mail_top.proofs.Headlines.{kept_owned}
 use Rattle.mail_top.proofs.KeptRuns.{cuts, fair_follows, follows_kept, follows_few}
 use Rattle.mail_top.proofs.runs.runs_one_behind_another.Goals as goal
 
@@ -34,3 +35,6 @@ returns-clause-kept c = follows_kept
 
 pub returns-clause-twice : goal.returns-clause-twice
 returns-clause-twice c = follows_few
+
+pub returns-clause-owned : goal.returns-clause-owned
+returns-clause-owned c = λ first last ready kept follows. kept_owned last (follows_kept first last ready kept follows)
