@@ -1,6 +1,6 @@
 -- A run enters at a server that serves: nothing is lacking.
 use Rattle.std.proofs.Common.{◌≡◌, inl, inr, ℕ, List, Option, Some, arith}
-use Rattle.imap_model.specs.Talking.{Answering, Connecting}
+use Rattle.imap_model.specs.Talking.{Connecting}
 use Rattle.imap_model.specs.declared.item.Item.{Item}
 use Rattle.imap_session.specs.Dialogue.{Dialogue, Point, Talked, TalkedOut}
 use Rattle.imap_session.specs.Faults.{NoHello}
@@ -15,7 +15,7 @@ use Rattle.play_driver.specs.Questioning.{ConnectsFirst, Questioning, TalkStep}
 use Rattle.play_driver.specs.Serving.{AllServing}
 use Rattle.play_driver.proofs.Fitness.{LacksNothing, lacks_none}
 use Rattle.play_driver.proofs.Longer.{longer_on, one_told}
-use Rattle.play_driver.proofs.OverOne.{answers_over, over_talks, talks_over}
+use Rattle.play_driver.proofs.OverOne.{over_talks, talks_over}
 use Rattle.play_driver.proofs.Parts.{grows, grows_then}
 use Rattle.play_driver.proofs.Remaining.{Remains}
 

@@ -13,7 +13,7 @@ use Rattle.world_traits.specs.Asking.{Asking}
 use Rattle.world_traits.specs.Asking.Asking.{answers, arrives}
 use Rattle.world_traits.specs.Connected.{IsGreeted}
 use Rattle.world_traits.specs.Links.{Any, LinkStep, Linked}
-use Rattle.world_traits.specs.Moments.{Chain, Clock, Moment, Since, grow, tick}
+use Rattle.world_traits.specs.Moments.{Chain, Clock, Moment, grow, tick}
 use Rattle.world_traits.proofs.Traces.{carried_now, grow_same}
 use Rattle.play_driver.specs.Joining.{AnyTwo, Grows}
 use Rattle.play_driver.specs.Questioning.{Questioning}

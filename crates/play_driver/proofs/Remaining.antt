@@ -1,5 +1,5 @@
 -- No question by which a run enters is LOGOUT.
-use Rattle.std.proofs.Common.{◌≡◌, ◌≢◌, true, false, Bool, if◌then◌else◌}
+use Rattle.std.proofs.Common.{◌≢◌, true, false, Bool, if◌then◌else◌}
 use Rattle.std.specs.Prelude.{codes, ⊤}
 use Rattle.mail_base.specs.Account.{Credentials}
 use Rattle.imap_model.specs.declared.command.Command.TheVariants as commands

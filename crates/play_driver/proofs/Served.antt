@@ -1,5 +1,5 @@
 -- A served connection: what is told in it refuses nothing, as long as LOGOUT isn't asked; and behind that no question is denied.
-use Rattle.std.proofs.Common.{◌≡◌, ◌≢◌, ◌⊎◌, inl, inr, ⊎_elim, ℕ, List, [], ◌∷◌, ◌++◌, Option, Some, None, refl, sym, ◌∙◌, ap, subst}
+use Rattle.std.proofs.Common.{◌≡◌, ◌≢◌, ◌⊎◌, inl, inr, ⊎_elim, ℕ, List, [], ◌∷◌, ◌++◌, Some, None, refl, sym, ◌∙◌, ap, subst}
 use Rattle.std.proofs.lemmas.Option.{none-some, same_Some}
 use Rattle.mail_base.specs.declared.tag.Tag.{Tag}
 use Rattle.imap_model.specs.CarriedOut.{told_in}

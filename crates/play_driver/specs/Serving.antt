@@ -1,6 +1,6 @@
 -- A server that serves a run: it doesn't greet with BYE, offers what this client needs, refuses no question, and says BYE to LOGOUT alone
 -- (RFC 9051, sections 6.1.1, 6.2, 6.3.1 and 7.1; RFC 7162, section 3.2.3).
-use Rattle.std.specs.Prelude.{◌≡◌, ◌≢◌, ◌⊎◌, true, false, List, ◌++◌, Option, Some, codes}
+use Rattle.std.specs.Prelude.{◌≡◌, ◌≢◌, ◌⊎◌, true, false, ◌++◌, Some, codes}
 use Rattle.mail_base.specs.declared.tag.Tag.{Tag}
 use Rattle.mail_base.specs.declared.tag.Tag.TheVariants as tags
 use Rattle.imap_model.specs.CarriedOut.{told_in}

@@ -1,4 +1,4 @@
-use Rattle.std.proofs.Common.{ap, refl, rules, sym, ◌∙◌}
+use Rattle.std.proofs.Common.{ap, refl, sym, ◌∙◌}
 use Rattle.play_driver.specs.Turning.{standing_of}
 use Rattle.play_driver.specs.declared.fault.PlayFault.TheVariants as faults
 use Rattle.play_driver.proofs.OneTurn.{question_selected}
@@ -25,11 +25,11 @@ returns-in-Commit-clause-valid g c = λ t made kept known fair none box was now 
 pub returns-in-Settle-clause-valid : goal.returns-in-Settle-clause-valid
 returns-in-Settle-clause-valid g c = λ t made kept known fair none box was now is.
     turn_valid (standing_of (g.W.Clocked.link c.args.world.now) c.args.session c.args.store.now c.args.player.now) _ (faults.Validity box was now)
-    (c.turn_records.ensures.why (g.W.Clocked.server_with_files t) (faults.Validity box was now) is)
+    (c.turn_records-in-Settle.ensures.why (g.W.Clocked.server_with_files t) (faults.Validity box was now) is)
     (other_need _ _ c.requires.needed (ap is_select c.in-Settle.is)) box was now refl
 
 pub returns-in-Send-clause-valid : goal.returns-in-Send-clause-valid
 returns-in-Send-clause-valid g c = λ t made kept known fair none box was now is.
     turn_valid (standing_of (g.W.Clocked.link c.args.world.now) c.args.session c.args.store.now c.args.player.now) _ (faults.Validity box was now)
-    (c.turn_asks.ensures.why (g.W.Clocked.server_with_files t) (faults.Validity box was now) is)
+    (c.turn_asks-in-Send.ensures.why (g.W.Clocked.server_with_files t) (faults.Validity box was now) is)
     (other_need _ _ c.requires.needed (ap is_select c.in-Send.is)) box was now refl
