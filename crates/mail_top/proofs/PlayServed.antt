@@ -1,11 +1,8 @@
 -- A `play` at a server that serves it.
-use Rattle.std.proofs.Common.{◌≡◌, inl, inr, ⊎_elim, ℕ, zero, suc, Some, Result, Ok, Err, refl, sym, ◌∙◌, ap, subst}
+use Rattle.std.proofs.Common.{◌≡◌, ⊎_elim, ℕ, zero, suc, Result, Ok, refl, sym, ◌∙◌, subst}
 use Rattle.std.specs.Result.{IsErrAnd}
-use Rattle.mail_base.specs.declared.status.Status.{Status}
-use Rattle.mail_base.specs.declared.status.Status.TheVariants as status
 use Rattle.imap_model.specs.Talking.{Peer, greeted}
 use Rattle.imap_model.specs.declared.response.Response.TheVariants as responses
-use Rattle.imap_model.specs.declared.server.Server.{Server}
 use Rattle.world_traits.specs.Connected.{IsGreeted}
 use Rattle.world_traits.specs.Files.{Files}
 use Rattle.world_traits.specs.Links.{Any}

@@ -285,17 +285,19 @@ pub fn run<W: World, I: Source, S: Sink>(
     // No action that all images hold at entry is lost.
     ensures held { W.tells_files → LosesNone (W.clock world.old).now (W.clock world.new).now }
 
-    // Where the book is kept at entry and others are fair, each moment is kept, and joined to the one before it by one step of the
-    // book beside the server.
+    // Where one side was at rest at entry and its books are known and kept, and others are fair, each moment is kept, and joined to the
+    // one before it by one step of the book beside the server.
     ensures joined { W.tells_server → OneSideAtRest (W.clock world.old).now →
         (books : Books mail) → HasBooks mail books (W.clock world.old).now →
         IsKeptNow (W.clock world.old).now → StaysKept (W.clock world.old) (W.clock world.new) }
 
-    // And then no action takes effect twice: at each moment the server's history has at most one change of each.
+    // Where the book is kept at entry and others are fair, no action takes effect twice: at each moment the server's history has at
+    // most one change of each.
     ensures twice { W.tells_server → IsKeptNow (W.clock world.old).now →
         AllFair mail played (W.clock world.old) (W.clock world.new) → NeverTwice (W.clock world.old) (W.clock world.new) }
 
-    // Nor has the server's history a change of this client's that no action wants of the book that a stop leaves.
+    // Nor has the server's history, under the premises of `joined`, a change of this client's that no action wants of the book that a
+    // stop leaves.
     ensures owned { W.tells_server → OneSideAtRest (W.clock world.old).now →
         (books : Books mail) → HasBooks mail books (W.clock world.old).now → IsKeptNow (W.clock world.old).now →
         AllFair mail played (W.clock world.old) (W.clock world.new) → AlwaysOwned (W.clock world.old) (W.clock world.new) }
