@@ -26,8 +26,8 @@ use Rattle.world_traits.proofs.Passing.{since_start, since_then, since_tick}
 use Rattle.world_traits.proofs.Traces.{grow_same}
 use Rattle.play_driver.specs.Joining.{AnyTwo, Grows}
 use Rattle.play_driver.specs.Questioning.{Questioning}
-use Rattle.play_driver.specs.Serving.{AllServing, AllowsLogin, IsFit, IsServing, Provides, Serves}
-use Rattle.play_driver.proofs.Longer.{Told, greeted_before, longer, longer_on}
+use Rattle.play_driver.specs.Serving.{AllServing, AllowsLogin, IsFit, IsServing, Provides, Serves, begins_preauth}
+use Rattle.play_driver.proofs.Longer.{Told, begins_on, greeted_before, longer, longer_on}
 use Rattle.play_driver.proofs.OverOne.{asks_over}
 use Rattle.play_driver.proofs.Parts.{grows, grows_start, grows_then, since_first, since_second}
 use Rattle.play_driver.proofs.Remaining.{Remains}
@@ -72,7 +72,11 @@ module _ (count : ℕ) (command : Command) (r : Replies) (x y : Clock) (replied 
           longer (x.now.outside.talk.told ++ replied.answered.asked) (next_tag count) r,
         )
 
-    pub replied_serves : Serves (waiting_of None (next_tag count) command) r
+    -- and it began with the same greeting
+    pub replied_begins : begins_preauth replied.answered.became.at.now.outside.talk.told ≡ begins_preauth x.now.outside.talk.told
+    replied_begins = begins_on x replied.answered.became.at asked_before some
+
+    pub replied_serves : Serves replied.answered.became.at.now.outside.talk.told (waiting_of None (next_tag count) command) r
     replied_serves =
         let b = replied.answered.became in
         let reach = grows_then old x b.at first (grows Any (LinkStep Questioning) x b.at asked_before) in
@@ -94,71 +98,79 @@ talked_asks (Asks command next) q s count item x y (r, at, replied, rest) =
     since_then Any (LinkStep Questioning) x.clock at y.clock (replied_asks count command r x.clock at replied q.0 s.0)
     (talked_asks (next r) (q.1 r) (s.1 r) (count + 1) item (record { clock = at; sent = x.sent ++ next_text count command }) y rest)
 
--- whatever is replied, if it serves, nothing is lacking
-abbrev pub LacksNothing : Dialogue → ℕ → Type 0
-LacksNothing (Ends rev2) count = Unit {0}
-LacksNothing (Lacks item) count = ⊥
-LacksNothing (Asks command next) count =
-    (r : Replies) → Provides command (next_tag count) r → LacksNothing (next r) (count + 1)
+-- whatever is replied in a connection that began so, if it serves, nothing is lacking
+abbrev pub LacksNothing : Bool → Dialogue → ℕ → Type 0
+LacksNothing preauth (Ends rev2) count = Unit {0}
+LacksNothing preauth (Lacks item) count = ⊥
+LacksNothing preauth (Asks command next) count =
+    (r : Replies) (told : List Response) → begins_preauth told ≡ preauth → Provides told command (next_tag count) r →
+    LacksNothing preauth (next r) (count + 1)
 
-pub lacks_none : (d : Dialogue) → Questions d → Remains d → (count : ℕ) (item : Item) (old : Clock) (x y : Point) → LacksNothing d count →
-    Grows old x.clock → 1 ≤ Told x.clock.now → TalkedOut d count (Some item) x y → AllServing old y.clock → ⊥
-lacks_none (Ends rev2) q s count item old x y fit first some t serving = t
-lacks_none (Lacks what) q s count item old x y fit first some t serving = fit
-lacks_none (Asks command next) q s count item old x y fit first some (r, at, replied, rest) serving =
+pub lacks_none : (preauth : Bool) (d : Dialogue) → Questions d → Remains d → (count : ℕ) (item : Item) (old : Clock) (x y : Point) →
+    LacksNothing preauth d count → Grows old x.clock → 1 ≤ Told x.clock.now → begins_preauth x.clock.now.outside.talk.told ≡ preauth →
+    TalkedOut d count (Some item) x y → AllServing old y.clock → ⊥
+lacks_none preauth (Ends rev2) q s count item old x y fit first some began t serving = t
+lacks_none preauth (Lacks what) q s count item old x y fit first some began t serving = fit
+lacks_none preauth (Asks command next) q s count item old x y fit first some began (r, at, replied, rest) serving =
     let later : Point = record { clock = at; sent = x.sent ++ next_text count command } in
     let more = talked_asks (next r) (q.1 r) (s.1 r) (count + 1) item later y rest in
     let asks = replied_asks count command r x.clock at replied q.0 s.0 in
     let serves = replied_serves count command r x.clock at replied q.0 s.0 old y.clock first some more serving in
-    lacks_none (next r) (q.1 r) (s.1 r) (count + 1) item old later y (fit r (serves.provides replied.accepted))
-    (grows_then old x.clock at first (grows Any (LinkStep Questioning) x.clock at asks)) (omega (arith, some, longer_on x.clock at asks)) rest serving
+    let begins = replied_begins count command r x.clock at replied q.0 s.0 old y.clock first some more serving in
+    lacks_none preauth (next r) (q.1 r) (s.1 r) (count + 1) item old later y
+    (fit r replied.answered.became.at.now.outside.talk.told (begins ∙ began) (serves.provides replied.accepted))
+    (grows_then old x.clock at first (grows Any (LinkStep Questioning) x.clock at asks)) (omega (arith, some, longer_on x.clock at asks))
+    (begins_on x.clock at asks some ∙ began) rest serving
 
 -- what is offered is enough
-if_so : (test : Bool) (x y : Dialogue) (count : ℕ) → test ≡ true → LacksNothing x count → LacksNothing (if test then x else y) count
-if_so true x y count is fit = fit
-if_so false x y count is fit = absurd cc
+if_so : (p test : Bool) (x y : Dialogue) (count : ℕ) → test ≡ true → LacksNothing p x count → LacksNothing p (if test then x else y) count
+if_so p true x y count is fit = fit
+if_so p false x y count is fit = absurd cc
 
-if_either : (test : Bool) (x y : Dialogue) (count : ℕ) → LacksNothing x count → LacksNothing y count → LacksNothing (if test then x else y) count
-if_either true x y count a b = a
-if_either false x y count a b = b
+if_either : (p test : Bool) (x y : Dialogue) (count : ℕ) → LacksNothing p x count → LacksNothing p y count → LacksNothing p (if test then x else y) count
+if_either p true x y count a b = a
+if_either p false x y count a b = b
 
-if_not : (test : Bool) (x y : Dialogue) (count : ℕ) → test ≡ false → LacksNothing y count → LacksNothing (if test then x else y) count
-if_not true x y count is fit = absurd cc
-if_not false x y count is fit = fit
+if_not : (p test : Bool) (x y : Dialogue) (count : ℕ) → test ≡ false → LacksNothing p y count → LacksNothing p (if test then x else y) count
+if_not p true x y count is fit = absurd cc
+if_not p false x y count is fit = fit
 
-moves_lack_none : (r : Replies) (count : ℕ)
+moves_lack_none : (p : Bool) (r : Replies) (count : ℕ)
     → (offers r (codes "IMAP4rev2") ≡ true) ⊎ ((offers r (codes "UIDPLUS") ≡ true) × (offers r (codes "MOVE") ≡ true))
-    → LacksNothing (if offers r (codes "IMAP4rev2") then Ends true
+    → LacksNothing p (if offers r (codes "IMAP4rev2") then Ends true
     else (if offers r (codes "UIDPLUS") then (if offers r (codes "MOVE") then Ends false else Lacks items.Move) else Lacks items.Uidplus)) count
-moves_lack_none r count (inl rev2) = if_so (offers r (codes "IMAP4rev2")) _ _ count rev2 tt
-moves_lack_none r count (inr both) =
-    if_either (offers r (codes "IMAP4rev2")) _ _ count tt
-    (if_so (offers r (codes "UIDPLUS")) _ _ count both.0 (if_so (offers r (codes "MOVE")) _ _ count both.1 tt))
+moves_lack_none p r count (inl rev2) = if_so p (offers r (codes "IMAP4rev2")) _ _ count rev2 tt
+moves_lack_none p r count (inr both) =
+    if_either p (offers r (codes "IMAP4rev2")) _ _ count tt
+    (if_so p (offers r (codes "UIDPLUS")) _ _ count both.0 (if_so p (offers r (codes "MOVE")) _ _ count both.1 tt))
 
-fitness_lacks_none : (r : Replies) (count : ℕ) → IsFit r → LacksNothing (fitness r) count
-fitness_lacks_none r count fit = if_so (offers r (codes "QRESYNC")) _ _ count fit.qresync (moves_lack_none r count fit.moves)
+fitness_lacks_none : (p : Bool) (r : Replies) (count : ℕ) → IsFit r → LacksNothing p (fitness r) count
+fitness_lacks_none p r count fit = if_so p (offers r (codes "QRESYNC")) _ _ count fit.qresync (moves_lack_none p r count fit.moves)
 
 same_count : (m n : ℕ) → tags.Count m ≡ tags.Count n → m ≡ n
 same_count m n e = cc
 
 -- behind the connection's first question
-logged_in_lacks_none : (count : ℕ) → 0 < count → LacksNothing logged_in count
-logged_in_lacks_none count some = λ r provides.
-    fitness_lacks_none r (count + 1) (provides.1 (λ e. omega (arith, some, same_count (count + 1) 1 e)))
+logged_in_lacks_none : (p : Bool) (count : ℕ) → 0 < count → LacksNothing p logged_in count
+logged_in_lacks_none p count some = λ r told began provides.
+    fitness_lacks_none p r (count + 1) (provides.1 (λ e. omega (arith, some, same_count (count + 1) 1 e)))
 
-way_in_lacks_none : (account : Credentials) (r : Replies) (count : ℕ) → 0 < count → AllowsLogin r → LacksNothing (way_in account r) count
-way_in_lacks_none account r count some (inl plain) =
-    if_so (offers r (codes "AUTH=PLAIN")) _ _ count plain (λ s p. logged_in_lacks_none (count + 1) (omega (arith, some)))
-way_in_lacks_none account r count some (inr login) =
-    if_either (offers r (codes "AUTH=PLAIN")) _ _ count (λ s p. logged_in_lacks_none (count + 1) (omega (arith, some)))
-    (if_not (offers r (codes "LOGINDISABLED")) _ _ count login (λ s p. logged_in_lacks_none (count + 1) (omega (arith, some))))
+way_in_lacks_none : (p : Bool) (account : Credentials) (r : Replies) (count : ℕ) → 0 < count → AllowsLogin r → LacksNothing p (way_in account r) count
+way_in_lacks_none p account r count some (inl plain) =
+    if_so p (offers r (codes "AUTH=PLAIN")) _ _ count plain (λ s told began provides. logged_in_lacks_none p (count + 1) (omega (arith, some)))
+way_in_lacks_none p account r count some (inr login) =
+    if_either p (offers r (codes "AUTH=PLAIN")) _ _ count (λ s told began provides. logged_in_lacks_none p (count + 1) (omega (arith, some)))
+    (if_not p (offers r (codes "LOGINDISABLED")) _ _ count login (λ s told began provides. logged_in_lacks_none p (count + 1) (omega (arith, some))))
 
-behind_lacks_none : (preauth : Bool) (account : Credentials) (r : Replies) → AllowsLogin r → LacksNothing (behind_offer preauth account r) 1
-behind_lacks_none true account r allows = logged_in_lacks_none 1 (omega arith)
-behind_lacks_none false account r allows = way_in_lacks_none account r 1 (omega arith) allows
+behind_lacks_none : (preauth : Bool) (account : Credentials) (r : Replies) → (preauth ≡ false → AllowsLogin r) →
+    LacksNothing preauth (behind_offer preauth account r) 1
+behind_lacks_none true account r allows = logged_in_lacks_none true 1 (omega arith)
+behind_lacks_none false account r allows = way_in_lacks_none false account r 1 (omega arith) (allows refl)
 
-pub entering_lacks_none : (preauth : Bool) (account : Credentials) → LacksNothing (entering preauth account) 0
-entering_lacks_none preauth account = λ r provides. behind_lacks_none preauth account r (provides.0 refl)
+pub entering_lacks_none : (preauth : Bool) (account : Credentials) → LacksNothing preauth (entering preauth account) 0
+entering_lacks_none preauth account = λ r told began provides.
+    behind_lacks_none preauth account r (λ other. provides.0 refl (began ∙ other))
 
-pub enabling_lacks_none : (rev2 : Bool) (count : ℕ) → LacksNothing (enabling rev2) count
-enabling_lacks_none rev2 count = λ r provides. if_so (is_enabled (codes "QRESYNC") r.untagged) _ _ (count + 1) provides tt
+pub enabling_lacks_none : (preauth rev2 : Bool) (count : ℕ) → LacksNothing preauth (enabling rev2) count
+enabling_lacks_none preauth rev2 count = λ r told began provides.
+    if_so preauth (is_enabled (codes "QRESYNC") r.untagged) _ _ (count + 1) provides tt

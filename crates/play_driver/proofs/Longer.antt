@@ -18,6 +18,7 @@ use Rattle.world_traits.proofs.Traces.{carried_now, grow_same}
 use Rattle.play_driver.specs.Joining.{AnyTwo, Grows}
 use Rattle.play_driver.specs.Questioning.{Questioning}
 use Rattle.play_driver.specs.Questioning.Questioning.{answering, asking}
+use Rattle.play_driver.specs.Serving.{begins_preauth}
 use Rattle.play_driver.proofs.Parts.{grow_more, grows, grows_then, since_first}
 
 abbrev pub Told : Moment → ℕ
@@ -54,6 +55,41 @@ pub longer_on : (old new : Clock) → Linked Questioning old new → Told old.no
 longer_on old new s =
     carried_now Any (λ m. Told old.now ≤ Told m) (LinkStep Questioning)
     (λ m n here step so. omega (arith, so, longer_question m.outside n.outside step.outside)) old (omega arith) new s
+
+-- and it begins as it began
+front_same : (xs ys : List Response) → 1 ≤ length xs → begins_preauth (xs ++ ys) ≡ begins_preauth xs
+front_same [] ys some = absurd (omega (arith, some))
+front_same (x ∷ xs) ys some = refl
+
+begins_answer : (p q : Peer) → Answering p q → 1 ≤ length p.talk.told → begins_preauth q.talk.told ≡ begins_preauth p.talk.told
+begins_answer p q stays some = refl
+begins_answer p q (others t batch) some = refl
+begins_answer p q (goes_on a is unasked) some = front_same p.talk.told (responses.Go ∷ []) some
+begins_answer p q (refuses a r is unasked refusal) some = front_same p.talk.told (told_in a.tag r) some
+begins_answer p q (carries w r t after is out) some = front_same p.talk.told (told_in w.tag r) some
+
+begins_arrives : (tag : Tag) (command : Command) (before : List (List ℕ)) (part : List ℕ) (behind : List (List ℕ)) (p : Peer) →
+    begins_preauth (arrived tag command before part behind p).talk.told ≡ begins_preauth p.talk.told
+begins_arrives tag command before part [] p = refl
+begins_arrives tag command before part (next ∷ behind) p = refl
+
+begins_asking : (told : List Response) (tag : Tag) (command : Command) (p q : Peer) → Asking told tag command p q → 1 ≤ length p.talk.told →
+    begins_preauth q.talk.told ≡ begins_preauth p.talk.told
+begins_asking told tag command p q (answers step) some = begins_answer p q step some
+begins_asking told tag command p q (arrives before part behind is awaits first) some = begins_arrives tag command before part behind p
+
+begins_question : (p q : Peer) → Questioning p q → 1 ≤ length p.talk.told → begins_preauth q.talk.told ≡ begins_preauth p.talk.told
+begins_question p q (answering step) some = begins_answer p q step some
+begins_question p q (asking told tag command question remains step) some = begins_asking told tag command p q step some
+
+pub begins_on : (old new : Clock) → Linked Questioning old new → 1 ≤ Told old.now →
+    begins_preauth new.now.outside.talk.told ≡ begins_preauth old.now.outside.talk.told
+begins_on old new s some =
+    (carried_now Any (λ m. (1 ≤ Told m) × (begins_preauth m.outside.talk.told ≡ begins_preauth old.now.outside.talk.told)) (LinkStep Questioning)
+    (λ m n here step so. (
+      omega (arith, so.0, longer_question m.outside n.outside step.outside),
+      begins_question m.outside n.outside step.outside so.0 ∙ so.1,
+    )) old (some, refl) new s).1
 
 -- as a connection has been made, one thing was told
 pub one_told : (m : Moment) → IsGreeted m.outside → Told m ≡ 1

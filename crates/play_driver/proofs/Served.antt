@@ -22,8 +22,13 @@ use Rattle.world_traits.proofs.Traces.{carried_now, since_both}
 use Rattle.play_driver.specs.Questioning.{ConnectsFirst, Conversing, RunStep, TalkStep}
 use Rattle.play_driver.specs.Questioning.Conversing.{answering, sending}
 use Rattle.play_driver.specs.Refusals.{DeniesQuestion, IsBye, NeverTold, RefusesRun}
-use Rattle.play_driver.specs.Serving.{AllServing, IsServed, IsServing, ServesOn}
+use Rattle.play_driver.specs.Serving.{AllServing, IsServing, ServesOn}
 use Rattle.play_driver.proofs.Parts.{grows, since_second}
+
+-- in this connection nothing was refused, and no LOGOUT waits
+pub record IsServed (p : Peer) : Type 0 where
+  pub told : NeverTold RefusesRun p.talk.told
+  pub remains : (w : Waiting) → p.waiting ≡ Some w → w.command ≢ commands.Logout
 
 never_more : (P : Response → Type 0) (xs ys : List Response) → NeverTold P xs → NeverTold P ys → NeverTold P (xs ++ ys)
 never_more P [] ys a b = b

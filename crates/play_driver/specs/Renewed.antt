@@ -22,8 +22,8 @@ HasValidity boxes name validity = validity_of (box_at name boxes) ≡ validity
 abbrev pub DeedStands : List Mailbox → Deed → Type 0
 DeedStands boxes d = HasValidity boxes (receiver d.name d.change) d.received
 
--- The target's mailbox has the UIDVALIDITY that the target names; or that under which the action's message came there which the target is
--- the dummy of, if it has come. (Actions are counted from 1.)
+-- The target's mailbox has the UIDVALIDITY that the target names; or, of a dummy, the one under which the message came that its action
+-- made, if it came. (Actions are counted from 1.)
 abbrev pub TargetStands : Server → Target → Type 0
 TargetStands s (targets.Real name validity uid) = HasValidity s.boxes name validity
 TargetStands s (targets.Dummy n) = AllByRecursion (DeedStands s.boxes) (ours (suc (n - 1)) s.history)

@@ -1,4 +1,4 @@
-use Rattle.std.proofs.Common.{◌∙◌, ℕ, arith, rules, subst, sym}
+use Rattle.std.proofs.Common.{◌∙◌, ℕ, arith, refl, rules, subst, sym}
 use Rattle.imap_session.proofs.Talks.{answers_enquires, connects_enquires, enabling_asks, entering_asks}
 use Rattle.imap_session.proofs.Talking.{linked_then}
 use Rattle.imap_session.specs.Dialogue.{so_far}
@@ -11,7 +11,8 @@ use Rattle.play_driver.proofs.OverOne.{answers_over, connects_first, enabling_ov
 use Rattle.play_driver.specs.Entering.NotEntered.{unconnected, ungreeted}
 use Rattle.play_driver.specs.Stages.{Stage}
 use Rattle.play_driver.specs.Refusals.{RefusesRun}
-use Rattle.play_driver.proofs.EntersServed.{asks_behind, enters_talking, greeting_lacks, lacks_behind, link_lacks, link_refuses}
+use Rattle.play_driver.specs.Serving.{begins_preauth}
+use Rattle.play_driver.proofs.EntersServed.{asks_behind, began_so, enters_talking, greeting_lacks, lacks_behind, link_lacks, link_refuses}
 use Rattle.play_driver.proofs.Fitness.{LacksNothing, enabling_lacks_none, entering_lacks_none}
 use Rattle.play_driver.proofs.Remaining.{enabling_remains, entering_remains}
 use Rattle.play_driver.proofs.Served.{served_end}
@@ -103,10 +104,10 @@ returns-in_err-known-clause-serves g c = λ t serving.
       λ line is.
           let why = returns-in_err-known-clause-why g c f (faults.Refused line) is in
           never_told RefusesRun _ served.told (entry_told _ _ _ line _ why (g.met.L.Link.honest c.authenticate.new.link t)),
-      λ item is. lacks_behind _ _ (c.connect.ensures.told t) (c.in_ok-fresh.ensures.greeted t) at new d
+      λ item is. lacks_behind _ _ (c.connect.ensures.told t) (c.in_ok-fresh.ensures.greeted t) at new greeted.preauth d
           (entering_asks greeted.preauth c.args.account.now) (entering_remains greeted.preauth c.args.account.now) greeted.conversation.count item
-          (answers_over _ _ (c.greet.ensures.told t))
-          (subst (λ (n : ℕ). LacksNothing d n) (sym (c.in_ok-greeted.ensures.counted ∙ c.in_ok-fresh.ensures.counted))
+          (answers_over _ _ (c.greet.ensures.told t)) (began_so greeted.preauth _ (c.in_ok-greeted.ensures.begun t))
+          (subst (λ (n : ℕ). LacksNothing greeted.preauth d n) (sym (c.in_ok-greeted.ensures.counted ∙ c.in_ok-fresh.ensures.counted))
           (entering_lacks_none greeted.preauth c.args.account.now))
           (c.authenticate.ensures.lacking t item (search rules)) serving,
     )
@@ -192,7 +193,8 @@ returns-clause-serves g c = λ t serving.
       λ line is.
           let why = returns-clause-why g c f (faults.Refused line) is in
           never_told RefusesRun _ served.told (entry_told _ _ _ line _ why (g.met.L.Link.honest c.enable.new.link t)),
-      λ item is. lacks_behind _ _ (c.connect.ensures.told t) (c.in_ok-fresh.ensures.greeted t) mid new (enabling known.rev2)
-          (enabling_asks known.rev2) (enabling_remains known.rev2) known.conversation.count item asks
-          (enabling_lacks_none known.rev2 known.conversation.count) (c.enable.ensures.lacking t item is) serving,
+      λ item is. lacks_behind _ _ (c.connect.ensures.told t) (c.in_ok-fresh.ensures.greeted t) mid new
+          (begins_preauth (g.L.Clocked.clock c.authenticate.new.link).now.outside.talk.told) (enabling known.rev2) (enabling_asks known.rev2)
+          (enabling_remains known.rev2) known.conversation.count item asks refl
+          (enabling_lacks_none (begins_preauth (g.L.Clocked.clock c.authenticate.new.link).now.outside.talk.told) known.rev2 known.conversation.count) (c.enable.ensures.lacking t item is) serving,
     )
