@@ -14,7 +14,7 @@ _mowerbean_ids() {
 }
 
 _mowerbean() {
-    local word=${COMP_WORDS[COMP_CWORD]} at=1 place dir
+    local word=${COMP_WORDS[COMP_CWORD]} at=1 place dir account=default
     local -a _mowerbean_front=() words=()
     local configs=${XDG_CONFIG_HOME:-$HOME/.config}/mowerbean
     COMPREPLY=()
@@ -26,19 +26,23 @@ _mowerbean() {
                 if ((at + 1 >= COMP_CWORD)); then
                     break
                 fi
-                _mowerbean_front=(-a "${COMP_WORDS[at + 1]}")
-                dir=$(sed -n 's/^ *dir *= *//p' "$configs/${COMP_WORDS[at + 1]}.conf" 2>/dev/null)
-                # shellcheck disable=SC2088  # the tilde is the file's
-                case $dir in
-                    '~/'*) dir=$HOME/${dir#'~/'} ;;
-                    '') dir=${XDG_DATA_HOME:-$HOME/.local/share}/mowerbean/${COMP_WORDS[at + 1]} ;;
-                esac
-                local MAIL_DIR=${MAIL_DIR-$dir}
+                account=${COMP_WORDS[at + 1]}
+                _mowerbean_front=(-a "$account")
                 ((at += 2))
                 ;;
             *) break ;;
         esac
     done
+    # The journal's folder, as the front takes it.
+    if [[ -r $configs/$account.conf ]]; then
+        dir=$(sed -n 's/^ *dir *= *//p' "$configs/$account.conf")
+        # shellcheck disable=SC2088  # the tilde is the file's
+        case $dir in
+            '~/'*) dir=$HOME/${dir#'~/'} ;;
+            '') dir=${XDG_DATA_HOME:-$HOME/.local/share}/mowerbean/$account ;;
+        esac
+        local MAIL_DIR=${MAIL_DIR-$dir}
+    fi
     if [[ ${COMP_WORDS[COMP_CWORD - 1]} == -a ]] && ((at == COMP_CWORD - 1)); then
         local file
         for file in "$configs"/*.conf; do
