@@ -1,0 +1,85 @@
+-- The world that a drill begins with: two empty files, and a server that nothing has happened to.
+use Rattle.std.proofs.Common.{◌≡◌, ℕ, List, [], ◌∷◌, None, Result, Ok, Err, IfOk, refl, sym, ◌∙◌, ap, subst, arith}
+use Rattle.std.specs.Prelude.{codes}
+use Rattle.imap_model.specs.WellFormed.{IsWellFormed}
+use Rattle.imap_model.specs.declared.server.Mailbox.{Mailbox}
+use Rattle.journal_core.specs.Creating.{IsUnbegun}
+use Rattle.world_traits.specs.Files.{Files}
+use Rattle.world_traits.specs.Moments.{Rests}
+use Rattle.world_traits.specs.declared.disk.Side.TheVariants.{Left, Right}
+use Rattle.world_traits.proofs.Resting.{resting}
+use Rattle.server_mem.specs.Offers.{atoms}
+use Rattle.server_mem.specs.States.{State, disconnected, fresh}
+use Rattle.world_mem.specs.Planned.{unbegun}
+use Rattle.world_mem.specs.Running.{Run, start}
+use Rattle.world_mem.specs.Worlds.{planned_of, run_in}
+use Rattle.world_mem.specs.declared.mem_world.MemWorld.{MemWorld}
+use Rattle.world_mem.specs.declared.plan.Plan.{Plan}
+use Rattle.playback.proofs.Carrying.{nothing_waits}
+use Rattle.mail_top.specs.KeptNow.{IsKeptNow}
+use Rattle.mail_drill.specs.Alone.{is_alone}
+use Rattle.mail_drill.specs.Beginning.{IsNew, boxes_at_first}
+use Rattle.mail_drill.specs.Misfortunes.{nothing_fails}
+
+-- two empty files
+abbrev empty : Files
+empty = record { left = []; right = [] }
+
+-- no side of them is begun
+none_begun : IsUnbegun empty
+none_begun Left begun = absurd (omega (arith, begun.long))
+none_begun Right begun = absurd (omega (arith, begun.long))
+
+-- what the server offers, which are atoms
+abbrev offers_at_first : List (List ℕ)
+offers_at_first = codes "IMAP4rev2" ∷ codes "QRESYNC" ∷ []
+
+-- the run of a world of empty files, of these mailboxes and of what the server offers
+abbrev new_run : List Mailbox → List (List ℕ) → Run
+new_run boxes offers = start empty (disconnected (fresh boxes offers)) None
+
+-- all that its files read as is on the disk
+at_rest : (boxes : List Mailbox) (offers : List (List ℕ)) → Rests (new_run boxes offers).clock.now empty
+at_rest boxes offers = record { left = refl; right = refl }
+
+-- without a journal, a change of this client or a command that waits, the moment is a kept one
+is_kept : (boxes : List Mailbox) (offers : List (List ℕ)) → IsWellFormed boxes → IsKeptNow (new_run boxes offers).clock.now
+is_kept boxes offers well = record {
+  each = λ files leaves. record {
+    book = None;
+    holds = subst IsUnbegun (sym (resting (new_run boxes offers).clock.now empty files (at_rest boxes offers) leaves)) none_begun;
+    related = record { well = well; none = tt; quiet = nothing_waits };
+  };
+}
+
+-- a world of that run in which nothing fails is a new one
+is_new : (size : ℕ) (world : MemWorld) (boxes : List Mailbox) (offers : List (List ℕ)) → run_in world ≡ new_run boxes offers →
+    planned_of world ≡ unbegun nothing_fails → IsWellFormed boxes → boxes ≡ boxes_at_first size → offers ≡ offers_at_first → IsNew size world
+is_new size world boxes offers run plan well boxes_are offers_are = record {
+  rests = subst (λ (r : Run). Rests r.clock.now r.seen) (sym run) (at_rest boxes offers);
+  unbegun = subst (λ (r : Run). IsUnbegun r.seen) (sym run) none_begun;
+  kept = subst (λ (r : Run). IsKeptNow r.clock.now) (sym run) (is_kept boxes offers well);
+  boxes = ap (λ (r : Run). r.clock.now.outside.server.boxes) run ∙ boxes_are;
+  history = ap (λ (r : Run). r.clock.now.outside.server.history) run;
+  offers = ap (λ (r : Run). r.state.choices.offers) run ∙ offers_are;
+  planned = plan;
+  alone = ap (λ (r : Run). is_alone r.clock) run;
+}
+
+-- two files without bytes and a server as it is made give that run
+same_run : (left right : List ℕ) (server : State) (boxes : List Mailbox) (offers : List (List ℕ)) → left ≡ [] → right ≡ [] →
+    server ≡ fresh boxes offers → start (record { left = left; right = right }) (disconnected server) None ≡ new_run boxes offers
+same_run left right server boxes offers none_left none_right is =
+    ap (λ (l : List ℕ). start (record { left = l; right = right }) (disconnected server) None) none_left
+    ∙ ap (λ (l : List ℕ). start (record { left = []; right = l }) (disconnected server) None) none_right
+    ∙ ap (λ (s : State). start empty (disconnected s) None) is
+
+-- so is the one that is made of two empty files and of a server of these mailboxes, if one is made
+pub new_world : {E : Type 0} (r : Result MemWorld E) (size : ℕ) (left right : List ℕ) (server : State) (boxes : List Mailbox)
+    (offers : List (List ℕ)) (plan : Plan) → IfOk r (λ world. run_in world ≡ start (record { left = left; right = right }) (disconnected server) None) →
+    IfOk r (λ world. planned_of world ≡ unbegun plan) → left ≡ [] → right ≡ [] → server ≡ fresh boxes (atoms offers) → plan ≡ nothing_fails →
+    IsWellFormed boxes → boxes ≡ boxes_at_first size → offers ≡ offers_at_first → IfOk r (IsNew size)
+new_world (Ok world) size left right server boxes offers plan run planned none_left none_right is quiet well boxes_are offers_are =
+    is_new size world boxes (atoms offers) (run ∙ same_run left right server boxes (atoms offers) none_left none_right is)
+    (planned ∙ ap (λ (p : Plan). unbegun p) quiet) well boxes_are (ap (λ (l : List (List ℕ)). atoms l) offers_are)
+new_world (Err fault) size left right server boxes offers plan run planned none_left none_right is quiet well boxes_are offers_are = tt

@@ -1,0 +1,10 @@
+-- The count so far, and that of what is left, are the whole count.
+use Rattle.std.proofs.Common.{◌≡◌, ◌+◌, ◌≤◌, drop}
+use Rattle.mail_drill.specs.Counted.{how_many, is_settled, settled_in}
+use Rattle.mail_drill.proofs.counting.settled_in.Given as goal
+
+abbrev pub invariant-loop-place : goal.invariant-loop-place
+invariant-loop-place l = record {
+  counted : l.count + how_many is_settled l.place (drop l.place l.queue.items) ≡ settled_in l.queue.items;
+  within : l.count ≤ l.place;
+}

@@ -1,0 +1,17 @@
+-- Where all is played, the line tells what became of the actions.
+use Rattle.mail_drill.proofs.Endings.{all_played, limit_passed}
+use Rattle.mail_drill.proofs.PlayingOn.{plays_on}
+use Rattle.mail_drill.proofs.drilling.finished.Goals as goal
+
+pub returns-in-Limit : goal.returns-in-Limit
+returns-in-Limit c = λ task b has asked gives count all.
+    c.limited.ensures task
+    (limit_passed task c.args.world.value.world c.in_ok-both.both.0.value.world c.args.draws c.in_ok-both.both.1 c.in-Limit.line c.in-Limit.is
+    c.in_ok-both.ensures.rounds gives)
+
+pub returns-in_ok-line-in-Played : goal.returns-in_ok-line-in-Played
+returns-in_ok-line-in-Played c = λ task b has asked gives count all.
+    all_played task b c.in_ok-both.both.0.value asked c.args.world.value.world c.args.draws c.deref.result.now c.in_ok-both.both.1 c.args.given
+    c.in_ok-counts-in-Played.counts c.in_ok-line-in-Played.line.items c.deref.ensures c.in-Played.is
+    (c.in_ok-both.ensures.ends b (plays_on b c.args.world.value has)) c.in_ok-both.ensures.rounds gives c.in_ok-counts-in-Played.ensures
+    c.in_ok-line-in-Played.ensures count all

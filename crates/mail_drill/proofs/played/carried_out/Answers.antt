@@ -1,0 +1,20 @@
+use Rattle.std.proofs.Common.{◌∙◌, sym, arith}
+use Rattle.mail_drill.proofs.Courses.{has_run, passes_limit}
+use Rattle.mail_drill.proofs.played.carried_out.Goals as goal
+
+pub returns-in-Limit-clause-broken : goal.returns-in-Limit-clause-broken
+returns-in-Limit-clause-broken c =
+    passes_limit _ _ c.args.input.items c.args.world.now c.run-status.new.world c.run-status.result c.new-input.result c.new-input.ensures
+    c.new-out.result c.run-status.new.out c.new-out.ensures c.in-Limit.is (c.run-status.ensures.goes tt)
+    (omega (arith, c.if-refused-gt0.false, c.refused.ensures)) c.of.result
+    (c.of.ensures ∙ c.in_ok-to_vec-in-Limit.ensures.items_if_clones_equal (λ x y same. same) ∙ c.bytes.ensures)
+
+pub returns : goal.returns
+returns c = record {
+  done = has_run _ _ c.args.input.items c.args.world.now c.run-status.new.world c.run-status.result c.new-input.result c.new-input.ensures
+      c.new-out.result c.run-status.new.out c.new-out.ensures (c.run-status.ensures.goes tt) (sym c.is_short.ensures ∙ c.if-is_short.false)
+      c.run-status.ensures.one_side c.run-status.ensures.each_one_side c.run-status.ensures.joined c.run-status.ensures.owned
+      c.run-status.ensures.synced c.run-status.ensures.finishes c.run-status.ensures.once_or_reported;
+  no_limit = c.in_default.not-Limit;
+  broken = tt;
+}

@@ -1,0 +1,39 @@
+use Rattle.std.proofs.Common.{◌+◌, arith}
+use Rattle.mail_drill.specs.Held.{none}
+use Rattle.mail_drill.specs.declared.rounds.Turn.TheVariants as turns
+use Rattle.mail_drill.proofs.RoundSteps.{last_ends, lent_plays, lent_runs, round_again, round_ends}
+use Rattle.mail_drill.proofs.rounds.play_through.Goals as goal
+
+pub loop-round-init : goal.loop-round-init
+loop-round-init c = record { played = none; plays_on = λ b before. before }
+
+pub loop-round-preserved : goal.loop-round-preserved
+loop-round-preserved c =
+    let l = c.loop-round in
+    record {
+      played = round_again c.args.world.value.world c.args.draws.now l.round l.draws l.pick l.world.value.world c.in_ok-begun.begun.value.world
+          c.played.new.world.world l.invariant.played (omega (arith, c.loop-round-test.true)) c.in_ok-begun.ensures.begins
+          (lent_runs c.in_ok-ended.field-0 turns.Again c.in-Again.is c.deref_mut.result.now c.in_ok-begun.begun.value c.played.new.world
+          c.deref_mut.ensures.value c.in_ok-ended.ensures.runs) (l.round + 1) c.begun_round.new.draws c.in_ok-begun.next (omega arith)
+          c.in_ok-begun.ensures.draws c.in_ok-begun.ensures.pick;
+      plays_on = λ b before.
+          lent_plays b c.in_ok-ended.field-0 turns.Again c.in-Again.is c.deref_mut.result.now c.in_ok-begun.begun.value c.played.new.world
+          c.deref_mut.ensures.value (c.in_ok-ended.ensures.turns b) (c.in_ok-begun.ensures.plays b (l.invariant.plays_on b before));
+    }
+
+pub returns-in-Ended-clause-rounds : goal.returns-in-Ended-clause-rounds
+returns-in-Ended-clause-rounds c =
+    let l = c.loop-round in
+    round_ends c.args.world.value.world c.args.draws.now l.round l.draws l.pick l.world.value.world c.in_ok-begun.begun.value.world
+    c.played.new.world.world l.invariant.played (omega (arith, c.loop-round-test.true)) c.in_ok-begun.ensures.begins c.in-Ended.ended
+    (lent_runs c.in_ok-ended.field-0 (turns.Ended c.in-Ended.ended) c.in-Ended.is c.deref_mut.result.now c.in_ok-begun.begun.value c.played.new.world
+    c.deref_mut.ensures.value c.in_ok-ended.ensures.runs)
+
+pub returns-in-Ended-2-clause-rounds : goal.returns-in-Ended-2-clause-rounds
+returns-in-Ended-2-clause-rounds c =
+    let l = c.loop-round in
+    last_ends c.args.world.value.world c.args.draws.now l.round l.draws l.pick l.world.value.world c.in_ok-world.world.value.world
+    c.played-2.new.world.world l.invariant.played (omega (arith, c.loop-round-test.false, l.auto.round-end)) c.no_plan.result c.no_plan.ensures
+    c.in_ok-world.ensures.begins c.in-Ended-2.ended
+    (lent_runs c.in_ok-ended-2.field-0 (turns.Ended c.in-Ended-2.ended) c.in-Ended-2.is c.deref_mut-2.result.now c.in_ok-world.world.value
+    c.played-2.new.world c.deref_mut-2.ensures.value c.in_ok-ended-2.ensures.runs)

@@ -1,0 +1,16 @@
+pub mod Accepted
+pub mod Alone
+pub mod Answering
+pub mod Asked
+pub mod Beginning
+pub mod Came
+pub mod Counted
+pub mod Drilled
+pub mod Held
+pub mod Misfortunes
+pub mod Orders
+pub mod Ran
+pub mod Rounds
+pub mod Standing
+pub mod Tasks
+pub mod Texts
