@@ -3,8 +3,9 @@
 An event is a tuple: ('begin', names), ('accept', number, action), ('intend', number, intent), ('settle', number, outcome) or
 ('learn', mailbox, whole, validity, highest, uidnext, gone, rows), a row being (uid, modseq, flags).
 An action is ('flag', target, sign, flags), ('move', target, to) or ('append', to, flags, text), a target
-('real', mailbox, validity, uid) or ('dummy', number). An intent is ('store', mailbox, validity, uid, modseq), ('shift', mailbox, validity, uid, to) or
-('put', to, validity, uidnext). An outcome is ('done',), ('done', validity, uid) or ('conflict', kind, numbers).
+('real', mailbox, validity, uid) or ('dummy', number).
+An intent is ('store', mailbox, validity, uid, modseq), ('shift', mailbox, validity, uid, to) or ('put', to, validity, uidnext).
+An outcome is ('done',), ('done', validity, uid) or ('conflict', kind, numbers).
 """
 import struct
 from typing import Dict, Iterable, List, Optional, Tuple

@@ -192,6 +192,10 @@ class Scenario:
         return ''.join(text + '\n' + ''.join(' ' + line + '\n' for line in printed) for text, printed in self.lines if text)
 
 
+# The first line of a file that is made. It is a comment, and changes nothing of what the program prints.
+MADE = '# Made by tools/make-cases (tools/scenarios/%s.py): a case that is added here by hand is lost when it runs again.\n'
+
+
 class Cases:
     """The text of a file of cases."""
 
@@ -204,8 +208,8 @@ class Cases:
     def head(self, scenario: Scenario) -> None:
         self.text += scenario.case()
 
-    def write(self, folder: str, name: str) -> None:
-        """Writes the file, and says how many cases, lines and bytes it has."""
+    def write(self, folder: str, name: str, maker: str) -> None:
+        """Writes the file that a generator makes, and says how many cases, lines and bytes it has."""
         with open('%s/data/%s.txt' % (folder, name), 'w') as file:
-            file.write(self.text)
+            file.write(MADE % maker + self.text)
         print(name, self.text.count('\n== '), self.text.count('\n'), len(self.text))

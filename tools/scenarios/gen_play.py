@@ -406,12 +406,12 @@ def main(folder):
     cases = Cases(PLAY)
     for make in MAKERS:
         make(cases)
-    cases.write(folder, 'play')
+    cases.write(folder, 'play', 'gen_play')
     cases = Cases(CUTS)
     cuts(cases)
-    cases.write(folder, 'cuts')
-    Lost(FIRST_TIME, WORKED, BEGUN, 19, 16).all().write(folder, 'losses')
-    Lost(LATER_ON, LATER, BOTH_LEARNED, 17, 17).all().write(folder, 'later_losses')
+    cases.write(folder, 'cuts', 'gen_play')
+    Lost(FIRST_TIME, WORKED, BEGUN, 19, 16).all().write(folder, 'losses', 'gen_play')
+    Lost(LATER_ON, LATER, BOTH_LEARNED, 17, 17).all().write(folder, 'later_losses', 'gen_play')
 
 
 if __name__ == '__main__':

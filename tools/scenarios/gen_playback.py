@@ -510,11 +510,11 @@ def main(folder):
     cases = Cases(PLAYBACK)
     for make in MAKERS:
         make(cases)
-    cases.write(folder, 'playback')
-    drawn().write(folder, 'drawn')
-    Lost('A move and a change of flags where it comes are', moved).all().write(folder, 'lost_moves')
-    Lost('An append is', appended).all().write(folder, 'lost_appends')
-    Lost('A move is', one_move).all().write(folder, 'lost_one_move')
+    cases.write(folder, 'playback', 'gen_playback')
+    drawn().write(folder, 'drawn', 'gen_playback')
+    Lost('A move and a change of flags where it comes are', moved).all().write(folder, 'lost_moves', 'gen_playback')
+    Lost('An append is', appended).all().write(folder, 'lost_appends', 'gen_playback')
+    Lost('A move is', one_move).all().write(folder, 'lost_one_move', 'gen_playback')
 
 
 if __name__ == '__main__':

@@ -775,7 +775,7 @@ def main(folder):
     cases.head(worked_server())
     for make in MAKERS:
         make(cases)
-    cases.write(folder, 'words')
+    cases.write(folder, 'words', 'gen_words')
 
 
 if __name__ == '__main__':
