@@ -10,7 +10,7 @@ from model.scenario import Cases, Scenario  # noqa: E402
 # The worked server: two mailboxes, two messages; and the records that tell of it.
 OFFERS = ('IMAP4rev2', 'QRESYNC')
 M40, M42 = b'Message-ID: <m40@x>\r\n\r\n', b'Message-ID: <m42@x>\r\n\r\n'
-WORKED = [('INBOX', 5, 44, 715, [(40, 700, M40, '\\Seen'), (42, 715, M42)], []), ('Archive', 9, 7, 300, [], [])]
+WORKED: list = [('INBOX', 5, 44, 715, [(40, 700, M40, '\\Seen'), (42, 715, M42)], []), ('Archive', 9, 7, 300, [], [])]
 BEGIN = begin('INBOX', 'Archive')
 INBOX_LEARNED = learn('INBOX', 1, 5, 715, 44, [], [(40, 700, ['\\Seen']), (42, 715, [])])
 ARCHIVE_LEARNED = learn('Archive', 1, 9, 300, 7, [], [])
@@ -67,31 +67,31 @@ check_reading()
 class Told(Scenario):
     """A scenario in which what is printed is also written by hand."""
 
-    def gives(self, status, *command):
+    def gives(self, status: int, *command: str) -> None:
         """A command that ends with this status."""
         told = self.run(*command)
         assert told == status, (command, told)
 
-    def says(self, command, *printed):
+    def says(self, command: str, *printed: str) -> None:
         """A command of bare words, and the lines that it prints."""
         self.run(*command.split())
         told = [line[2:] for line in self.lines[-1][1][1:-1]]
         assert told == list(printed), (command, told, printed)
 
-    def refuses(self, reason, *commands):
+    def refuses(self, reason: str, *commands: str) -> None:
         for command in commands:
             self.says(command, 'refused ' + reason)
 
-    def looks(self):
+    def looks(self) -> None:
         self.run('queue')
         self.lists('INBOX', 'Archive')
 
-    def put(self, text, *command):
+    def put(self, text: bytes, *command: str) -> None:
         self.input(text)
         self.run('append', *command)
 
 
-def worked_server():
+def worked_server() -> Told:
     """A scenario over the worked server, whose mailboxes were synchronised."""
     scenario = Told()
     scenario.server(OFFERS, WORKED, left=BOTH_LEARNED)
@@ -103,13 +103,13 @@ def worked_server():
 HEADS = len(worked_server().lines)
 
 
-def without_head():
+def without_head() -> Told:
     scenario = Told()
     scenario.lines = [('', [])] * HEADS
     return scenario
 
 
-def over(left, right=b''):
+def over(left: bytes, right: bytes = b'') -> Told:
     """A scenario over files of its own."""
     scenario = without_head()
     scenario.server((), left=left, right=right)
@@ -117,6 +117,6 @@ def over(left, right=b''):
     return scenario
 
 
-def add(cases, title, scenario):
+def add(cases: Cases, title: str, scenario: Scenario) -> None:
     scenario.lines = scenario.lines[HEADS:]
     cases.add(title, scenario)

@@ -11,7 +11,7 @@ from model.server import Box
 from model.world import World
 
 
-def language(s):
+def language(s: Scenario) -> None:
     s.note('The lines of the language, once each. docs/SCENARIOS.md has what they mean.', '',
         'A comment is printed byte for byte: "quotes", \\escapes, double  spaces, and \u00e4.')
     s.gap()
@@ -45,7 +45,7 @@ def language(s):
     s.gap()
 
 
-def changes_by_others(s):
+def changes_by_others(s: Scenario) -> None:
     s.note('Changes by another client, and the rules that they may break.')
     for c in [('add', 'INBOX', 44, b'', '\\Flagged', '\\Recent'), ('set', 'INBOX', 42, 'work', '\\Seen'), ('drop', 'INBOX', 40),
         ('shift', 'INBOX', 42, 'Sent Mail', 7),
@@ -67,7 +67,7 @@ def changes_by_others(s):
     s.gap()
 
 
-def plans(s):
+def plans(s: Scenario) -> None:
     s.note('Each plan, before `world` and behind it. These commands don\'t call the link, or read their input.')
     for l in ['server', 'disk 1', 'link 1 nothing', 'link 2 part 0', 'link 3 part 4294967295', 'link 4 all', 'link 5 waits done',
         'link 6 waits dropped',
@@ -90,7 +90,7 @@ def plans(s):
     s.gap()
 
 
-def scripted(s):
+def scripted(s: Scenario) -> None:
     s.note('A world of a script has the files and no server. What was planned is forgotten.')
     for l in ['server QRESYNC', 'mailbox INBOX 5 44 715', 'mailbox INBOX 5 44 715', 'files %s -' % BOTH_LEARNED.hex(),
         'piece "* OK [CAPABILITY IMAP4rev2] hello\\r\\n"',
@@ -109,7 +109,7 @@ def scripted(s):
     s.gap()
 
 
-def inits(s):
+def inits(s: Scenario) -> None:
     s.note('`init`, `flag` and `list`.', '',
         '`init` sets up the journal: in the left file the head, one record, and a closed gate. It makes 11 calls of the disk.')
     s.server(OFFERS, WORKED)
@@ -139,7 +139,7 @@ def inits(s):
     s.gap()
 
 
-def flags(s):
+def flags(s: Scenario) -> None:
     s.note('A message of a mailbox that was never synchronised isn\'t known, and a mailbox without a cache shows no rows.')
     s.server((), left=BEGUN)
     s.stand()
@@ -174,7 +174,7 @@ def flags(s):
     s.gap()
 
 
-def no_journals(s):
+def no_journals(s: Scenario) -> None:
     s.note('Without a journal there is nothing to write in, and files that are none are left.')
     s.server(())
     s.stand()
@@ -193,7 +193,7 @@ def no_journals(s):
     s.gap()
 
 
-def odd_words(s):
+def odd_words(s: Scenario) -> None:
     s.note('Words that are none of a command: nothing is read or written.')
     s.server((), left=BOTH_LEARNED)
     s.stand()
@@ -211,7 +211,7 @@ def odd_words(s):
     s.gap()
 
 
-def faults(s):
+def faults(s: Scenario) -> None:
     s.note('The output fails: the status is 12 where the command was done, and else stays.')
     s.server(())
     s.stand()
@@ -234,7 +234,7 @@ def faults(s):
     s.gap()
 
 
-def failing_calls(s):
+def failing_calls(s: Scenario) -> None:
     s.note('Each call of the disk that `init` makes fails in turn. The next one sets up the journal; '
         'where the last sync failed it is there.')
     for n in range(1, 13):
@@ -264,7 +264,7 @@ def failing_calls(s):
     s.gap()
 
 
-def stops(s):
+def stops(s: Scenario) -> None:
     s.note('`init` stops behind each number of calls. Up to the tenth call a stop leaves no journal; at the write of its first gate '
         'none, or', 'the whole of it; and then the whole of it.')
     for n in range(0, 12):
@@ -288,7 +288,7 @@ def stops(s):
             s.run('flag', 'INBOX', '40', '+', '\\Draft')
 
 
-def tally(folder):
+def tally(folder: str) -> str:
     """What the program counts at its end: the lines of all cases, with those in front of the first case once for each."""
     count = lambda text: sum(1 for line in text.split('\n')[1:] if line and line[0] not in ' #')
     lines = cases = 0
@@ -299,12 +299,12 @@ def tally(folder):
     return '%d lines\n%d passed, 0 failed\n' % (lines, cases)
 
 
-def read(name):
+def read(name: str) -> str:
     with open(name) as file:
         return file.read()
 
 
-def write(name, text):
+def write(name: str, text: str) -> None:
     with open(name, 'w') as file:
         file.write(text)
 
@@ -312,7 +312,7 @@ def write(name, text):
 MAKERS = [language, changes_by_others, plans, scripted, inits, flags, no_journals, odd_words, faults, failing_calls, stops]
 
 
-def main(folder):
+def main(folder: str) -> None:
     s = Scenario()
     for make in MAKERS:
         make(s)

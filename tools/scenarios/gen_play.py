@@ -15,14 +15,14 @@ LATER = [('INBOX', 5, 119, 730, [(40, 700, M40, '\\Seen'), (42, 715, M42), (118,
     ('Archive', 9, 7, 300, [], [])]
 
 
-def worked(s, **more):
+def worked(s: Scenario, **more) -> None:
     s.server(OFFERS, WORKED, **more)
     s.stand()
 
 
 # Scenarios by name.
 
-def served(c):
+def served(c: Cases) -> None:
     s = Scenario()
     worked(s)
     s.run('init', 'INBOX', 'Archive')
@@ -50,7 +50,7 @@ def served(c):
     c.add('nothing changed since: each mailbox is recorded all the same', s)
 
 
-def later(c):
+def later(c: Cases) -> None:
     s = Scenario()
     worked(s, left=BOTH_LEARNED)
     s.change('add', 'INBOX', 118, b'x', '$Forwarded', '\\Recent')
@@ -90,7 +90,7 @@ def later(c):
     c.add('the greatest UID and the greatest mod-sequence', s)
 
 
-def offers(c):
+def offers(c: Cases) -> None:
     for title, offered, account in [
         ('AUTHENTICATE PLAIN where it is offered', ('IMAP4rev2', 'QRESYNC', 'AUTH=PLAIN'), None),
         ('also where LOGIN is disabled', ('IMAP4rev2', 'QRESYNC', 'LOGINDISABLED', 'auth=plain'), None),
@@ -119,7 +119,7 @@ def offers(c):
         c.add(title, s)
 
 
-def around_the_commands(c):
+def around_the_commands(c: Cases) -> None:
     s = Scenario()
     s.server(OFFERS, WORKED, left=BOTH_LEARNED)
     s.stand()
@@ -146,7 +146,7 @@ def around_the_commands(c):
     c.add('the output fails: all the same it is recorded', s)
 
 
-def others_and_the_end(c):
+def others_and_the_end(c: Cases) -> None:
     s = Scenario()
     worked(s, left=BEGUN)
     s.other(13, 'add', 'INBOX', 118, b'x', '$Forwarded')
@@ -188,7 +188,7 @@ def others_and_the_end(c):
     c.add('a command that doesn\'t call the link doesn\'t close it', s)
 
 
-def scripts(c):
+def scripts(c: Cases) -> None:
     script(c, 'a script says what the worked server says', BEGUN, WHOLE, 0, PLAYED, SENT_WHOLE, after=BOTH_LEARNED,
         lists=['INBOX', 'Archive'])
     script(c, 'all that it says comes at once', BEGUN, [b''.join(WHOLE)], 0, PLAYED, SENT_WHOLE, after=BOTH_LEARNED, lists=['INBOX'])
@@ -222,7 +222,7 @@ def scripts(c):
         0, PLAYED, SENT_AGAIN, after=journal(BEGIN, INBOX_LEARNED, ARCHIVE_LEARNED, *AGAIN))
 
 
-def refusals(c):
+def refusals(c: Cases) -> None:
     script(c, 'the greeting is BYE', BEGUN, [crlf('* BYE busy')], 5, 'error refused: * BYE busy', [])
     script(c, 'the user is refused', BEGUN, ENTERED[:2] + [crlf('C2 NO [AUTHENTICATIONFAILED] no')], 5,
         'error refused: C2 NO [AUTHENTICATIONFAILED] no', FIRST[:2])
@@ -237,7 +237,7 @@ def refusals(c):
         FIRST)
 
 
-def no_replies(c):
+def no_replies(c: Cases) -> None:
     at = len(GREETING)
     script(c, 'the greeting ends with LF alone', BEGUN, [b'* OK hi\n'], 6, 'error reply 7', [])
     script(c, 'the first line is no greeting', BEGUN, [crlf('* 1 EXISTS')], 6, 'error reply 0', [])
@@ -250,7 +250,7 @@ def no_replies(c):
     script(c, 'it says nothing', BEGUN, [], 4, 'error link', [])
 
 
-def too_large(c):
+def too_large(c: Cases) -> None:
     script(c, 'a literal is too large', BEGUN, [GREETING, crlf('* X {33554433}')], 14, 'error limit literal 33554433', FIRST[:1])
     script(c, 'a literal is as large as it may be, and then nothing comes', BEGUN, [GREETING, crlf('* X {33554432}')], 4, 'error link',
         FIRST[:1])
@@ -267,7 +267,7 @@ def too_large(c):
     script(c, 'it has as many as it may have', BEGUN, row(' '.join(many[1:])), 0, PLAYED, SENT_WHOLE, after=known(many[1:]))
 
 
-def lacking(c):
+def lacking(c: Cases) -> None:
     kept = lambda *args, **named: ENTERED + [selected('C5', *args, **named)]
     sent = SENT_AGAIN[:5]
     script(c, 'UIDVALIDITY is another', BOTH_LEARNED, kept(2, 6, 44, 715), 8, 'error validity INBOX 5 6', sent, lists=['INBOX'])
@@ -284,7 +284,7 @@ def lacking(c):
         sent)
 
 
-def nothing_kept(c):
+def nothing_kept(c: Cases) -> None:
     new = lambda select, fetch: ENTERED + [select, fetch]
     script(c, 'nothing was kept: the fault is told behind the FETCH', BEGUN, new(selected('C5', 2, 5, 44, None), INBOX_ROWS + ok('C6')),
         6, 'error reply lacks HIGHESTMODSEQ', SENT_WHOLE[:6])
@@ -309,7 +309,7 @@ def nothing_kept(c):
 
 # A FETCH whose FLAGS and UID follow a literal, cut at every place.
 
-def cuts(c):
+def cuts(c: Cases) -> None:
     s = Scenario()
     s.line('server')
     s.line('files %s -' % BEGUN.hex())
@@ -335,26 +335,26 @@ def cuts(c):
 class Lost:
     """A play in which a call is lost or fails, or which is stopped."""
 
-    def __init__(self, heading, boxes, files, link_calls, disk_calls):
+    def __init__(self, heading: str, boxes: list, files: bytes, link_calls: int, disk_calls: int):
         self.cases, self.boxes, self.files = Cases(heading), boxes, files
         self.link_calls, self.disk_calls = link_calls, disk_calls
         head = self.begun()
         self.cases.head(head)
         self.heads = len(head.lines)
 
-    def begun(self):
+    def begun(self) -> Scenario:
         s = Scenario()
         s.server(OFFERS, self.boxes, left=self.files)
         s.stand()
         return s
 
-    def ended(self, title, s):
+    def ended(self, title: str, s: Scenario) -> None:
         s.run('play')
         s.lists('INBOX', 'Archive')
         s.lines = s.lines[self.heads:]
         self.cases.add(title, s)
 
-    def losses(self):
+    def losses(self) -> None:
         for n in range(1, self.link_calls + 2):
             for loss in LOSSES:
                 s = self.begun()
@@ -364,7 +364,7 @@ class Lost:
                 s.sent()
                 self.ended('call %d of the link is lost, %s' % (n, loss), s)
 
-    def faults(self):
+    def faults(self) -> None:
         for n in range(1, self.disk_calls + 2):
             s = self.begun()
             s.disk(n)
@@ -373,7 +373,7 @@ class Lost:
             s.sent()
             self.ended('call %d of the disk fails' % n, s)
 
-    def stops(self):
+    def stops(self) -> None:
         calls = self.link_calls + self.disk_calls
         for n in range(calls + 1):
             for pick in [0, 1, 2, 3]:
@@ -384,7 +384,7 @@ class Lost:
                 s.restart(pick)
                 self.ended('a stop behind %d calls, pick %d' % (n, pick), s)
 
-    def all(self):
+    def all(self) -> Cases:
         self.losses()
         self.faults()
         self.stops()
@@ -402,7 +402,7 @@ LATER_ON = '# The same of a mailbox that was synchronised before, to which anoth
 MAKERS = [served, later, offers, around_the_commands, others_and_the_end, scripts, refusals, no_replies, too_large, lacking, nothing_kept]
 
 
-def main(folder):
+def main(folder: str) -> None:
     cases = Cases(PLAY)
     for make in MAKERS:
         make(cases)

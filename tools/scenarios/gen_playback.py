@@ -4,12 +4,14 @@ the plain models of tools/model.
 usage: tools/scenarios/gen_playback.py FOLDER    (crates/mail_scenario, or a folder with a folder data in it)
 """
 import sys
+from typing import Callable, List, Tuple
 
 from common import (ARCHIVE_LEARNED, BEGIN, BEGUN, BOTH_LEARNED, INBOX_LEARNED, LOSSES, OFFERS, T, WORKED, Cases, Told, accept, begin,
                     intend, journal, learn, real, settle)
 from common import add as add_drawn, worked_server
 from gen_random import Draw
 from model.commands import Store
+from model.journal import Book
 from model.world import World
 from scripts import CLOSED, FIRST, crlf, left, script, selected
 
@@ -21,32 +23,32 @@ OTHER_ID, OTHER_CASE = b'Message-ID: <a1@x>\r\n\r\nold\r\n', b'Message-ID: <A1@X
 class Played(Told):
     """A scenario over the worked server, whose mailboxes were synchronised."""
 
-    def begin(self, offers=OFFERS, boxes=WORKED, left=BOTH_LEARNED, **more):
+    def begin(self, offers=OFFERS, boxes=WORKED, left=BOTH_LEARNED, **more) -> 'Played':
         self.server(offers, boxes, left=left, **more)
         return self
 
-    def asks(self, *commands):
+    def asks(self, *commands: str) -> 'Played':
         for c in commands:
             self.run(*c.split())
         return self
 
-    def put(self, *ws):
+    def put_in(self, *ws: str) -> 'Played':
         self.input(T)
         self.run('append', *ws)
         return self
 
-    def plays(self, *printed):
+    def plays(self, *printed: str) -> 'Played':
         self.says('play', *printed)
         return self
 
-    def sent_so(self, *lines):
+    def sent_so(self, *lines: str) -> 'Played':
         """What was sent in the connection, also by hand."""
         self.sent()
         told = [l[3:].strip('"').replace('\\\\', '\\') for l in self.lines[-1][1]]
         assert told == list(lines), (told, lines)
         return self
 
-    def ends(self):
+    def ends(self) -> 'Played':
         """What the server did, what is still to be done, what is shown and what was recorded."""
         self.history()
         self.run('queue')
@@ -55,7 +57,7 @@ class Played(Told):
         self.files()
         return self
 
-    def holds(self):
+    def holds(self) -> Book:
         """What must hold of every history: no action took effect twice, and one that is done took effect once."""
         book = Store(World(left=self.world.files[0].seen)).book
         deeds = [author for author, *_ in self.world.history if author != 'other']
@@ -66,52 +68,49 @@ class Played(Told):
                 assert count == 0, (n, outcome, deeds)
         return book
 
-    def outcome(self, n):
-        return self.holds().outcomes[n - 1]
 
-
-def ready(s):
+def ready(s: Played) -> Played:
     s.stand()
     return s
 
 
-def new(**more):
+def new(**more) -> Played:
     return ready(Played().begin(**more))
 
 
-def add(c, title, s, *outcomes):
+def add(c: Cases, title: str, s: Played, *outcomes: tuple) -> None:
     """A case, with how its actions ended by hand."""
     book = s.holds()
     assert not outcomes or [('done',) + o[1:] if o[0] == 'done' else o for o in book.outcomes] == list(outcomes), book.outcomes
     c.add(title, s)
 
 
-def done(*place):
+def done(*place: int) -> tuple:
     return ('done',) + place
 
 
-def conflict(kind, *numbers):
+def conflict(kind: int, *numbers: int) -> tuple:
     return ('conflict', kind, list(numbers))
 
 MOVE_AND_FLAG = ['move INBOX 42 Archive', 'flag Archive d1 + \\Flagged']
 
 
-def moved():
+def moved() -> Played:
     return new().asks(*MOVE_AND_FLAG)
 
 
-def flagged():
+def flagged() -> Played:
     return new().asks('flag INBOX 42 + \\Seen')
 
 
-def appended(**more):
-    return new(**more).put('Archive', '\\Seen')
+def appended(**more) -> Played:
+    return new(**more).put_in('Archive', '\\Seen')
 
-def one_move():
+def one_move() -> Played:
     return new().asks('move INBOX 42 Archive')
 
 
-def worked(c):
+def worked(c: Cases) -> None:
     s = moved().plays('played 2 conflicts 0')
     s.sent_so(*FIRST, 'C5 SELECT INBOX (QRESYNC (5 715))', 'C6 UID FETCH 42 (UID FLAGS MODSEQ)', 'P1 UID MOVE 42 Archive',
         'C7 SELECT Archive (QRESYNC (9 300))',
@@ -155,7 +154,7 @@ def worked(c):
     add(c, 'a message whose Message-ID differs in case isn\'t the lost one', s.ends(), done(9, 8))
 
 
-def lost_before_or_behind(c):
+def lost_before_or_behind(c: Cases) -> None:
     s = moved()
     s.link(16, 'all')
     s.plays('error link')
@@ -196,7 +195,7 @@ def lost_before_or_behind(c):
     add(c, 'a change of flags is lost before the server: it is sent again', s.ends(), done())
 
 
-def reasons(c):
+def reasons(c: Cases) -> None:
     s = new().asks('flag INBOX 40 + \\Seen')
     s.plays('played 1 conflicts 1')
     s.sent()
@@ -238,7 +237,7 @@ def reasons(c):
     add(c, 'the message goes between FETCH and MOVE', s.ends(), conflict(1), conflict(7, 1))
 
 
-def reasons_of_a_second_try(c):
+def reasons_of_a_second_try(c: Cases) -> None:
     s = flagged()
     s.link(15, 'nothing')
     s.plays('error link')
@@ -262,18 +261,18 @@ def reasons_of_a_second_try(c):
     add(c, 'as a move is sent again the message goes', s.ends(), conflict(10), conflict(7, 1))
 
 
-def refusals(c):
+def refusals(c: Cases) -> None:
     s = Played().begin()
     s.refuse('Archive')
     s.stand()
-    s.put('Archive', '\\Seen')
+    s.put_in('Archive', '\\Seen')
     s.plays('played 1 conflicts 1')
     s.sent()
     add(c, 'an append is refused', s.ends(), conflict(4))
     s = Played().begin()
     s.refuse('Archive')
     s.stand()
-    s.put('Archive').asks('flag Archive d1 + \\Flagged', 'move Archive d1 INBOX', 'flag INBOX d3 + \\Seen')
+    s.put_in('Archive').asks('flag Archive d1 + \\Flagged', 'move Archive d1 INBOX', 'flag INBOX d3 + \\Seen')
     s.plays('played 4 conflicts 4')
     s.sent()
     add(c, 'what hangs on a refused append ends with it', s.ends(), conflict(4), conflict(7, 1), conflict(7, 1), conflict(7, 3))
@@ -288,21 +287,21 @@ def refusals(c):
     s.run('play')
     s.sent()
     add(c, 'a mailbox isn\'t there: the move is refused, and then the run', s.ends(), conflict(4))
-    s = new(boxes=[WORKED[0]]).put('Archive')
+    s = new(boxes=[WORKED[0]]).put_in('Archive')
     s.run('play')
     s.sent()
     add(c, 'an append\'s mailbox isn\'t there: the run is refused, and the action waits', s.ends())
 
 
-def several(c):
-    s = new().put('Archive', '\\Seen').asks('flag Archive d1 + work', 'move Archive d1 INBOX', 'flag INBOX d3 - \\Seen',
-        'move INBOX d3 Archive').put('INBOX').asks('flag INBOX 40 - \\Seen', 'move INBOX 42 Archive')
+def several(c: Cases) -> None:
+    s = new().put_in('Archive', '\\Seen').asks('flag Archive d1 + work', 'move Archive d1 INBOX', 'flag INBOX d3 - \\Seen',
+        'move INBOX d3 Archive').put_in('INBOX').asks('flag INBOX 40 - \\Seen', 'move INBOX 42 Archive')
     s.asks('queue', 'list INBOX', 'list Archive')
     s.plays('played 8 conflicts 0')
     s.sent()
     add(c, 'a message is put in, changed, and moved to and fro', s.ends(), done(9, 7), done(), done(5, 44), done(), done(9, 8), done(5, 45),
         done(), done(9, 9))
-    s = new(left=BEGUN).put('Archive').put('INBOX').asks('flag Archive d1 + a', 'move INBOX d2 Archive')
+    s = new(left=BEGUN).put_in('Archive').put_in('INBOX').asks('flag Archive d1 + a', 'move INBOX d2 Archive')
     s.plays('played 4 conflicts 0')
     s.sent()
     add(c, 'mailboxes that were never synchronised have what is put in', s.ends(), done(9, 7), done(5, 44), done(), done(9, 8))
@@ -315,7 +314,7 @@ def several(c):
     add(c, 'a connection is lost between two actions, and a third one is asked for', s.ends(), done(9, 7), done(), done())
 
 
-def waiting(c):
+def waiting(c: Cases) -> None:
     s = flagged()
     s.link(16, 'waits done')
     s.plays('error link')
@@ -346,7 +345,7 @@ def waiting(c):
         add(c, 'an append waits as the connection is lost, and is %s' % loss[6:], s.ends())
 
 
-def to_the_end(c):
+def to_the_end(c: Cases) -> None:
     s = moved()
     s.sink(1)
     s.gives(12, 'play')
@@ -363,7 +362,7 @@ def to_the_end(c):
     s.sent()
     add(c, 'others act all the time: what is shown is what the server has', s.ends(), done(9, 8), done())
     s = new(offers=('IMAP4rev1', 'UIDPLUS', 'MOVE', 'ENABLE', 'CONDSTORE', 'QRESYNC', 'AUTH=PLAIN', 'LITERAL+',
-        'IDLE')).asks('flag INBOX 40 - \\Seen', 'move INBOX 42 Archive').put('Archive')
+        'IDLE')).asks('flag INBOX 40 - \\Seen', 'move INBOX 42 Archive').put_in('Archive')
     s.plays('played 3 conflicts 0')
     s.sent()
     add(c, 'a server of the older standard', s.ends(), done(), done(9, 7), done(9, 8))
@@ -372,7 +371,7 @@ def to_the_end(c):
 OLDER = 'IMAP4rev1 UIDPLUS MOVE ENABLE CONDSTORE QRESYNC AUTH=PLAIN LITERAL+ IDLE'
 
 
-def older_talk():
+def older_talk() -> Tuple[bytes, List[bytes], List[str], bytes]:
     """The journal before, what the server says, what is sent to it, and the journal then."""
     asked = [accept(1, ('flag', real('INBOX', 5, 42), '+', ['\\Seen'])), accept(2, ('move', real('INBOX', 5, 40), 'Archive')),
         accept(3, ('append', 'Archive', ['\\Seen'], T))]
@@ -404,7 +403,7 @@ def older_talk():
     return before, says, sent, after
 
 
-def older(c):
+def older(c: Cases) -> None:
     before, says, sent, after = older_talk()
     script(c, 'a server of the older standard tells much besides', before, says, 0, 'played 3 conflicts 0', sent, after=after,
         lists=['INBOX', 'Archive'])
@@ -423,11 +422,11 @@ def older(c):
         says[:7], 8, 'error validity INBOX 4 5', sent[:6])
 
 
-def older_server(c):
+def older_server(c: Cases) -> None:
     many = [(uid, uid, b'x') for uid in range(1, 1201)]
     s = ready(Played().begin(offers=tuple(OLDER.split()), boxes=[('INBOX', 5, 1201, 1200, many, []), WORKED[1]], left=BEGUN))
     s.plays('played 0 conflicts 0')
-    s.asks('flag INBOX 600 + \\Seen', 'move INBOX 1200 Archive').put('Archive')
+    s.asks('flag INBOX 600 + \\Seen', 'move INBOX 1200 Archive').put_in('Archive')
     s.plays('played 3 conflicts 0')
     s.sent()
     s.history()
@@ -441,7 +440,7 @@ def older_server(c):
 class Lost:
     """A play in which a call is lost or fails, or behind which the world stops."""
 
-    def __init__(self, what, begun):
+    def __init__(self, what: str, begun: Callable[[], Played]):
         self.cases, self.begun = Cases(LOST % what), begun
         head = begun()
         self.heads = len(head.lines)
@@ -449,7 +448,7 @@ class Lost:
         head.run('play')
         self.link_calls, self.disk_calls = head.world.counts
 
-    def ended(self, title, s):
+    def ended(self, title: str, s: Played) -> None:
         rounds = 0
         while s.run('play') not in (0, 1):
             rounds += 1
@@ -460,7 +459,7 @@ class Lost:
         s.lines = s.lines[self.heads:]
         self.cases.add(title, s)
 
-    def all(self):
+    def all(self) -> Cases:
         for n in range(1, self.link_calls + 1):
             for loss in LOSSES:
                 s = self.begun()
@@ -482,7 +481,7 @@ class Lost:
         return self.cases
 
 
-def drawn():
+def drawn() -> Cases:
     cases, draw = Cases(DRAWN), Draw(28)
     draw.sents = 0.1
     cases.head(worked_server())
@@ -506,7 +505,7 @@ MAKERS = [worked, lost_before_or_behind, reasons, reasons_of_a_second_try, refus
           older_server]
 
 
-def main(folder):
+def main(folder: str) -> None:
     cases = Cases(PLAYBACK)
     for make in MAKERS:
         make(cases)

@@ -4,6 +4,7 @@ the reasons, the view and the queue, with each call failing and each stop.
 usage: tools/scenarios/gen_words.py FOLDER    (crates/mail_scenario, or a folder with a folder data in it)
 """
 import sys
+from typing import Optional
 
 from common import (APPENDED, BEGUN, BOTH_LEARNED, FLAGGED, INBOX_LEARNED, MOVED, OFFERS, SEEN, STATE, T, WORKED, Cases, Told, accept,
                     add, begin, intend, journal, learn, over, real, settle, without_head, worked_server)
@@ -17,13 +18,13 @@ TWO_ACCEPTED, SHIFT = [accept(1, MOVED), accept(2, FLAGGED)], intend(1, ('shift'
 ROWS = learn('Archive', 0, 9, 301, 8, [], [(7, 301, [])])
 
 
-def book(*bodies):
+def book(*bodies: bytes) -> Told:
     return over(journal(*STATE, *bodies))
 
 
 # What is accepted and shown.
 
-def worked(c):
+def worked(c: Cases) -> None:
     s = without_head()
     s.server(OFFERS, WORKED)
     s.stand()
@@ -66,7 +67,7 @@ def worked(c):
     add(c, 'a message is moved, and changed where it comes', s)
 
 
-def put_in(c):
+def put_in(c: Cases) -> None:
     s = worked_server()
     s.input(T)
     s.says('append Archive \\Seen', 'accepted 1')
@@ -98,7 +99,7 @@ def put_in(c):
     add(c, 'a message without a Message-ID, with two, with a NUL, and with bare line ends', s)
 
 
-def without_effect(c):
+def without_effect(c: Cases) -> None:
     s = worked_server()
     s.says('flag INBOX 40 + \\Seen', 'accepted 1')
     s.says('list INBOX', '40 700 \\seen', '42 715')
@@ -131,7 +132,7 @@ def without_effect(c):
     add(c, 'mailboxes that were never synchronised have what is put in', s)
 
 
-def names_like_words(c):
+def names_like_words(c: Cases) -> None:
     s = over(b'')
     s.says('init d1 42 + Sent,Mail inbox', 'ready')
     s.input(T)
@@ -161,7 +162,7 @@ def names_like_words(c):
 
 # The words.
 
-def grammar(c):
+def grammar(c: Cases) -> None:
     s = worked_server()
     for w in ['queue x', 'queue INBOX', 'Queue', 'QUEUE', 'queues', 'reports', 'report x', 'Report', 'move', 'move INBOX', 'move INBOX 42',
         'move INBOX 42 Archive INBOX', 'move 42 Archive', 'Move INBOX 42 Archive',
@@ -198,7 +199,7 @@ def grammar(c):
     add(c, 'numbers that nothing has', s)
 
 
-def names_and_flags(c):
+def names_and_flags(c: Cases) -> None:
     s = worked_server()
     s.refuses('no-mailbox', 'list 42', 'list d1', 'append archive', 'append ' + 'x' * 128, 'move INBOX 42 archive',
         'move InboX 42 ' + 'x' * 128, 'flag Inboxx 42 + \\Seen')
@@ -228,7 +229,7 @@ def names_and_flags(c):
     add(c, 'as many flags as may be asked for, and none', s)
 
 
-def flags_not_asked_for(c):
+def flags_not_asked_for(c: Cases) -> None:
     s = worked_server()
     for flag in ['\\Recent', '\\Foo', '\\', '\\*', '*', '(', ')', 'a(b', 'a{', '%', 'a"b', 'a]', '\\\\Seen', 'Seen\\', '\\Seen\\',
         'x' * 256, '\\Seen,\\Draft']:
@@ -252,7 +253,7 @@ def flags_not_asked_for(c):
 
 # The reasons.
 
-def reasons(c):
+def reasons(c: Cases) -> None:
     for reason, commands in [
         ('no-mailbox', ['flag Sent 42 + \\Seen', 'move Sent 42 INBOX', 'move INBOX 42 Sent', 'append Sent', 'append Sent \\Seen',
         'list Sent']),
@@ -281,7 +282,7 @@ def reasons(c):
     add(c, 'bad-text and no-message-id alone: the input was read, and nothing is written', s)
 
 
-def several_reasons(c):
+def several_reasons(c: Cases) -> None:
     # Each with the one behind it, and with later ones.
     s = worked_server()
     s.refuses('no-mailbox', 'flag Sent 43 + \\Seen', 'move Sent 43 INBOX', 'move INBOX 43 Sent', 'move Sent d1 INBOX')
@@ -322,7 +323,7 @@ def several_reasons(c):
     add(c, 'of several reasons the first is told', s)
 
 
-def order_of_calls(c):
+def order_of_calls(c: Cases) -> None:
     s = worked_server()
     s.disk(1)
     s.source(1)
@@ -379,7 +380,7 @@ TEXTS = [
     (b'Message-ID: <\xc3\xa4@x>\n', None), (b'Message-ID: <a\t@x>\n', None), (b'Message-ID: <' + b'a' * 511 + b'>\n', None)]
 
 
-def messages(c):
+def messages(c: Cases) -> None:
     s = worked_server()
     n, waiting = 0, []
     for text, identifier in TEXTS:
@@ -420,7 +421,7 @@ def messages(c):
     add(c, 'a text of more than 64 KiB', s)
 
 
-def inputs(c):
+def inputs(c: Cases) -> None:
     s = worked_server()
     s.input(T)
     s.says('flag INBOX 42 + \\Seen', 'accepted 1')
@@ -443,7 +444,7 @@ def inputs(c):
         add(c, 'the input isn\'t read: ' + ws, s)
 
 
-def failing_inputs(c):
+def failing_inputs(c: Cases) -> None:
     s = worked_server()
     for n in [1, 2]:
         s.source(n)
@@ -487,7 +488,7 @@ def failing_inputs(c):
 
 # The view.
 
-def views(c):
+def views(c: Cases) -> None:
     s = worked_server()
     s.says('flag INBOX 40 - \\Seen', 'accepted 1')
     s.says('flag INBOX 40 + \\Flagged work', 'accepted 2')
@@ -523,7 +524,7 @@ def views(c):
     add(c, 'flags come and go in the order of the actions', s)
 
 
-def dummies(c):
+def dummies(c: Cases) -> None:
     s = worked_server()
     s.says('move INBOX 42 Archive', 'accepted 1')
     s.says('move INBOX 40 Archive', 'accepted 2')
@@ -552,7 +553,7 @@ def dummies(c):
     add(c, 'real rows stand first, by UID', s)
 
 
-def begun_and_done(c):
+def begun_and_done(c: Cases) -> None:
     s = book(*TWO_ACCEPTED, SHIFT)
     s.says('queue', '1 begun move INBOX 42 Archive', '2 waiting flag Archive d1 + \\flagged')
     s.lists('INBOX', 'Archive')
@@ -581,7 +582,7 @@ def begun_and_done(c):
     add(c, 'the dummy of a done action is the message at its place', s)
 
 
-def conflicts_and_places(c):
+def conflicts_and_places(c: Cases) -> None:
     s = book(*TWO_ACCEPTED, SHIFT, settle(1, ('done', 8, 7)), ROWS)
     s.says('queue', '2 waiting flag Archive d1 + \\flagged')
     s.says('list Archive', '7 301')
@@ -613,7 +614,7 @@ def conflicts_and_places(c):
     add(c, 'it is moved on from its place, with the flags that it has there', s)
 
 
-def others_since(c):
+def others_since(c: Cases) -> None:
     s = book(accept(1, ('flag', real('INBOX', 4, 42), '+', ['\\Seen'])), accept(2, ('move', real('INBOX', 5, 41), 'Archive')))
     s.says('queue', '1 waiting flag INBOX 42 + \\seen', '2 waiting move INBOX 41 Archive')
     s.says('list INBOX', '40 700 \\seen', '42 715')
@@ -649,28 +650,28 @@ def others_since(c):
 class Faulty:
     """A command of which each call fails in turn, and which is stopped behind each."""
 
-    def __init__(self, cases, name, command, action, text=None):
+    def __init__(self, cases: Cases, name: str, command: str, action: tuple, text: Optional[bytes] = None):
         self.cases, self.name, self.command, self.action, self.text = cases, name, command, action, text
 
-    def begun(self):
+    def begun(self) -> Told:
         s = worked_server()
         self.given(s)
         return s
 
-    def given(self, s):
+    def given(self, s: Told) -> None:
         if self.text:
             s.input(self.text)
 
-    def add(self, title, s):
+    def add(self, title: str, s: Told) -> None:
         add(self.cases, self.name + ': ' + title, s)
 
-    def again(self, s):
+    def again(self, s: Told) -> None:
         """The same once more, or of another message."""
         self.given(s)
         s.run(*(self.command if self.text else 'move INBOX 40 Archive').split())
         s.looks()
 
-    def failing_disk(self):
+    def failing_disk(self) -> None:
         for n in range(1, 15):
             s = self.begun()
             s.disk(n)
@@ -679,7 +680,7 @@ class Faulty:
             s.says('flag Archive d1 + x', *['accepted 2'] if n >= 13 else ['refused no-message'])
             self.add('call %d of the disk fails' % n, s)
 
-    def stops(self):
+    def stops(self) -> None:
         accepted = journal(*STATE, accept(1, self.action))[:-1]
         for n in range(15):
             for pick in [0, 1, 2, 3]:
@@ -692,14 +693,14 @@ class Faulty:
                 assert held if n >= 13 else n == 12 or not held
                 self.add('a stop behind %d calls, pick %d' % (n, pick), s)
 
-    def last_sync(self):
+    def last_sync(self) -> None:
         s = self.begun()
         s.disk(13)
         s.says(self.command, 'error disk')
         self.again(s)
         self.add('the last sync failed, and the next one has the next number', s)
 
-    def failing_output(self):
+    def failing_output(self) -> None:
         command = self.command.split()
         s = self.begun()
         s.sink(1)
@@ -726,14 +727,14 @@ class Faulty:
         self.again(s)
         self.add('the output fails, and the action is there', s)
 
-    def all(self):
+    def all(self) -> None:
         self.failing_disk()
         self.stops()
         self.last_sync()
         self.failing_output()
 
 
-def readers_fail(c):
+def readers_fail(c: Cases) -> None:
     waiting = journal(*STATE, accept(1, MOVED), accept(2, FLAGGED), accept(3, APPENDED))
     for command in ['queue', 'list Archive']:
         s = over(waiting)
@@ -755,7 +756,7 @@ def readers_fail(c):
         add(c, command + ': a stop behind each number of calls', s)
 
 
-def faults(c):
+def faults(c: Cases) -> None:
     Faulty(c, 'move', 'move INBOX 42 Archive', MOVED).all()
     Faulty(c, 'append', 'append Archive \\Seen', APPENDED, T).all()
     readers_fail(c)
@@ -770,7 +771,7 @@ MAKERS = [worked, put_in, without_effect, names_like_words, grammar, names_and_f
           order_of_calls, messages, inputs, failing_inputs, views, dummies, begun_and_done, conflicts_and_places, others_since, faults]
 
 
-def main(folder):
+def main(folder: str) -> None:
     cases = Cases(HEADING)
     cases.head(worked_server())
     for make in MAKERS:

@@ -1,5 +1,7 @@
 """What a server says in a script, and scenarios over scripts."""
-from common import ARCHIVE_LEARNED, BEGIN, INBOX_LEARNED, Scenario, learn
+from typing import List, Optional, Sequence, Union
+
+from common import Cases, Scenario, learn
 from model.words import hexed, word
 from model.world import World
 
@@ -8,27 +10,28 @@ FIRST = ['C1 CAPABILITY', 'C2 LOGIN ann pw', 'C3 CAPABILITY', 'C4 ENABLE IMAP4re
 PLAYED = 'played 0 conflicts 0'
 
 
-def crlf(*lines):
+def crlf(*lines: Union[str, bytes]) -> bytes:
     return b''.join((line.encode() if isinstance(line, str) else line) + b'\r\n' for line in lines)
 
 
-def capability(tag, offers='IMAP4rev2 QRESYNC'):
+def capability(tag: str, offers: str = 'IMAP4rev2 QRESYNC') -> bytes:
     return crlf('* CAPABILITY ' + offers, tag + ' OK done')
 
 
-def ok(tag):
+def ok(tag: str) -> bytes:
     return crlf(tag + ' OK done')
 
 
-def enabled(tag, names='IMAP4rev2 QRESYNC'):
+def enabled(tag: str, names: str = 'IMAP4rev2 QRESYNC') -> bytes:
     return crlf('* ENABLED ' + names, tag + ' OK done')
 
 
-def selected(tag, exists, validity, uidnext, highest, *more, front=(), last='[READ-WRITE] done'):
+def selected(tag: str, exists: int, validity: Optional[int], uidnext: Optional[int], highest: Optional[int], *more: str,
+             front: Sequence[str] = (), last: str = '[READ-WRITE] done') -> bytes:
     """The reply to a SELECT; a number that is None isn't told."""
     numbers = [('UIDVALIDITY', validity), ('UIDNEXT', uidnext), ('HIGHESTMODSEQ', highest)]
     permanent = '* OK [PERMANENTFLAGS (\\Answered \\Deleted \\Draft \\Flagged \\Seen \\*)] done'
-    codes = ['* OK [%s %d] done' % code for code in numbers if code[1] is not None]
+    codes = [f'* OK [{name} {number}] done' for name, number in numbers if number is not None]
     return crlf(*front, '* %d EXISTS' % exists, permanent, *codes, *more, tag + ' OK ' + last)
 
 
@@ -38,11 +41,11 @@ GREETING = crlf('* OK [CAPABILITY IMAP4rev2 QRESYNC] hello')
 ENTERED = [GREETING, capability('C1'), ok('C2'), capability('C3'), enabled('C4')]
 
 
-def archive(tag):
+def archive(tag: str) -> bytes:
     return selected(tag, 0, 9, 7, 300, front=[CLOSED])
 
 
-def left(tag):
+def left(tag: str) -> bytes:
     return crlf('* BYE bye', tag + ' OK done')
 
 
@@ -56,7 +59,8 @@ AGAIN = [learn('INBOX', 0, 5, 715, 44, [], []), learn('Archive', 0, 9, 300, 7, [
 class Script(Scenario):
     """A scripted server: what it says, what the run prints, what was sent, and what the files are then."""
 
-    def talks(self, files, pieces, status, printed, sent, after=None, endless=None):
+    def talks(self, files: bytes, pieces: List[bytes], status: int, printed: str, sent: List[str], after: Optional[bytes] = None,
+              endless: Optional[bytes] = None) -> None:
         self.line('server')
         self.line('files %s -' % hexed(files))
         for piece in pieces:
@@ -69,10 +73,9 @@ class Script(Scenario):
         after = files if after is None else after
         self.line('files', 'left ' + hexed(after), 'right -')
         self.world = World(left=after)
-        return self
 
 
-def script(cases, title, *talk, lists=(), **more):
+def script(cases: Cases, title: str, *talk, lists: Sequence[str] = (), **more) -> None:
     scenario = Script()
     scenario.talks(*talk, **more)
     scenario.lists(*lists)
