@@ -4,7 +4,7 @@ import sys
 
 # The package of plain models stands beside this folder.
 sys.path.insert(0, str(pathlib.Path(__file__).resolve().parent.parent))
-from model.journal import HEAD, accept, begin, body_of, event_of, intend, journal, keys, learn, real, settle  # noqa: E402
+from model.journal import accept, begin, body_of, event_of, intend, journal, keys, learn, real, settle  # noqa: E402
 from model.scenario import Cases, Scenario  # noqa: E402
 
 # The worked server: two mailboxes, two messages; and the records that tell of it.

@@ -5,8 +5,8 @@ usage: tools/scenarios/gen.py FOLDER    (crates/mail_scenario, or a copy of it, 
 """
 import sys
 
-from common import ARCHIVE_LEARNED, ACCEPTED, BEGIN, BEGUN, BOTH_LEARNED, HEAD, M40, OFFERS, SEEN, WORKED, Scenario, begin, journal, keys
-from model.journal import named, u32
+from common import ACCEPTED, BEGUN, BOTH_LEARNED, M40, OFFERS, SEEN, WORKED, Scenario, begin, journal, keys
+from model.journal import HEAD, named, u32
 from model.server import Box
 from model.world import World
 

@@ -4,8 +4,9 @@ usage: tools/scenarios/gen_play.py FOLDER    (crates/mail_scenario, or a folder 
 """
 import sys
 
-from common import (ARCHIVE_LEARNED, BEGIN, BEGUN, BOTH_LEARNED, HEAD, INBOX_LEARNED, LOSSES, M40, M42, OFFERS, WORKED, Cases, Scenario,
+from common import (ARCHIVE_LEARNED, BEGIN, BEGUN, BOTH_LEARNED, INBOX_LEARNED, LOSSES, M40, M42, OFFERS, WORKED, Cases, Scenario,
                     journal, learn)
+from model.journal import HEAD
 from model.words import word
 from model.world import World
 from scripts import (AGAIN, CLOSED, ENTERED, FIRST, GREETING, INBOX_ROWS, PLAYED, SENT_AGAIN, SENT_WHOLE, WHOLE, Script, archive,

@@ -1,13 +1,13 @@
-"""Makes random scenarios of the words of a command with what the plain models of tools/model say of them, as a file of cases: random
-journals, with actions that wait, have begun or are settled, random commands, messages and failures. Runs of the program over them find where it and
-the model differ.
+"""Makes random scenarios of the words of a command, with what the plain models of tools/model say of them, as a file of cases: random
+journals, with actions that wait, have begun or are settled, random commands, messages and failures. Runs of the program over them
+find where it and the models differ.
 
 usage: tools/scenarios/gen_random.py SEED COUNT FILE [play]    (then: mail_scenario FILE; with `play` each is of actions played back)
 """
 import random
 import sys
 
-from common import (ARCHIVE_LEARNED, BOTH_LEARNED, INBOX_LEARNED, LOSSES, OFFERS, T, WORKED, Cases, Told, add, begin, body_of, journal,
+from common import (ARCHIVE_LEARNED, INBOX_LEARNED, LOSSES, OFFERS, T, WORKED, Cases, add, begin, body_of, journal,
                     keys, over, without_head, worked_server)
 from gen_words import TEXTS
 from model.commands import Store
@@ -143,7 +143,7 @@ class Draw(random.Random):
         return s
 
     def change(self, world, polite=False):
-        """What others do, mostly lawful changes of what is there: a polite one adds and takes away no message with an append's Message-ID."""
+        """What others do, mostly lawful changes of what is there: a polite one leaves messages with an append's Message-ID alone."""
         if not world.boxes:
             return ('drop', 'INBOX', 1)
         box = self.choice(world.boxes)
