@@ -2,8 +2,11 @@
 
 usage: tools/player/gen.py > crates/player_checks/data/table.txt
 """
+import pathlib
 import sys
-from model import *
+
+sys.path.insert(0, str(pathlib.Path(__file__).resolve().parent.parent))
+from model.rules import Action, Book, Cache, Code, Exists, Fault, Fetch, Found, More, Reply, Run, Told, Vanished, keys  # noqa: E402
 
 ID = '<a1@x>'
 

@@ -1,39 +1,32 @@
-"""A plain model of playback: what a client needs next, by the book and by what the server tells.
+"""What `play` needs next, by the book and by the replies.
 
 It is written as a client would be, one function for each kind of action, from the rules of playback and not from the program. A run
-is a generator: it yields what it needs, and is sent the server's replies.
+is a generator: it yields what it needs, and is sent the server's replies. playing.py has the same rules over a server in memory; neither
+uses the other, so that each is compared with the program by itself.
 """
+from typing import Any, FrozenSet, Generator, Iterable, List, Optional, Sequence, Union
 
-SYSTEM = {'\\answered': '\\Answered', '\\flagged': '\\Flagged', '\\deleted': '\\Deleted', '\\seen': '\\Seen', '\\draft': '\\Draft'}
+from . import words
+from .words import set_text
 
 
-def keys(flags):
-    """The keys of flags: without case, and without \\Recent when they are read."""
+def keys(flags: Iterable[str]) -> FrozenSet[str]:
+    """The keys of flags: without case, and with \\Recent, which is left out where they are read."""
     return frozenset(flag.lower() for flag in flags)
 
 
-def flag_text(flags):
-    return ' '.join(SYSTEM.get(key, key) for key in sorted(flags))
-
-
-def set_text(uids):
-    """A set of UIDs as ranges."""
-    ranges = []
-    for uid in sorted(uids):
-        if ranges and ranges[-1][1] + 1 == uid:
-            ranges[-1][1] = uid
-        else:
-            ranges.append([uid, uid])
-    return ','.join(str(low) if low == high else f'{low}:{high}' for low, high in ranges)
+def flag_text(flags: Iterable[str]) -> str:
+    return words.flag_text(sorted(flags))
 
 
 # What a server tells. Each has the lines that are sent, and the model reads the fields alone.
 
 class Fetch:
-    def __init__(self, uid=None, flags=None, modseq=None, ids=None):
+    def __init__(self, uid: Optional[int] = None, flags: Optional[Sequence[str]] = None, modseq: Optional[int] = None,
+                 ids: Optional[Sequence[str]] = None):
         self.uid, self.flags, self.modseq, self.ids = uid, flags, modseq, ids
 
-    def lines(self):
+    def lines(self) -> List[str]:
         items = []
         if self.uid is not None:
             items.append(f'UID {self.uid}')
@@ -50,10 +43,10 @@ class Fetch:
 
 
 class Found:
-    def __init__(self, *uids, extended=False):
+    def __init__(self, *uids: int, extended: bool = False):
         self.uids, self.extended = uids, extended
 
-    def lines(self):
+    def lines(self) -> List[str]:
         if self.extended:
             tail = f' ALL {set_text(self.uids)}' if self.uids else ''
             return [f'* ESEARCH (TAG "C1") UID{tail}']
@@ -61,55 +54,55 @@ class Found:
 
 
 class Vanished:
-    def __init__(self, *uids, earlier=False):
+    def __init__(self, *uids: int, earlier: bool = False):
         self.uids, self.earlier = uids, earlier
 
-    def lines(self):
+    def lines(self) -> List[str]:
         return [f'* VANISHED {"(EARLIER) " if self.earlier else ""}{set_text(self.uids)}']
 
 
 class Exists:
-    def __init__(self, count):
+    def __init__(self, count: int):
         self.count = count
 
-    def lines(self):
+    def lines(self) -> List[str]:
         return [f'* {self.count} EXISTS']
 
 
 class Told:
     """An untagged OK, NO or BAD with a code."""
 
-    def __init__(self, code, ending='OK'):
+    def __init__(self, code: 'Code', ending: str = 'OK'):
         self.code, self.ending = code, ending
 
-    def lines(self):
+    def lines(self) -> List[str]:
         return [f'* {self.ending} [{self.code}] told']
 
 
 class Code:
     """A response code: its name, and what stands behind that."""
 
-    def __init__(self, name, *rest):
+    def __init__(self, name: str, *rest: Any):
         self.name, self.rest = name, rest
 
-    def __str__(self):
+    def __str__(self) -> str:
         return ' '.join([self.name] + [set_text(part) if isinstance(part, (list, tuple)) else str(part) for part in self.rest])
 
 
 class Reply:
     """A whole reply, whose completion comes last. `barred` says that the mailbox doesn't keep the flags that are asked."""
 
-    def __init__(self, untagged=(), ending='OK', code=None, barred=False):
+    def __init__(self, untagged: Iterable = (), ending: str = 'OK', code: Optional[Code] = None, barred: bool = False):
         self.untagged, self.ending, self.code, self.barred = list(untagged), ending, code, barred
 
-    def lines(self, tag):
+    def lines(self, tag: str) -> List[str]:
         lines = ['barred'] if self.barred else []
         for response in self.untagged:
             lines += ['< ' + line if line else '<' for line in response.lines()]
         code = f'[{self.code}] ' if self.code else ''
         return lines + [f'< {tag} {self.ending} {code}done']
 
-    def behind_closed(self):
+    def behind_closed(self) -> list:
         """Of a SELECT only what stands behind the last CLOSED is of the mailbox."""
         last = -1
         for at, response in enumerate(self.untagged):
@@ -117,7 +110,7 @@ class Reply:
                 last = at
         return self.untagged[last + 1:]
 
-    def codes(self):
+    def codes(self) -> List[Code]:
         """The codes that a SELECT tells, the completion's last."""
         told = [response.code for response in self.behind_closed() if isinstance(response, Told)]
         return told + ([self.code] if self.code else [])
@@ -126,18 +119,18 @@ class Reply:
 # The book.
 
 class Cache:
-    def __init__(self, validity, uidnext, highest, rows):
+    def __init__(self, validity: int, uidnext: int, highest: int, rows: dict):
         self.validity, self.uidnext, self.highest, self.rows = validity, uidnext, highest, dict(rows)
 
 
 class Action:
-    def __init__(self, kind, **fields):
+    def __init__(self, kind: Optional[str], **fields: Any):
         self.kind, self.outcome = kind, None
         self.__dict__.update(fields)
 
 
 class Book:
-    def __init__(self):
+    def __init__(self) -> None:
         self.names, self.caches, self.actions, self.intent = ['INBOX', 'Archive'], {'INBOX': None, 'Archive': None}, [], None
 
 
@@ -146,7 +139,7 @@ class Book:
 class Need:
     """A need: its line, and the tag of the reply where it has one."""
 
-    def __init__(self, line, tag=None):
+    def __init__(self, line: str, tag: Optional[str] = None):
         self.line, self.tag = line, tag
 
 
@@ -158,18 +151,24 @@ class More:
 class Fault:
     """The reply isn't taken, and what was needed is needed again."""
 
-    def __init__(self, text):
+    def __init__(self, text: str):
         self.text = text
 
 
+# What is yielded, what is sent, and what comes of it in the end.
+Steps = Generator[Union[Need, More, Fault], Optional[Reply], Any]
+
+
 class Run:
-    def __init__(self, book):
+    """A play over a book."""
+
+    def __init__(self, book: Book):
         self.book = book
         self.selected = None
         # An intent that is pending now is of an earlier run.
         self.open = book.intent is not None
 
-    def play(self):
+    def play(self) -> Steps:
         for number, action in enumerate(self.book.actions, 1):
             if action.outcome is None:
                 outcome = yield from {'flag': self.flag, 'move': self.move, 'append': self.append}[action.kind](number, action)
@@ -183,7 +182,7 @@ class Run:
 
     # Selecting. It gives the UIDVALIDITY and the UIDNEXT that were told.
 
-    def select(self, name, under):
+    def select(self, name: str, under: Optional[int]) -> Steps:
         while True:
             selected = yield Need(f'select {name}', 'C1')
             kept, rows = self.book.caches[name], selected
@@ -201,12 +200,12 @@ class Run:
         return validity, uidnext
 
     @staticmethod
-    def code(selected, name):
+    def code(selected: Reply, name: str) -> Optional[int]:
         """The value of a code that counts: the last one."""
         told = [code.rest[0] for code in selected.codes() if code.name == name]
         return told[-1] if told else None
 
-    def resync_fault(self, kept, selected, rows):
+    def resync_fault(self, kept: Optional[Cache], selected: Reply, rows: Reply) -> Optional[str]:
         told = [code.name for code in selected.codes()]
         if 'NOMODSEQ' in told:
             return 'resync nomodseq'
@@ -226,7 +225,7 @@ class Run:
                 return f'resync bare row at {skipped + at}'
         return None
 
-    def learn(self, name, kept, selected, rows):
+    def learn(self, name: str, kept: Optional[Cache], selected: Reply, rows: Reply) -> Steps:
         validity, uidnext, highest = (self.code(selected, code) for code in ['UIDVALIDITY', 'UIDNEXT', 'HIGHESTMODSEQ'])
         told = {r.uid: (r.modseq, keys(r.flags) - {'\\recent'}) for r in rows.behind_closed() if isinstance(r, Fetch)}
         gone = set()
@@ -246,7 +245,7 @@ class Run:
 
     # The message of a target: its mailbox, UIDVALIDITY and UID, or the number of the action that never made it.
 
-    def resolve(self, target):
+    def resolve(self, target: Union[tuple, int]) -> Union[tuple, int]:
         if isinstance(target, tuple):
             return target
         maker = self.book.actions[target - 1]
@@ -257,7 +256,7 @@ class Run:
 
     # The row of a message, or None. FLAGS and MODSEQ are needed of it.
 
-    def ask_row(self, uid):
+    def ask_row(self, uid: int) -> Steps:
         while True:
             reply = yield Need(f'C1 UID FETCH {uid} (UID FLAGS MODSEQ)', 'C1')
             rows = [r for r in reply.untagged if isinstance(r, Fetch) and r.uid == uid]
@@ -271,13 +270,13 @@ class Run:
             else:
                 return row, reply.barred
 
-    def intend(self, number, intent):
+    def intend(self, number: int, intent: str) -> Steps:
         yield Need(f'intend {number} {intent}')
         self.book.intent = intent
 
     # A change of flags, on condition of a mod-sequence.
 
-    def flag(self, number, action):
+    def flag(self, number: int, action: Action) -> Steps:
         target = self.resolve(action.target)
         if not isinstance(target, tuple):
             return f'target-unknown {target}'
@@ -312,13 +311,13 @@ class Run:
         return 'gone-after-loss' if self.open else 'message-gone'
 
     @staticmethod
-    def is_so(action, row):
+    def is_so(action: Action, row: Fetch) -> bool:
         asked, there = keys(action.flags), keys(row.flags)
         return asked <= there if action.add else not asked & there
 
     # A move.
 
-    def move(self, number, action):
+    def move(self, number: int, action: Action) -> Steps:
         target = self.resolve(action.target)
         if not isinstance(target, tuple):
             return f'target-unknown {target}'
@@ -346,7 +345,7 @@ class Run:
 
     # An append, whose mailbox is always selected anew.
 
-    def append(self, number, action):
+    def append(self, number: int, action: Action) -> Steps:
         if self.open:
             _, to, validity, uidnext = self.book.intent.split()
             yield from self.select(to, int(validity))
@@ -369,7 +368,7 @@ class Run:
                 return f'done {reply.code.rest[0]} {reply.code.rest[1]}'
             yield Fault('lacks APPENDUID')
 
-    def probe(self, action, uidnext):
+    def probe(self, action: Action, uidnext: int) -> Steps:
         """The UIDs of the messages with exactly the Message-ID, from the recorded UIDNEXT on."""
         reply = yield Need(f'C1 UID SEARCH UID {uidnext}:* HEADER Message-ID {action.id}', 'C1')
         found = {uid for r in reply.untagged if isinstance(r, Found) for uid in r.uids if uid >= uidnext}
@@ -380,7 +379,7 @@ class Run:
         return sorted(uid for uid in found if self.message_id(fields.get(uid, [])) == action.id)
 
     @staticmethod
-    def message_id(lines):
+    def message_id(lines: Sequence[str]) -> Optional[str]:
         """The identifier of the one Message-ID field of a header, or None."""
         bodies = [line.split(':', 1)[1].strip(' \t') for line in lines if line.lower().startswith('message-id:')]
         return bodies[0] if len(bodies) == 1 else None

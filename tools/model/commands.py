@@ -1,0 +1,166 @@
+"""What each command but `play` does with the journal, call by call (docs/JOURNAL.md, "Counted"), and what it prints."""
+from typing import Iterable, List
+
+from .journal import Book, begin, body_of, event_of, journal, record
+from .words import Ident, crlf_of, keys, may_be_asked, message_id
+from .world import Fault, World
+
+MAGIC = b'ODMAILJ1'
+
+
+def is_up(text: bytes) -> bool:
+    """Whether a file's head gate is open."""
+    return len(text) >= 14 and text[0] == 1
+
+
+def is_other(text: bytes) -> bool:
+    """Whether a file with an open head gate isn't a journal's."""
+    return is_up(text) and text[1:9] != MAGIC
+
+
+class Store:
+    """The journal of the left file, opened."""
+
+    def __init__(self, world: World):
+        self.world = world
+        world.sync(0)
+        world.sync(1)
+        world.read()
+        world.read()
+        left, right = (file.seen for file in world.files)
+        if is_other(left) or is_other(right):
+            raise Fault(9, 'error journal header')
+        if is_up(left) and is_up(right):
+            raise Fault(9, 'error journal generations')
+        if not is_up(left) and not is_up(right):
+            raise Fault(9, 'error journal none')
+        events = self.read(left)
+        for _ in range(4 if len(events) == 1 else 5):
+            world.read()
+        self.book = Book(events)
+
+    def read(self, text: bytes) -> List[tuple]:
+        """The events of a file. The place of the gate behind them is kept."""
+        at, events = 13, []
+        while text[at:at + 1] == b'\x01':
+            size = int.from_bytes(text[at + 1:at + 5], 'big')
+            body = text[at + 5:at + 5 + size]
+            is_whole = len(body) == size and len(text) > at + 5 + size
+            event = event_of(body) if is_whole else None
+            if event is None or (event[0] == 'begin') != (not events):
+                raise Fault(9, 'error journal record %d' % at)
+            events.append(event)
+            at += 5 + size
+        if not events:
+            raise Fault(9, 'error journal record %d' % at)
+        self.gate = at
+        return events
+
+    def commit(self, event: tuple) -> None:
+        """Writes a record and the closed gate behind it, and then opens the gate in front of it."""
+        frame = record(body_of(event)) + b'\x00'
+        self.world.write(self.gate + 1, frame)
+        self.world.sync(0)
+        self.world.write(self.gate, b'\x01')
+        self.world.sync(0)
+        self.gate += len(frame)
+        self.book.take(event)
+
+
+def init(world: World, names: List[str]) -> List[str]:
+    world.sync(0)
+    world.sync(1)
+    world.read()
+    world.read()
+    for file in world.files:
+        if is_other(file.seen):
+            raise Fault(9, 'error journal header')
+        if is_up(file.seen):
+            raise Fault(9, 'error journal exists')
+    world.read()
+    # A longer file has its head gate closed.
+    if len(world.files[0].seen) < 14:
+        world.write(0, b'\x00')
+        world.sync(0)
+    world.write(1, journal(begin(*names))[1:])
+    world.sync(0)
+    world.write(0, b'\x01')
+    world.sync(0)
+    return ['ready']
+
+
+# Reasons, in their order.
+
+def refused(reason: str) -> Fault:
+    return Fault(10, 'refused ' + reason)
+
+
+def opened(world: World, *boxes: str) -> Store:
+    store = Store(world)
+    if any(box not in store.book.boxes for box in boxes):
+        raise refused('no-mailbox')
+    return store
+
+
+def target(book: Book, box: str, ident: Ident) -> tuple:
+    """What the words name, where the view has it."""
+    if (box, ident) not in book.view():
+        raise refused('no-message')
+    return ident if ident[0] == 'dummy' else ('real', box, book.boxes[box]['validity'], ident[1])
+
+
+def weigh(store: Store, flags: Iterable[str] = ()) -> None:
+    """The reasons from the flags on, up to a full queue."""
+    if not all(map(may_be_asked, flags)):
+        raise refused('bad-flag')
+    if len(store.book.unsettled()) >= 65535:
+        raise refused('queue-full')
+
+
+def take(store: Store, action: tuple) -> List[str]:
+    number = len(store.book.queue) + 1
+    store.commit(('accept', number, action))
+    return ['accepted %d' % number]
+
+
+# The commands.
+
+def flag(world: World, box: str, ident: Ident, sign: str, flags: List[str]) -> List[str]:
+    store = opened(world, box)
+    named = target(store.book, box, ident)
+    weigh(store, flags)
+    return take(store, ('flag', named, sign, keys(flags)))
+
+
+def move(world: World, box: str, ident: Ident, to: str) -> List[str]:
+    store = opened(world, box, to)
+    named = target(store.book, box, ident)
+    if box == to:
+        raise refused('same-mailbox')
+    weigh(store)
+    return take(store, ('move', named, to))
+
+
+def append(world: World, to: str, flags: List[str]) -> List[str]:
+    store = opened(world, to)
+    weigh(store, flags)
+    text = crlf_of(world.take_input())
+    if len(text) > 2**25:
+        raise refused('too-large')
+    if b'\0' in text:
+        raise refused('bad-text')
+    if message_id(text) is None:
+        raise refused('no-message-id')
+    return take(store, ('append', to, keys(flags), text))
+
+
+def list_rows(world: World, box: str) -> List[str]:
+    return opened(world, box).book.list(box)
+
+
+def queue(world: World) -> List[str]:
+    return Store(world).book.queue_lines()
+
+
+def report(world: World) -> List[str]:
+    return Store(world).book.report_lines()

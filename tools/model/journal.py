@@ -1,0 +1,326 @@
+"""Events as bytes and back (docs/JOURNAL.md), and the book that they make.
+
+An event is a tuple: ('begin', names), ('accept', number, action), ('intend', number, intent), ('settle', number, outcome) or
+('learn', mailbox, whole, validity, highest, uidnext, gone, rows), a row being (uid, modseq, flags).
+An action is ('flag', target, sign, flags), ('move', target, to) or ('append', to, flags, text), a target
+('real', mailbox, validity, uid) or ('dummy', number).
+An intent is ('store', mailbox, validity, uid, modseq), ('shift', mailbox, validity, uid, to) or ('put', to, validity, uidnext).
+An outcome is ('done',), ('done', validity, uid) or ('conflict', kind, numbers).
+"""
+import struct
+from typing import Dict, Iterable, List, Optional, Tuple
+
+from .words import Ident, keys, message_id, name_of, ranges_of
+
+HEAD = b'\x01ODMAILJ1' + (1).to_bytes(4, 'big')
+# The bytes of each number of a conflict that has some, by its kind.
+WIDTHS = {3: [8], 7: [4], 9: [8, 8], 12: [4, 4]}
+KIND_NAMES = ('message-gone already-so flags-changed refused-no refused-bad not-permanent target-unknown found-so store-unsure source-gone '
+              'gone-after-loss ambiguous').split()
+
+
+def u16(number: int) -> bytes:
+    return struct.pack('>H', number)
+
+
+def u32(number: int) -> bytes:
+    return struct.pack('>I', number)
+
+
+def u64(number: int) -> bytes:
+    return struct.pack('>Q', number)
+
+
+def counted(text: str) -> bytes:
+    data = text.encode()
+    return bytes([len(data)]) + data
+
+
+def named(name: str) -> bytes:
+    return counted(name_of(name))
+
+
+def flags_of(flags: Iterable[str]) -> bytes:
+    found = keys(flags)
+    return u16(len(found)) + b''.join(map(counted, found))
+
+
+def real(box: str, validity: int, uid: int) -> tuple:
+    return ('real', name_of(box), validity, uid)
+
+
+def target_of(target: tuple) -> bytes:
+    if target[0] == 'real':
+        _, box, validity, uid = target
+        return b'R' + named(box) + u32(validity) + u32(uid)
+    return b'D' + u32(target[1])
+
+
+# The bodies of records.
+
+def begin(*names: str) -> bytes:
+    return b'B' + bytes([len(names)]) + b''.join(map(named, names))
+
+
+def accept(number: int, action: tuple) -> bytes:
+    verb, *rest = action
+    front = b'A' + u32(number)
+    if verb == 'flag':
+        target, sign, flags = rest
+        return front + b'F' + target_of(target) + sign.encode() + flags_of(flags)
+    if verb == 'move':
+        target, to = rest
+        return front + b'M' + target_of(target) + named(to)
+    to, flags, text = rest
+    return front + b'P' + named(to) + flags_of(flags) + u32(len(text)) + text
+
+
+def intend(number: int, intent: tuple) -> bytes:
+    verb, box, validity, *rest = intent
+    front = b'I' + u32(number) + {'store': b'S', 'shift': b'M', 'put': b'P'}[verb] + named(box) + u32(validity)
+    if verb == 'store':
+        uid, modseq = rest
+        return front + u32(uid) + u64(modseq)
+    if verb == 'shift':
+        uid, to = rest
+        return front + u32(uid) + named(to)
+    return front + u32(rest[0])
+
+
+def settle(number: int, outcome: tuple) -> bytes:
+    front = b'S' + u32(number)
+    if outcome[0] == 'conflict':
+        _, kind, numbers = outcome
+        return front + b'C' + bytes([kind]) + b''.join(n.to_bytes(width, 'big') for n, width in zip(numbers, WIDTHS.get(kind, [])))
+    if outcome[1:]:
+        return front + b'D\x01' + u32(outcome[1]) + u32(outcome[2])
+    return front + b'D\x00'
+
+
+def learn(box: str, whole: int, validity: int, highest: int, uidnext: int, gone: Iterable[int], rows: Iterable[tuple]) -> bytes:
+    ranges, rows = ranges_of(gone), sorted(rows)
+    front = b'L' + named(box) + bytes([whole]) + u32(validity) + u64(highest) + u32(uidnext)
+    vanished = u32(len(ranges)) + b''.join(u32(low) + u32(high) for low, high in ranges)
+    return front + vanished + u32(len(rows)) + b''.join(u32(uid) + u64(modseq) + flags_of(flags) for uid, modseq, flags in rows)
+
+
+BODIES = dict(begin=lambda names: begin(*names), accept=accept, intend=intend, settle=settle, learn=learn)
+
+
+def body_of(event: tuple) -> bytes:
+    return BODIES[event[0]](*event[1:])
+
+
+def record(body: bytes) -> bytes:
+    return u32(len(body)) + body
+
+
+def journal(*bodies: bytes) -> bytes:
+    """A whole file: the head, each record behind its open gate, and a closed gate."""
+    return HEAD + b''.join(b'\x01' + record(body) for body in bodies) + b'\x00'
+
+
+class Cut(Exception):
+    """A body ends before what it has to hold."""
+
+
+class Body:
+    """A body that is read from its front."""
+
+    def __init__(self, data: bytes):
+        self.data, self.at = data, 0
+
+    def take(self, count: int) -> bytes:
+        self.at += count
+        if self.at > len(self.data):
+            raise Cut
+        return self.data[self.at - count:self.at]
+
+    def num(self, width: int = 4) -> int:
+        return int.from_bytes(self.take(width), 'big')
+
+    def name(self) -> str:
+        return self.take(self.num(1)).decode()
+
+    def flags(self) -> List[str]:
+        return [self.name() for _ in range(self.num(2))]
+
+    def target(self) -> tuple:
+        if self.take(1) == b'R':
+            return ('real', self.name(), self.num(), self.num())
+        return ('dummy', self.num())
+
+    def action(self) -> tuple:
+        letter = self.take(1)
+        if letter == b'F':
+            return ('flag', self.target(), self.take(1).decode(), self.flags())
+        if letter == b'M':
+            return ('move', self.target(), self.name())
+        return ('append', self.name(), self.flags(), self.take(self.num()))
+
+    def intent(self) -> tuple:
+        letter, box, validity = self.take(1), self.name(), self.num()
+        if letter == b'S':
+            return ('store', box, validity, self.num(), self.num(8))
+        if letter == b'M':
+            return ('shift', box, validity, self.num(), self.name())
+        return ('put', box, validity, self.num())
+
+    def outcome(self) -> tuple:
+        if self.take(1) == b'D':
+            return ('done', self.num(), self.num()) if self.num(1) else ('done',)
+        kind = self.num(1)
+        return ('conflict', kind, [self.num(width) for width in WIDTHS.get(kind, [])])
+
+    def learned(self) -> tuple:
+        box, whole, validity, highest, uidnext = self.name(), self.num(1), self.num(), self.num(8), self.num()
+        ranges = [(self.num(), self.num()) for _ in range(self.num())]
+        gone = [uid for low, high in ranges for uid in range(low, high + 1)]
+        rows = [(self.num(), self.num(8), self.flags()) for _ in range(self.num())]
+        return ('learn', box, whole, validity, highest, uidnext, gone, rows)
+
+    def event(self) -> Optional[tuple]:
+        letter = self.take(1)
+        if letter == b'B':
+            return ('begin', [self.name() for _ in range(self.num(1))])
+        if letter == b'A':
+            return ('accept', self.num(), self.action())
+        if letter == b'I':
+            return ('intend', self.num(), self.intent())
+        if letter == b'S':
+            return ('settle', self.num(), self.outcome())
+        if letter == b'L':
+            return self.learned()
+        return None
+
+
+def event_of(body: bytes) -> Optional[tuple]:
+    """The event that a body spells, or None."""
+    try:
+        event = Body(body).event()
+    except (Cut, UnicodeDecodeError):
+        return None
+    return event if event and body_of(event) == body else None
+
+
+class Book:
+    """What the events of a journal come to: caches by mailbox, actions with their outcomes, and the intent that is pending."""
+
+    def __init__(self, events: Iterable[tuple]):
+        self.boxes: Dict[str, Optional[dict]] = {}
+        self.queue: List[tuple] = []
+        self.outcomes: List[Optional[tuple]] = []
+        self.pending: Optional[tuple] = None
+        for event in events:
+            self.take(event)
+
+    def take(self, event: tuple) -> None:
+        kind = event[0]
+        if kind == 'begin':
+            self.boxes = {name: None for name in event[1]}
+        elif kind == 'accept':
+            self.queue.append(event[2])
+            self.outcomes.append(None)
+        elif kind == 'intend':
+            self.pending = event[2]
+        elif kind == 'settle':
+            self.outcomes[event[1] - 1] = event[2]
+            self.pending = None
+        elif kind == 'learn':
+            self.learned(*event[1:])
+
+    def learned(self, name: str, whole: int, validity: int, highest: int, uidnext: int, gone: List[int], rows: List[tuple]) -> None:
+        kept = {} if whole else dict(self.boxes[name]['rows'])
+        for uid in gone:
+            kept.pop(uid, None)
+        for uid, modseq, flags in rows:
+            kept[uid] = (modseq, keys(flags))
+        self.boxes[name] = dict(validity=validity, highest=highest, uidnext=uidnext, rows=kept)
+
+    def unsettled(self) -> List[int]:
+        return [number for number, outcome in enumerate(self.outcomes, 1) if outcome is None]
+
+    def to_of(self, number: int) -> str:
+        """The mailbox into which an action puts its message."""
+        action = self.queue[number - 1]
+        return action[1] if action[0] == 'append' else action[2]
+
+    def row_of(self, target: tuple) -> Optional[Tuple[str, tuple]]:
+        """The row that a target names, if any: of a UID in its mailbox, or of a dummy where its action puts it."""
+        if target[0] == 'dummy':
+            outcome = self.outcomes[target[1] - 1]
+            if outcome is None:
+                return (self.to_of(target[1]), target)
+            if outcome[0] == 'conflict':
+                return None
+            target = ('real', self.to_of(target[1]), *outcome[1:])
+        _, box, validity, uid = target
+        cache = self.boxes[box]
+        return (box, ('real', uid)) if cache and cache['validity'] == validity else None
+
+    def cached(self) -> dict:
+        return {(box, ('real', uid)): (modseq, set(flags))
+                for box, cache in self.boxes.items() if cache for uid, (modseq, flags) in cache['rows'].items()}
+
+    def view(self) -> Dict[Tuple[str, Ident], tuple]:
+        """The rows as the user sees them: (mailbox, ident) with a mod-sequence, which a dummy hasn't, and flags."""
+        rows = self.cached()
+        for number in self.unsettled():
+            verb, *rest = self.queue[number - 1]
+            if verb == 'append':
+                rows[rest[0], ('dummy', number)] = (None, set(keys(rest[1])))
+                continue
+            at = self.row_of(rest[0])
+            if at not in rows:
+                continue
+            modseq, flags = rows[at]
+            if verb == 'flag':
+                named = set(keys(rest[2]))
+                rows[at] = (modseq, flags | named if rest[1] == '+' else flags - named)
+            else:
+                del rows[at]
+                rows[rest[1], ('dummy', number)] = (None, flags)
+        return rows
+
+    # The lines of `list`, `queue` and `report`.
+
+    def list(self, box: str) -> List[str]:
+        lines = []
+        rows = [(ident, row) for (name, ident), row in self.view().items() if name == box]
+        for (kind, number), (modseq, flags) in sorted(rows, key=lambda row: (row[0][0] == 'dummy', row[0][1])):
+            ident = ('d' if kind == 'dummy' else '') + str(number)
+            mark = '-' if modseq is None else str(modseq)
+            lines.append(' '.join([ident, mark] + sorted(flags, key=str.encode)))
+        return lines
+
+    def named(self, target: tuple) -> str:
+        if target[0] == 'real':
+            return '%s %d' % (target[1], target[3])
+        return '%s d%d' % (self.to_of(target[1]), target[1])
+
+    def action_text(self, action: tuple) -> str:
+        verb, *rest = action
+        if verb == 'flag':
+            target, sign, flags = rest
+            return ' '.join(['flag', self.named(target), sign] + keys(flags))
+        if verb == 'move':
+            target, to = rest
+            return 'move %s %s' % (self.named(target), to)
+        to, _, text = rest
+        return 'append %s %s' % (to, message_id(text).decode())
+
+    def queue_lines(self) -> List[str]:
+        lines, due = [], self.unsettled()
+        for number in due:
+            state = 'begun' if self.pending and number == due[0] else 'waiting'
+            lines.append('%d %s %s' % (number, state, self.action_text(self.queue[number - 1])))
+        return lines
+
+    def report_lines(self) -> List[str]:
+        lines = []
+        for number, outcome in enumerate(self.outcomes, 1):
+            if outcome and outcome[0] == 'conflict':
+                _, kind, numbers = outcome
+                effect = 'nothing' if kind <= 7 else 'unsure'
+                lines.append(' '.join([str(number), effect, KIND_NAMES[kind - 1]] + [str(n) for n in numbers]))
+        return lines
