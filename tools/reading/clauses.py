@@ -9,6 +9,8 @@ from pathlib import Path
 FUNCTION = re.compile(r"^(\s*)(?:pub(?:\([a-z]+\))? )?(?:ghost )?(?:const )?fn (\w+)")
 OWNER = re.compile(r"^(?:pub )?(?:unsafe )?(impl|trait)\b(.*)$")
 CLAUSE = re.compile(r"^\s+(?:ensures|any_moment)\s+(?:(\w+) )?\{")
+# What each type that has a trait must show once, as a law of it.
+FACT = re.compile(r"^\s+ghost (\w+): \{")
 
 
 @dataclass(frozen=True)
@@ -24,7 +26,7 @@ class Clause:
 
     def name(self) -> str:
         """The clause as the pages name it."""
-        function = f"{self.owner}::{self.function}" if self.owner else self.function
+        function = "::".join(part for part in (self.owner, self.function) if part)
         return f"{function}:{self.label}" if self.label else function
 
 
@@ -78,7 +80,10 @@ def clauses_of(path: Path, file: str) -> tuple[list[Clause], list[tuple[str, str
         if match := FUNCTION.match(line):
             function = match.group(2)
             functions.append((owner, function))
-        if match := CLAUSE.match(line):
+        match = CLAUSE.match(line)
+        if fact := FACT.match(line):
+            match, function = fact, ""
+        if match:
             found.append(Clause(file, owner, function, match.group(1) or "", number, braced(text, place + match.end() - 1)))
         place += len(line) + 1
     return found, functions
