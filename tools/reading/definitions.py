@@ -7,7 +7,7 @@ from dataclasses import dataclass
 from pathlib import Path
 
 HEADER = re.compile(r"^(?:abbrev |unfoldable |pub |rec )*(record |data )?([^\s:({]+)")
-BEGINS = ("abbrev ", "unfoldable ", "pub record ", "pub data ", "record ", "data ", "pub ")
+BEGINS = re.compile(r"(?:abbrev|unfoldable|record|data|pub (?!mod))\b|[\w-]+ : ")
 USE = re.compile(r"^\s*(?:ghost )?use (Rattle\.[\w.]+?)(?:\.\{([^}]*)\}| as (\w+));?\s*$")
 WORD = re.compile(r"[A-Za-z_][\w'-]*|[^\s\w(){}\[\],;.:=→×λ]+")
 
@@ -38,10 +38,8 @@ def definitions_of(path: Path, file: str) -> list[Definition]:
     starts: list[tuple[str, int]] = []
     lines = [uncommented(line) for line in path.read_text().split("\n")]
     for number, line in enumerate(lines):
-        if line.startswith(BEGINS):
-            match = HEADER.match(line)
-            if match and not line.startswith("pub mod "):
-                starts.append((match.group(2), number))
+        if BEGINS.match(line) and (match := HEADER.match(line)):
+            starts.append((match.group(2), number))
     found = []
     for (name, begin), (_, end) in zip(starts, starts[1:] + [("", len(lines))]):
         body = [line for line in lines[begin:end] if line]
