@@ -40,7 +40,7 @@ def owner_of(line: str) -> str:
     match = OWNER.match(line)
     if not match:
         return ""
-    rest = match.group(2)
+    rest: str = match.group(2)
     while "<" in rest:
         fewer = re.sub(r"<[^<>]*>", "", rest.replace("->", ""))
         if fewer == rest:
@@ -48,7 +48,7 @@ def owner_of(line: str) -> str:
         rest = fewer
     if match.group(1) == "impl" and " for " in rest:
         rest = rest.split(" for ", 1)[1]
-    words = re.findall(r"\w+", rest)
+    words: list[str] = re.findall(r"\w+", rest)
     return words[0] if words else ""
 
 
