@@ -486,6 +486,28 @@ class Sessions(unittest.TestCase):
         self.assertEqual(server.end(), "reset")
         self.assertEqual(tried.ended()[0], 3)
 
+    def test_usr1_waits_for_a_letter(self) -> None:
+        tried, program, server = self.join()
+        self.begin(program, server, b"123456789")
+        tried.process.send_signal(signal.SIGUSR1)
+        time.sleep(0.5)
+        server.say(b"+ OK\r\n")
+        self.assertEqual(server.hear(5), b"89)\r\n")
+        server.say(b"P1 OK\r\n")
+        self.assertEqual(program.hear(99), b"P1 OK\r\n")
+        self.assertEqual(server.end(), "reset")
+        self.assertEqual(tried.ended(), (3, "mowerbean: the session was ended, as asked; what waits is for the next play\n"))
+        self.assertFalse(os.path.exists(self.mark))
+
+    def test_int_stays_ignored(self) -> None:
+        before = signal.signal(signal.SIGINT, signal.SIG_IGN)
+        try:
+            tried, program, server = self.join()
+        finally:
+            signal.signal(signal.SIGINT, before)
+        tried.process.send_signal(signal.SIGINT)
+        self.leave(tried, program, server)
+
     def test_usr1_and_term_at_rest(self) -> None:
         for number in (signal.SIGUSR1, signal.SIGTERM):
             tried, program, server = self.join()
@@ -536,12 +558,16 @@ class Sessions(unittest.TestCase):
         server.hear(9)
         pieces = [b"* " + b"x" * 9_998] * 200 + [b"\r\n* X {900000}\r\n"] + [b"y" * 9_000] * 100 + [b"\n" * 10_000] * 2
         pieces += [b"+ " + b"x" * 99_998] * 20
+        before = self.memory(tried)
         for piece in pieces:
             server.say(piece)
             self.assertEqual(len(program.hear(len(piece))), len(piece))
+        self.assertLess(self.memory(tried) - before, 1_000)
+
+    def memory(self, tried: Tried) -> int:
+        """The most memory that link held so far, in kB."""
         with open(f"/proc/{tried.process.pid}/status", encoding="ascii") as file:
-            most = int(re.findall(r"VmHWM:\s+(\d+) kB", file.read())[0])
-        self.assertLess(most, 40_000)
+            return int(re.findall(r"VmHWM:\s+(\d+) kB", file.read())[0])
 
     # -- TLS --
 
