@@ -71,8 +71,8 @@ class Mark:
         except OSError as error:
             raise Ended(Status.LINE, f"a letter isn't sent, as {self.path} can't be written: {error.strerror}") from error
 
-    def remove(self) -> None:
-        """The letter was answered, or looked for."""
+    def remove(self) -> Optional[str]:
+        """The letter was answered, or looked for. Why the mark stays, where it does."""
         self.was_there = False
         try:
             os.unlink(self.path)
@@ -80,7 +80,8 @@ class Mark:
         except FileNotFoundError:
             pass
         except OSError as error:
-            raise Ended(Status.LINE, f"{self.path} can't be removed: {error.strerror}") from error
+            return f"{self.path} can't be removed: {error.strerror}"
+        return None
 
     def _sync(self) -> None:
         """Makes sure of a name in the folder."""
@@ -107,11 +108,11 @@ class Log:
         with contextlib.suppress(OSError):
             print(f"mowerbean: {text}", file=sys.stderr, flush=True)
 
-    def line(self, way: str, line: bytes, is_end_of_command: bool = False) -> None:
+    def line(self, way: str, line: bytes, for_verbose: bool = False) -> None:
         """A line, secrets hidden, of C (the client) or S (the server)."""
         text = way + ": " + printable(line.rstrip(b"\r\n"))
         self.note(text)
-        if self.is_verbose and is_end_of_command:
+        if self.is_verbose and for_verbose:
             self.clear()
             with contextlib.suppress(OSError):
                 print(text[:200], file=sys.stderr, flush=True)
@@ -281,6 +282,9 @@ def connect(address: Address, context: Optional[ssl.SSLContext]) -> Line:
     except ssl.SSLError as error:
         link.close()
         raise Ended(Status.ADDRESS, f"no TLS with {address}: {printable((error.reason or str(error)).encode())}") from error
+    except ValueError as error:
+        link.close()
+        raise Ended(Status.ADDRESS, f"no TLS with {address}: {printable(str(error).encode())}") from error
     except socket.timeout as error:
         link.close()
         raise Ended(Status.LINE, f"no bytes from {address} for {CONNECT_TIME:.0f} seconds") from error
@@ -401,10 +405,15 @@ class Guard:
             else:
                 raise Ended(Status.LINE, f"ended by {signal.Signals(number).name}")
         self.signals.clear()
-        if self.owner is not None and (self.owner_handle in ready or not is_there(self.owner)):
+        if self._is_owner_gone(ready):
             raise Ended(Status.LINE, "the script that started it is gone")
         if time.monotonic() >= self.deadline:
             raise Ended(Status.LINE, f"the session took longer than {self.seconds:.0f} seconds")
+
+    def _is_owner_gone(self, ready: Dict[int, int]) -> bool:
+        if self.owner is None:
+            return False
+        return self.owner_handle in ready if self.owner_handle is not None else not is_there(self.owner)
 
     def wake(self) -> None:
         """Ends a wait, from another thread."""

@@ -2,15 +2,21 @@
 
 Nothing here touches a socket or a file, so all of it can be tried with octets alone.
 """
+import base64
+import contextlib
 import enum
 import re
-from typing import Dict, Iterator, NamedTuple, Optional
+from typing import Dict, Iterator, List, NamedTuple, Optional
 
 LINE_LIMIT = 65_536  # A line is read up to here; what is longer is handed on unread.
 HEADER_LIMIT = 32  # The octets at a line's end in which a literal's size can stand.
+HOLD_STEP = 0.02  # Between two looks at the send queue.
+SILENCE = 30.0  # Where the program leaves behind so much of it, the line is to blame.
+LAST_WORDS = 5.0  # For the program to take what the server said before its end.
 TOO_SLOW_TIME, TOO_SLOW_BYTES, SENT_PER_SECOND = 900.0, 4_096, 2_000
 LOOK_CATENATE, LOOK_CRLF = 10.0, 130.0  # How long the line must live in a second look.
 LOOK_STEP, LOOK_ANSWER, LOOK_SILENCE = 2.0, 5.0, 200.0
+SECRETS, SECRET_LEAST, SECRET_MOST = 16, 4, 1_024  # How many hidden words are kept, and their sizes.
 
 LITERAL = re.compile(rb"\{([0-9]{1,18})(\+?)\}\r\n\Z")
 COMMAND = re.compile(rb"([A-Z][0-9]{1,18}) ((?:UID )?[A-Z]+)(?=[ \r\n])")
@@ -174,8 +180,12 @@ class Letter:
         return self.held + b")\r\n" if self.way is Way.CATENATE else b"\r\n"
 
     def refuse(self) -> None:
-        """The server answered NO or BAD before it had the whole command."""
-        self.is_unclear = self.stage is Stage.SENDING and self.way is Way.CATENATE
+        """The server answered NO or BAD before it had the whole command.
+
+        In place of a `+` that is clear to both. Anywhere else the server may take what comes next as octets of the letter.
+        """
+        is_in_place = self.stage is Stage.ASKING or (self.stage is Stage.HOLDING and self.way is Way.CATENATE)
+        self.is_unclear = not is_in_place
         self.stage = Stage.REFUSED
 
 
@@ -244,6 +254,7 @@ class Secrets:
     def __init__(self) -> None:
         self.is_hidden = self.is_answered = False
         self.highest: Dict[bytes, int] = {}  # Of each letter that tags begin with.
+        self.kept: List[bytes] = []
 
     def begin(self, tag: bytes, verb: bytes) -> None:
         """A line looks like the beginning of a command."""
@@ -255,13 +266,25 @@ class Secrets:
         if verb in (b"LOGIN", b"AUTHENTICATE"):
             self.is_hidden, self.is_answered = True, False
 
-    def shown(self, line: bytes) -> bytes:
+    def said(self, line: bytes) -> bytes:
         """What may be shown of a line of the program."""
         if not self.is_hidden:
             return line
         words = line.split()
-        if COMMAND.match(line) and words[1] == b"LOGIN":
-            return b" ".join(words[:2]) + b" [hidden]"
-        if COMMAND.match(line) and words[1] == b"AUTHENTICATE" and len(words) > 2:
-            return b" ".join(words[:3]) + (b" [hidden]" if len(words) > 3 else b"")
-        return b"[hidden]"
+        verb = words[1] if COMMAND.match(line) else b""
+        shown, secret = {b"LOGIN": (2, 3), b"AUTHENTICATE": (3, 3)}.get(verb, (0, 0))
+        self.keep(*words[secret:])
+        return b" ".join(words[:shown] + ([b"[hidden]"] if words[shown:] else []))
+
+    def keep(self, *words: bytes) -> None:
+        """Keeps hidden words, and the password in base64, so that a server that repeats them doesn't uncover them."""
+        for word in words:
+            plain = [word.strip(b'"')]
+            with contextlib.suppress(ValueError):
+                plain.append(base64.b64decode(word, validate=True).split(b"\0")[-1])
+            self.kept += [secret for secret in plain if SECRET_LEAST <= len(secret) <= SECRET_MOST and not LITERAL.match(secret + b"\r\n")]
+        del self.kept[SECRETS:]
+
+    def heard(self, line: bytes) -> bytes:
+        """What may be shown of a line of the server."""
+        return b"[hidden]" if any(secret in line for secret in self.kept) else line

@@ -51,7 +51,8 @@ in_use() {
 
 # A play holds the folder itself locked, beside the lock of each run.
 plays_now() {
-    ! flock -n -s "$folder" true 2>/dev/null
+    flock -n -s "$folder" true 2>/dev/null
+    [ $? -eq 1 ]
 }
 
 # Tries to get the lock, and knows another run's from one that can't be had.

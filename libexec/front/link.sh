@@ -49,7 +49,7 @@ start_link() {
     fi
     room=$(mktemp -d) || return 0
     if mkfifo "$room/port"; then
-        python3 "$libexec/link" "$@" </dev/null >"$room/port" &
+        python3 -Es "$libexec/link" "$@" </dev/null >"$room/port" &
         link_pid=$!
         read -r port <"$room/port" || port=''
     fi

@@ -220,7 +220,7 @@ take_status() {
 # A play after its pause. A command that the server didn't carry out yet may be under way as long as that.
 play_once() {
     wait_for_turn
-    if [ -n "$can_lock" ]; then
+    if [ -n "$can_lock" ] && [ -r "$folder" ]; then
         exec 8<"$folder"
         flock -w 5 8 2>/dev/null
     fi

@@ -90,11 +90,12 @@ ended() {
     wait "$held"
     status=$?
     rm -f "$work/stub/hold"
-    gone=gone
     read -r running <"$work/stub/running"
-    if kill -0 "$running" 2>/dev/null; then
-        gone=running
-    fi
+    # One that ended may be a zombie, where nobody asks for its status.
+    case $(ps -o stat= -p "$running") in
+        '' | Z*) gone=gone ;;
+        *) gone=running ;;
+    esac
 }
 
 signals() {
@@ -168,7 +169,7 @@ CASES
     fi
     folder pausing
     echo "lost $(date +%s)" >"$MAIL_DIR/mowerbean.play"
-    with_interrupts env MAIL_PAUSE=77 "$stub" play >/dev/null 2>&1 </dev/null &
+    MAIL_PAUSE=77 with_interrupts "$stub" play >/dev/null 2>&1 </dev/null &
     held=$!
     turns=0
     while ! pgrep -P "$held" -x sleep >/dev/null && [ "$turns" -lt 300 ]; do

@@ -139,6 +139,7 @@ unseen_passwords() {
         printf '#!/bin/sh\n%s >"%s/$$.%s"\nexec %s "$@"\n' "$shown_by" "$work/seen" "$tool" "$path" >"$work/fakes/$tool"
         chmod +x "$work/fakes/$tool"
     done
+    echo hidden-word >"$work/secret"
     config "password_command=cat $work/secret"
     ends 4 0
     # The caller exports names that the script uses.
