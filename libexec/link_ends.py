@@ -18,7 +18,7 @@ from link_words import LINE_LIMIT, Ended, Letter, Status, Way, printable
 
 READ_AHEAD = 16_384  # Octets that a socket may hold ahead of its reader.
 CONNECT_TIME = 30.0  # For all addresses of the host together, and the way to TLS.
-SIOCOUTQ = 0x5411  # Linux: how many octets the peer hasn't acknowledged.
+SIOCOUTQ = 0x5411  # Of Linux: how many octets the peer hasn't acknowledged.
 RESET, IN_ORDER = struct.pack("ii", 1, 0), struct.pack("ii", 0, 0)
 MARK = re.compile(rb"([A-Z][0-9]{1,18}) ([0-9]{1,18}) (catenate|crlf) [0-9]{1,18}\n\Z")
 
@@ -29,6 +29,8 @@ class Mark:
     NAME = "mowerbean.line"
 
     def __init__(self, folder: str) -> None:
+        if not os.path.isdir(folder):
+            raise Ended(Status.WORDS, f"{folder} is no folder")
         self.folder, self.path = folder, os.path.join(folder, self.NAME)
         self.tag: Optional[bytes] = None  # Without one a mark that is there stands for any letter.
         self.size, self.way = 0, Way.CRLF
@@ -144,6 +146,11 @@ class Log:
             print(f"\r{text:<{len(self.shown)}}", end="", file=sys.stderr, flush=True)
         self.shown, self.shown_at = text, now
 
+    def end_progress(self) -> None:
+        """Takes the line of progress away for good: the program may print from now on."""
+        self.clear()
+        self.is_progress = False
+
     def clear(self) -> None:
         """Takes the line of progress away."""
         if self.shown:
@@ -246,6 +253,8 @@ class Line:
 
     def queued(self) -> int:
         """The octets that the server's side hasn't acknowledged; 0 where the system can't be asked."""
+        if not sys.platform.startswith("linux"):
+            return 0
         size = array.array("i", [0])
         try:
             fcntl.ioctl(self.socket.fileno(), SIOCOUTQ, size)
@@ -318,14 +327,13 @@ def connect_any(address: Address, deadline: float) -> socket.socket:
             link.close()
             is_timeout = isinstance(error, socket.timeout)
             reasons.append(f"no answer for {share:.0f} seconds" if is_timeout else (error.strerror or str(error)))
-    told = " and ".join(dict.fromkeys(reasons))
-    raise Ended(Status.LINE, f"no connection to {address}: {told}")
+    raise Ended(Status.LINE, f"no connection to {address}: {' and '.join(dict.fromkeys(reasons))}")
 
 
 def ask_for_tls(link: socket.socket, address: Address, deadline: float) -> bytes:
     """STARTTLS (RFC 9051, sections 6.2.1 and 11.1); the greeting that the program gets.
 
-    It is a greeting of our own: what came in clear could be anybody's, and must not count as said behind TLS.
+    It is a greeting of our own: what came in clear could be anybody's, and must not count as said over TLS.
     """
     greeting = clear_line(link, deadline)
     if not greeting.upper().startswith(b"* OK"):
@@ -345,12 +353,12 @@ def ask_for_tls(link: socket.socket, address: Address, deadline: float) -> bytes
     except BlockingIOError:
         injected = b""
     if injected:
-        raise Ended(Status.ADDRESS, f"no STARTTLS with {address}: it, or somebody between, sent more in clear behind its answer")
+        raise Ended(Status.ADDRESS, f"no STARTTLS with {address}: it, or somebody between, sent more in clear after its answer")
     return b"* OK TLS is on\r\n"
 
 
 def clear_line(link: socket.socket, deadline: float) -> bytes:
-    """A line before TLS, without its end. It is read octet by octet, so that nothing behind it is."""
+    """A line before TLS, without its end. It is read octet by octet, so that nothing after it is."""
     line = bytearray()
     while not line.endswith(b"\n") and len(line) < LINE_LIMIT:
         link.settimeout(max(0.01, deadline - time.monotonic()))

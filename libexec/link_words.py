@@ -11,11 +11,11 @@ from typing import Dict, Iterator, List, NamedTuple, Optional
 LINE_LIMIT = 65_536  # A line is read up to here; what is longer is handed on unread.
 HEADER_LIMIT = 32  # The octets at a line's end in which a literal's size can stand.
 HOLD_STEP = 0.02  # Between two looks at the send queue.
-SILENCE = 30.0  # Where the program leaves behind so much of it, the line is to blame.
+SILENCE = 30.0  # Where the program leaves after so much of it, the line is to blame.
 LAST_WORDS = 5.0  # For the program to take what the server said before its end.
 TOO_SLOW_TIME, TOO_SLOW_BYTES, SENT_PER_SECOND = 900.0, 4_096, 2_000
 LOOK_CATENATE, LOOK_CRLF = 10.0, 130.0  # How long the line must live in a second look.
-LOOK_STEP, LOOK_ANSWER, LOOK_SILENCE = 2.0, 5.0, 200.0
+LOOK_STEP, LOOK_ANSWER, LOOK_LATE, LOOK_SILENCE = 2.0, 5.0, 1.0, 200.0
 SECRETS, SECRET_LEAST, SECRET_MOST = 16, 4, 1_024  # How many hidden words are kept, and their sizes.
 
 LITERAL = re.compile(rb"\{([0-9]{1,18})(\+?)\}\r\n\Z")
@@ -51,12 +51,12 @@ class Part(NamedTuple):
 
     data: bytes
     is_literal: bool
-    is_first: bool  # Not behind a literal.
+    is_first: bool  # Not after a literal.
     is_whole: bool  # A whole line.
     ends: bool  # The line or the literal ends here.
     line: bytes = b""  # Where a line ends: its beginning, up to LINE_LIMIT octets.
-    size: Optional[int] = None  # Where a line ends: the size of the literal behind it.
-    waits: bool = False  # That literal is sent only behind a `+`.
+    size: Optional[int] = None  # Where a line ends: the size of the literal after it.
+    waits: bool = False  # That literal is sent only after a `+`.
 
 
 class Scanner:
@@ -219,11 +219,14 @@ class Look:
         return b"L%d NOOP\r\n" % self.count
 
     def hear(self, line: bytes, now: float) -> None:
-        """Takes a line of the server. A stretch counts where the NOOP at its end was answered in time."""
+        """Takes a line of the server. A stretch counts where the NOOP at its end was answered in time.
+
+        A later answer counts for a little, so that a look comes to its end on a line that is always so slow.
+        """
         if self.asked is None or not line.startswith(b"L%d " % self.count):
             return
-        if self.lived_at is not None and now - self.asked <= LOOK_ANSWER:
-            self.left -= now - self.lived_at
+        if self.lived_at is not None:
+            self.left -= now - self.lived_at if now - self.asked <= LOOK_ANSWER else LOOK_LATE
         self.lived_at, self.asked = now, None
 
 

@@ -15,7 +15,7 @@ import sys
 import tempfile
 import time
 import unittest
-from typing import Dict, List, Tuple
+from typing import Dict, List, Optional, Tuple
 
 sys.dont_write_bytecode = True
 HERE = os.path.dirname(os.path.abspath(__file__))
@@ -23,6 +23,7 @@ sys.path.insert(0, HERE)
 import link_words  # noqa: E402
 
 PATIENCE = 30.0  # For a machine that has much else to do.
+Lowered = Dict[str, float]
 RESET = struct.pack("ii", 1, 0)
 
 # Runs link with other values of its constants: `MODULE.NAME=VALUE` each, up to `--`.
@@ -35,7 +36,7 @@ while (word := sys.argv.pop(1)) != "--":
     setattr(importlib.import_module(module), name, float(value))
 runpy.run_path(sys.path[0] + "/link", run_name="__main__")
 """
-QUICK_LOOK = {"LOOK_CATENATE": 1.0, "LOOK_CRLF": 1.5, "LOOK_STEP": 0.2, "LOOK_ANSWER": 2.0, "LOOK_SILENCE": 3.0}
+QUICK_LOOK: Lowered = {"LOOK_CATENATE": 1.0, "LOOK_CRLF": 1.5, "LOOK_STEP": 0.2, "LOOK_ANSWER": 2.0, "LOOK_SILENCE": 3.0}
 
 
 class Peer:
@@ -94,7 +95,7 @@ class Peer:
 class Tried:
     """A link under way: its process, and both its ends."""
 
-    def __init__(self, given: List[str], lowered: Dict[str, float]) -> None:
+    def __init__(self, given: List[str], lowered: Lowered) -> None:
         settings = [f"{module_of(name)}.{name}={value}" for name, value in lowered.items()]
         words = [sys.executable, "-c", RUN, HERE, *settings, "--", *given]
         self.process = subprocess.Popen(words, stdin=subprocess.DEVNULL, stdout=subprocess.PIPE, stderr=subprocess.PIPE)
@@ -144,11 +145,11 @@ class Sessions(unittest.TestCase):
         listening.settimeout(PATIENCE)
         return self.stack.enter_context(listening)
 
-    def start(self, *words: str, way: str = "server", host: str = "127.0.0.1", **lowered: float) -> Tuple[Tried, socket.socket]:
+    def start(self, *words: str, way: str = "server", host: str = "127.0.0.1", lowered: Optional[Lowered] = None) -> Tuple[Tried, socket.socket]:
         """Link, started for a server that listens."""
         listening = self.listen()
         address = f"{host}:{listening.getsockname()[1]}"
-        tried = Tried([f"--{way}", address, "--folder", self.folder, "--trace", self.trace, *words], lowered)
+        tried = Tried([f"--{way}", address, "--folder", self.folder, "--trace", self.trace, *words], lowered or {})
         self.stack.callback(tried.close)
         return tried, listening
 
@@ -158,16 +159,16 @@ class Sessions(unittest.TestCase):
         self.stack.callback(link.close)
         return Peer(link)
 
-    def join(self, *words: str, catenate: bool = True, **lowered: float) -> Tuple[Tried, Peer, Peer]:
-        """Link, the program and the server, which are behind the log-in."""
-        tried, listening = self.start(*words, **lowered)
+    def join(self, *words: str, catenate: bool = True, lowered: Optional[Lowered] = None) -> Tuple[Tried, Peer, Peer]:
+        """Link, the program and the server, after the log-in."""
+        tried, listening = self.start(*words, lowered=lowered)
         program = tried.program()
         server = self.accept(listening)
         greeting = b"* OK [CAPABILITY IMAP4rev1%s] hi\r\n" % (b"" if catenate else b" CATENATE")
         server.say(greeting)
         self.assertEqual(program.hear(len(greeting)), greeting)
-        told = b"* CAPABILITY IMAP4rev1%s QRESYNC\r\nC3 OK done\r\n" % (b" Catenate" if catenate else b"")
-        self.ask(program, server, b"C3 CAPABILITY\r\n", told)
+        answer = b"* CAPABILITY IMAP4rev1%s QRESYNC\r\nC3 OK done\r\n" % (b" Catenate" if catenate else b"")
+        self.ask(program, server, b"C3 CAPABILITY\r\n", answer)
         return tried, program, server
 
     def ask(self, program: Peer, server: Peer, command: bytes, answer: bytes) -> None:
@@ -278,7 +279,7 @@ class Sessions(unittest.TestCase):
                     program.say(whole[first:])
                 self.leave(tried, program, server)
 
-    def test_no_in_the_middle_ends_the_session_behind_it(self) -> None:
+    def test_no_in_the_middle_ends_the_session_after_it(self) -> None:
         for catenate in (True, False):
             with self.subTest(catenate=catenate):
                 tried, program, server = self.join(catenate=catenate)
@@ -367,7 +368,7 @@ class Sessions(unittest.TestCase):
         self.assertEqual(program.end(), "in order")
         status, said = tried.ended()
         self.assertEqual(status, 3)
-        self.assertRegex(said, r"^mowerbean: the connection was lost \(.*\) behind \d+ bytes, waiting for the answer to P1\n$")
+        self.assertRegex(said, r"^mowerbean: the connection was lost \(.*\) after \d+ bytes, waiting for the answer to P1\n$")
         self.assertEqual(self.words_of_mark(), ["P1", "9", "catenate"])
 
     def write_mark(self, text: str) -> None:
@@ -378,7 +379,7 @@ class Sessions(unittest.TestCase):
     def look(self, mark: str, least: float) -> None:
         """A second look for P1, with a server that lives."""
         self.write_mark(mark)
-        tried, program, server = self.join(**QUICK_LOOK)
+        tried, program, server = self.join(lowered=QUICK_LOOK)
         program.say(b"P1 APPEND a () {9}\r\n")
         began, heard = time.monotonic(), 0
         server.link.settimeout(PATIENCE)
@@ -409,7 +410,7 @@ class Sessions(unittest.TestCase):
 
     def test_a_second_look_goes_on_without_the_program(self) -> None:
         self.write_mark("P1 9 catenate 1795976000\n")
-        tried, program, server = self.join(**QUICK_LOOK)
+        tried, program, server = self.join(lowered=QUICK_LOOK)
         program.say(b"P1 APPEND a () {9}\r\n")
         self.assertEqual(server.hear(9), b"L1 NOOP\r\n")
         program.link.close()
@@ -423,7 +424,7 @@ class Sessions(unittest.TestCase):
         for is_silent in (True, False):
             with self.subTest(is_silent=is_silent):
                 self.write_mark("P1 9 catenate 1795976000\n")
-                tried, program, server = self.join(**QUICK_LOOK)
+                tried, program, server = self.join(lowered=QUICK_LOOK)
                 program.say(b"P1 APPEND a () {9}\r\n")
                 self.assertEqual(server.hear(9), b"L1 NOOP\r\n")
                 if not is_silent:
@@ -485,6 +486,28 @@ class Sessions(unittest.TestCase):
         self.assertEqual(server.end(), "reset")
         self.assertEqual(tried.ended()[0], 3)
 
+    def test_usr1_waits_for_a_letter(self) -> None:
+        tried, program, server = self.join()
+        self.begin(program, server, b"123456789")
+        tried.process.send_signal(signal.SIGUSR1)
+        time.sleep(0.5)
+        server.say(b"+ OK\r\n")
+        self.assertEqual(server.hear(5), b"89)\r\n")
+        server.say(b"P1 OK\r\n")
+        self.assertEqual(program.hear(99), b"P1 OK\r\n")
+        self.assertEqual(server.end(), "reset")
+        self.assertEqual(tried.ended(), (3, "mowerbean: the session was ended, as asked; what waits is for the next play\n"))
+        self.assertFalse(os.path.exists(self.mark))
+
+    def test_int_stays_ignored(self) -> None:
+        before = signal.signal(signal.SIGINT, signal.SIG_IGN)
+        try:
+            tried, program, server = self.join()
+        finally:
+            signal.signal(signal.SIGINT, before)
+        tried.process.send_signal(signal.SIGINT)
+        self.leave(tried, program, server)
+
     def test_usr1_and_term_at_rest(self) -> None:
         for number in (signal.SIGUSR1, signal.SIGTERM):
             tried, program, server = self.join()
@@ -493,7 +516,7 @@ class Sessions(unittest.TestCase):
             self.assertEqual(tried.ended()[0], 3)
 
     def test_a_drip_is_too_slow(self) -> None:
-        tried, program, server = self.join(TOO_SLOW_TIME=1.0)
+        tried, program, server = self.join(lowered={"TOO_SLOW_TIME": 1.0})
         with contextlib.suppress(ConnectionError):
             for _ in range(100):
                 server.say(b"*")
@@ -506,8 +529,8 @@ class Sessions(unittest.TestCase):
         tried, program, server = self.join("--time", "3")
         self.assertEqual(tried.ended(), (3, "mowerbean: the session took longer than 3 seconds\n"))
 
-    def test_silence_is_told(self) -> None:
-        tried, program, server = self.join(SILENCE=0.5)
+    def test_silence_is_reported(self) -> None:
+        tried, program, server = self.join(lowered={"SILENCE": 0.5})
         program.say(b"C6 NOOP\r\n")
         time.sleep(1.0)
         program.link.close()
@@ -533,13 +556,18 @@ class Sessions(unittest.TestCase):
         tried, program, server = self.join()
         program.say(b"C4 NOOP\r\n")
         server.hear(9)
-        for piece in (b"* " + b"x" * 9_998, b"+ " + b"x" * 9_998, b"* X {5}\r\n", b"\n" * 10_000):
-            for _ in range(200):
-                server.say(piece)
-                self.assertEqual(len(program.hear(len(piece))), len(piece))
+        pieces = [b"* " + b"x" * 9_998] * 200 + [b"\r\n* X {900000}\r\n"] + [b"y" * 9_000] * 100 + [b"\n" * 10_000] * 2
+        pieces += [b"+ " + b"x" * 99_998] * 20
+        before = self.memory(tried)
+        for piece in pieces:
+            server.say(piece)
+            self.assertEqual(len(program.hear(len(piece))), len(piece))
+        self.assertLess(self.memory(tried) - before, 1_000)
+
+    def memory(self, tried: Tried) -> int:
+        """The most memory that link held so far, in kB."""
         with open(f"/proc/{tried.process.pid}/status", encoding="ascii") as file:
-            most = int(re.findall(r"VmHWM:\s+(\d+) kB", file.read())[0])
-        self.assertLess(most, 40_000)
+            return int(re.findall(r"VmHWM:\s+(\d+) kB", file.read())[0])
 
     # -- TLS --
 
@@ -554,12 +582,13 @@ class Sessions(unittest.TestCase):
         return path + ".pem", context
 
     def over_tls(self, server: Peer, context: ssl.SSLContext) -> Peer:
-        """The server's end, behind TLS; as it was where the other side wants none."""
-        link = context.wrap_socket(server.link, server_side=True, do_handshake_on_connect=False)
-        self.stack.callback(link.close)
+        """The server's end, over TLS; as it was where the other side wants none."""
         with contextlib.suppress(OSError):
+            link = context.wrap_socket(server.link, server_side=True, do_handshake_on_connect=False)
+            self.stack.callback(link.close)
             link.do_handshake()
-        return Peer(link)
+            return Peer(link)
+        return server
 
     def test_tls(self) -> None:
         cafile, context = self.certificate("localhost")
@@ -600,8 +629,8 @@ class Sessions(unittest.TestCase):
 
     def test_certificates_that_are_wrong(self) -> None:
         cafile, context = self.certificate("other.example")
-        for words, reason in ((["--cafile", cafile], "Hostname mismatch"), ([], "self.signed certificate")):
-            tried, listening = self.start(*words, way="tls", host="localhost")
+        for trusted, reason in ((cafile, "Hostname mismatch"), ("", "self.signed certificate")):
+            tried, listening = self.start(*(["--cafile", trusted] if trusted else []), way="tls", host="localhost")
             program = tried.program()
             self.over_tls(self.accept(listening), context)
             self.assertEqual(program.end(), "in order")
@@ -634,7 +663,7 @@ class Sessions(unittest.TestCase):
             (b"* PREAUTH hi\r\n", b"", 4, "greets with"),
             (b"* BYE no\r\n", b"", 3, "greets with"),
             (b"* OK hi\r\n", b"L0 BAD \x1b[31mno\r\n", 4, r"L0 BAD \?\[31mno$"),
-            (b"* OK hi\r\n", b"L0 OK go\r\n* CAPABILITY EVIL\r\n", 4, "more in clear behind its answer"),
+            (b"* OK hi\r\n", b"L0 OK go\r\n* CAPABILITY EVIL\r\n", 4, "more in clear after its answer"),
         )
         for greeting, answer, wanted, reason in rows:
             with self.subTest(greeting=greeting, answer=answer):
@@ -677,7 +706,7 @@ class Sessions(unittest.TestCase):
         self.assertEqual(program.hear(99), b"* BYE \x1b[31m idle\r\n")
         status, said = tried.ended()
         self.assertEqual(status, 3)
-        self.assertRegex(said, r"^mowerbean: ended by the server behind \d+ bytes, waiting for the answer to C6\n$")
+        self.assertRegex(said, r"^mowerbean: ended by the server after \d+ bytes, waiting for the answer to C6\n$")
 
     def test_trace_and_verbose(self) -> None:
         with open(self.trace, "w", encoding="ascii"):
@@ -709,15 +738,16 @@ class Sessions(unittest.TestCase):
 
     def test_progress(self) -> None:
         tried, program, server = self.join("--progress", "--actions", "2")
-        self.ask(program, server, b"P1 UID MOVE 1 a\r\n", b"P1 OK done\r\n")
-        time.sleep(0.5)
-        self.ask(program, server, b"P2 UID MOVE 1 a\r\n", b"P2 OK done\r\n")
-        time.sleep(0.5)
-        self.ask(program, server, b"C9 LOGOUT\r\n", b"C9 OK done\r\n")
-        program.link.close()
-        said = tried.ended()[1]
+        for tag in (b"P1", b"P2"):
+            self.ask(program, server, tag + b" UID MOVE 1 a\r\n", tag + b" OK done\r\n")
+            time.sleep(0.5)
+        self.ask(program, server, b"C9 LOGOUT\r\n", b"* BYE bye\r\n")
+        assert tried.process.stderr
+        said = os.read(tried.process.stderr.fileno(), 1_000).decode()
         self.assertIn("\r1 of 2 actions, 0 KB", said)
-        self.assertTrue(said.endswith("\r"), repr(said))
+        self.assertTrue(said.endswith(" \r"), f"the line of progress still stands when the program may print: {said!r}")
+        program.link.close()
+        self.assertEqual(tried.ended(), (0, ""))
 
 
 if __name__ == "__main__":

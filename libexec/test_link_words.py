@@ -141,10 +141,10 @@ class Limits(unittest.TestCase):
         look = Look(10.0, 0.0)
         now = self.answer(look, 0.0, 0.1)
         now = self.answer(look, look.next_turn(), 90.0)
-        self.assertEqual(look.left, 10.0)
+        self.assertEqual(look.left, 10.0 - link_words.LOOK_LATE)
         while not look.is_over():
             now = self.answer(look, look.next_turn(), 0.1)
-        self.assertTrue(102.0 <= now < 103.0, now)
+        self.assertTrue(101.0 <= now < 102.5, now)
 
     def test_a_look_ends_with_its_line(self) -> None:
         look = Look(10.0, 0.0)

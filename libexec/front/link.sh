@@ -47,12 +47,24 @@ start_link() {
     if [ -z "$quiet" ] && [ -t 2 ]; then
         set -- "$@" --progress --actions "$(actions)"
     fi
-    room=$(mktemp -d) || return 0
-    if mkfifo "$room/port"; then
-        python3 -Es "$libexec/link" "$@" </dev/null >"$room/port" &
-        link_pid=$!
-        read -r port <"$room/port" || port=''
-    fi
-    rm -rf "$room"
+    open_bell || return 0
+    python3 -Es "$libexec/link" "$@" </dev/null >&7 6<&- 7>&- &
+    link_pid=$!
+    exec 7>&-
+    [ -z "$asked$stopped" ] || pass_on TERM "$link_pid"
+    read -r port <&6 || port=''
+    exec 6<&-
     as_number "$port" 65535 || port=''
+}
+
+# Opens both ends of a FIFO, 6 to read and 7 to write. It has no name any more then, so nothing waits for an end that never comes.
+open_bell() {
+    room=$(mktemp -d) || return 1
+    if ! mkfifo "$room/bell"; then
+        rm -rf "$room"
+        return 1
+    fi
+    exec 7<>"$room/bell"
+    exec 6<"$room/bell"
+    rm -rf "$room"
 }

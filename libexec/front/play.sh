@@ -6,7 +6,7 @@ MOST_LOOKS=3
 # Two signals within these hundredths of a second are one: `timeout` sends its signal to the front, and then to its whole group.
 ONE_SIGNAL=50
 
-program_pid='' link_pid='' nap_pid='' signals=0 asked='' asked_at=0 stopped=''
+under_way='' program_pid='' link_pid='' link_status=0 nap_pid='' signals=0 asked='' asked_at=0 stopped=''
 
 # --- the pause
 
@@ -66,6 +66,10 @@ is_waited_for() {
     [ -n "$waited_for" ] && [ "$(cat "$mark" 2>/dev/null)" = "$waited_for" ]
 }
 
+late_words() {
+    [ "$late" -eq 0 ] || echo ' behind a letter, whose end may be on its way'
+}
+
 # Waits until a play may begin, and then has the lock. Meanwhile others may have it.
 wait_for_turn() {
     waited_for=''
@@ -81,7 +85,7 @@ wait_for_turn() {
         write_mark "$waited_for" || no_mark
         leave_lock
         if [ -z "$quiet" ] && [ -t 2 ]; then
-            say "waiting $left seconds, since the last play lost its connection or was cut off"
+            say "waiting $left seconds, since the last play lost its connection or was cut off$(late_words)"
         fi
         nap "$left"
     done
@@ -141,23 +145,28 @@ take_moment() {
     fi
 }
 
+# Sends a signal to a child, if it was started.
+pass_on() {
+    [ -z "$2" ] || kill "-$1" "$2" 2>/dev/null
+}
+
 # A first INT or TERM lets the command under way end, which link alone can see to. Else, and for the next one, and for HUP, all ends
-# at once.
+# at once. A child whose number isn't known yet is ended where it is started.
 signalled() {
     signals=$((signals + 1))
-    if [ -z "$program_pid$link_pid" ]; then
-        [ -z "$nap_pid" ] || kill "$nap_pid"
+    if [ -z "$under_way" ]; then
+        pass_on TERM "$nap_pid"
         exit "$(status_of_signal "$1")"
     fi
     take_moment
-    if [ "$1" != HUP ] && [ -z "$asked" ] && [ -n "$link_pid" ]; then
+    if [ "$1" != HUP ] && [ -z "$asked" ] && [ -n "$with_link" ]; then
         asked=$1 asked_at=$moment
-        kill -USR1 "$link_pid" 2>/dev/null
+        pass_on USR1 "$link_pid"
         say 'ending behind the command under way; once more stops at once'
-    elif [ "$1" = HUP ] || [ -z "$link_pid" ] || [ $((moment - asked_at)) -ge "$ONE_SIGNAL" ]; then
+    elif [ "$1" = HUP ] || [ -z "$with_link" ] || [ $((moment - asked_at)) -ge "$ONE_SIGNAL" ]; then
         stopped=$1
-        [ -z "$program_pid" ] || kill -TERM "$program_pid" 2>/dev/null
-        [ -z "$link_pid" ] || kill -TERM "$link_pid" 2>/dev/null
+        pass_on TERM "$program_pid"
+        pass_on TERM "$link_pid"
     fi
 }
 
@@ -185,11 +194,12 @@ start_program() {
         exec "$@"
     ) </dev/null &
     program_pid=$!
+    [ -z "$stopped" ] || pass_on TERM "$program_pid"
 }
 
 # Lets the program play to its end, and link after it. $link_status is that of link. $status is the program's, if it was started.
 play_to_the_end() {
-    status='' link_status=0 port=''
+    under_way=yes status='' link_status=0 port=''
     if [ -n "$with_link" ]; then
         start_link
     fi
@@ -202,6 +212,7 @@ play_to_the_end() {
         await "$link_pid"
         link_status=$ended link_pid=''
     fi
+    under_way=''
 }
 
 # Puts into $status what a signal or a missing link made of the play.

@@ -126,8 +126,10 @@ class Relay:
     def __init__(self, rate: int, is_bounded: bool, server: Address) -> None:
         self.rate, self.server = rate, server
         self.inside: List[str] = []
+        # Each connection's own, so that one can die alone; a new one has that of the whole line.
         self.is_alive = threading.Event()
         self.is_alive.set()
+        self.alive: List[threading.Event] = []
         self.lock = threading.Lock()
         self.bytes = self.under_way = 0
         self.socket = socket.socket()
@@ -154,24 +156,29 @@ class Relay:
         with contextlib.suppress(OSError), client, socket.create_connection(self.server) as server:
             for link in (client, server):
                 link.setsockopt(socket.IPPROTO_TCP, socket.TCP_NODELAY, 1)
-            back = threading.Thread(target=self.hand_on, args=(server, client, 0), daemon=True)
+            own = threading.Event()
+            own.set()
+            self.alive.append(own)
+            back = threading.Thread(target=self.hand_on, args=(server, client, 0, own), daemon=True)
             back.start()
-            self.hand_on(client, server, self.rate)
+            self.hand_on(client, server, self.rate, own)
             back.join(30)
         with self.lock:
             self.under_way -= 1
 
-    def hand_on(self, source: socket.socket, to: socket.socket, rate: int) -> None:
-        """Hands on all that comes one way."""
+    def hand_on(self, source: socket.socket, to: socket.socket, rate: int, own: threading.Event) -> None:
+        """Hands on all that comes one way, while the line and this connection live."""
         with contextlib.suppress(OSError):
             while piece := source.recv(PIECE):
                 self.is_alive.wait()
+                own.wait()
                 to.sendall(piece)
                 if rate:
                     time.sleep(len(piece) / rate)
                     with self.lock:
                         self.bytes += len(piece)
         self.is_alive.wait()
+        own.wait()
         with contextlib.suppress(OSError):
             to.shutdown(socket.SHUT_WR)
 
@@ -183,9 +190,16 @@ class Relay:
         """The line dies: nothing is handed on."""
         self.is_alive.clear()
 
+    def fall_alone(self) -> None:
+        """The connections that are there die; new ones don't, as over another network."""
+        for own in self.alive:
+            own.clear()
+
     def rise(self) -> None:
-        """The line is there again."""
+        """The line is there again, with all its connections."""
         self.is_alive.set()
+        for own in self.alive:
+            own.set()
 
     def is_empty(self) -> bool:
         """Whether nothing more can come to the server."""

@@ -16,12 +16,11 @@ from typing import Callable, Dict, Iterator, List, NamedTuple, Optional, Sequenc
 
 from . import kinds, lines, plays
 from .clients import Other
-from .slow_rows import DEAD, DEAD_KILL, EVENTS, INT, KILL, LAST, LINES, WAYS, Row
+from .slow_rows import DEAD, DEAD_SECONDS, INT, KILL, LAST, LONG_STUCK, STUCK, Row
 from .trial import Front
 
-DEAD_SECONDS = 90
 # The seconds after which no more plays of a row are begun, and for which a line may take to become empty.
-MOST_SECONDS = 1_200
+MOST_SECONDS = 1_500
 # How many rows are tried at a time.
 AT_ONCE = 32
 # The bytes that go to the server before a letter, at most.
@@ -198,7 +197,7 @@ class Trial:
         event, words = self.row.event, self.words(line)
         if event == LAST:
             self.killed_at_last_write(words, environment)
-        elif event in (DEAD, DEAD_KILL):
+        elif event in DEAD_SECONDS:
             self.dead(line, plays.held(words), environment)
         else:
             base = line.carried()
@@ -224,11 +223,14 @@ class Trial:
         play = self.start(words, environment)
         if not play.wait_for(self.before_last_part(line, base), 600):
             raise RuntimeError("no last part was seen")
-        line.fall()
+        if self.row.event in (STUCK, LONG_STUCK) and isinstance(line, lines.Relay):
+            line.fall_alone()
+        else:
+            line.fall()
         self.note("the line is dead")
         self.has_come_back.clear()
         threading.Thread(target=self.rise_later, args=(line,), daemon=True).start()
-        if self.row.event == DEAD_KILL:
+        if self.row.event != DEAD:
             # Held behind its mark, and a second more.
             time.sleep(plays.HELD / 1e6 + 1)
             self.note("KILL")
@@ -237,7 +239,7 @@ class Trial:
 
     def rise_later(self, line: Line) -> None:
         """Lets the line come back."""
-        time.sleep(DEAD_SECONDS)
+        time.sleep(DEAD_SECONDS[self.row.event])
         line.rise()
         self.note("the line is back")
         self.has_come_back.set()
@@ -309,13 +311,10 @@ def table(trials: Sequence[Trial]) -> None:
     servers = list(dict.fromkeys(trial.row.server for trial in trials))
     print("\n| " + " | ".join(["Line", "Over it", "What happens", *servers]) + " |")
     print("|---" * (3 + len(servers)) + "|")
-    for line in LINES:
-        for way in WAYS:
-            for event in EVENTS:
-                of = [trial for trial in trials if (trial.row.line, trial.row.way, trial.row.event) == (line, way, event)]
-                if of:
-                    cells = [cell([trial for trial in of if trial.row.server == server]) for server in servers]
-                    print("| " + " | ".join([line, way, event, *cells]) + " |")
+    for what in dict.fromkeys((trial.row.line, trial.row.way, trial.row.event) for trial in trials):
+        of = [trial for trial in trials if (trial.row.line, trial.row.way, trial.row.event) == what]
+        cells = [cell([trial for trial in of if trial.row.server == server]) for server in servers]
+        print("| " + " | ".join([*what, *cells]) + " |")
 
 
 def cell(trials: Sequence[Trial]) -> str:

@@ -20,6 +20,10 @@ LEFT, INT, KILL, LAST, DEAD, DEAD_KILL = EVENTS = (
     "dead for 90 s",
     "dead for 90 s and KILL",
 )
+# The connection of the killed play alone is dead, and the next play comes over a line that lives.
+STUCK, LONG_STUCK = "its connection alone dead for 90 s and KILL", "its connection alone dead for 250 s and KILL"
+# For how long the line or the connection is dead.
+DEAD_SECONDS = {DEAD: 90, DEAD_KILL: 90, STUCK: 90, LONG_STUCK: 250}
 # The rates and sizes at which each shows most.
 TELLING = {
     LEFT: [(5_000, 300_000), (20_000, 2_000_000)],
@@ -70,14 +74,25 @@ def some_rows() -> Iterator[Row]:
     for number, (line, way, event) in enumerate(itertools.product(LINES, WAYS, EVENTS)):
         kind = ("Dovecot", "Cyrus")[(number + number // 6) % 2]
         yield Row(kind, True, line, way, *next(turns[event]), event)
+    # Smaller letters, as the second look is a second longer for each 2,000 bytes there.
+    sizes = itertools.cycle([(20_000, 300_000), (5_000, 40_000), (50_000, 300_000), (20_000, 40_000)])
     for number, (line, way, event) in enumerate(itertools.product(LINES, ("plain", "tunnel"), (KILL, LAST, DEAD_KILL))):
         kind = ("Dovecot", "Cyrus")[(number + number // 6) % 2]
-        yield Row(kind, False, line, way, *next(turns[event]), event)
+        yield Row(kind, False, line, way, *next(sizes), event)
+
+
+def open_rows() -> Iterator[Row]:
+    """What no client can close: what the network itself keeps for longer than the second look waits on a line that lives."""
+    for kind, way in itertools.product(("Dovecot", "Cyrus"), ("plain", "tunnel")):
+        for catenate, event in ((True, STUCK), (False, STUCK), (False, LONG_STUCK)):
+            yield Row(kind, catenate, "relay", way, 20_000, 40_000, event)
+        yield Row(kind, True, "relay", way, 1_000, 100_000, KILL)
+        yield Row(kind, False, "relay", way, 1_000, 300_000, KILL)
 
 
 def chosen(words: str) -> List[Row]:
-    """The rows that are asked for: `some`, `all`, or those that have each of these words as a part, with commas between."""
-    if words == "some":
-        return list(some_rows())
+    """The rows that are asked for: `some`, `open`, `all`, or those that have each of these words as a part, with commas between."""
+    if words in ("some", "open"):
+        return list(some_rows() if words == "some" else open_rows())
     parts = {part.strip() for part in words.split(",")} - {"all"}
     return [row for row in all_rows() if parts <= set(row.parts)]
