@@ -2,6 +2,7 @@
 
 from __future__ import annotations
 
+import re
 from dataclasses import dataclass
 from pathlib import Path
 
@@ -9,6 +10,8 @@ from reading.clauses import Clause, clauses_of, conclusion, sources
 from reading.definitions import Definition, House, imports_of
 
 ROOT = Path(__file__).resolve().parent.parent.parent
+# CRATE/FUNCTION:LABEL, of which the function alone must be there.
+WORD = re.compile(r"(\w+/)?([^\s:/]+(?:::\w+)?)(?::(\w+))?")
 
 
 @dataclass
@@ -48,12 +51,13 @@ def ground_of_clause(house: House, clause: Clause) -> Ground:
 
 def grounds(house: House, clauses: list[Clause], word: str) -> list[Ground]:
     """What a name of the command line stands for, one by one."""
-    crate, _, name = word.rpartition("/")
-    function, _, label = name.partition(":") if "::" not in name else name.replace("::", "\0").partition(":")
-    function = function.replace("\0", "::")
+    match = WORD.fullmatch(word)
+    if not match:
+        raise Unknown(f"{word} is no name of a clause")
+    crate, function, label = match.groups(default="")
     chosen = [
         clause for clause in clauses
-        if clause.file.startswith(f"{crate}/" if crate else "")
+        if clause.file.startswith(crate)
         and function in (clause.function or clause.owner, f"{clause.owner}::{clause.function}", clause.owner)
         and label in ("", clause.label)
     ]
@@ -62,12 +66,12 @@ def grounds(house: House, clauses: list[Clause], word: str) -> list[Ground]:
         raise Unknown(f"{word} is there more than once: " + ", ".join(sorted({file for file, _ in places})))
     if chosen:
         return [ground_of_clause(house, clause) for clause in chosen]
-    named = [one for one in house.named(name) if one.file.startswith(f"{crate}/" if crate else "")]
+    named = [one for one in house.named(function) if one.file.startswith(crate) and not label]
     if len(named) != 1:
         places_of = ", ".join(one.file for one in named)
         raise Unknown(f"{word} is there more than once: {places_of}" if named else f"no clause and no definition is named {word}")
     definitions, types = house.below(named)
-    return [Ground(f"{name}    crates/{named[0].file}:{named[0].line}", definitions, definitions, types)]
+    return [Ground(f"{function}    crates/{named[0].file}:{named[0].line}", definitions, definitions, types)]
 
 
 def told(ground: Ground) -> str:
