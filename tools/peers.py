@@ -4,8 +4,8 @@
 usage: peers.py ends [SECONDS]     takes connections, and ends each one after so many seconds (0)
        peers.py silent             takes connections, and says nothing
        peers.py replaces FOLDER    puts a copy of journal.0 in its place before it greets, and prints how many bytes come then
-       peers.py takes FOLDER       an IMAP server that takes one letter; prints the folder's mowerbean.sent before it reads the
-                                   letter, with all of it but the last CRLF, and with that
+       peers.py takes FOLDER [SECONDS]   an IMAP server that takes one letter; prints the folder's mowerbean.sent so many seconds
+                                   (0.5) after it asked for the letter, with all of it but the last CRLF, and with that
 
 It runs until it is killed.
 """
@@ -52,10 +52,10 @@ def mark_in(folder: pathlib.Path) -> str:
         return "none"
 
 
-def take_letter(peer: socket.socket, lines: BinaryIO, size: int, folder: pathlib.Path) -> None:
-    """Takes a letter of so many bytes, and prints the mark at three moments of it."""
+def take_letter(peer: socket.socket, lines: BinaryIO, size: int, folder: pathlib.Path, seconds: float) -> None:
+    """Takes a letter of so many bytes after so many seconds, and prints the mark at three moments of it."""
     peer.sendall(b"+ go on\r\n")
-    time.sleep(0.5)
+    time.sleep(seconds)
     print(mark_in(folder), flush=True)
     came = len(lines.read(size))
     if came < size:
@@ -66,8 +66,8 @@ def take_letter(peer: socket.socket, lines: BinaryIO, size: int, folder: pathlib
     print(mark_in(folder), flush=True)
 
 
-def takes(peer: socket.socket, folder: pathlib.Path) -> None:
-    """Answers as a server that takes one letter into Archive."""
+def takes(peer: socket.socket, folder: pathlib.Path, seconds: float) -> None:
+    """Answers as a server that takes one letter into Archive, after so many seconds."""
     lines = peer.makefile("rb")
     archive = ARCHIVE
     peer.sendall(b"* OK ready\r\n")
@@ -85,7 +85,7 @@ def takes(peer: socket.socket, folder: pathlib.Path) -> None:
         elif verb == "SELECT":
             told = [PERMANENT, *(INBOX if words[0] == "INBOX" else archive)]
         elif verb == "APPEND":
-            take_letter(peer, lines, int(words[-1].strip("{}")), folder)
+            take_letter(peer, lines, int(words[-1].strip("{}")), folder, seconds)
             archive, done = PUT_IN, "OK [APPENDUID 9 7] done"
         elif verb == "LOGOUT":
             told = ["BYE bye"]
@@ -108,7 +108,7 @@ def main() -> None:
             elif way == "replaces":
                 replaces(peer, pathlib.Path(rest[0]))
             else:
-                takes(peer, pathlib.Path(rest[0]))
+                takes(peer, pathlib.Path(rest[0]), float(rest[1]) if rest[1:] else 0.5)
         except OSError:
             pass
 

@@ -90,7 +90,8 @@ impl<'a, R: Files<File = File> + AllocGlobal> Folder<'a, R> {
     pub fn is_in_place(&mut self) -> bool
         ensures in_use { self.new.in_use ≡ self.old.in_use }
     {
-        let is_in_place = self.has_its_name(&self.left, LEFT) && self.has_its_name(&self.right, RIGHT);
+        let is_in_place = self.has_its_name(&self.left, LEFT)
+            && self.has_its_name(&self.right, RIGHT);
         if !is_in_place {
             self.trouble = Some(DiskTrouble::Replaced);
         }
@@ -374,8 +375,8 @@ fn journal_file(file: File) -> io::Result<JournalFile> {
     Ok(JournalFile { file, id })
 }
 
-// Reads from a place until the buffer is full or the file ends, and gives the number of bytes. A read that was interrupted
-// is tried again.
+/// Reads from a place until the buffer is full or the file ends, and gives the number of bytes. A read that was interrupted
+/// is tried again.
 pub fn read_fully(file: &File, at: u64, into: &mut [u8]) -> io::Result<usize>
     ensures { IfOk result (λ n. n ≤ length into.old) }
 {

@@ -45,7 +45,8 @@ impl Images {
         for _ in 0..TRIES {
             let left = bytes_of(rt, folder, LEFT)?;
             let right = bytes_of(rt, folder, RIGHT)?;
-            if begins_with(rt, folder, LEFT, left.get(..FRONT).unwrap_or(left.as_slice()))? {
+            let front = left.get(..FRONT).unwrap_or(left.as_slice());
+            if begins_with(rt, folder, LEFT, front)? {
                 return Ok(Images { left, right });
             }
         }

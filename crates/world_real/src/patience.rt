@@ -87,8 +87,8 @@ impl Patience {
     /// So many bytes are sent.
     pub fn sent(&mut self, count: usize)
         ensures { self.new ≡ record self.old {
-            under_way = grown self.old.under_way count;
-            went = grown self.old.went count;
+          under_way = grown self.old.under_way count;
+          went = grown self.old.went count;
         } }
     {
         self.under_way = self.under_way.saturating_add(count as u64);
