@@ -7,6 +7,8 @@ use std::fmt::{Display, Formatter};
 #[derive(Clone, Copy, Debug, PartialEq, Eq)]
 pub enum DiskTrouble {
     /// The folder's path is empty, or isn't UTF-8.
+    NoPath,
+    /// The folder isn't there.
     NoFolder,
     /// A sync failed, and the mark says so to the next run.
     SyncFailed,
@@ -25,7 +27,8 @@ pub enum DiskTrouble {
 impl Display for DiskTrouble {
     fn fmt<W: fmt::Write>(&self, f: &mut Formatter<W>) -> fmt::Result {
         match *self {
-            DiskTrouble::NoFolder => f.write_str("MAIL_DIR is empty, or isn't UTF-8"),
+            DiskTrouble::NoPath => f.write_str("MAIL_DIR is empty, or isn't UTF-8"),
+            DiskTrouble::NoFolder => f.write_str("the journal's folder isn't there"),
             DiskTrouble::SyncFailed => f.write_str(
                 "a sync of the journal failed: the next command copies the journal first",
             ),

@@ -181,7 +181,7 @@ impl<'a, R: Files<File = File> + AllocGlobal> Folder<'a, R> {
         match self.path {
             Some(folder) => Ok(folder),
             None => {
-                self.trouble = Some(DiskTrouble::NoFolder);
+                self.trouble = Some(DiskTrouble::NoPath);
                 Err(io::Error::from(ErrorKind::InvalidInput))
             }
         }
@@ -347,8 +347,10 @@ impl<'a, R: Files<File = File> + AllocGlobal> Folder<'a, R> {
     fn unopened(&mut self, name: &'static str, error: io::Error) -> io::Error
         ensures in_use { self.new.in_use ≡ self.old.in_use }
     {
-        if error.kind() == ErrorKind::InvalidData {
-            self.trouble = Some(DiskTrouble::NotPlain(name));
+        match error.kind() {
+            ErrorKind::InvalidData => self.trouble = Some(DiskTrouble::NotPlain(name)),
+            ErrorKind::NotFound => self.trouble = Some(DiskTrouble::NoFolder),
+            _ => {}
         }
         error
     }

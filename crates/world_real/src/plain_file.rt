@@ -49,6 +49,7 @@ pub fn open_to_read<R: Files<File = File>>(rt: &R, path: &str) -> io::Result<Opt
 pub fn open_or_make<R: Files<File = File>>(rt: &R, path: &str) -> io::Result<File> {
     let mut options = OpenOptions::new();
     options.read(true).write(true);
+    let mut last = ErrorKind::NotFound;
     for _ in 0..TRIES {
         let opened = match id_at(rt, path)? {
             Some(id) => open_as(rt, path, &options, id),
@@ -56,11 +57,11 @@ pub fn open_or_make<R: Files<File = File>>(rt: &R, path: &str) -> io::Result<Fil
         };
         match opened {
             Ok(file) => return Ok(file),
-            Err(error) if is_met_by_others(error.kind()) => {}
+            Err(error) if is_met_by_others(error.kind()) => last = error.kind(),
             Err(error) => return Err(error),
         }
     }
-    Err(io::Error::from(ErrorKind::InvalidData))
+    Err(io::Error::from(last))
 }
 
 /// Makes a file for its owner alone, to read and write it. It fails where something stands there.
