@@ -75,7 +75,8 @@ pub fn make<R: Files<File = File>>(rt: &R, path: &str) -> io::Result<File> {
     options.open(rt, path)
 }
 
-// Opens the file at a path, which has to be this one. Another one in its place is no file that was looked at.
+// Opens the file at a path, which has to be this one. Where another one has taken its place, the one that was looked at isn't
+// found.
 fn open_as<R: Files<File = File>>(
     rt: &R,
     path: &str,
