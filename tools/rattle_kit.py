@@ -1,0 +1,185 @@
+"""The repository's crates as the kit's own `rt` sees them, for the tools beside this file.
+
+The kit's module rtlib says which words `rattle` gets for a crate, and which texts a proved library belongs to.
+"""
+import importlib.util
+import os
+import shutil
+import signal
+import subprocess
+import sys
+import tempfile
+from types import ModuleType
+from typing import IO, Any, Dict, List, NamedTuple
+
+sys.dont_write_bytecode = True
+TOP = os.path.dirname(os.path.dirname(os.path.abspath(__file__)))
+READ = ("src", "specs", "proofs")
+
+
+def stop(why: str) -> None:
+    """Ends the tool with a line that says why."""
+    sys.exit(f"{os.path.basename(sys.argv[0])}: {why}")
+
+
+def load() -> ModuleType:
+    """The kit's rtlib, which lies beside the `rt` on the path."""
+    found = shutil.which("rt")
+    file = os.path.join(os.path.dirname(os.path.realpath(found or "")), "rtlib.py")
+    if not found or not os.path.isfile(file):
+        stop("no Rattle toolchain (rt) is on the path")
+    spec = importlib.util.spec_from_file_location("rtlib", file)
+    assert spec and spec.loader
+    made = importlib.util.module_from_spec(spec)
+    sys.modules["rtlib"] = made
+    spec.loader.exec_module(made)
+    return made
+
+
+RTLIB = load()
+Crates = Dict[str, Any]
+
+
+def crates_of(top: str) -> Crates:
+    """The crates of a checkout by name, each after those that it stands on."""
+    found = RTLIB.crates_below(f"{os.path.abspath(top)}/crates")
+    return {it.name: it for it in sorted(found, key=lambda it: len(it.below()))}
+
+
+def chosen(crates: Crates, names: List[str]) -> List[str]:
+    """The named crates, or all where none is named."""
+    for name in names:
+        if name not in crates:
+            stop(f"crates.txt has no crate {name}")
+    return [it for it in crates if not names or it in names]
+
+
+def copy_sources(top: str, to: str, *more: str) -> None:
+    """Copies what a check of the crates reads, and the further folders of each crate that are named."""
+    for file in ("crates.txt", "HANDLES"):
+        shutil.copyfile(f"{top}/{file}", f"{to}/{file}")
+    for name in os.listdir(f"{top}/crates"):
+        for part in (*READ, *more):
+            if os.path.isdir(f"{top}/crates/{name}/{part}"):
+                shutil.copytree(f"{top}/crates/{name}/{part}", f"{to}/crates/{name}/{part}")
+
+
+class Given(NamedTuple):
+    """What became of the libraries that were to be handed over: handed over, of another text than here, or not built there."""
+
+    fits: List[str]
+    other: List[str]
+    lacking: List[str]
+
+
+def is_of(library: str, crate: Any) -> bool:
+    """Whether a built library was made from the texts of the crate in whose folder it lies. `rt ci` leaves no stamp that says so."""
+    stamp = f"{os.path.dirname(library)}/stamp"
+    return not os.path.isfile(stamp) or RTLIB.text_of(stamp) == crate.stamp()
+
+
+def give_libraries(built: str, crates: Crates) -> Given:
+    """Puts the libraries that were proved in another checkout under these crates, where the texts of both are the same. `rt ci`
+    leaves no stamp beside what it proved, so the texts of the checkout there have to be those that it ran on."""
+    there, given = crates_of(built), Given([], [], [])
+    for name, crate in crates.items():
+        if not crate.makes_rlib():
+            continue
+        if name not in there or not os.path.isdir(there[name].rlib):
+            given.lacking.append(name)
+        elif there[name].stamp() != crate.stamp() or not is_of(there[name].rlib, crate):
+            given.other.append(name)
+        else:
+            put_library(there[name].rlib, crate)
+            given.fits.append(name)
+    for name in [*given.other, *given.lacking]:
+        if any(it.name in given.fits for it in crates[name].below()):
+            forget_library(crates[name])
+    return given
+
+
+def take_libraries(built: str, crates: Crates) -> None:
+    """The same, and prints what was taken."""
+    given = give_libraries(built, crates)
+    print(f"libraries from {built}: {len(given.fits)} taken", file=sys.stderr, flush=True)
+    for why, names in (("other texts", given.other), ("not built there", given.lacking)):
+        if names:
+            print(f"  {why}: {' '.join(names)}", file=sys.stderr, flush=True)
+
+
+def put_library(library: str, crate: Any) -> None:
+    """Puts a built library in the crate's place for it, as links to the same bytes where the file system has them."""
+    place = os.path.dirname(crate.rlib)
+    shutil.rmtree(place, ignore_errors=True)
+    os.makedirs(place)
+    linked = subprocess.run(["cp", "-rl", library, crate.rlib], stderr=subprocess.DEVNULL)
+    if linked.returncode:
+        shutil.rmtree(crate.rlib, ignore_errors=True)
+        shutil.copytree(library, crate.rlib)
+    with open(f"{place}/stamp", "w", encoding="utf-8") as it:
+        it.write(crate.stamp())
+
+
+def forget_library(crate: Any) -> None:
+    """Has a library count as not built, where one below it was replaced: it fits no other than the one it was built over."""
+    stamp = f"{os.path.dirname(crate.rlib)}/stamp"
+    if os.path.isfile(stamp):
+        os.remove(stamp)
+
+
+def read_minutes(file: str) -> Dict[str, float]:
+    """The minutes that a table has, by crate."""
+    if not os.path.isfile(file):
+        return {}
+    with open(file, encoding="utf-8") as it:
+        rows = [line.split() for line in it if line.strip() and not line.startswith("#")]
+    return {name: float(number) for name, number in rows}
+
+
+def processors() -> int:
+    """How many processors this process may run on."""
+    return len(os.sched_getaffinity(0))
+
+
+def free_memory() -> int:
+    """The free memory in bytes, under the limits of the groups that this process is in."""
+    number_in = RTLIB.number_in
+    found = [1024 * (number_in("/proc/meminfo", r"MemAvailable:\s+(\d+)") or 0)]
+    for limit, held in RTLIB.GROUPS:
+        most, now = number_in(limit, r"(\d+)"), number_in(*held)
+        if most and now is not None:
+            found.append(most - now)
+    return min(found)
+
+
+def new_room(what: str) -> "tempfile.TemporaryDirectory[str]":
+    """A folder for a copy of the checkout. It goes when the tool ends, also where it is asked to."""
+    signal.signal(signal.SIGTERM, lambda *_: sys.exit(128 + signal.SIGTERM))
+    return tempfile.TemporaryDirectory(prefix=f"mowerbean-{what}-")
+
+
+def crates_in_room(room: str, built: str, *more: str) -> Crates:
+    """The crates of a copy of this checkout, over the libraries that another one has built, if one is named."""
+    copy_sources(TOP, room, *more)
+    crates = crates_of(room)
+    if built:
+        take_libraries(built, crates)
+    return crates
+
+
+def build_libraries(crates: Crates, names: List[str], out: IO[str]) -> List[str]:
+    """Proves and builds what the named crates stand on, the lowest first, where it isn't built yet. Returns the names of those over
+    which all is built."""
+    built: Dict[str, bool] = {}
+    wanted = {dep.name for name in names for dep in crates[name].below()}
+    for name, crate in crates.items():
+        if name in wanted:
+            below = all(built[dep.name] for dep in crate.below())
+            built[name] = below and (crate.is_built() or not rt_lib(crate, out))
+    return [it for it in names if all(built[dep.name] for dep in crates[it].below())]
+
+
+def rt_lib(crate: Any, out: IO[str]) -> int:
+    """Proves a library over those below it, and returns the status."""
+    print(f"proving {crate.name}, on which others stand", flush=True)
+    return subprocess.run(["rt", "lib", "--jobs", "1"], cwd=crate.folder, stdout=out, stderr=out).returncode
