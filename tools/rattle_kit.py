@@ -10,7 +10,7 @@ import subprocess
 import sys
 import tempfile
 from types import ModuleType
-from typing import IO, Any, Dict, List, NamedTuple
+from typing import IO, Any, Dict, Iterator, List, NamedTuple
 
 sys.dont_write_bytecode = True
 TOP = os.path.dirname(os.path.dirname(os.path.abspath(__file__)))
@@ -73,22 +73,34 @@ class Given(NamedTuple):
 
 
 def is_of(library: str, crate: Any) -> bool:
-    """Whether a built library was made from the texts of the crate in whose folder it lies. `rt ci` leaves no stamp that says so."""
+    """Whether a built library was made from the texts of the crate in whose folder it lies. `rt ci` leaves no stamp that says so: then
+    no text may be newer than the library."""
     stamp = f"{os.path.dirname(library)}/stamp"
-    return not os.path.isfile(stamp) or RTLIB.text_of(stamp) == crate.stamp()
+    if os.path.isfile(stamp):
+        return bool(RTLIB.text_of(stamp) == crate.stamp())
+    return all(os.path.getmtime(it) <= os.path.getmtime(library) for it in texts_of(crate))
+
+
+def texts_of(crate: Any) -> Iterator[str]:
+    """The files that a check of the crate reads."""
+    for part in READ:
+        for at, _, names in os.walk(f"{crate.folder}/{part}"):
+            yield from (f"{at}/{name}" for name in names)
 
 
 def give_libraries(built: str, crates: Crates) -> Given:
-    """Puts the libraries that were proved in another checkout under these crates, where the texts of both are the same. `rt ci`
-    leaves no stamp beside what it proved, so the texts of the checkout there have to be those that it ran on."""
+    """Puts the libraries that were proved in another checkout under these crates, where the texts of both are the same, and those of
+    all that stands below them."""
     there, given = crates_of(built), Given([], [], [])
     for name, crate in crates.items():
         if not crate.makes_rlib():
             continue
         if name not in there or not os.path.isdir(there[name].rlib):
             given.lacking.append(name)
-        elif there[name].stamp() != crate.stamp() or not is_of(there[name].rlib, crate):
+        elif there[name].stamp() != crate.stamp() or not is_of(there[name].rlib, there[name]):
             given.other.append(name)
+        elif any(it.name not in given.fits for it in crate.below()):
+            given.lacking.append(name)
         else:
             put_library(there[name].rlib, crate)
             given.fits.append(name)
@@ -110,12 +122,13 @@ def take_libraries(built: str, crates: Crates) -> None:
 def put_library(library: str, crate: Any) -> None:
     """Puts a built library in the crate's place for it, as links to the same bytes where the file system has them."""
     place = os.path.dirname(crate.rlib)
-    shutil.rmtree(place, ignore_errors=True)
-    os.makedirs(place)
-    linked = subprocess.run(["cp", "-rl", library, crate.rlib], stderr=subprocess.DEVNULL)
-    if linked.returncode:
-        shutil.rmtree(crate.rlib, ignore_errors=True)
-        shutil.copytree(library, crate.rlib)
+    if os.path.realpath(library) != os.path.realpath(crate.rlib):
+        shutil.rmtree(place, ignore_errors=True)
+        os.makedirs(place)
+        linked = subprocess.run(["cp", "-rl", library, crate.rlib], stderr=subprocess.DEVNULL)
+        if linked.returncode:
+            shutil.rmtree(crate.rlib, ignore_errors=True)
+            shutil.copytree(library, crate.rlib)
     with open(f"{place}/stamp", "w", encoding="utf-8") as it:
         it.write(crate.stamp())
 

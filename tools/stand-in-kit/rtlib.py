@@ -72,6 +72,7 @@ class Crate:
             print(f"a goal of {self.name} is open", file=self.out)
             return 1
         os.makedirs(self.rlib, exist_ok=True)
+        os.utime(self.rlib)
         with open(f"{self.folder}/out/rlib/stamp", "w", encoding="utf-8") as it:
             it.write(self.stamp())
         self.write(f"ends {self.name}")
