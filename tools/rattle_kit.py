@@ -13,6 +13,8 @@ from types import ModuleType
 from typing import IO, Any, Dict, Iterator, List, NamedTuple, Tuple
 
 sys.dont_write_bytecode = True
+# Where the reader of what a tool prints has seen enough, the tool ends.
+signal.signal(signal.SIGPIPE, signal.SIG_DFL)
 TOP = os.path.dirname(os.path.dirname(os.path.abspath(__file__)))
 READ = ("src", "specs", "proofs")
 # What each crate's proofs take.
