@@ -188,9 +188,24 @@ def free_memory() -> int:
 
 
 def new_room(what: str) -> "tempfile.TemporaryDirectory[str]":
-    """A folder for a copy of the checkout. It goes when the tool ends, also where it is asked to."""
-    signal.signal(signal.SIGTERM, lambda *_: sys.exit(128 + signal.SIGTERM))
-    return tempfile.TemporaryDirectory(prefix=f"mowerbean-{what}-")
+    """A folder for a copy of the checkout. It goes when the tool ends, also where it is broken off."""
+    room = tempfile.TemporaryDirectory(prefix=f"mowerbean-{what}-")
+
+    def break_off(number: int, _: Any) -> None:
+        shutil.rmtree(room.name, ignore_errors=True)
+        signal.signal(number, signal.SIG_DFL)
+        os.kill(os.getpid(), number)
+
+    for number in (signal.SIGINT, signal.SIGTERM):
+        signal.signal(number, break_off)
+    # The first call starts what the next function says, which only the main thread may.
+    RTLIB.guarded()
+    return room
+
+
+def ends_with_us(words: List[str]) -> List[str]:
+    """The words of a command that ends when this process does, however it does."""
+    return [*RTLIB.guarded(), *words]
 
 
 def crates_in_room(room: str, built: str, *more: str) -> Crates:
@@ -217,4 +232,4 @@ def build_libraries(crates: Crates, names: List[str], out: IO[str]) -> List[str]
 def rt_lib(crate: Any, out: IO[str]) -> int:
     """Proves a library over those below it, and returns the status."""
     print(f"proving {crate.name}, on which others stand", flush=True)
-    return subprocess.run(["rt", "lib", "--jobs", "1"], cwd=crate.folder, stdout=out, stderr=out).returncode
+    return subprocess.run(ends_with_us(["rt", "lib", "--jobs", "1"]), cwd=crate.folder, stdout=out, stderr=out).returncode
