@@ -153,6 +153,14 @@ def read_minutes(file: str) -> Dict[str, float]:
     return {name: float(number) for name, number in rows}
 
 
+def write_minutes(file: str, minutes: Dict[str, float], order: List[str]) -> None:
+    """Writes a table, with these minutes in place of those that it has for the same crates."""
+    minutes = {**read_minutes(file), **minutes}
+    with open(file, "w", encoding="utf-8") as it:
+        it.write("# Minutes of one processor for the proofs of each crate from nothing, as tools/slow and tools/gate-cost write them.\n")
+        it.writelines(f"{name} {minutes[name]:.1f}\n" for name in order if name in minutes)
+
+
 def lines_of(crate: Any) -> Tuple[int, int]:
     """How many lines of code and of proof a crate has."""
     code = proof = 0
