@@ -200,7 +200,8 @@ def new_room(what: str) -> "tempfile.TemporaryDirectory[str]":
     room = tempfile.TemporaryDirectory(prefix=f"mowerbean-{what}-")
 
     def break_off(number: int, _: Any) -> None:
-        shutil.rmtree(room.name, ignore_errors=True)
+        # What works in the folder ends with this process, and what removes it goes on.
+        subprocess.Popen(["sh", "-c", 'sleep 1; rm -rf "$1"', "", room.name], start_new_session=True)
         signal.signal(number, signal.SIG_DFL)
         os.kill(os.getpid(), number)
 
