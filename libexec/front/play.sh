@@ -180,6 +180,8 @@ start_program() {
         set -- setpriv --pdeathsig TERM "$@"
     fi
     (
+        # An interrupt of the terminal goes to this one too; bash doesn't keep it from a subshell of a script with traps.
+        trap '' INT QUIT
         if [ -n "$session_time" ]; then
             export MAIL_TIME="$session_time"
         fi

@@ -137,8 +137,29 @@ CASES
     kill -INT "$held" 2>/dev/null
     ended
     same 'two signals at one moment are one' "$status, $(tail -n 1 "$work/stub/linked")" '4, USR1'
+    signals_of_a_terminal
     take_link_away
     signals_without_link
+}
+
+# A terminal sends its interrupt to all that runs there, and shells differ in what they keep it from.
+signals_of_a_terminal() {
+    cp "$stub" "$work/kept"
+    for shell in dash 'bash --posix' 'busybox sh'; do
+        path=$(command -v "${shell%% *}") || continue
+        sed "1s|.*|#!$path${shell#"${shell%% *}"}|" "$work/kept" >"$stub"
+        folder "terminal-${shell%% *}"
+        put_link
+        rm -f "$work/stub/running"
+        : >"$work/stub/hold"
+        with_interrupts "$(command -v setsid)" "$stub" play >"$work/held" 2>&1 </dev/null &
+        held=$!
+        wait_for "$work/stub/running"
+        kill -INT "-$held"
+        ended
+        same "an interrupt of a terminal, with $shell" "$status, $(tail -n 1 "$work/stub/linked"), $gone" '4, USR1, gone'
+    done
+    cp "$work/kept" "$stub"
 }
 
 # As `hold`, over a link that doesn't end the session when it is asked to.
