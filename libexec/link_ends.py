@@ -112,9 +112,12 @@ class Log:
 
     def line(self, way: str, line: bytes, for_verbose: bool = False) -> None:
         """A line, secrets hidden, of C (the client) or S (the server)."""
+        is_shown = self.is_verbose and for_verbose
+        if self.trace is None and not is_shown:
+            return
         text = way + ": " + printable(line.rstrip(b"\r\n"))
         self.note(text)
-        if self.is_verbose and for_verbose:
+        if is_shown:
             self.clear()
             with contextlib.suppress(OSError):
                 print(text[:200], file=sys.stderr, flush=True)
@@ -314,9 +317,10 @@ def connect_any(address: Address, deadline: float) -> socket.socket:
         raise Ended(Status.ADDRESS, f"no such host: {address.host}") from error
     reasons: List[str] = []
     for count, (family, kind, protocol, _, where) in enumerate(found):
-        link = socket.socket(family, kind, protocol)
+        link: Optional[socket.socket] = None
         share = (deadline - time.monotonic()) / (len(found) - count)
         try:
+            link = socket.socket(family, kind, protocol)
             link.setsockopt(socket.SOL_SOCKET, socket.SO_LINGER, RESET)
             link.setsockopt(socket.SOL_SOCKET, socket.SO_SNDBUF, READ_AHEAD)
             link.setsockopt(socket.IPPROTO_TCP, socket.TCP_NODELAY, 1)
@@ -324,7 +328,8 @@ def connect_any(address: Address, deadline: float) -> socket.socket:
             link.connect(where)
             return link
         except OSError as error:
-            link.close()
+            if link:
+                link.close()
             is_timeout = isinstance(error, socket.timeout)
             reasons.append(f"no answer for {share:.0f} seconds" if is_timeout else (error.strerror or str(error)))
     raise Ended(Status.LINE, f"no connection to {address}: {' and '.join(dict.fromkeys(reasons))}")

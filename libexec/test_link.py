@@ -4,6 +4,8 @@
 Nothing but this machine's own addresses is used. usage: test_link.py [-v] [-k NAME]
 """
 import contextlib
+import importlib.machinery
+import importlib.util
 import os
 import re
 import signal
@@ -15,12 +17,26 @@ import sys
 import tempfile
 import time
 import unittest
-from typing import Dict, List, Optional, Tuple
+import unittest.mock
+from typing import Any, Dict, List, Optional, Tuple
 
 sys.dont_write_bytecode = True
 HERE = os.path.dirname(os.path.abspath(__file__))
 sys.path.insert(0, HERE)
+import link_ends  # noqa: E402
 import link_words  # noqa: E402
+from link_ends import Log, Mark  # noqa: E402
+
+
+def link_module() -> Any:
+    """Link itself, as a module: its name has no ending."""
+    loader = importlib.machinery.SourceFileLoader("link", os.path.join(HERE, "link"))
+    spec = importlib.util.spec_from_loader("link", loader)
+    assert spec
+    module = importlib.util.module_from_spec(spec)
+    loader.exec_module(module)
+    return module
+
 
 PATIENCE = 30.0  # For a machine that has much else to do.
 Lowered = Dict[str, float]
@@ -134,12 +150,13 @@ class Sessions(unittest.TestCase):
         self.stack = contextlib.ExitStack()
         self.folder = self.stack.enter_context(tempfile.TemporaryDirectory())
         self.mark, self.trace = os.path.join(self.folder, "mowerbean.line"), os.path.join(self.folder, "trace")
+        self.read_ahead = 16_384  # Of the server.
         self.addCleanup(self.stack.close)
 
     def listen(self) -> socket.socket:
         """The server's port."""
         listening = socket.socket()
-        listening.setsockopt(socket.SOL_SOCKET, socket.SO_RCVBUF, 16_384)
+        listening.setsockopt(socket.SOL_SOCKET, socket.SO_RCVBUF, self.read_ahead)
         listening.bind(("127.0.0.1", 0))
         listening.listen(4)
         listening.settimeout(PATIENCE)
@@ -261,6 +278,25 @@ class Sessions(unittest.TestCase):
         self.assertEqual(program.hear(24), b"P1 NO [TRYCREATE] none\r\n")
         self.leave(tried, program, server)
 
+    def test_a_server_that_reports_catenate_and_doesnt_know_it(self) -> None:
+        tried, program, server = self.join()
+        for tag in (b"P1", b"P2"):
+            plain = tag + b" APPEND a () {9}\r\n"
+            program.say(plain)
+            if tag == b"P1":
+                opening = b"P1 APPEND a () CATENATE (TEXT {7}\r\n"
+                self.assertEqual(server.hear(len(opening)), opening)
+                server.say(b"P1 BAD what\r\n")
+            self.assertEqual(server.hear(len(plain)), plain)
+            server.say(b"+ go\r\n")
+            self.assertEqual(program.hear(6), b"+ go\r\n")
+            self.ask(program, server, b"123456789\r\n", tag + b" OK done\r\n")
+        program.say(b"P3 APPEND a () {9}\r\n")
+        self.assertEqual(server.hear(len(b"P3 APPEND a () {9}\r\n")), b"P3 APPEND a () {9}\r\n")
+        server.say(b"P3 BAD really\r\n")
+        self.assertEqual(program.hear(15), b"P3 BAD really\r\n")
+        self.leave(tried, program, server)
+
     def test_no_at_the_second_plus(self) -> None:
         for at in (0, 7, 8, 9, 10, 11):
             with self.subTest(at=at):
@@ -327,18 +363,31 @@ class Sessions(unittest.TestCase):
                 pass
 
     def test_the_crlf_is_held_back(self) -> None:
+        self.read_ahead = 2_048
         tried, program, server = self.join(catenate=False)
-        self.ask(program, server, b"P1 APPEND a () {150000}\r\n", b"+ go\r\n")
-        server.link.setsockopt(socket.SOL_SOCKET, socket.SO_RCVBUF, 4_096)
-        program.say(b"x" * 150_000 + b"\r\n")
-        self.assertEqual(len(server.hear(20_000)), 20_000)
-        time.sleep(0.3)
+        self.ask(program, server, b"P1 APPEND a () {16000}\r\n", b"+ go\r\n")
+        program.say(b"x" * 16_000 + b"\r\n")
+        time.sleep(1.0)
         self.assertFalse(os.path.exists(self.mark), "the CRLF went out before the server's side had the letter")
-        self.assertEqual(server.hear(130_002), b"x" * 130_000 + b"\r\n")
-        self.assertEqual(self.words_of_mark(), ["P1", "150000", "crlf"])
+        self.assertEqual(server.hear(16_002), b"x" * 16_000 + b"\r\n")
+        self.assertEqual(self.words_of_mark(), ["P1", "16000", "crlf"])
         server.say(b"P1 OK done\r\n")
         self.assertEqual(program.hear(12), b"P1 OK done\r\n")
         self.leave(tried, program, server)
+
+    def test_a_plus_before_all_is_out_is_no_answer(self) -> None:
+        nobody: Any = None
+        session = link_module().Session(nobody, nobody, nobody, Log(None, False, False, None), nobody)
+        session.mark = Mark(self.folder)
+        session.has_catenate = True
+        for said, heard in ((b"P1 APPEND a () {9}\r\n", b"+ go\r\n"), (b"123456789\r\n", b"+ early\r\n")):
+            for part in session.from_program.feed(said):
+                session._take(part)
+            session._hear_all(heard)
+        self.assertEqual((bytes(session.to_program), session.letter.is_asked), (b"+ go\r\n+ early\r\n", False))
+        session.to_server.clear()
+        session._hear_all(b"+ OK\r\n")
+        self.assertEqual((bytes(session.to_program), session.letter.is_asked), (b"+ go\r\n+ early\r\n", True))
 
     def test_a_command_in_the_middle_of_a_letter(self) -> None:
         tried, program, server = self.join()
@@ -474,6 +523,11 @@ class Sessions(unittest.TestCase):
             owner.kill()
         self.assertEqual(server.end(), "reset")
         self.assertEqual(tried.ended(), (3, "mowerbean: the script that started it is gone\n"))
+
+    def test_a_kill_resets_the_line(self) -> None:
+        tried, program, server = self.join()
+        tried.process.kill()
+        self.assertEqual(server.end(), "reset")
 
     def test_usr1_waits_for_the_answer(self) -> None:
         tried, program, server = self.join()
@@ -696,6 +750,13 @@ class Sessions(unittest.TestCase):
         for wrong in ("host", "host:0", "host:99999", ":143", "::1:1", "h st:1"):
             self.assertEqual(self.reason("--server", wrong), (2, f"mowerbean: {wrong} is no HOST:PORT\n"))
         self.assertEqual(self.reason("--tls", "a:1", "--cafile", "/nowhere")[0], 2)
+
+    def test_an_address_of_a_kind_that_this_machine_has_not(self) -> None:
+        listening = self.listen()
+        where = listening.getsockname()
+        found = [(999, socket.SOCK_STREAM, 0, "", ("::1", 143)), (socket.AF_INET, socket.SOCK_STREAM, 0, "", where)]
+        with unittest.mock.patch("socket.getaddrinfo", return_value=found):
+            link_ends.connect_any(link_ends.Address("both", 143, "server"), time.monotonic() + PATIENCE).close()
 
     def test_ended_by_the_server(self) -> None:
         tried, program, server = self.join()
