@@ -200,7 +200,7 @@ class Look:
     """A second look: it waits until the line has lived for so long, which it sees by NOOPs of its own."""
 
     def __init__(self, seconds: float, now: float) -> None:
-        self.left = seconds
+        self.whole = self.left = seconds
         self.count = 0
         self.asked: Optional[float] = None  # When the NOOP that isn't answered went out.
         self.lived_at: Optional[float] = None  # When the last one was answered.
@@ -228,12 +228,14 @@ class Look:
     def hear(self, line: bytes, now: float) -> None:
         """Takes a line of the server. A stretch counts where the NOOP at its end was answered in time.
 
-        A later answer counts for a little, so that a look comes to its end on a line that is always so slow.
+        A later answer counts for a little, so that a look comes to its end on a line that is always so slow. No stretch counts for
+        more than it should take: link itself may have been stopped in it.
         """
         if self.asked is None or not line.startswith(b"L%d " % self.count):
             return
         if self.lived_at is not None:
-            self.left -= now - self.lived_at if now - self.asked <= LOOK_ANSWER else LOOK_LATE
+            stretch = min(now - self.lived_at, LOOK_STEP + LOOK_ANSWER)
+            self.left -= stretch if now - self.asked <= LOOK_ANSWER else LOOK_LATE
         self.lived_at, self.asked = now, None
 
 

@@ -93,7 +93,8 @@ class Letters(unittest.TestCase):
         for text in (b"abc", b"abcd", b"a\r\nb\r\n", bytes(range(1, 60)), b"\r\n\r\n"):
             for pieces in cuts_of(text):
                 letter = Letter(b"P1", len(text), Way.CATENATE)
-                self.assertEqual(letter.opening(b"P1 APPEND a () {%d}\r\n" % len(text)), b"P1 APPEND a () CATENATE (TEXT {%d}\r\n" % (len(text) - 2))
+                opening = b"P1 APPEND a () CATENATE (TEXT {%d}\r\n" % (len(text) - 2)
+                self.assertEqual(letter.opening(b"P1 APPEND a () {%d}\r\n" % len(text)), opening)
                 letter.go()
                 out = b"".join(letter.take(piece) for piece in pieces)
                 self.assertEqual(out, text[:-2] + b" TEXT {2}\r\n")
@@ -145,6 +146,12 @@ class Limits(unittest.TestCase):
         while not look.is_over():
             now = self.answer(look, look.next_turn(), 0.1)
         self.assertTrue(101.0 <= now < 102.5, now)
+
+    def test_a_look_leaves_out_time_in_which_it_was_stopped(self) -> None:
+        look = Look(100.0, 0.0)
+        now = self.answer(look, 0.0, 0.1)
+        self.answer(look, now + 60.0, 0.1)
+        self.assertEqual(look.left, 100.0 - link_words.LOOK_STEP - link_words.LOOK_ANSWER)
 
     def test_a_look_ends_with_its_line(self) -> None:
         look = Look(10.0, 0.0)
