@@ -358,13 +358,13 @@ def ask_for_tls(link: socket.socket, address: Address, deadline: float) -> bytes
     if not greeting.upper().startswith(b"* OK"):
         is_bye = greeting.upper().startswith(b"* BYE")
         raise Ended(Status.LINE if is_bye else Status.ADDRESS, f"no STARTTLS with {address}: it greets with {printable(greeting)[:100]}")
-    link.sendall(b"L0 STARTTLS\r\n")
+    link.sendall(b"X0 STARTTLS\r\n")
     line = clear_line(link, deadline)
     for _ in range(100):
-        if line.startswith(b"L0 "):
+        if line.startswith(b"X0 "):
             break
         line = clear_line(link, deadline)
-    if not line.upper().startswith(b"L0 OK"):
+    if not line.upper().startswith(b"X0 OK"):
         raise Ended(Status.ADDRESS, f"no STARTTLS with {address}: {printable(line)[:100]}")
     link.setblocking(False)
     try:

@@ -223,7 +223,7 @@ class Look:
         if self.asked is not None:
             raise Ended(Status.LINE, f"the line died while a letter was awaited: no bytes for {LOOK_SILENCE:.0f} seconds")
         self.count, self.asked = self.count + 1, now
-        return b"L%d NOOP\r\n" % self.count
+        return b"X%d NOOP\r\n" % self.count
 
     def hear(self, line: bytes, now: float) -> None:
         """Takes a line of the server. A stretch counts where the NOOP at its end was answered in time.
@@ -231,7 +231,7 @@ class Look:
         A later answer counts for a little, so that a look comes to its end on a line that is always so slow. No stretch counts for
         more than it should take: link itself may have been stopped in it.
         """
-        if self.asked is None or not line.startswith(b"L%d " % self.count):
+        if self.asked is None or not line.startswith(b"X%d " % self.count):
             return
         if self.lived_at is not None:
             stretch = min(now - self.lived_at, LOOK_STEP + LOOK_ANSWER)

@@ -438,7 +438,7 @@ class Sessions(Case):
         server.link.settimeout(PATIENCE)
         with contextlib.suppress(ConnectionResetError):
             while line := server.line():
-                self.assertRegex(line, rb"^L\d+ NOOP\r\n$")
+                self.assertRegex(line, rb"^X\d+ NOOP\r\n$")
                 heard += 1
                 server.say(b"* 3 EXISTS\r\n%s OK done\r\n" % line.split()[0])
         self.assertGreater(heard, 3)
@@ -465,10 +465,10 @@ class Sessions(Case):
         self.write_mark("P1 9 catenate 1795976000\n")
         tried, program, server = self.join(lowered=QUICK_LOOK)
         program.say(b"P1 APPEND a () {9}\r\n")
-        self.assertEqual(server.hear(9), b"L1 NOOP\r\n")
+        self.assertEqual(server.hear(9), b"X1 NOOP\r\n")
         program.link.close()
         with contextlib.suppress(ConnectionResetError):
-            server.say(b"L1 OK\r\n")
+            server.say(b"X1 OK\r\n")
             while line := server.line():
                 server.say(line.split()[0] + b" OK\r\n")
         self.assertEqual(tried.ended()[0], 5)
@@ -479,7 +479,7 @@ class Sessions(Case):
                 self.write_mark("P1 9 catenate 1795976000\n")
                 tried, program, server = self.join(lowered=QUICK_LOOK)
                 program.say(b"P1 APPEND a () {9}\r\n")
-                self.assertEqual(server.hear(9), b"L1 NOOP\r\n")
+                self.assertEqual(server.hear(9), b"X1 NOOP\r\n")
                 if not is_silent:
                     server.link.close()
                 self.assertEqual(tried.ended()[0], 3)

@@ -92,13 +92,13 @@ class OverTls(test_link.Case):
         server = self.accept(listening)
         server.say(greeting)
         if greeting.startswith(b"* OK"):
-            self.assertEqual(server.hear(13), b"L0 STARTTLS\r\n")
+            self.assertEqual(server.hear(13), b"X0 STARTTLS\r\n")
             server.say(answer)
             server = self.over_tls(server, context)
         return tried, program, server
 
     def test_starttls(self) -> None:
-        tried, program, server = self.starttls(b"* OK [CAPABILITY IMAP4rev1 CATENATE] hi\r\n", b"* 1 EXISTS\r\nL0 OK go\r\n")
+        tried, program, server = self.starttls(b"* OK [CAPABILITY IMAP4rev1 CATENATE] hi\r\n", b"* 1 EXISTS\r\nX0 OK go\r\n")
         self.assertEqual(program.hear(16), b"* OK TLS is on\r\n")
         self.ask(program, server, b"P1 APPEND a () {5}\r\n", b"+ go\r\n")
         self.ask(program, server, b"12345\r\n", b"P1 OK done\r\n")
@@ -108,8 +108,8 @@ class OverTls(test_link.Case):
         rows = (
             (b"* PREAUTH hi\r\n", b"", 4, "greets with"),
             (b"* BYE no\r\n", b"", 3, "greets with"),
-            (b"* OK hi\r\n", b"L0 BAD \x1b[31mno\r\n", 4, r"L0 BAD \?\[31mno$"),
-            (b"* OK hi\r\n", b"L0 OK go\r\n* CAPABILITY EVIL\r\n", 4, "more in clear after its answer"),
+            (b"* OK hi\r\n", b"X0 BAD \x1b[31mno\r\n", 4, r"X0 BAD \?\[31mno$"),
+            (b"* OK hi\r\n", b"X0 OK go\r\n* CAPABILITY EVIL\r\n", 4, "more in clear after its answer"),
         )
         for greeting, answer, wanted, reason in rows:
             with self.subTest(greeting=greeting, answer=answer):

@@ -127,7 +127,7 @@ class Limits(unittest.TestCase):
     def answer(self, look: Look, at: float, late: float) -> float:
         """The NOOP at this time is answered so late; the time then."""
         out = look.turn(at)
-        self.assertRegex(out, rb"\AL[0-9]+ NOOP\r\n\Z")
+        self.assertRegex(out, rb"\AX[0-9]+ NOOP\r\n\Z")
         look.hear(out.split()[0] + b" OK\r\n", at + late)
         return at + late
 
@@ -163,7 +163,7 @@ class Limits(unittest.TestCase):
     def test_a_look_hears_its_own_answers_alone(self) -> None:
         look = Look(10.0, 0.0)
         look.turn(0.0)
-        for line in (b"* L1 OK\r\n", b"L2 OK\r\n", b"L11 OK\r\n", b""):
+        for line in (b"* X1 OK\r\n", b"X2 OK\r\n", b"X11 OK\r\n", b""):
             look.hear(line, 1.0)
         self.assertIsNotNone(look.asked)
 
