@@ -183,6 +183,7 @@ class Door:
         self.socket.listen(8)
         self.socket.setblocking(False)
         self.port: int = self.socket.getsockname()[1]
+        self.has_refused = False  # Said once, however often another user comes.
 
     def take(self, log: Log) -> Optional[socket.socket]:
         """The program's connection, where it has come. Another user's is closed."""
@@ -196,7 +197,9 @@ class Door:
             log.say(f"the connection may be another user's: /proc/net/tcp can't be read ({error.strerror})")
             owner = os.geteuid()
         if owner != os.geteuid():
-            log.say("another user's connection was refused")
+            if not self.has_refused:
+                log.say("another user's connection was refused")
+            self.has_refused = True
             link.close()
             return None
         link.setblocking(False)

@@ -191,7 +191,8 @@ class Letter:
 
         In place of a `+` that is clear to both. Anywhere else the server may take what comes next as octets of the letter.
         """
-        is_in_place = self.stage is Stage.ASKING or (self.stage is Stage.HOLDING and self.way is Way.CATENATE)
+        awaits_second = self.stage is Stage.HOLDING and self.way is Way.CATENATE and not self.is_asked
+        is_in_place = self.stage is Stage.ASKING or awaits_second
         self.is_unclear = not is_in_place
         self.stage = Stage.REFUSED
 
