@@ -59,6 +59,16 @@ slow_lines() {
     sleep 3
     same 'after KILL of the front nothing plays on' "$(at_work)" 0
     same '  and the next play sends the letter once' "$("$real" play), $("$real" list Archive | wc -l | tr -d ' ')" 'played 1 conflicts 0, 2'
+    # A front that is killed between the start of link and its port.
+    sed 's/^    link_pid=\$!$/    kill -KILL $$/' "$top/libexec/front/link.sh" >"$work/real/libexec/mowerbean/front/link.sh"
+    (exec "$real" play) >/dev/null 2>&1
+    cp "$top/libexec/front/link.sh" "$work/real/libexec/mowerbean/front/link.sh"
+    turns=0
+    while [ "$(at_work)" -ne 0 ] && [ "$turns" -lt 100 ]; do
+        turns=$((turns + 1))
+        sleep 0.1
+    done
+    same 'a front that is killed as link starts holds up nothing' "$(at_work), $("$real" play)" '0, played 0 conflicts 0'
     play_letter stopped
     kill -HUP "$held"
     wait "$held"
