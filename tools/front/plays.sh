@@ -50,6 +50,9 @@ $MAIL_DIR 127.0.0.1:4143 none none, "
     rm -f "$work/stub/times"
     ask play
     same "a link that doesn't start" "$status, $said, $(runs)" '70, , 0'
+    link_ends 2
+    ask play
+    same "  and one that can't use its words" "$status, $said, $notice, $(runs)" '78, , , 0'
     printf '#!/bin/sh\nexit 1\n' >"$work/fakes/python3"
     chmod +x "$work/fakes/python3"
     PATH=$work/fakes:$PATH ask play
@@ -105,8 +108,8 @@ signals() {
         hold play
         kill "-$signal" "$held"
         ended
-        same "a first $signal ends behind the command" "$status, $(tail -n 1 "$work/stub/linked"), $gone" '4, USR1, gone'
-        has '  and says so' "$(cat "$work/held")" 'ending behind the command under way; once more stops at once'
+        same "a first $signal ends after the command" "$status, $(tail -n 1 "$work/stub/linked"), $gone" '4, USR1, gone'
+        has '  and says so' "$(cat "$work/held")" 'ending after the command under way; once more stops at once'
         has '  and the next play waits' "$(cat "$MAIL_DIR/mowerbean.play")" lost
     done
     while read -r first second code; do
