@@ -210,8 +210,11 @@ play_to_the_end() {
         start_program
         await "$program_pid"
         status=$ended program_pid=''
-        # Link still waits for the program, if that ended before it connected.
-        pass_on USR2 "$link_pid"
+        # Link still waits for the program, if that ended before it connected. With these statuses it did connect, or tried to.
+        case $status in
+            [014-8]) ;;
+            *) pass_on USR2 "$link_pid" ;;
+        esac
     fi
     if [ -n "$link_pid" ]; then
         await "$link_pid"
