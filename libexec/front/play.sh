@@ -150,6 +150,13 @@ pass_on() {
     [ -z "$2" ] || kill "-$1" "$2" 2>/dev/null
 }
 
+# Takes away link's line of progress, where one may stand.
+clear_line() {
+    if [ -t 2 ]; then
+        printf '\r\033[K' >&2
+    fi
+}
+
 # A first INT or TERM lets the command under way end, which link alone can see to. Else, and for the next one, and for HUP, all ends
 # at once. A child whose number isn't known yet is ended where it is started.
 signalled() {
