@@ -1,16 +1,32 @@
-# Completion of mowerbean's words in bash. Mailboxes and IDs are asked of mowerbean itself, which waits its turn at the journal.
+# Completion of mowerbean's words in bash. Mailboxes and IDs are asked of mowerbean itself, which needs no network for that.
 
 _mowerbean_boxes() {
-    local folder=${MAIL_DIR-.}
-    if [[ -r $folder/mowerbean.boxes ]]; then
-        cat -- "$folder/mowerbean.boxes"
+    local file=${MAIL_DIR-.}/mowerbean.boxes
+    if [[ -f $file && ! -L $file && -r $file ]]; then
+        cat -- "$file"
     else
         echo INBOX
     fi
 }
 
+# The first word of each line of list. After a refusal there is none. The mailbox stands in the line with its quotes.
 _mowerbean_ids() {
-    mowerbean -q "${_mowerbean_front[@]}" list "$1" 2>/dev/null </dev/null | cut -d ' ' -f 1
+    local lines box=${1//[\\\'\"]/}
+    lines=$(mowerbean -q "${_mowerbean_front[@]}" list "$box" 2>/dev/null </dev/null) && cut -d ' ' -f 1 <<<"$lines"
+}
+
+# Offers the words that begin with what was typed. Each is quoted, since a mailbox may be named like a command of the shell.
+_mowerbean_offer() {
+    local typed=$1 each quoted
+    shift
+    for each in "$@"; do
+        quoted=$(printf '%q' "$each")
+        if [[ $typed == \'* ]]; then
+            [[ $each != *\'* && \'$each == "$typed"* ]] && COMPREPLY+=("$each")
+        elif [[ -n $each && $typed != '"'* ]] && [[ $each == "$typed"* || $quoted == "$typed"* ]]; then
+            COMPREPLY+=("$quoted")
+        fi
+    done
 }
 
 _mowerbean() {
@@ -21,7 +37,8 @@ _mowerbean() {
     # The options in front of the command.
     while ((at < COMP_CWORD)); do
         case ${COMP_WORDS[at]} in
-            -q) ((at += 1)) ;;
+            -q | -v) ((at += 1)) ;;
+            -w) ((at += 2)) ;;
             -a)
                 if ((at + 1 >= COMP_CWORD)); then
                     break
@@ -51,25 +68,17 @@ _mowerbean() {
     else
         place=$((COMP_CWORD - at))
         case $place:${COMP_WORDS[at]} in
-            0:*) words=(init play list flag move append queue report help --help --version -a -q) ;;
-            1:play) words=(--retry) ;;
+            0:*) words=(init play list flag move append queue report help --help --version -a -q -v -w) ;;
+            *:play) words=(--retry --trace) ;;
             1:report) words=(--long) ;;
             1:help) words=(init play list flag move append queue report) ;;
             1:list | 1:flag | 1:move | 1:append | 3:move) mapfile -t words < <(_mowerbean_boxes) ;;
             2:flag | 2:move) mapfile -t words < <(_mowerbean_ids "${COMP_WORDS[at + 1]}") ;;
             3:flag) words=(+ -) ;;
-            [4-9]:flag | [2-9]:append) words=("'\\Seen'" "'\\Flagged'" "'\\Answered'" "'\\Deleted'" "'\\Draft'") ;;
+            [4-9]:flag | [2-9]:append) words=('\Seen' '\Flagged' '\Answered' '\Deleted' '\Draft') ;;
         esac
     fi
-    local each
-    for each in "${words[@]}"; do
-        if [[ $each == "$word"* ]]; then
-            case $each in
-                *' '*) COMPREPLY+=("$(printf '%q' "$each")") ;;
-                *) COMPREPLY+=("$each") ;;
-            esac
-        fi
-    done
+    _mowerbean_offer "$word" "${words[@]}"
 }
 
 complete -F _mowerbean mowerbean

@@ -1,13 +1,14 @@
-# Completion of mowerbean's words in fish. IDs are asked of mowerbean itself, which waits its turn at the journal.
+# Completion of mowerbean's words in fish, which quotes what it puts in. IDs are asked of mowerbean itself, which needs no network
+# for that.
 
 # The words of the line behind the options of the front.
 function __mowerbean_words
     set -l words (commandline -opc)[2..]
     while set -q words[1]
         switch $words[1]
-            case -q
+            case -q -v
                 set -e words[1]
-            case -a
+            case -a -w
                 set -e words[1]
                 set -q words[1]; and set -e words[1]
             case '*'
@@ -47,7 +48,12 @@ function __mowerbean_boxes
         set folder (string replace -rf '^ *dir *= *' '' <$file | string replace -r '^~/' "$HOME/")
         set -q folder[1]; or set folder $HOME/.local/share/mowerbean/$account
     end
-    cat $folder/mowerbean.boxes 2>/dev/null; or echo INBOX
+    set -l boxes $folder/mowerbean.boxes
+    if test -f $boxes; and not test -L $boxes; and test -r $boxes
+        cat $boxes
+    else
+        echo INBOX
+    end
 end
 
 function __mowerbean_ids
@@ -55,17 +61,21 @@ function __mowerbean_ids
     set -l account (__mowerbean_account)
     set -l front
     test -n "$account"; and set front -a $account
-    mowerbean -q $front list $words[2] 2>/dev/null </dev/null | string replace -r ' ' \t
+    set -l lines (mowerbean -q $front list $words[2] 2>/dev/null </dev/null); or return
+    string replace -r ' ' \t -- $lines
 end
 
 complete -c mowerbean -f
 complete -c mowerbean -s q -d 'explain no status'
+complete -c mowerbean -s v -d 'print what is said, for play'
+complete -c mowerbean -s w -x -d 'wait for a play, for flag, move and append'
 complete -c mowerbean -s a -x -a '(for file in (__mowerbean_configs)/*.conf; basename $file .conf; end)' -d account
-complete -c mowerbean -n '__mowerbean_at 0 ""' -l help -d 'tell of itself'
-complete -c mowerbean -n '__mowerbean_at 0 ""' -l version -d 'tell the version'
+complete -c mowerbean -n '__mowerbean_at 0 ""' -l help -d 'print the help'
+complete -c mowerbean -n '__mowerbean_at 0 ""' -l version -d 'print the version'
 complete -c mowerbean -n '__mowerbean_at 0 ""' -a 'init play list flag move append queue report help'
 complete -c mowerbean -n '__mowerbean_at 1 help' -a 'init play list flag move append queue report'
 complete -c mowerbean -n '__mowerbean_at 1 play' -l retry -d 'play again while the connection is lost'
+complete -c mowerbean -n '__mowerbean_behind 1 play' -l trace -r -d 'keep what is said in a file'
 complete -c mowerbean -n '__mowerbean_at 1 report' -l long -d 'a sentence under each line'
 complete -c mowerbean -n '__mowerbean_at 1 list flag move append' -a '(__mowerbean_boxes)'
 complete -c mowerbean -n '__mowerbean_at 3 move' -a '(__mowerbean_boxes)'

@@ -1,0 +1,215 @@
+# The words of mowerbean: its help, what a status means, and the sentences under a report.
+# shellcheck shell=sh disable=SC2034,SC2154  # it shares its settings with mowerbean, which reads this file
+
+help_all() {
+    cat <<'TEXT'
+usage: mowerbean [-a ACCOUNT] [-q] COMMAND ..
+
+A mail client for people behind a poor link. All commands but play work without
+a network.
+
+  init BOX ..             sets up a journal for 1 to 32 mailboxes
+                            mowerbean init INBOX Archive
+  play [--retry N]        plays what waits on the server, and fetches what is new
+                            mowerbean play
+  list BOX                shows a mailbox: ID, mod-sequence and flags of each message
+                            mowerbean list INBOX
+  flag BOX ID + FLAG ..   the message is to have the flags (with - to be without them)
+                            mowerbean flag INBOX 42 + '\Flagged'
+  move BOX ID BOX         the message is to go to the second mailbox
+                            mowerbean move INBOX 42 Archive
+  append BOX FLAG ..      the message on standard input is to be put into BOX
+                            mowerbean append Archive '\Seen' < letter.eml
+  queue                   shows the actions that wait
+                            mowerbean queue
+  report [--long]         reports the actions that could not be done, and why
+                            mowerbean report --long
+  help COMMAND            prints more of one command
+                            mowerbean help move
+  --help, --version       prints this text, or the version
+
+ID is a message's UID, or d and the number of the action that makes the message, as
+list shows it.
+
+  -a ACCOUNT   takes the account of ~/.config/mowerbean/ACCOUNT.conf (else default.conf,
+               where it is there): lines tls=HOST:PORT, user=, password_command= and more
+  -q           leaves out the line that explains a status on a terminal
+  -w SECONDS   flag, move and append wait as long for a play under way (else 60)
+  -v           play prints each command and its answer on standard error
+
+MAIL_DIR, MAIL_SERVER, MAIL_USER, MAIL_PASSWORD, MAIL_PAUSE and MAIL_TIME decide over
+that file. Status: 0 done, 1 done with conflicts, 4 no connection, 10 refused; man
+mowerbean has all statuses and all lines of the file.
+TEXT
+}
+
+help_of() {
+    case $1 in
+        init) cat <<'TEXT' ;;
+mowerbean init BOX ..
+
+Sets up the journal for 1 to 32 mailboxes, no two of one name, and prints `ready`. The
+folder is made where it isn't there, for its owner alone. Nothing is asked of the server.
+A journal.0 or journal.1 that init didn't make is refused, and stays as it is.
+
+  mowerbean init INBOX Archive
+  mowerbean -a work init INBOX Archive 'Sent Items'
+TEXT
+        play) cat <<'TEXT' ;;
+mowerbean play [--retry N] [--trace FILE]
+
+Connects, plays the waiting actions back in their order, fetches what is new of each
+mailbox, and prints `played N conflicts C`. Status 1 says that C isn't 0: report --long
+prints why. Status 4 says that the connection was lost: play again. The next play waits
+2 seconds (pause=) first, since a server may still carry out a command of the lost one.
+
+  mowerbean play
+  mowerbean play --retry 5      plays again up to 5 times, while the status is 4
+  mowerbean -v play             prints each command and its answer on standard error
+  mowerbean play --trace FILE   keeps all that is said, without passwords and letters
+
+Ctrl-C lets the command under way end first, so that a letter isn't cut off behind its
+last byte. A second one stops at once.
+TEXT
+        list) cat <<'TEXT' ;;
+mowerbean list BOX
+
+Prints a line for each message of the mailbox: its ID, its mod-sequence and its flags, as
+it will be after the waiting actions. A message that one of these makes is named d and
+the action's number, and has - in place of a mod-sequence. It works beside a play.
+
+  mowerbean list INBOX          prints `42 715 \seen`, say
+TEXT
+        flag) cat <<'TEXT' ;;
+mowerbean flag BOX ID + FLAG ..
+mowerbean flag BOX ID - FLAG ..
+
+Asks for 1 to 32 flags on (+) or off (-) a message that list shows. A FLAG is \Answered,
+\Flagged, \Deleted, \Seen or \Draft, or a keyword. In a shell the backslash wants quotes.
+
+  mowerbean flag INBOX 42 + '\Seen' work
+  mowerbean flag Archive d1 - '\Flagged'
+TEXT
+        move) cat <<'TEXT' ;;
+mowerbean move BOX ID BOX
+
+Asks that a message that list shows goes from the first mailbox to the second one.
+
+  mowerbean move INBOX 42 Archive
+TEXT
+        append) cat <<'TEXT' ;;
+mowerbean append BOX FLAG ..
+
+Asks that the message on standard input is put into the mailbox, with these flags. It has
+to have exactly one Message-ID, no NUL, and at most 33,554,432 bytes.
+
+  mowerbean append Archive '\Seen' < letter.eml
+  mowerbean -w 600 append Archive < letter.eml    waits up to 600 seconds for a play
+TEXT
+        queue) cat <<'TEXT' ;;
+mowerbean queue
+
+Prints the actions that wait, in their order. `waiting` wasn't sent yet; `begun` may have
+been sent, and the next play finds out what became of it. It works beside a play.
+
+  mowerbean queue               prints `1 waiting move INBOX 42 Archive`, say
+TEXT
+        report) cat <<'TEXT' ;;
+mowerbean report [--long]
+
+Prints the actions that ended as conflicts, in their order: `N nothing KIND ..` where the
+action had no effect, `N unsure KIND ..` where it had its one effect or none. With --long
+a sentence stands under each. It works beside a play.
+
+  mowerbean report --long
+TEXT
+        *) stop 2 "no such command: $1: see mowerbean --help" ;;
+    esac
+}
+
+# What a status says, whether anything is lost, and what to do.
+meaning() {
+    case $1 in
+        1) echo 'played to the end, but some actions could not be done. Nothing is lost: see mowerbean report --long' ;;
+        2) echo "these words are no command. Nothing was done: see mowerbean --help" ;;
+        3) echo 'the disk failed, or another run uses the journal. What was accepted before is kept: look at the disk, then at mowerbean queue' ;;
+        4) echo 'no connection, or it was lost. What was accepted is kept: play again, and it goes on from there' ;;
+        5) echo 'the server refused, as its line says. What was accepted is kept: a password, or a mailbox that is not there?' ;;
+        6) echo "the server's answer was not as IMAP has it. What was accepted is kept: see TROUBLESHOOTING by the printed line" ;;
+        7) echo 'the server or the mailbox lacks what is needed. What was accepted is kept: see SERVERS' ;;
+        8) echo 'the mailbox was recreated on the server. What was accepted is kept, but cannot be played there: see TROUBLESHOOTING' ;;
+        9) echo 'there is no journal here, or it cannot be used. Nothing was written: mowerbean init makes one, or see TROUBLESHOOTING' ;;
+        10) echo 'refused, for the printed reason. Nothing was written, and what was accepted before is kept' ;;
+        11) echo 'out of memory. What was accepted before is kept: try again' ;;
+        12) echo 'the output could not be written, but the command is done: look at mowerbean queue before you repeat it' ;;
+        13) echo 'standard input could not be read. Nothing was written: give the message again' ;;
+        14) echo 'a limit is passed. What was accepted is kept: see LIMITS' ;;
+        *) echo 'the run was stopped. What was accepted is kept: run it again' ;;
+    esac
+}
+
+# A journal that lost its first byte has a way back, so that is said also where there is no terminal.
+explain() {
+    if [ "$1" -eq 9 ]; then
+        report_damage
+    fi
+    case $1 in
+        0 | "$NO_PROGRAM" | "$IN_USE" | "$BAD_ACCOUNT") return ;;
+    esac
+    if [ -n "$quiet" ] || [ ! -t 2 ]; then
+        return
+    fi
+    if [ "$1" -eq 3 ] && [ -n "$folder" ] && [ ! -d "$folder" ]; then
+        say "the folder $folder is not there: mowerbean init makes it. Nothing was done"
+    elif [ "$1" -eq 4 ] && [ "$link_status" -eq 4 ]; then
+        say "the account's server is wrong, or its certificate, as the line says. What was accepted is kept: look at tls=, starttls= or server="
+    elif [ "$1" -eq 4 ] && [ -n "$asked" ]; then
+        say 'ended behind the command that was under way. What was accepted is kept: play again, and it goes on from there'
+    else
+        say "$(meaning "$1")"
+    fi
+}
+
+# Puts a sentence under each line of a report, by its kind. An action is unsure where an earlier play was cut off after it had
+# written down that it would send the command: it may have been sent or not.
+long_report() {
+    awk '
+        BEGIN {
+            cut = "An earlier play was cut off when it had this command sent or was about to. "
+            of["message-gone"] = "The message was not on the server any more. Nothing was done."
+            of["already-so"] = "The flags were so already. Nothing was done, and nothing is to do."
+            of["flags-changed"] = "Another client changed the message since you saw it. Nothing was done: look at it, and ask again."
+            of["refused-no"] = "The server refused it (NO). Nothing was done: may the mailbox be written, and has it room?"
+            of["refused-bad"] = "The server did not take the command (BAD). Nothing was done."
+            of["not-permanent"] = "The mailbox does not keep such flags. Nothing was done."
+            of["target-unknown"] = "The action that was to make the message ended as a conflict. Nothing was done: see that action."
+            of["found-so"] = cut "The flags were then as asked, by you or by another client. Nothing is to do."
+            of["store-unsure"] = cut "The message was then changed and its flags were not as asked: look at it, and ask again."
+            of["source-gone"] = cut "The message was then not there any more: look for it where it was to go."
+            of["gone-after-loss"] = cut "The message was then not there any more. Nothing is to do."
+            of["ambiguous"] = cut "Several messages then had this Message-ID: look at the two UIDs, and keep one."
+        }
+        { print }
+        $3 in of { print "    " of[$3] }
+    '
+}
+
+# The report with its sentences. The status is the program's, or 12 where they can't be written.
+report() {
+    if [ $# -ne 1 ] || [ "$1" != --long ]; then
+        run report "$@"
+        status=$?
+        return
+    fi
+    status=12
+    { status=$(
+        {
+            {
+                run report 3>&- 4>&-
+                echo $? >&3
+            } | long_report >&4 || echo 12 >&3
+        } 3>&1
+    ); } 4>&1
+    status=${status##*
+}
+}

@@ -1,0 +1,68 @@
+# The program and link themselves over a slow line: a letter that is under way when a signal comes is there once.
+# shellcheck shell=sh disable=SC2034,SC2154  # it shares its names with try-front, which reads this file
+
+# Starts a server at the end of a line that carries 40,000 bytes a second, and makes a journal for it.
+slow_line() {
+    MAIL_DIR=$work/slow MAIL_USER=ann MAIL_PASSWORD=hidden-word MAIL_PAUSE=1
+    export MAIL_DIR MAIL_USER MAIL_PASSWORD MAIL_PAUSE
+    mkfifo "$work/line_ends"
+    "$top/tools/front/slow-server" 40000 "$work/slow_port" <"$work/line_ends" &
+    exec 6>"$work/line_ends"
+    wait_for "$work/slow_port"
+    MAIL_SERVER=127.0.0.1:$(cat "$work/slow_port")
+    export MAIL_SERVER
+    cp "$top"/libexec/link* "$work/real/libexec/mowerbean"
+    "$real" init INBOX Archive >/dev/null
+}
+
+slow_line_ends() {
+    exec 6>&-
+    unset MAIL_DIR MAIL_USER MAIL_PASSWORD MAIL_PAUSE MAIL_SERVER
+    rm -f "$work/real/libexec/mowerbean"/link*
+}
+
+# Plays a letter of 100,000 bytes over the slow line, and comes back once its command is out.
+play_letter() {
+    {
+        printf 'Message-ID: <%s@x>\n\n' "$1"
+        head -c 100000 /dev/zero | tr '\0' x | fold -w 70
+    } | "$real" append Archive >/dev/null
+    : >"$work/held"
+    with_interrupts "$real" -v play >"$work/held" 2>&1 </dev/null &
+    held=$!
+    turns=0
+    while ! grep -q 'P[0-9]* APPEND' "$work/held" && [ "$turns" -lt 300 ]; do
+        turns=$((turns + 1))
+        sleep 0.1
+    done
+}
+
+# What runs of this play: the front, the program and link, but zombies.
+at_work() {
+    ps -eo stat=,args= | awk -v place="$work/real/" '!/^Z/ && !/awk/ && index($0, place) { count++ } END { print count + 0 }'
+}
+
+slow_lines() {
+    slow_line
+    said=$("$real" play --trace "$work/trace" 2>"$work/notice")
+    same 'a play through link' "$said, $?" 'played 0 conflicts 0, 0'
+    same '  whose trace is for its owner alone' "$(stat -c %a "$work/trace"), $(grep -c 'AUTHENTICATE' "$work/trace")" '600, 1'
+    same '  and has no password' "$(grep -c "hidden-word\|$(printf '\0ann\0hidden-word' | base64)" "$work/trace")" 0
+    play_letter asked
+    kill -INT "$held"
+    wait "$held"
+    same 'INT in a letter waits for its end' "$?, $(grep -c '^S: P1 OK' "$work/held"), $(at_work)" '4, 1, 0'
+    same '  and there is one of it' "$("$real" play), $("$real" list Archive | wc -l | tr -d ' ')" 'played 0 conflicts 0, 1'
+    play_letter killed
+    kill -KILL "$held"
+    wait "$held" 2>/dev/null
+    sleep 3
+    same 'after KILL of the front nothing plays on' "$(at_work)" 0
+    same '  and the next play sends the letter once' "$("$real" play), $("$real" list Archive | wc -l | tr -d ' ')" 'played 1 conflicts 0, 2'
+    play_letter stopped
+    kill -HUP "$held"
+    wait "$held"
+    same 'HUP in a letter stops at once' "$?, $(grep -c '^S: P3 OK' "$work/held"), $(at_work)" '129, 0, 0'
+    same '  and the next play sends the letter once' "$("$real" play), $("$real" list Archive | wc -l | tr -d ' ')" 'played 1 conflicts 0, 3'
+    slow_line_ends
+}
