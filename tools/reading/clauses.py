@@ -74,7 +74,8 @@ def clauses_of(path: Path, file: str) -> tuple[list[Clause], list[tuple[str, str
     place = 0
     for number, line in enumerate(text.split("\n"), 1):
         if OWNER.match(line):
-            owner = owner_of(line)
+            # Its head may have several lines.
+            owner = owner_of(" ".join(text[place:].split("{", 1)[0].split()))
         elif line.startswith("}"):
             owner = ""
         if match := FUNCTION.match(line):
