@@ -13,3 +13,8 @@ IsWordOf Run word =
 abbrev pub Picks : List (List ℕ) → TopCall → Type 0
 Picks [] call = ⊥
 Picks (word ∷ words) call = IsWordOf call word
+
+-- the first of the words is one of those that only read the journal
+abbrev pub OnlyReads : List (List ℕ) → Type 0
+OnlyReads [] = ⊥
+OnlyReads (word ∷ words) = (word ≡ codes "list") ⊎ (word ≡ codes "queue") ⊎ (word ≡ codes "report")

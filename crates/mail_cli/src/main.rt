@@ -17,14 +17,16 @@ use mail_top::run;
 use notices::{IN_USE, NO_NULL, SEE_HELP, notice_for};
 use settings::WordsFault;
 use std::alloc::AllocError;
+use std::fmt::Display;
 use std::fs::{File, Files};
 use std::io;
 use std::io::Eprint;
 use std::net::{Net, TcpStream};
 use std::process::ExitCode;
 use std::rt::Env;
+use std::time::Clock;
 use streams::{InputSource, OutputSink};
-use top_calls::{TopCall, top_call};
+use top_calls::{TopCall, only_reads, top_call};
 use world_real::{RealWorld, StandardNumbers};
 use world_traits::{Link, Sink};
 
@@ -40,7 +42,14 @@ fn main(rt: HostRuntime) -> ExitCode {
 // The status of what the arguments ask for.
 fn answer<R>(rt: &R) -> Status
 where
-    R: Files<File = File> + Net<Stream = TcpStream> + Env + Input + Print + Eprint + AllocGlobal,
+    R: Files<File = File>
+        + Net<Stream = TcpStream>
+        + Clock
+        + Env
+        + Input
+        + Print
+        + Eprint
+        + AllocGlobal,
 {
     let words = match settings::words(rt) {
         Ok(words) => words,
@@ -62,14 +71,30 @@ where
 // Hands the words to a top call, with the user's settings, and closes the connection that it leaves.
 fn carried_out<R>(rt: &R, call: TopCall, words: &[String]) -> Result<Status, AllocError>
 where
-    R: Files<File = File> + Net<Stream = TcpStream> + Env + Input + Print + Eprint + AllocGlobal,
+    R: Files<File = File>
+        + Net<Stream = TcpStream>
+        + Clock
+        + Env
+        + Input
+        + Print
+        + Eprint
+        + AllocGlobal,
 {
     let account = settings::account(rt)?;
     let folder = settings::folder(rt)?;
     let server = settings::server(rt)?;
+    let seconds = settings::connection_seconds(rt)?;
+    let is_behind_link = settings::is_behind_link(rt)?;
     let alloc = rt.alloc();
     let mut input = InputSource::new(rt.reader());
     let mut world = RealWorld::new(rt, as_text(&folder), as_text(&server));
+    world.limit_connections(seconds);
+    if is_behind_link {
+        world.mark_nothing();
+    }
+    if only_reads(words) {
+        world.only_read();
+    }
     let mut out = OutputSink::new(io::writer(rt));
     let status = match call {
         TopCall::Run => run(alloc, words, &account, &mut input, &mut world, &mut out),
@@ -81,7 +106,19 @@ where
     if status == Status::Words {
         let _ = rt.eprint(SEE_HELP);
     }
+    // Where the front's link stands between, it prints itself why the line to the server was lost.
+    if status == Status::Link && !is_behind_link {
+        print_reason(rt, world.link_trouble());
+    }
+    print_reason(rt, world.disk_trouble());
     Ok(status)
+}
+
+// Prints why a command failed on standard error, where there is a reason.
+fn print_reason<R: Eprint, T: Display + Drop>(rt: &R, reason: Option<T>) {
+    if let Some(reason) = reason {
+        let _ = eprint!(rt; "mowerbean: {reason}\n");
+    }
 }
 
 // The text of a setting, where it is one.

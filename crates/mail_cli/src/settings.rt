@@ -67,15 +67,36 @@ fn variable<R: Env + AllocGlobal>(rt: &R, name: &str) -> Result<String, AllocErr
     }
 }
 
-/// The folder of MAIL_DIR, or `.` where there is none. `None` where its path isn't UTF-8, which no file can be opened by.
+/// The folder of MAIL_DIR, or `.` where there is none. `None` where its path isn't UTF-8, which no file can be opened by, or is
+/// empty, which would mean the root of all folders.
 pub fn folder<R: Env + AllocGlobal>(rt: &R) -> Result<Option<String>, AllocError> {
-    variable_or(rt, "MAIL_DIR", ".")
+    match variable_or(rt, "MAIL_DIR", ".")? {
+        Some(path) if path.is_empty() => Ok(None),
+        path => Ok(path),
+    }
 }
 
 /// The server of MAIL_SERVER as `HOST:PORT`, or `localhost:143` where there is none. `None` where it isn't UTF-8, which is no
 /// server's name.
 pub fn server<R: Env + AllocGlobal>(rt: &R) -> Result<Option<String>, AllocError> {
     variable_or(rt, "MAIL_SERVER", "localhost:143")
+}
+
+// How many seconds old a connection may become where MAIL_TIME doesn't say it.
+const A_DAY: u64 = 86_400;
+
+/// How many seconds old a connection may become: the number of MAIL_TIME, or a day where that is no number above 0.
+pub fn connection_seconds<R: Env + AllocGlobal>(rt: &R) -> Result<u64, AllocError> {
+    let text = variable(rt, "MAIL_TIME")?;
+    match text.as_str().parse::<u64>() {
+        Ok(seconds) if seconds > 0 => Ok(seconds),
+        _ => Ok(A_DAY),
+    }
+}
+
+/// Whether MAIL_LINK says that the front's link stands between this program and the server.
+pub fn is_behind_link<R: Env + AllocGlobal>(rt: &R) -> Result<bool, AllocError> {
+    Ok(variable(rt, "MAIL_LINK")?.as_str() == "yes")
 }
 
 // The text of a variable, or this text where there is none. `None` where it isn't UTF-8.

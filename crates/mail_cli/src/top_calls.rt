@@ -1,7 +1,7 @@
 //! The table of first words.
 
-ghost use Rattle.std.specs.Prelude.{IsNone, IfSome, map, string_bytes};
-ghost use Rattle.mail_cli.specs.FirstWords.{Picks};
+ghost use Rattle.std.specs.Prelude.{◌↔◌, IsNone, IfSome, IsTrue, map, string_bytes};
+ghost use Rattle.mail_cli.specs.FirstWords.{OnlyReads, Picks};
 ghost use Rattle.mail_top.specs.Words.{AsksNothing};
 
 /// The top calls that a first word can pick.
@@ -22,5 +22,18 @@ pub fn top_call(words: &[String]) -> Option<TopCall>
         "init" | "flag" | "move" | "append" => Some(TopCall::Run),
         "list" | "queue" | "report" | "play" => Some(TopCall::Run),
         _ => None,
+    }
+}
+
+/// Whether the first of the words is one of those that only read the journal.
+pub fn only_reads(words: &[String]) -> bool
+    ensures { IsTrue result ↔ OnlyReads (map string_bytes words.now) }
+{
+    let Some(first) = words.first() else {
+        return false;
+    };
+    match first.as_str() {
+        "list" | "queue" | "report" => true,
+        _ => false,
     }
 }

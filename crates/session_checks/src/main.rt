@@ -17,6 +17,7 @@ use std::fs::{File, Files};
 use std::net::{Net, TcpStream};
 use std::process::ExitCode;
 use std::rt::Env;
+use std::time::Clock;
 use std::{env, fs, io};
 
 fn main(rt: HostRuntime) -> ExitCode {
@@ -30,7 +31,7 @@ fn main(rt: HostRuntime) -> ExitCode {
 // Plays the files that the arguments name. Those behind `at HOST:PORT` are played at that server, and the others by their scripts.
 fn checked<R>(rt: &R) -> io::Result<Tally>
 where
-    R: Files<File = File> + Net<Stream = TcpStream> + Env + Print + AllocGlobal,
+    R: Files<File = File> + Net<Stream = TcpStream> + Clock + Env + Print + AllocGlobal,
 {
     let mut tally = Tally::new();
     let mut server = None;
@@ -63,7 +64,7 @@ fn check_named<'a, R>(
     tally: &mut Tally,
 ) -> io::Result<()>
 where
-    R: Files<File = File> + Net<Stream = TcpStream> + Print + AllocGlobal,
+    R: Files<File = File> + Net<Stream = TcpStream> + Clock + Print + AllocGlobal,
 {
     let text = fs::read_to_string(rt, name)?;
     check_file(rt, server, name, text.as_str(), tally)

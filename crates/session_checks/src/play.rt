@@ -10,6 +10,7 @@ use case_words::{Answer, CaseFault, words_of};
 use std::alloc::Global;
 use std::fs::{File, Files};
 use std::net::{Net, TcpStream};
+use std::time::Clock;
 use world_real::RealWorld;
 use world_traits::{Clocked, Link};
 
@@ -167,7 +168,7 @@ pub fn play_case(alloc: Global, lines: &[Line<'_>]) -> Result<u64, Stop> {
 /// and what is sent, isn't looked at.
 pub fn play_at<'a, R>(rt: &'a R, server: &'a str, lines: &[Line<'_>]) -> Result<u64, Stop>
 where
-    R: Files<File = File> + Net<Stream = TcpStream> + AllocGlobal,
+    R: Files<File = File> + Net<Stream = TcpStream> + Clock + AllocGlobal,
 {
     let mut world = RealWorld::new(rt, None, Some(server));
     let played = play_calls(rt.alloc(), &mut world, lines, Due::Line)?;

@@ -5,11 +5,12 @@ use case_files::{Case, Stop, Tally, case_file_of, print_stop};
 use std::fs::{File, Files};
 use std::io;
 use std::net::{Net, TcpStream};
+use std::time::Clock;
 
 // Plays a case by its script, or at a server.
 fn played<'a, R>(rt: &'a R, server: Option<&'a str>, case: &Case<'_>) -> Result<u64, Stop>
 where
-    R: Files<File = File> + Net<Stream = TcpStream> + AllocGlobal,
+    R: Files<File = File> + Net<Stream = TcpStream> + Clock + AllocGlobal,
 {
     match server {
         Some(server) => play_at(rt, server, &case.lines),
@@ -26,7 +27,7 @@ fn check_case<'a, R>(
     tally: &mut Tally,
 ) -> io::Result<()>
 where
-    R: Files<File = File> + Net<Stream = TcpStream> + Print + AllocGlobal,
+    R: Files<File = File> + Net<Stream = TcpStream> + Clock + Print + AllocGlobal,
 {
     match played(rt, server, case) {
         Ok(calls) => {
@@ -51,7 +52,7 @@ pub fn check_file<'a, R>(
     tally: &mut Tally,
 ) -> io::Result<()>
 where
-    R: Files<File = File> + Net<Stream = TcpStream> + Print + AllocGlobal,
+    R: Files<File = File> + Net<Stream = TcpStream> + Clock + Print + AllocGlobal,
 {
     let cases = match case_file_of(rt.alloc(), text) {
         Ok(cases) => cases,

@@ -2,12 +2,24 @@
 #![tactic(auto)]
 
 mod connection;
+mod disk_trouble;
+mod failed_mark;
 mod folder;
+mod images;
+mod journal_copy;
+mod link_trouble;
+mod names;
+mod patience;
+mod plain_file;
 mod real_world;
+mod send_queue;
+mod sent_mark;
 mod server;
 mod standard_numbers;
 #[cfg(test)]
 mod tests;
 
+pub use disk_trouble::DiskTrouble;
+pub use link_trouble::LinkTrouble;
 pub use real_world::RealWorld;
 pub use standard_numbers::StandardNumbers;

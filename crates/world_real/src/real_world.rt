@@ -3,11 +3,14 @@
 ghost use Rattle.std.specs.Prelude.{◌≡◌, ◌≤◌, false};
 ghost use Rattle.world_traits.specs.Counts.{counted};
 
+use crate::disk_trouble::DiskTrouble;
 use crate::folder::Folder;
+use crate::link_trouble::LinkTrouble;
 use crate::server::Server;
 use std::fs::{File, Files};
 use std::marker::Model;
 use std::net::{Net, TcpStream};
+use std::time::Clock;
 use world_traits::{Clocked, Disk, DiskFailed, Link, LinkFailed, Side, World};
 
 /// The journal's two files in a folder, and a TCP stream to a server. A file is opened, or made, at the first call that needs
@@ -16,14 +19,15 @@ use world_traits::{Clocked, Disk, DiskFailed, Link, LinkFailed, Side, World};
 ///
 /// Contracts see its counts. A call fails exactly where the count of its half goes on, and leaves the other one.
 #[derive(Drop)]
-pub struct RealWorld<'a, R: Files<File = File> + Net<Stream = TcpStream> + AllocGlobal> {
+pub struct RealWorld<'a, R: Files<File = File> + Net<Stream = TcpStream> + Clock + AllocGlobal> {
     folder: Folder<'a, R>,
     server: Server<'a, R>,
     disk_faults: u64,
     link_faults: u64,
 }
 
-impl<'a, R: Files<File = File> + Net<Stream = TcpStream> + AllocGlobal> Model for RealWorld<'a, R> {
+impl<'a, R: Files<File = File> + Net<Stream = TcpStream> + Clock + AllocGlobal> Model
+    for RealWorld<'a, R> {
     ghost use Rattle.world_real.specs.Faults.{Faults};
 
     ghost Value = { Faults };
@@ -35,7 +39,7 @@ impl<'a, R: Files<File = File> + Net<Stream = TcpStream> + AllocGlobal> Model fo
     } };
 }
 
-impl<'a, R: Files<File = File> + Net<Stream = TcpStream> + AllocGlobal> RealWorld<'a, R> {
+impl<'a, R: Files<File = File> + Net<Stream = TcpStream> + Clock + AllocGlobal> RealWorld<'a, R> {
     /// The folder at a path, and the server at `HOST:PORT`, where HOST is a name, an IPv4 address, or an IPv6 address, with or
     /// without brackets. It opens nothing and takes no memory. Where the folder is `None` each call of the disk fails, and
     /// where the server is `None` each `connect`.
@@ -44,7 +48,7 @@ impl<'a, R: Files<File = File> + Net<Stream = TcpStream> + AllocGlobal> RealWorl
     {
         RealWorld {
             folder: Folder::new(rt, folder),
-            server: Server::new(rt, server),
+            server: Server::new(rt, server, folder),
             disk_faults: 0,
             link_faults: 0,
         }
@@ -62,6 +66,38 @@ impl<'a, R: Files<File = File> + Net<Stream = TcpStream> + AllocGlobal> RealWorl
         ensures { result ≡ self.now.link }
     {
         self.link_faults
+    }
+
+    /// Lets this value only read the journal from now on, as it stands at the first call of the disk: it makes no file, and
+    /// needs no lock and no right to write; a write fails. Where a sync has failed it works as before.
+    pub fn only_read(&mut self)
+        ensures same { self.new ≡ self.old }
+    {
+        self.folder.only_read();
+    }
+
+    /// Lets each connection that is made from now on become so many seconds old, where it would else be a day.
+    pub fn limit_connections(&mut self, seconds: u64)
+        ensures same { self.new ≡ self.old }
+    {
+        self.server.limit(seconds);
+    }
+
+    /// Leaves no mark from now on of what is under way to the server.
+    pub fn mark_nothing(&mut self)
+        ensures same { self.new ≡ self.old }
+    {
+        self.server.mark_nothing();
+    }
+
+    /// Why the last call of the link that failed did so, where the line is the cause.
+    pub fn link_trouble(&self) -> Option<LinkTrouble> {
+        self.server.trouble()
+    }
+
+    /// What a user has to know of the journal's files, where a call failed by it.
+    pub fn disk_trouble(&self) -> Option<DiskTrouble> {
+        self.folder.trouble()
     }
 
     /// Whether another run used the journal when this one wanted to. That was a fault of the disk, and nothing was written.
@@ -90,7 +126,7 @@ impl<'a, R: Files<File = File> + Net<Stream = TcpStream> + AllocGlobal> RealWorl
     }
 }
 
-impl<'a, R: Files<File = File> + Net<Stream = TcpStream> + AllocGlobal> Clocked
+impl<'a, R: Files<File = File> + Net<Stream = TcpStream> + Clock + AllocGlobal> Clocked
     for RealWorld<'a, R> {
     ghost use Rattle.std.specs.Prelude.{[]};
     ghost use Rattle.world_traits.specs.LinkState.{failed_link};
@@ -109,7 +145,8 @@ impl<'a, R: Files<File = File> + Net<Stream = TcpStream> + AllocGlobal> Clocked
     ghost link = { λ world. failed_link world.link };
 }
 
-impl<'a, R: Files<File = File> + Net<Stream = TcpStream> + AllocGlobal> Disk for RealWorld<'a, R> {
+impl<'a, R: Files<File = File> + Net<Stream = TcpStream> + Clock + AllocGlobal> Disk
+    for RealWorld<'a, R> {
     ghost use Rattle.std.specs.Prelude.{◌≡◌, ◌≤◌, ◌+◌, ◌^◌, [], length, IfOk, OnOk, OnErr};
     ghost use Rattle.world_traits.specs.Calls.{Rose};
     ghost use Rattle.world_traits.specs.Counts.{CountsFailure};
@@ -178,7 +215,8 @@ impl<'a, R: Files<File = File> + Net<Stream = TcpStream> + AllocGlobal> Disk for
     }
 }
 
-impl<'a, R: Files<File = File> + Net<Stream = TcpStream> + AllocGlobal> Link for RealWorld<'a, R> {
+impl<'a, R: Files<File = File> + Net<Stream = TcpStream> + Clock + AllocGlobal> Link
+    for RealWorld<'a, R> {
     ghost use Rattle.std.specs.Prelude.{◌≡◌, ◌≤◌, ◌<◌, length, IfOk, OnErr};
     ghost use Rattle.world_traits.specs.Calls.{Rose};
     ghost use Rattle.world_traits.specs.Counts.{CountsFailure};
@@ -201,7 +239,8 @@ impl<'a, R: Files<File = File> + Net<Stream = TcpStream> + AllocGlobal> Link for
     }
 
     /// Sends all the bytes. It fails exactly where the count of the link's faults goes on, also where the server takes no byte
-    /// for 60 seconds.
+    /// for as long as there is patience, and where another journal stands in place of the one that was opened: then nothing is
+    /// sent, and the connection is ended.
     fn send(&mut self, bytes: &[u8]) -> Result<(), LinkFailed>
         ensures exact { CountsFailure result self.old.link self.new.link }
         ensures count { self.old.link ≤ self.new.link }
@@ -209,6 +248,10 @@ impl<'a, R: Files<File = File> + Net<Stream = TcpStream> + AllocGlobal> Link for
         ensures disk { self.new.disk ≡ self.old.disk }
         ensures in_use { self.new.in_use ≡ self.old.in_use }
     {
+        if !self.folder.is_in_place() {
+            self.server.close();
+            return Err(self.link_failed());
+        }
         match self.server.send(bytes) {
             Ok(()) => Ok(()),
             Err(_) => Err(self.link_failed()),
@@ -216,8 +259,8 @@ impl<'a, R: Files<File = File> + Net<Stream = TcpStream> + AllocGlobal> Link for
     }
 
     /// Waits for what the server sends, and answers how many bytes of it stand at the buffer's front, at least one. It fails
-    /// exactly where the count of the link's faults goes on, also where the server ends the stream or sends no byte for 60
-    /// seconds.
+    /// exactly where the count of the link's faults goes on, also where the server ends the stream or sends no byte for as long
+    /// as there is patience.
     fn recv(&mut self, into: &mut [u8]) -> Result<usize, LinkFailed>
         requires room { 0 < length into.old }
         ensures some { IfOk result (λ n. 0 < n) }
@@ -242,5 +285,5 @@ impl<'a, R: Files<File = File> + Net<Stream = TcpStream> + AllocGlobal> Link for
     }
 }
 
-impl<'a, R: Files<File = File> + Net<Stream = TcpStream> + AllocGlobal> World
+impl<'a, R: Files<File = File> + Net<Stream = TcpStream> + Clock + AllocGlobal> World
     for RealWorld<'a, R> {}

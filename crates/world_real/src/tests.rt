@@ -1,8 +1,9 @@
 //! Real files, in a folder of the test's own, and a peer of the test's own.
 
-use super::RealWorld;
+use super::{DiskTrouble, RealWorld};
 use std::io::{Read, Write};
 use std::net::TcpListener;
+use std::os::unix::fs::MetadataExt;
 use std::rt::{Env, Files};
 use std::test::Fail;
 use std::{env, fs, process};
@@ -89,5 +90,58 @@ fn a_peer_is_heard_until_it_ends_the_stream(rt: HostRuntime) -> Result<(), Fail>
     assert_eq!(rt; world.recv(&mut buffer), Err(LinkFailed));
     assert_eq!(rt; world.send(b"C2 NOOP\r\n"), Err(LinkFailed));
     assert_eq!(rt; (world.disk_faults(), world.link_faults()), (0, 2));
+    Ok(())
+}
+
+#[test]
+fn a_world_that_only_reads_makes_no_file(rt: HostRuntime) -> Result<(), Fail> {
+    let path = empty_folder(&rt, "reads", process::id(rt.process()))?;
+    let mut world = RealWorld::new(&rt, Some(path.as_str()), None);
+    world.only_read();
+    assert_eq!(rt; world.length(Side::Left), Ok(0));
+    assert_eq!(rt; world.write_at(Side::Left, 0, &[1]), Err(DiskFailed));
+    // A folder with a file in it can't be removed so.
+    fs::remove_dir(&rt, path.as_str())?;
+    Ok(())
+}
+
+#[test]
+fn nothing_is_sent_where_the_journal_was_replaced(rt: HostRuntime) -> Result<(), Fail> {
+    let Ok(listener) = TcpListener::bind(&rt, "127.0.0.1:0") else {
+        return Ok(());
+    };
+    let path = empty_folder(&rt, "replaced", process::id(rt.process()))?;
+    let left = format!(in rt.alloc(); "{path}/journal.0")?;
+    let server = format!(in rt.alloc(); "{}", listener.local_addr()?)?;
+    let mut world = RealWorld::new(&rt, Some(path.as_str()), Some(server.as_str()));
+    world.sync(Side::Left)?;
+    world.connect()?;
+    world.send(b"C1 NOOP\r\n")?;
+    fs::remove_file(&rt, left.as_str())?;
+    fs::write(&rt, left.as_str(), b"")?;
+    assert_eq!(rt; world.send(b"C2 NOOP\r\n"), Err(LinkFailed));
+    assert_eq!(rt; world.disk_trouble(), Some(DiskTrouble::Replaced));
+    let mut buffer = [0; 32];
+    let mut peer = listener.accept()?.0;
+    assert_eq!(rt; (peer.read(&mut buffer)?, peer.read(&mut buffer)?), (9, 0));
+    fs::remove_dir_all(&rt, path.as_str())?;
+    Ok(())
+}
+
+#[test]
+fn a_marked_journal_is_copied(rt: HostRuntime) -> Result<(), Fail> {
+    let path = empty_folder(&rt, "copied", process::id(rt.process()))?;
+    let left = format!(in rt.alloc(); "{path}/journal.0")?;
+    let mark = format!(in rt.alloc(); "{path}/journal.failed")?;
+    fs::write(&rt, left.as_str(), b"abc")?;
+    fs::write(&rt, mark.as_str(), b"")?;
+    let before = fs::metadata(&rt, left.as_str())?.ino();
+    let mut world = RealWorld::new(&rt, Some(path.as_str()), None);
+    let mut buffer = [0; 4];
+    assert_eq!(rt; world.read(Side::Left, 0, &mut buffer), Ok(3));
+    assert_eq!(rt; &buffer, b"abc\0");
+    assert!(rt; fs::metadata(&rt, left.as_str())?.ino() != before);
+    assert!(rt; !fs::exists(&rt, mark.as_str())?);
+    fs::remove_dir_all(&rt, path.as_str())?;
     Ok(())
 }
