@@ -2,6 +2,7 @@
 import array
 import contextlib
 import fcntl
+import math
 import os
 import re
 import select
@@ -14,7 +15,7 @@ import sys
 import time
 from typing import Dict, List, NamedTuple, Optional
 
-from link_words import LINE_LIMIT, Ended, Letter, Status, Way, printable
+from link_words import LINE_LIMIT, SENT_PER_SECOND, Ended, Letter, Status, Way, printable
 
 READ_AHEAD = 16_384  # Octets that a socket may hold ahead of its reader.
 CONNECT_TIME = 30.0  # For all addresses of the host together, and the way to TLS.
@@ -58,20 +59,30 @@ class Mark:
 
     def write(self, letter: Letter) -> None:
         """Names a letter whose last part is about to go out."""
-        line = b"%s %d %s %d\n" % (letter.tag, letter.size, letter.way.value.encode(), int(time.time()))
-        beside = self.path + ".new"
         try:
-            with contextlib.suppress(FileNotFoundError):
-                os.unlink(beside)
-            handle = os.open(beside, os.O_WRONLY | os.O_CREAT | os.O_EXCL, 0o600)
-            with os.fdopen(handle, "wb") as file:
-                file.write(line)
-                file.flush()
-                os.fsync(handle)
-            os.replace(beside, self.path)
-            self._sync()
+            self._put(letter.tag, letter.size, letter.way)
         except OSError as error:
             raise Ended(Status.LINE, f"a letter isn't sent, as {self.path} can't be written: {error.strerror}") from error
+
+    def shorten(self, lived: float) -> None:
+        """A second look ended early. The seconds that it had for the letter's octets needn't be waited for once more."""
+        if self.tag and self.way is Way.CRLF and self.size:
+            with contextlib.suppress(OSError):
+                self._put(self.tag, max(0, self.size - int(lived * SENT_PER_SECOND)), self.way)
+
+    def _put(self, tag: bytes, size: int, way: Way) -> None:
+        """Writes the file, so that it is there as a whole or as it was."""
+        line = b"%s %d %s %d\n" % (tag, size, way.value.encode(), int(time.time()))
+        beside = self.path + ".new"
+        with contextlib.suppress(FileNotFoundError):
+            os.unlink(beside)
+        handle = os.open(beside, os.O_WRONLY | os.O_CREAT | os.O_EXCL, 0o600)
+        with os.fdopen(handle, "wb") as file:
+            file.write(line)
+            file.flush()
+            os.fsync(handle)
+        os.replace(beside, self.path)
+        self._sync()
 
     def remove(self) -> Optional[str]:
         """The letter was answered, or looked for. Why the mark stays, where it does."""
@@ -112,9 +123,12 @@ class Log:
 
     def line(self, way: str, line: bytes, for_verbose: bool = False) -> None:
         """A line, secrets hidden, of C (the client) or S (the server)."""
+        is_shown = self.is_verbose and for_verbose
+        if self.trace is None and not is_shown:
+            return
         text = way + ": " + printable(line.rstrip(b"\r\n"))
         self.note(text)
-        if self.is_verbose and for_verbose:
+        if is_shown:
             self.clear()
             with contextlib.suppress(OSError):
                 print(text[:200], file=sys.stderr, flush=True)
@@ -169,6 +183,7 @@ class Door:
         self.socket.listen(8)
         self.socket.setblocking(False)
         self.port: int = self.socket.getsockname()[1]
+        self.has_refused = False  # Said once, however often another user comes.
 
     def take(self, log: Log) -> Optional[socket.socket]:
         """The program's connection, where it has come. Another user's is closed."""
@@ -182,7 +197,9 @@ class Door:
             log.say(f"the connection may be another user's: /proc/net/tcp can't be read ({error.strerror})")
             owner = os.geteuid()
         if owner != os.geteuid():
-            log.say("another user's connection was refused")
+            if not self.has_refused:
+                log.say("another user's connection was refused")
+            self.has_refused = True
             link.close()
             return None
         link.setblocking(False)
@@ -215,7 +232,7 @@ class Address(NamedTuple):
 
 
 class Line:
-    """The connection to the server. Its socket is reset at close, unless `close_in_order` is called."""
+    """The connection to the server. Its socket is reset at close, unless it is closed in order."""
 
     def __init__(self, link: socket.socket, first: bytes = b"") -> None:
         self.socket, self.first = link, first
@@ -270,36 +287,39 @@ class Line:
 
 
 def connect(address: Address, context: Optional[ssl.SSLContext]) -> Line:
-    """Connects to the server, within CONNECT_TIME. Where TLS is asked for, nothing is handed on before it."""
+    """Connects to the server, within CONNECT_TIME."""
     deadline = time.monotonic() + CONNECT_TIME
     link = connect_any(address, deadline)
     try:
-        link.settimeout(max(0.01, deadline - time.monotonic()))
-        first = b""
-        if address.way == "starttls":
-            first = ask_for_tls(link, address, deadline)
-            link.settimeout(max(0.01, deadline - time.monotonic()))
-        if context:
-            link = context.wrap_socket(link, server_hostname=address.host)
-        return Line(link, first)
-    except ssl.SSLCertVerificationError as error:
+        return secure(link, address, context, deadline)
+    except (OSError, ValueError) as error:
         link.close()
-        raise Ended(Status.ADDRESS, f"the certificate of {address} isn't valid: {printable(error.verify_message.encode())}") from error
-    except (ssl.SSLEOFError, ssl.SSLZeroReturnError, ConnectionError) as error:
-        link.close()
-        raise Ended(Status.LINE, f"{address} ended the connection before TLS was set up") from error
-    except ssl.SSLError as error:
-        link.close()
-        raise Ended(Status.ADDRESS, f"no TLS with {address}: {printable((error.reason or str(error)).encode())}") from error
-    except ValueError as error:
-        link.close()
-        raise Ended(Status.ADDRESS, f"no TLS with {address}: {printable(str(error).encode())}") from error
-    except socket.timeout as error:
-        link.close()
-        raise Ended(Status.LINE, f"no bytes from {address} for {CONNECT_TIME:.0f} seconds") from error
-    except BaseException:
+        raise why_no_tls(error, address) from error
+    except Ended:
         link.close()
         raise
+
+
+def secure(link: socket.socket, address: Address, context: Optional[ssl.SSLContext], deadline: float) -> Line:
+    """The connection over TLS where it is asked for; then nothing that came before TLS is handed on."""
+    if not context:
+        return Line(link)
+    first = ask_for_tls(link, address, deadline) if address.way == "starttls" else b""
+    link.settimeout(max(0.01, deadline - time.monotonic()))
+    return Line(context.wrap_socket(link, server_hostname=address.host), first)
+
+
+def why_no_tls(error: Exception, address: Address) -> Ended:
+    """Why TLS couldn't be set up, for people."""
+    if isinstance(error, ssl.SSLCertVerificationError):
+        return Ended(Status.ADDRESS, f"the certificate of {address} isn't valid: {printable(error.verify_message.encode())}")
+    if isinstance(error, (ssl.SSLEOFError, ssl.SSLZeroReturnError, ConnectionError)):
+        return Ended(Status.LINE, f"{address} ended the connection before TLS was set up")
+    if isinstance(error, socket.timeout):
+        return Ended(Status.LINE, f"no bytes from {address} for {CONNECT_TIME:.0f} seconds")
+    reason = error.reason if isinstance(error, ssl.SSLError) else None
+    is_address = isinstance(error, (ssl.SSLError, ValueError))
+    return Ended(Status.ADDRESS if is_address else Status.LINE, f"no TLS with {address}: {printable((reason or str(error)).encode())}")
 
 
 def connect_any(address: Address, deadline: float) -> socket.socket:
@@ -314,9 +334,10 @@ def connect_any(address: Address, deadline: float) -> socket.socket:
         raise Ended(Status.ADDRESS, f"no such host: {address.host}") from error
     reasons: List[str] = []
     for count, (family, kind, protocol, _, where) in enumerate(found):
-        link = socket.socket(family, kind, protocol)
+        link: Optional[socket.socket] = None
         share = (deadline - time.monotonic()) / (len(found) - count)
         try:
+            link = socket.socket(family, kind, protocol)
             link.setsockopt(socket.SOL_SOCKET, socket.SO_LINGER, RESET)
             link.setsockopt(socket.SOL_SOCKET, socket.SO_SNDBUF, READ_AHEAD)
             link.setsockopt(socket.IPPROTO_TCP, socket.TCP_NODELAY, 1)
@@ -324,7 +345,8 @@ def connect_any(address: Address, deadline: float) -> socket.socket:
             link.connect(where)
             return link
         except OSError as error:
-            link.close()
+            if link:
+                link.close()
             is_timeout = isinstance(error, socket.timeout)
             reasons.append(f"no answer for {share:.0f} seconds" if is_timeout else (error.strerror or str(error)))
     raise Ended(Status.LINE, f"no connection to {address}: {' and '.join(dict.fromkeys(reasons))}")
@@ -339,13 +361,13 @@ def ask_for_tls(link: socket.socket, address: Address, deadline: float) -> bytes
     if not greeting.upper().startswith(b"* OK"):
         is_bye = greeting.upper().startswith(b"* BYE")
         raise Ended(Status.LINE if is_bye else Status.ADDRESS, f"no STARTTLS with {address}: it greets with {printable(greeting)[:100]}")
-    link.sendall(b"L0 STARTTLS\r\n")
+    link.sendall(b"X0 STARTTLS\r\n")
     line = clear_line(link, deadline)
     for _ in range(100):
-        if line.startswith(b"L0 "):
+        if line.startswith(b"X0 "):
             break
         line = clear_line(link, deadline)
-    if not line.upper().startswith(b"L0 OK"):
+    if not line.upper().startswith(b"X0 OK"):
         raise Ended(Status.ADDRESS, f"no STARTTLS with {address}: {printable(line)[:100]}")
     link.setblocking(False)
     try:
@@ -375,14 +397,15 @@ class Guard:
     def __init__(self, owner: Optional[int], seconds: float) -> None:
         self.deadline, self.seconds = time.monotonic() + seconds, seconds
         self.is_asked_to_end = False
+        self.is_program_gone = False
         self.signals: List[int] = []
         self.bell, self.ring = socket.socketpair()
         self.bell.setblocking(False)
         self.ring.setblocking(False)
         signal.set_wakeup_fd(self.ring.fileno(), warn_on_full_buffer=False)
-        for number in (signal.SIGUSR1, signal.SIGTERM, signal.SIGINT, signal.SIGHUP):
+        for number in (signal.SIGUSR1, signal.SIGUSR2, signal.SIGTERM, signal.SIGINT, signal.SIGHUP):
             # A script in the background ignores INT for its children, and nohup ignores HUP: so it stays.
-            if signal.getsignal(number) is not signal.SIG_IGN or number in (signal.SIGUSR1, signal.SIGTERM):
+            if signal.getsignal(number) is not signal.SIG_IGN or number not in (signal.SIGINT, signal.SIGHUP):
                 signal.signal(number, lambda got, _: self.signals.append(got))
         self.owner = owner
         self.owner_handle: Optional[int] = None
@@ -407,9 +430,12 @@ class Guard:
         return ready
 
     def _check(self, ready: Dict[int, int]) -> None:
+        """Ends the session where a signal, the owner's end or the limit of time asks for it."""
         for number in self.signals:
             if number == signal.SIGUSR1:
                 self.is_asked_to_end = True
+            elif number == signal.SIGUSR2:
+                self.is_program_gone = True
             else:
                 raise Ended(Status.LINE, f"ended by {signal.Signals(number).name}")
         self.signals.clear()
@@ -422,6 +448,10 @@ class Guard:
         if self.owner is None:
             return False
         return self.owner_handle in ready if self.owner_handle is not None else not is_there(self.owner)
+
+    def lift(self) -> None:
+        """The limit of time counts no longer: what takes its time now would have to begin anew in each session."""
+        self.deadline = math.inf
 
     def wake(self) -> None:
         """Ends a wait, from another thread."""

@@ -12,12 +12,14 @@ LINE_LIMIT = 65_536  # A line is read up to here; what is longer is handed on un
 HEADER_LIMIT = 32  # The octets at a line's end in which a literal's size can stand.
 HOLD_STEP = 0.02  # Between two looks at the send queue.
 SILENCE = 30.0  # Where the program leaves after so much of it, the line is to blame.
+PROGRAM_TIME = 60.0  # For the program to connect.
 LAST_WORDS = 5.0  # For the program to take what the server said before its end.
 TOO_SLOW_TIME, TOO_SLOW_BYTES, SENT_PER_SECOND = 900.0, 4_096, 2_000
-LOOK_CATENATE, LOOK_CRLF = 10.0, 130.0  # How long the line must live in a second look.
+LOOK_CATENATE, LOOK_CRLF = 130.0, 130.0  # How long the line must live in a second look. A tunnel may hold a dead session's last part.
 LOOK_STEP, LOOK_ANSWER, LOOK_LATE, LOOK_SILENCE = 2.0, 5.0, 1.0, 200.0
 SECRETS, SECRET_LEAST, SECRET_MOST = 16, 4, 1_024  # How many hidden words are kept, and their sizes.
 
+PRINTABLE = bytes(octet if 32 <= octet < 127 else ord("?") for octet in range(256))
 LITERAL = re.compile(rb"\{([0-9]{1,18})(\+?)\}\r\n\Z")
 COMMAND = re.compile(rb"([A-Z][0-9]{1,18}) ((?:UID )?[A-Z]+)(?=[ \r\n])")
 CAPABILITIES = re.compile(rb"(?:\* CAPABILITY |\S+ [A-Z]+ +\[CAPABILITY )([^\]\r\n]*)", re.IGNORECASE)
@@ -43,7 +45,7 @@ class Ended(Exception):
 
 def printable(octets: bytes) -> str:
     """The text of octets from outside, with ? for all that a terminal could take as more than a letter."""
-    return "".join(chr(octet) if 32 <= octet < 127 else "?" for octet in octets)
+    return octets.translate(PRINTABLE).decode("ascii")
 
 
 class Part(NamedTuple):
@@ -137,6 +139,7 @@ class Letter:
     def __init__(self, tag: bytes, size: int, way: Way) -> None:
         self.tag, self.size, self.way = tag, size, way
         self.stage = Stage.ASKING
+        self.line = b""  # What announces it, as the program says it.
         self.left = size  # Octets that the program hasn't sent.
         self.held = b""
         self.has_end = False  # The program sent the CRLF too.
@@ -145,9 +148,14 @@ class Letter:
 
     def opening(self, line: bytes) -> bytes:
         """The line that announces the letter, as the server gets it."""
+        self.line = line
         if self.way is Way.CRLF:
             return line
         return line[: line.rindex(b"{")] + b"CATENATE (TEXT {%d}\r\n" % (self.size - 2)
+
+    def is_foreign(self, word: bytes) -> bool:
+        """Whether the server answered so that it doesn't know CATENATE after all."""
+        return word == b"BAD" and self.stage is Stage.ASKING and self.way is Way.CATENATE
 
     def go(self) -> None:
         """The server asks for the octets."""
@@ -184,7 +192,8 @@ class Letter:
 
         In place of a `+` that is clear to both. Anywhere else the server may take what comes next as octets of the letter.
         """
-        is_in_place = self.stage is Stage.ASKING or (self.stage is Stage.HOLDING and self.way is Way.CATENATE)
+        awaits_second = self.stage is Stage.HOLDING and self.way is Way.CATENATE and not self.is_asked
+        is_in_place = self.stage is Stage.ASKING or awaits_second
         self.is_unclear = not is_in_place
         self.stage = Stage.REFUSED
 
@@ -193,7 +202,7 @@ class Look:
     """A second look: it waits until the line has lived for so long, which it sees by NOOPs of its own."""
 
     def __init__(self, seconds: float, now: float) -> None:
-        self.left = seconds
+        self.whole = self.left = seconds
         self.count = 0
         self.asked: Optional[float] = None  # When the NOOP that isn't answered went out.
         self.lived_at: Optional[float] = None  # When the last one was answered.
@@ -216,17 +225,19 @@ class Look:
         if self.asked is not None:
             raise Ended(Status.LINE, f"the line died while a letter was awaited: no bytes for {LOOK_SILENCE:.0f} seconds")
         self.count, self.asked = self.count + 1, now
-        return b"L%d NOOP\r\n" % self.count
+        return b"X%d NOOP\r\n" % self.count
 
     def hear(self, line: bytes, now: float) -> None:
         """Takes a line of the server. A stretch counts where the NOOP at its end was answered in time.
 
-        A later answer counts for a little, so that a look comes to its end on a line that is always so slow.
+        A later answer counts for a little, so that a look comes to its end on a line that is always so slow. No stretch counts for
+        more than it should take: link itself may have been stopped in it.
         """
-        if self.asked is None or not line.startswith(b"L%d " % self.count):
+        if self.asked is None or not line.startswith(b"X%d " % self.count):
             return
         if self.lived_at is not None:
-            self.left -= now - self.lived_at if now - self.asked <= LOOK_ANSWER else LOOK_LATE
+            stretch = min(now - self.lived_at, LOOK_STEP + LOOK_ANSWER)
+            self.left -= stretch if now - self.asked <= LOOK_ANSWER else LOOK_LATE
         self.lived_at, self.asked = now, None
 
 

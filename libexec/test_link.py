@@ -4,23 +4,27 @@
 Nothing but this machine's own addresses is used. usage: test_link.py [-v] [-k NAME]
 """
 import contextlib
+import importlib.machinery
+import importlib.util
 import os
 import re
 import signal
 import socket
-import ssl
 import struct
 import subprocess
 import sys
 import tempfile
 import time
 import unittest
-from typing import Dict, List, Optional, Tuple
+import unittest.mock
+from typing import Any, Dict, List, Optional, Tuple
 
 sys.dont_write_bytecode = True
 HERE = os.path.dirname(os.path.abspath(__file__))
 sys.path.insert(0, HERE)
+import link_ends  # noqa: E402
 import link_words  # noqa: E402
+from link_ends import Log, Mark  # noqa: E402
 
 PATIENCE = 30.0  # For a machine that has much else to do.
 Lowered = Dict[str, float]
@@ -37,6 +41,16 @@ while (word := sys.argv.pop(1)) != "--":
 runpy.run_path(sys.path[0] + "/link", run_name="__main__")
 """
 QUICK_LOOK: Lowered = {"LOOK_CATENATE": 1.0, "LOOK_CRLF": 1.5, "LOOK_STEP": 0.2, "LOOK_ANSWER": 2.0, "LOOK_SILENCE": 3.0}
+
+
+def link_module() -> Any:
+    """Link itself, as a module: its name has no ending."""
+    loader = importlib.machinery.SourceFileLoader("link", os.path.join(HERE, "link"))
+    spec = importlib.util.spec_from_loader("link", loader)
+    assert spec
+    module = importlib.util.module_from_spec(spec)
+    loader.exec_module(module)
+    return module
 
 
 class Peer:
@@ -127,25 +141,28 @@ def module_of(name: str) -> str:
     return "link_words" if hasattr(link_words, name) else "link_ends"
 
 
-class Sessions(unittest.TestCase):
-    """Link itself, between the program and a server that stand here."""
+class Case(unittest.TestCase):
+    """What the tries share: link, started between a program and a server that stand here."""
 
     def setUp(self) -> None:
         self.stack = contextlib.ExitStack()
         self.folder = self.stack.enter_context(tempfile.TemporaryDirectory())
         self.mark, self.trace = os.path.join(self.folder, "mowerbean.line"), os.path.join(self.folder, "trace")
+        self.read_ahead = 16_384  # Of the server.
         self.addCleanup(self.stack.close)
 
     def listen(self) -> socket.socket:
         """The server's port."""
         listening = socket.socket()
-        listening.setsockopt(socket.SOL_SOCKET, socket.SO_RCVBUF, 16_384)
+        listening.setsockopt(socket.SOL_SOCKET, socket.SO_RCVBUF, self.read_ahead)
         listening.bind(("127.0.0.1", 0))
         listening.listen(4)
         listening.settimeout(PATIENCE)
         return self.stack.enter_context(listening)
 
-    def start(self, *words: str, way: str = "server", host: str = "127.0.0.1", lowered: Optional[Lowered] = None) -> Tuple[Tried, socket.socket]:
+    def start(
+        self, *words: str, way: str = "server", host: str = "127.0.0.1", lowered: Optional[Lowered] = None
+    ) -> Tuple[Tried, socket.socket]:
         """Link, started for a server that listens."""
         listening = self.listen()
         address = f"{host}:{listening.getsockname()[1]}"
@@ -205,6 +222,10 @@ class Sessions(unittest.TestCase):
         self.assertLess(abs(int(words[3]) - time.time()), 1_000)
         return words[:3]
 
+
+class Sessions(Case):
+    """A session: its letters, the second look, and what ends it."""
+
     # -- A letter --
 
     def test_catenate(self) -> None:
@@ -259,6 +280,25 @@ class Sessions(unittest.TestCase):
         server.hear(len(b"P1 APPEND a () CATENATE (TEXT {7}\r\n"))
         server.say(b"P1 NO [TRYCREATE] none\r\n")
         self.assertEqual(program.hear(24), b"P1 NO [TRYCREATE] none\r\n")
+        self.leave(tried, program, server)
+
+    def test_a_server_that_reports_catenate_and_doesnt_know_it(self) -> None:
+        tried, program, server = self.join()
+        for tag in (b"P1", b"P2"):
+            plain = tag + b" APPEND a () {9}\r\n"
+            program.say(plain)
+            if tag == b"P1":
+                opening = b"P1 APPEND a () CATENATE (TEXT {7}\r\n"
+                self.assertEqual(server.hear(len(opening)), opening)
+                server.say(b"P1 BAD what\r\n")
+            self.assertEqual(server.hear(len(plain)), plain)
+            server.say(b"+ go\r\n")
+            self.assertEqual(program.hear(6), b"+ go\r\n")
+            self.ask(program, server, b"123456789\r\n", tag + b" OK done\r\n")
+        program.say(b"P3 APPEND a () {9}\r\n")
+        self.assertEqual(server.hear(len(b"P3 APPEND a () {9}\r\n")), b"P3 APPEND a () {9}\r\n")
+        server.say(b"P3 BAD really\r\n")
+        self.assertEqual(program.hear(15), b"P3 BAD really\r\n")
         self.leave(tried, program, server)
 
     def test_no_at_the_second_plus(self) -> None:
@@ -327,18 +367,31 @@ class Sessions(unittest.TestCase):
                 pass
 
     def test_the_crlf_is_held_back(self) -> None:
+        self.read_ahead = 2_048
         tried, program, server = self.join(catenate=False)
-        self.ask(program, server, b"P1 APPEND a () {150000}\r\n", b"+ go\r\n")
-        server.link.setsockopt(socket.SOL_SOCKET, socket.SO_RCVBUF, 4_096)
-        program.say(b"x" * 150_000 + b"\r\n")
-        self.assertEqual(len(server.hear(20_000)), 20_000)
-        time.sleep(0.3)
+        self.ask(program, server, b"P1 APPEND a () {16000}\r\n", b"+ go\r\n")
+        program.say(b"x" * 16_000 + b"\r\n")
+        time.sleep(1.0)
         self.assertFalse(os.path.exists(self.mark), "the CRLF went out before the server's side had the letter")
-        self.assertEqual(server.hear(130_002), b"x" * 130_000 + b"\r\n")
-        self.assertEqual(self.words_of_mark(), ["P1", "150000", "crlf"])
+        self.assertEqual(server.hear(16_002), b"x" * 16_000 + b"\r\n")
+        self.assertEqual(self.words_of_mark(), ["P1", "16000", "crlf"])
         server.say(b"P1 OK done\r\n")
         self.assertEqual(program.hear(12), b"P1 OK done\r\n")
         self.leave(tried, program, server)
+
+    def test_a_plus_before_all_is_out_is_no_answer(self) -> None:
+        nobody: Any = None
+        session = link_module().Session(nobody, nobody, nobody, Log(None, False, False, None), nobody)
+        session.mark = Mark(self.folder)
+        session.has_catenate = True
+        for said, heard in ((b"P1 APPEND a () {9}\r\n", b"+ go\r\n"), (b"123456789\r\n", b"+ early\r\n")):
+            for part in session.from_program.feed(said):
+                session._take(part)
+            session._hear_all(heard)
+        self.assertEqual((bytes(session.to_program), session.letter.is_asked), (b"+ go\r\n+ early\r\n", False))
+        session.to_server.clear()
+        session._hear_all(b"+ OK\r\n")
+        self.assertEqual((bytes(session.to_program), session.letter.is_asked), (b"+ go\r\n+ early\r\n", True))
 
     def test_a_command_in_the_middle_of_a_letter(self) -> None:
         tried, program, server = self.join()
@@ -385,7 +438,7 @@ class Sessions(unittest.TestCase):
         server.link.settimeout(PATIENCE)
         with contextlib.suppress(ConnectionResetError):
             while line := server.line():
-                self.assertRegex(line, rb"^L\d+ NOOP\r\n$")
+                self.assertRegex(line, rb"^X\d+ NOOP\r\n$")
                 heard += 1
                 server.say(b"* 3 EXISTS\r\n%s OK done\r\n" % line.split()[0])
         self.assertGreater(heard, 3)
@@ -412,10 +465,10 @@ class Sessions(unittest.TestCase):
         self.write_mark("P1 9 catenate 1795976000\n")
         tried, program, server = self.join(lowered=QUICK_LOOK)
         program.say(b"P1 APPEND a () {9}\r\n")
-        self.assertEqual(server.hear(9), b"L1 NOOP\r\n")
+        self.assertEqual(server.hear(9), b"X1 NOOP\r\n")
         program.link.close()
         with contextlib.suppress(ConnectionResetError):
-            server.say(b"L1 OK\r\n")
+            server.say(b"X1 OK\r\n")
             while line := server.line():
                 server.say(line.split()[0] + b" OK\r\n")
         self.assertEqual(tried.ended()[0], 5)
@@ -426,7 +479,7 @@ class Sessions(unittest.TestCase):
                 self.write_mark("P1 9 catenate 1795976000\n")
                 tried, program, server = self.join(lowered=QUICK_LOOK)
                 program.say(b"P1 APPEND a () {9}\r\n")
-                self.assertEqual(server.hear(9), b"L1 NOOP\r\n")
+                self.assertEqual(server.hear(9), b"X1 NOOP\r\n")
                 if not is_silent:
                     server.link.close()
                 self.assertEqual(tried.ended()[0], 3)
@@ -436,6 +489,28 @@ class Sessions(unittest.TestCase):
         """What the mark says."""
         with open(self.mark, encoding="ascii") as file:
             return file.read()
+
+    def test_what_lived_of_a_second_look_is_kept(self) -> None:
+        self.write_mark("P1 9000 crlf 1795976000\n")
+        tried, program, server = self.join(lowered=QUICK_LOOK)
+        program.say(b"P1 APPEND a () {9}\r\n")
+        for _ in range(4):
+            server.say(server.line().split()[0] + b" OK\r\n")
+        server.line()
+        server.link.close()
+        self.assertEqual(tried.ended()[0], 3)
+        tag, size, way = self.words_of_mark()
+        self.assertEqual((tag, way), ("P1", "crlf"))
+        self.assertTrue(0 < int(size) < 8_600, size)
+
+    def test_the_limit_of_the_whole_leaves_a_second_look_alone(self) -> None:
+        self.write_mark("P1 9 crlf 1795976000\n")
+        tried, program, server = self.join("--time", "8", lowered={**QUICK_LOOK, "LOOK_CRLF": 9.0, "LOOK_STEP": 0.5})
+        program.say(b"P1 APPEND a () {9}\r\n")
+        with contextlib.suppress(ConnectionError):
+            while line := server.line():
+                server.say(line.split()[0] + b" OK\r\n")
+        self.assertEqual(tried.ended()[0], 5)
 
     def test_a_mark_that_is_no_plain_file(self) -> None:
         os.mkfifo(self.mark)
@@ -451,8 +526,8 @@ class Sessions(unittest.TestCase):
         other = os.fork()
         if not other:
             os.setuid(65534)
-            heard = socket.create_connection(("127.0.0.1", tried.port), PATIENCE).recv(9)
-            os._exit(1 if heard else 42)
+            with socket.create_connection(("127.0.0.1", tried.port), PATIENCE) as link:
+                os._exit(1 if link.recv(9) else 42)
         self.assertEqual(os.waitstatus_to_exitcode(os.waitpid(other, 0)[1]), 42)
         program = tried.program()
         server = self.accept(listening)
@@ -467,6 +542,21 @@ class Sessions(unittest.TestCase):
         with self.assertRaises(ConnectionRefusedError):
             tried.program()
 
+    def test_a_program_that_never_connects(self) -> None:
+        tried, _ = self.start(lowered={"PROGRAM_TIME": 0.5})
+        self.assertEqual(tried.ended(), (3, "mowerbean: the program did not connect within 0 seconds\n"))
+
+    def test_a_program_that_ended_is_not_waited_for(self) -> None:
+        tried, _ = self.start()
+        tried.process.send_signal(signal.SIGUSR2)
+        self.assertEqual(tried.ended(), (0, ""))
+
+    def test_usr2_ends_no_session(self) -> None:
+        tried, program, server = self.join()
+        tried.process.send_signal(signal.SIGUSR2)
+        self.ask(program, server, b"C4 NOOP\r\n", b"C4 OK\r\n")
+        self.leave(tried, program, server)
+
     def test_the_owner_is_killed(self) -> None:
         with subprocess.Popen(["sleep", "100"]) as owner:
             tried, program, server = self.join("--owner", str(owner.pid))
@@ -474,6 +564,11 @@ class Sessions(unittest.TestCase):
             owner.kill()
         self.assertEqual(server.end(), "reset")
         self.assertEqual(tried.ended(), (3, "mowerbean: the script that started it is gone\n"))
+
+    def test_a_kill_resets_the_line(self) -> None:
+        tried, program, server = self.join()
+        tried.process.kill()
+        self.assertEqual(server.end(), "reset")
 
     def test_usr1_waits_for_the_answer(self) -> None:
         tried, program, server = self.join()
@@ -569,110 +664,6 @@ class Sessions(unittest.TestCase):
         with open(f"/proc/{tried.process.pid}/status", encoding="ascii") as file:
             return int(re.findall(r"VmHWM:\s+(\d+) kB", file.read())[0])
 
-    # -- TLS --
-
-    def certificate(self, name: str) -> Tuple[str, ssl.SSLContext]:
-        """A certificate that was made for a name, and a server's use of it."""
-        path = os.path.join(self.folder, name)
-        words = ["openssl", "req", "-x509", "-newkey", "ec", "-pkeyopt", "ec_paramgen_curve:prime256v1", "-nodes", "-days", "9", "-subj"]
-        words += [f"/CN={name}", "-addext", f"subjectAltName=DNS:{name}", "-keyout", path, "-out", path + ".pem"]
-        subprocess.run(words, check=True, capture_output=True)
-        context = ssl.SSLContext(ssl.PROTOCOL_TLS_SERVER)
-        context.load_cert_chain(path + ".pem", path)
-        return path + ".pem", context
-
-    def over_tls(self, server: Peer, context: ssl.SSLContext) -> Peer:
-        """The server's end, over TLS; as it was where the other side wants none."""
-        with contextlib.suppress(OSError):
-            link = context.wrap_socket(server.link, server_side=True, do_handshake_on_connect=False)
-            self.stack.callback(link.close)
-            link.do_handshake()
-            return Peer(link)
-        return server
-
-    def test_tls(self) -> None:
-        cafile, context = self.certificate("localhost")
-        tried, listening = self.start("--cafile", cafile, way="tls", host="localhost")
-        program = tried.program()
-        server = self.over_tls(self.accept(listening), context)
-        server.say(b"* PREAUTH hi\r\n")
-        self.assertEqual(program.hear(14), b"* PREAUTH hi\r\n")
-        self.ask(program, server, b"C1 CAPABILITY\r\n", b"* CAPABILITY IMAP4rev1 CATENATE\r\nC1 OK done\r\n")
-        text = bytes(range(256)) * 700
-        self.begin(program, server, text)
-        server.say(b"+ OK\r\n")
-        self.assertEqual(server.hear(5), b"\xfe\xff)\r\n")
-        many = b"* 1 FETCH (BODY[] {200000}\r\n" + b"y" * 200_000 + b")\r\nP1 OK done\r\n"
-        server.say(many)
-        self.assertEqual(program.hear(len(many)), many)
-        self.leave_tls(tried, program, server)
-
-    def leave_tls(self, tried: Tried, program: Peer, server: Peer) -> None:
-        """LOGOUT, and the end."""
-        self.ask(program, server, b"C9 LOGOUT\r\n", b"C9 OK done\r\n")
-        program.link.close()
-        self.assertEqual(tried.ended(), (0, ""))
-
-    def test_tls_given_up(self) -> None:
-        cafile, context = self.certificate("localhost")
-        tried, listening = self.start("--cafile", cafile, way="tls", host="localhost")
-        program = tried.program()
-        server = self.over_tls(self.accept(listening), context)
-        server.say(b"* PREAUTH hi\r\n")
-        program.hear(14)
-        program.link.close()
-        with self.assertRaises(OSError):
-            server.hear(1)
-            server.say(b"x")
-            server.hear(1)
-            server.say(b"x")
-
-    def test_certificates_that_are_wrong(self) -> None:
-        cafile, context = self.certificate("other.example")
-        for trusted, reason in ((cafile, "Hostname mismatch"), ("", "self.signed certificate")):
-            tried, listening = self.start(*(["--cafile", trusted] if trusted else []), way="tls", host="localhost")
-            program = tried.program()
-            self.over_tls(self.accept(listening), context)
-            self.assertEqual(program.end(), "in order")
-            status, said = tried.ended()
-            self.assertEqual(status, 4)
-            self.assertRegex(said, rf"^mowerbean: the certificate of localhost:\d+ isn't valid: {reason}")
-
-    def starttls(self, greeting: bytes, answer: bytes, certificate: str = "localhost") -> Tuple[Tried, Peer, Peer]:
-        """A session that asks for STARTTLS."""
-        cafile, context = self.certificate(certificate)
-        tried, listening = self.start("--cafile", cafile, way="starttls", host="localhost")
-        program = tried.program()
-        server = self.accept(listening)
-        server.say(greeting)
-        if greeting.startswith(b"* OK"):
-            self.assertEqual(server.hear(13), b"L0 STARTTLS\r\n")
-            server.say(answer)
-            server = self.over_tls(server, context)
-        return tried, program, server
-
-    def test_starttls(self) -> None:
-        tried, program, server = self.starttls(b"* OK [CAPABILITY IMAP4rev1 CATENATE] hi\r\n", b"* 1 EXISTS\r\nL0 OK go\r\n")
-        self.assertEqual(program.hear(16), b"* OK TLS is on\r\n")
-        self.ask(program, server, b"P1 APPEND a () {5}\r\n", b"+ go\r\n")
-        self.ask(program, server, b"12345\r\n", b"P1 OK done\r\n")
-        self.leave_tls(tried, program, server)
-
-    def test_starttls_refused(self) -> None:
-        rows = (
-            (b"* PREAUTH hi\r\n", b"", 4, "greets with"),
-            (b"* BYE no\r\n", b"", 3, "greets with"),
-            (b"* OK hi\r\n", b"L0 BAD \x1b[31mno\r\n", 4, r"L0 BAD \?\[31mno$"),
-            (b"* OK hi\r\n", b"L0 OK go\r\n* CAPABILITY EVIL\r\n", 4, "more in clear after its answer"),
-        )
-        for greeting, answer, wanted, reason in rows:
-            with self.subTest(greeting=greeting, answer=answer):
-                tried, program, _ = self.starttls(greeting, answer)
-                self.assertEqual(program.end(), "in order")
-                status, said = tried.ended()
-                self.assertEqual(status, wanted)
-                self.assertRegex(said.rstrip(), rf"^mowerbean: no STARTTLS with localhost:\d+: .*{reason}")
-
     # -- What can't be had, and what is shown --
 
     def reason(self, *words: str) -> Tuple[int, str]:
@@ -690,12 +681,20 @@ class Sessions(unittest.TestCase):
         closed.bind(("127.0.0.1", 0))
         self.stack.callback(closed.close)
         free = closed.getsockname()[1]
-        self.assertEqual(self.reason("--server", f"127.0.0.1:{free}"), (3, f"mowerbean: no connection to 127.0.0.1:{free}: Connection refused\n"))
+        refused = f"mowerbean: no connection to 127.0.0.1:{free}: Connection refused\n"
+        self.assertEqual(self.reason("--server", f"127.0.0.1:{free}"), (3, refused))
         self.assertEqual(self.reason("--server", "no-such-host.invalid:143")[0] in (3, 4), True)
         self.assertEqual(self.reason("--tls", f"127.0.0.1:{port}"), (3, f"mowerbean: no bytes from 127.0.0.1:{port} for 1 seconds\n"))
         for wrong in ("host", "host:0", "host:99999", ":143", "::1:1", "h st:1"):
             self.assertEqual(self.reason("--server", wrong), (2, f"mowerbean: {wrong} is no HOST:PORT\n"))
         self.assertEqual(self.reason("--tls", "a:1", "--cafile", "/nowhere")[0], 2)
+
+    def test_an_address_of_a_kind_that_this_machine_has_not(self) -> None:
+        listening = self.listen()
+        where = listening.getsockname()
+        found = [(999, socket.SOCK_STREAM, 0, "", ("::1", 143)), (socket.AF_INET, socket.SOCK_STREAM, 0, "", where)]
+        with unittest.mock.patch("socket.getaddrinfo", return_value=found):
+            link_ends.connect_any(link_ends.Address("both", 143, "server"), time.monotonic() + PATIENCE).close()
 
     def test_ended_by_the_server(self) -> None:
         tried, program, server = self.join()

@@ -93,7 +93,8 @@ class Letters(unittest.TestCase):
         for text in (b"abc", b"abcd", b"a\r\nb\r\n", bytes(range(1, 60)), b"\r\n\r\n"):
             for pieces in cuts_of(text):
                 letter = Letter(b"P1", len(text), Way.CATENATE)
-                self.assertEqual(letter.opening(b"P1 APPEND a () {%d}\r\n" % len(text)), b"P1 APPEND a () CATENATE (TEXT {%d}\r\n" % (len(text) - 2))
+                opening = b"P1 APPEND a () CATENATE (TEXT {%d}\r\n" % (len(text) - 2)
+                self.assertEqual(letter.opening(b"P1 APPEND a () {%d}\r\n" % len(text)), opening)
                 letter.go()
                 out = b"".join(letter.take(piece) for piece in pieces)
                 self.assertEqual(out, text[:-2] + b" TEXT {2}\r\n")
@@ -119,6 +120,14 @@ class Letters(unittest.TestCase):
         letter.refuse()
         self.assertEqual((letter.take(b"i"), letter.is_unclear, letter.stage), (b"", False, Stage.REFUSED))
 
+    def test_refused_where_the_server_is_owed_octets(self) -> None:
+        letter = Letter(b"P1", 3, Way.CATENATE)
+        letter.go()
+        letter.take(b"abc")
+        letter.is_asked = True
+        letter.refuse()
+        self.assertTrue(letter.is_unclear)
+
 
 class Limits(unittest.TestCase):
     """The second look and the limit for what is too slow, by a made-up clock."""
@@ -126,7 +135,7 @@ class Limits(unittest.TestCase):
     def answer(self, look: Look, at: float, late: float) -> float:
         """The NOOP at this time is answered so late; the time then."""
         out = look.turn(at)
-        self.assertRegex(out, rb"\AL[0-9]+ NOOP\r\n\Z")
+        self.assertRegex(out, rb"\AX[0-9]+ NOOP\r\n\Z")
         look.hear(out.split()[0] + b" OK\r\n", at + late)
         return at + late
 
@@ -146,6 +155,12 @@ class Limits(unittest.TestCase):
             now = self.answer(look, look.next_turn(), 0.1)
         self.assertTrue(101.0 <= now < 102.5, now)
 
+    def test_a_look_leaves_out_time_in_which_it_was_stopped(self) -> None:
+        look = Look(100.0, 0.0)
+        now = self.answer(look, 0.0, 0.1)
+        self.answer(look, now + 60.0, 0.1)
+        self.assertEqual(look.left, 100.0 - link_words.LOOK_STEP - link_words.LOOK_ANSWER)
+
     def test_a_look_ends_with_its_line(self) -> None:
         look = Look(10.0, 0.0)
         look.turn(0.0)
@@ -156,7 +171,7 @@ class Limits(unittest.TestCase):
     def test_a_look_hears_its_own_answers_alone(self) -> None:
         look = Look(10.0, 0.0)
         look.turn(0.0)
-        for line in (b"* L1 OK\r\n", b"L2 OK\r\n", b"L11 OK\r\n", b""):
+        for line in (b"* X1 OK\r\n", b"X2 OK\r\n", b"X11 OK\r\n", b""):
             look.hear(line, 1.0)
         self.assertIsNotNone(look.asked)
 

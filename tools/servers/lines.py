@@ -18,6 +18,8 @@ from typing import Iterator, List, Optional, Tuple
 
 # Where the server is on real lines: an address of the name space's own loopback device, to which each line leads.
 SERVER_ADDRESS = "10.77.0.1"
+# The hardware address of each line's end at the server.
+HERE_MAC = "02:00:00:00:00:01"
 # What a relay takes ahead is what its listening socket's buffer holds; without a bound the system lets it grow to megabytes.
 AHEAD = 16_384
 PIECE = 4096
@@ -55,13 +57,16 @@ class RealLine:
         self.here = f"v{number}"
         mine, theirs = (f"10.77.{64 + number // 64}.{number % 64 * 4 + last}" for last in (1, 2))
         self.wait_for_holder()
-        self.ip("link", "add", self.here, "type", "veth", "peer", "name", "line", "netns", str(self.holder.pid))
+        peer = f"peer name line netns {self.holder.pid}"
+        self.ip("link", "add", self.here, "address", HERE_MAC, "type", "veth", *peer.split())
         self.ip("address", "add", f"{mine}/30", "dev", self.here)
         self.rise()
         for words in (
             "ip link set lo up",
             f"ip address add {theirs}/30 dev line",
             "ip link set line gso_max_segs 1 up",
+            # Known for good: else the client's system is told that nobody is there, which a train's tunnel tells nobody.
+            f"ip neighbour add {mine} lladdr {HERE_MAC} nud permanent dev line",
             f"ip route add {SERVER_ADDRESS} via {mine}",
         ):
             self.run(words)
