@@ -183,6 +183,7 @@ class Door:
         self.socket.listen(8)
         self.socket.setblocking(False)
         self.port: int = self.socket.getsockname()[1]
+        self.has_refused = False  # Said once, however often another user comes.
 
     def take(self, log: Log) -> Optional[socket.socket]:
         """The program's connection, where it has come. Another user's is closed."""
@@ -196,7 +197,9 @@ class Door:
             log.say(f"the connection may be another user's: /proc/net/tcp can't be read ({error.strerror})")
             owner = os.geteuid()
         if owner != os.geteuid():
-            log.say("another user's connection was refused")
+            if not self.has_refused:
+                log.say("another user's connection was refused")
+            self.has_refused = True
             link.close()
             return None
         link.setblocking(False)
@@ -394,14 +397,15 @@ class Guard:
     def __init__(self, owner: Optional[int], seconds: float) -> None:
         self.deadline, self.seconds = time.monotonic() + seconds, seconds
         self.is_asked_to_end = False
+        self.is_program_gone = False
         self.signals: List[int] = []
         self.bell, self.ring = socket.socketpair()
         self.bell.setblocking(False)
         self.ring.setblocking(False)
         signal.set_wakeup_fd(self.ring.fileno(), warn_on_full_buffer=False)
-        for number in (signal.SIGUSR1, signal.SIGTERM, signal.SIGINT, signal.SIGHUP):
+        for number in (signal.SIGUSR1, signal.SIGUSR2, signal.SIGTERM, signal.SIGINT, signal.SIGHUP):
             # A script in the background ignores INT for its children, and nohup ignores HUP: so it stays.
-            if signal.getsignal(number) is not signal.SIG_IGN or number in (signal.SIGUSR1, signal.SIGTERM):
+            if signal.getsignal(number) is not signal.SIG_IGN or number not in (signal.SIGINT, signal.SIGHUP):
                 signal.signal(number, lambda got, _: self.signals.append(got))
         self.owner = owner
         self.owner_handle: Optional[int] = None
@@ -430,6 +434,8 @@ class Guard:
         for number in self.signals:
             if number == signal.SIGUSR1:
                 self.is_asked_to_end = True
+            elif number == signal.SIGUSR2:
+                self.is_program_gone = True
             else:
                 raise Ended(Status.LINE, f"ended by {signal.Signals(number).name}")
         self.signals.clear()

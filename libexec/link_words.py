@@ -12,9 +12,10 @@ LINE_LIMIT = 65_536  # A line is read up to here; what is longer is handed on un
 HEADER_LIMIT = 32  # The octets at a line's end in which a literal's size can stand.
 HOLD_STEP = 0.02  # Between two looks at the send queue.
 SILENCE = 30.0  # Where the program leaves after so much of it, the line is to blame.
+PROGRAM_TIME = 60.0  # For the program to connect.
 LAST_WORDS = 5.0  # For the program to take what the server said before its end.
 TOO_SLOW_TIME, TOO_SLOW_BYTES, SENT_PER_SECOND = 900.0, 4_096, 2_000
-LOOK_CATENATE, LOOK_CRLF = 10.0, 130.0  # How long the line must live in a second look.
+LOOK_CATENATE, LOOK_CRLF = 130.0, 130.0  # How long the line must live in a second look. A tunnel may hold a dead session's last part.
 LOOK_STEP, LOOK_ANSWER, LOOK_LATE, LOOK_SILENCE = 2.0, 5.0, 1.0, 200.0
 SECRETS, SECRET_LEAST, SECRET_MOST = 16, 4, 1_024  # How many hidden words are kept, and their sizes.
 
@@ -191,7 +192,8 @@ class Letter:
 
         In place of a `+` that is clear to both. Anywhere else the server may take what comes next as octets of the letter.
         """
-        is_in_place = self.stage is Stage.ASKING or (self.stage is Stage.HOLDING and self.way is Way.CATENATE)
+        awaits_second = self.stage is Stage.HOLDING and self.way is Way.CATENATE and not self.is_asked
+        is_in_place = self.stage is Stage.ASKING or awaits_second
         self.is_unclear = not is_in_place
         self.stage = Stage.REFUSED
 

@@ -542,6 +542,21 @@ class Sessions(Case):
         with self.assertRaises(ConnectionRefusedError):
             tried.program()
 
+    def test_a_program_that_never_connects(self) -> None:
+        tried, _ = self.start(lowered={"PROGRAM_TIME": 0.5})
+        self.assertEqual(tried.ended(), (3, "mowerbean: the program did not connect within 0 seconds\n"))
+
+    def test_a_program_that_ended_is_not_waited_for(self) -> None:
+        tried, _ = self.start()
+        tried.process.send_signal(signal.SIGUSR2)
+        self.assertEqual(tried.ended(), (0, ""))
+
+    def test_usr2_ends_no_session(self) -> None:
+        tried, program, server = self.join()
+        tried.process.send_signal(signal.SIGUSR2)
+        self.ask(program, server, b"C4 NOOP\r\n", b"C4 OK\r\n")
+        self.leave(tried, program, server)
+
     def test_the_owner_is_killed(self) -> None:
         with subprocess.Popen(["sleep", "100"]) as owner:
             tried, program, server = self.join("--owner", str(owner.pid))

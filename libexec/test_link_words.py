@@ -120,6 +120,14 @@ class Letters(unittest.TestCase):
         letter.refuse()
         self.assertEqual((letter.take(b"i"), letter.is_unclear, letter.stage), (b"", False, Stage.REFUSED))
 
+    def test_refused_where_the_server_is_owed_octets(self) -> None:
+        letter = Letter(b"P1", 3, Way.CATENATE)
+        letter.go()
+        letter.take(b"abc")
+        letter.is_asked = True
+        letter.refuse()
+        self.assertTrue(letter.is_unclear)
+
 
 class Limits(unittest.TestCase):
     """The second look and the limit for what is too slow, by a made-up clock."""

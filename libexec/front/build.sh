@@ -27,7 +27,7 @@ building_is_at() {
     fi
 }
 
-building_ends() {
+clear_line() {
     if [ -t 2 ]; then
         printf '\r\033[K' >&2
     fi
@@ -39,8 +39,8 @@ build() {
     say 'proving and building the program. From nothing this takes long; broken off, it goes on where it stopped'
     log=$(mktemp) || exit "$NO_PROGRAM"
     trap 'rm -f "$log"' EXIT
-    trap 'building_ends; exit 130' INT
-    trap 'building_ends; exit 143' TERM
+    trap 'clear_line; exit 130' INT
+    trap 'clear_line; exit 143' TERM
     names=$(crates_below)
     of=$(echo "$names" | wc -l | tr -d ' ')
     at=0
@@ -53,12 +53,12 @@ build() {
             set -- rt lib
         fi
         if ! (cd "$top/crates/$name" && "$@") </dev/null >"$log" 2>&1; then
-            building_ends
+            clear_line
             cat "$log" >&2
             stop "$NO_PROGRAM" "the program was not built: $name failed"
         fi
     done
-    building_ends
+    clear_line
     rm -f "$log"
     trap - EXIT INT TERM
     touch "$program"

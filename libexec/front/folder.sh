@@ -1,7 +1,7 @@
 # The journal's folder: one run at a time, the files beside the journal, and whether a file there is one of init's.
 # shellcheck shell=sh disable=SC2034,SC2154  # it shares its settings with mowerbean, which reads this file
 
-# The journal's magic word, ODMAILJ1, which stands behind its first byte.
+# The journal's magic word, ODMAILJ1, which follows its first byte.
 MAGIC=4f444d41494c4a31
 
 # Makes the journal's folder, for its owner alone. Where it can't be made the program says what is wrong.
@@ -110,7 +110,7 @@ bytes() {
     od -An -v -tx1 -j "$1" -N "$2" 2>/dev/null | tr -d ' \n'
 }
 
-# Whether a stop inside init may have left this file: its first byte is 0, and behind that stands a front of the magic word.
+# Whether a stop inside init may have left this file: its first byte is 0, and then comes a front of the magic word.
 left_by_init() {
     head=$(bytes 0 9 <"$1")
     case $head in
@@ -128,7 +128,7 @@ left_by_init() {
 }
 
 # Whether this is a journal but for its first byte. A closed first byte is what a stop inside init leaves, unless a record stands
-# behind the first one.
+# after the first one.
 lost_its_first_byte() {
     [ "$(bytes 1 8 <"$1")" = "$MAGIC" ] || return 1
     case $(bytes 0 1 <"$1") in

@@ -67,7 +67,7 @@ is_waited_for() {
 }
 
 late_words() {
-    [ "$late" -eq 0 ] || echo ' behind a letter, whose end may be on its way'
+    [ "$late" -eq 0 ] || echo ' after a letter, whose end may be on its way'
 }
 
 # Waits until a play may begin, and then has the lock. Meanwhile others may have it.
@@ -162,7 +162,8 @@ signalled() {
     if [ "$1" != HUP ] && [ -z "$asked" ] && [ -n "$with_link" ]; then
         asked=$1 asked_at=$moment
         pass_on USR1 "$link_pid"
-        say 'ending behind the command under way; once more stops at once'
+        clear_line
+        say 'ending after the command under way; once more stops at once'
     elif [ "$1" = HUP ] || [ -z "$with_link" ] || [ $((moment - asked_at)) -ge "$ONE_SIGNAL" ]; then
         stopped=$1
         pass_on TERM "$program_pid"
@@ -180,6 +181,8 @@ start_program() {
         set -- setpriv --pdeathsig TERM "$@"
     fi
     (
+        # An interrupt of the terminal goes to this one too; bash doesn't keep it from a subshell of a script with traps.
+        trap '' INT QUIT
         if [ -n "$session_time" ]; then
             export MAIL_TIME="$session_time"
         fi
@@ -207,6 +210,11 @@ play_to_the_end() {
         start_program
         await "$program_pid"
         status=$ended program_pid=''
+        # Link still waits for the program, if that ended before it connected. With these statuses it did connect, or tried to.
+        case $status in
+            [014-8]) ;;
+            *) pass_on USR2 "$link_pid" ;;
+        esac
     fi
     if [ -n "$link_pid" ]; then
         await "$link_pid"
@@ -221,11 +229,18 @@ take_status() {
         [01]:*) ;;
         *:?*:*) status=$(status_of_signal "$stopped") ;;
         ::?*) status=$(status_of_signal "$asked") ;;
-        ::)
-            say "the helper $libexec/link did not start. Nothing was played"
-            status=$NO_PROGRAM
-            ;;
+        ::) take_missing_port ;;
     esac
+}
+
+# Link gives no port where it can't use its words, and says why; or it didn't start.
+take_missing_port() {
+    if [ "$link_status" -eq 2 ]; then
+        status=$BAD_ACCOUNT
+    else
+        say "the helper $libexec/link did not start. Nothing was played"
+        status=$NO_PROGRAM
+    fi
 }
 
 # A play after its pause. A command that the server didn't carry out yet may be under way as long as that.

@@ -68,7 +68,7 @@ prints why. Status 4 says that the connection was lost: play again. The next pla
   mowerbean -v play             prints each command and its answer on standard error
   mowerbean play --trace FILE   keeps all that is said, without passwords and letters
 
-Ctrl-C lets the command under way end first, so that a letter isn't cut off behind its
+Ctrl-C lets the command under way end first, so that a letter isn't cut off after its
 last byte. A second one stops at once.
 TEXT
         list) cat <<'TEXT' ;;
@@ -164,7 +164,7 @@ explain() {
     elif [ "$1" -eq 4 ] && [ "$link_status" -eq 4 ]; then
         say "the account's server is wrong, or its certificate, as the line says. What was accepted is kept: look at tls=, starttls= or server="
     elif [ "$1" -eq 4 ] && [ -n "$asked" ]; then
-        say 'ended behind the command that was under way. What was accepted is kept: play again, and it goes on from there'
+        say 'ended after the command that was under way. What was accepted is kept: play again, and it goes on from there'
     else
         say "$(meaning "$1")"
     fi

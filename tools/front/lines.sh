@@ -69,6 +69,12 @@ slow_lines() {
         sleep 0.1
     done
     same 'a front that is killed as link starts holds up nothing' "$(at_work), $("$real" play)" '0, played 0 conflicts 0'
+    # The program ends before it connects.
+    cp "$MAIL_DIR/journal.0" "$work/kept"
+    printf 'X' | dd of="$MAIL_DIR/journal.0" bs=1 seek=3 conv=notrunc 2>/dev/null
+    said=$(timeout 50 "$real" play 2>/dev/null)
+    same 'link ends with a program that never connects' "$said, $?, $(at_work)" 'error journal header, 9, 0'
+    cp "$work/kept" "$MAIL_DIR/journal.0"
     play_letter stopped
     kill -HUP "$held"
     wait "$held"

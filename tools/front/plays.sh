@@ -50,6 +50,9 @@ $MAIL_DIR 127.0.0.1:4143 none none, "
     rm -f "$work/stub/times"
     ask play
     same "a link that doesn't start" "$status, $said, $(runs)" '70, , 0'
+    link_ends 2
+    ask play
+    same "  and one that can't use its words" "$status, $said, $notice, $(runs)" '78, , , 0'
     printf '#!/bin/sh\nexit 1\n' >"$work/fakes/python3"
     chmod +x "$work/fakes/python3"
     PATH=$work/fakes:$PATH ask play
@@ -105,8 +108,8 @@ signals() {
         hold play
         kill "-$signal" "$held"
         ended
-        same "a first $signal ends behind the command" "$status, $(tail -n 1 "$work/stub/linked"), $gone" '4, USR1, gone'
-        has '  and says so' "$(cat "$work/held")" 'ending behind the command under way; once more stops at once'
+        same "a first $signal ends after the command" "$status, $(tail -n 1 "$work/stub/linked"), $gone" '4, USR1, gone'
+        has '  and says so' "$(cat "$work/held")" 'ending after the command under way; once more stops at once'
         has '  and the next play waits' "$(cat "$MAIL_DIR/mowerbean.play")" lost
     done
     while read -r first second code; do
@@ -137,8 +140,29 @@ CASES
     kill -INT "$held" 2>/dev/null
     ended
     same 'two signals at one moment are one' "$status, $(tail -n 1 "$work/stub/linked")" '4, USR1'
+    signals_of_a_terminal
     take_link_away
     signals_without_link
+}
+
+# A terminal sends its interrupt to all that runs there, and shells differ in what they keep it from.
+signals_of_a_terminal() {
+    cp "$stub" "$work/kept"
+    for shell in dash 'bash --posix' 'busybox sh'; do
+        path=$(command -v "${shell%% *}") || continue
+        sed "1s|.*|#!$path${shell#"${shell%% *}"}|" "$work/kept" >"$stub"
+        folder "terminal-${shell%% *}"
+        put_link
+        rm -f "$work/stub/running"
+        : >"$work/stub/hold"
+        with_interrupts "$(command -v setsid)" "$stub" play >"$work/held" 2>&1 </dev/null &
+        held=$!
+        wait_for "$work/stub/running"
+        kill -INT "-$held"
+        ended
+        same "an interrupt of a terminal, with $shell" "$status, $(tail -n 1 "$work/stub/linked"), $gone" '4, USR1, gone'
+    done
+    cp "$work/kept" "$stub"
 }
 
 # As `hold`, over a link that doesn't end the session when it is asked to.
