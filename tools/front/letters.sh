@@ -1,4 +1,4 @@
-# What stands beside mowerbean: save-sent with its spool, the completion of words in bash, and an install under an odd prefix.
+# What stands beside mowerbean: save-sent with its spool, and the completion of words in bash.
 # shellcheck shell=sh disable=SC2034,SC2154  # it shares its names with try-front, which reads this file
 
 # Hands this text to save-sent, as it is installed, on these words.
