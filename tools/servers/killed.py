@@ -6,7 +6,7 @@ import re
 import shutil
 import subprocess
 import time
-from typing import Dict, List, Sequence, Tuple
+from typing import Dict, Iterator, List, Sequence, Tuple
 
 from .clients import Other, Program
 from .trial import PLAYED, SMALL, Trial
@@ -20,9 +20,13 @@ BEFALLS: Dict[str, Tuple[Tuple[int, ...], Tuple[str, ...]]] = {
 # The seconds after which no more system calls are tried, and how many plays of actions are tried at a time.
 BUDGET = 60
 AT_ONCE = 8
-# A program that runs under another one, which the environment names.
-UNDER = """#!/bin/sh
-exec ${TRY_UNDER-} %s "$@"
+# What stands in the place of the program, and of the helper for the line: each runs under what the environment names.
+PROGRAM_UNDER = """#!/bin/sh
+exec ${TRY_PROGRAM-} %s "$@"
+"""
+LINK_UNDER = """import os, sys
+words = [*os.environ.get("TRY_LINK", "").split(), sys.executable, "-Es", %r, *sys.argv[1:]]
+os.execvp(words[0], words)
 """
 Call = Tuple[str, int]
 
@@ -35,14 +39,15 @@ def can_trace() -> bool:
     return False
 
 
-def calls_of(trace: pathlib.Path) -> List[Call]:
-    """The system calls in a trace of the program, each with its place among those of its name, from the program's own first one on."""
+def calls_of(trace: pathlib.Path, first: str = "/dev/null") -> List[Call]:
+    """The system calls in a trace, each with its place among those of its name, from the one on in which this stands: a program begins
+    with /dev/null, before it does anything of its own."""
     found: List[Call] = []
     counts: Dict[str, int] = {}
     for line in trace.read_text(errors="replace").splitlines():
         if call := re.match(r"\d+ +([a-z0-9_]+)\(", line):
             counts[call[1]] = counts.get(call[1], 0) + 1
-            if found or "/dev/null" in line:
+            if found or first in line:
                 found.append((call[1], counts[call[1]]))
     return found
 
@@ -86,10 +91,10 @@ def fault_of_first(trial: Trial, inject: str, ends: Sequence[int], wanted: List[
 
 
 class Actions:
-    """Actions on mailboxes of their own, played by the front, under which the program is killed."""
+    """Actions on mailboxes of their own, played by the front, under which the program or the helper for the line is killed."""
 
     def __init__(self, trial: Trial, number: int) -> None:
-        self.trial, self.number = trial, number
+        self.trial = trial
         self.boxes = [f"K{number}", f"L{number}"]
         self.ident = f"<killed.{number}@x>"
         with Other(trial.port) as other:
@@ -101,15 +106,15 @@ class Actions:
         self.mine.say("flag", self.boxes[0], "d1", "+", r"\Flagged")
         self.mine.say("move", self.boxes[0], "d1", self.boxes[1])
 
-    def play_under(self, *words: str) -> None:
-        """A play in which the program runs under this."""
-        self.mine.environment["TRY_UNDER"] = " ".join(words)
+    def play_under(self, which: str, *words: str) -> None:
+        """A play in which the program or the helper runs under this."""
+        self.mine.environment[which] = " ".join(words)
         self.mine.say("play")
-        del self.mine.environment["TRY_UNDER"]
+        del self.mine.environment[which]
 
-    def fault(self, inject: str) -> str:
+    def fault(self, which: str, inject: str) -> str:
         """What is wrong with the actions, of which a play was killed so, and which are then played to the end, if anything."""
-        self.play_under("strace", "-f", "-o", "/dev/null", "-e", f"inject={inject}")
+        self.play_under(which, "strace", "-f", "-o", "/dev/null", "-e", f"inject={inject}")
         said, status = self.mine.say("play", "--retry", "3")
         with Other(self.trial.port) as other:
             there = [other.having(name, self.ident) for name in self.boxes]
@@ -122,34 +127,45 @@ class Actions:
 
 
 def put_under(trial: Trial) -> None:
-    """Lets the environment name what the front's program runs under."""
-    program = trial.front.path.parent.parent / "libexec/mowerbean/mowerbean"
-    real = program.with_name("program")
-    program.rename(real)
-    program.write_text(UNDER % real)
-    program.chmod(0o755)
+    """Lets the environment name what the front's program and its helper for the line run under."""
+    for name, text in (("mowerbean", PROGRAM_UNDER), ("link", LINK_UNDER)):
+        place = trial.front.path.parent.parent / "libexec/mowerbean" / name
+        real = place.with_name(f"{name}-itself")
+        place.rename(real)
+        place.write_text(text % str(real))
+        place.chmod(0o755)
 
 
 def played_actions(trial: Trial) -> None:
-    """Kills the program under a play of three actions at each of its system calls, and plays them to the end."""
+    """Kills the program, and the helper for the line, in a play of three actions at their system calls, and plays them to the end."""
     if not can_trace():
         return
     put_under(trial)
-    trace = trial.home / "trace"
-    Actions(trial, 0).play_under("strace", "-f", "-o", str(trace))
-    calls = calls_of(trace)
-    # From both ends, since the actions' own commands stand after the login.
-    order = [calls.pop(-1 if number % 3 else 0) for number in range(len(calls))]
+    numbers = itertools.count()
+    for which, title, first in (("TRY_PROGRAM", "the program", "/dev/null"), ("TRY_LINK", "the helper for the line", "listen(")):
+        trace = trial.home / which
+        Actions(trial, next(numbers)).play_under(which, "strace", "-f", "-o", str(trace))
+        killed_at(trial, which, title, calls_of(trace, first), numbers)
+
+
+def spread(calls: List[Call]) -> List[Call]:
+    """The same calls, so that each front of the list has some of all parts of a play."""
+    return [call for start in range(16) for call in calls[(start * 7) % 16 :: 16]]
+
+
+def killed_at(trial: Trial, which: str, title: str, calls: List[Call], numbers: Iterator[int]) -> None:
+    """Kills at these system calls, many at a time, as far as the time goes."""
     ends = time.monotonic() + BUDGET
+    order = spread(calls)
 
     def tried(number: int, call: Call) -> str:
         """What is wrong, if anything; where the time is up it isn't tried."""
         if time.monotonic() > ends:
             return "skipped"
-        return Actions(trial, number).fault(f"{call[0]}:signal=KILL:when={call[1]}")
+        return Actions(trial, number).fault(which, f"{call[0]}:signal=KILL:when={call[1]}")
 
     with concurrent.futures.ThreadPoolExecutor(AT_ONCE) as pool:
-        told = list(zip(order, pool.map(tried, itertools.count(1), order)))
+        told = list(zip(order, pool.map(tried, itertools.islice(numbers, len(order)), order)))
     done = [(call, fault) for call, fault in told if fault != "skipped"]
     for (name, place), fault in done:
         if fault:
@@ -157,4 +173,4 @@ def played_actions(trial: Trial) -> None:
     if len(done) < len(told):
         print(f"skipped: {len(told) - len(done)} system calls, as the time is up")
     faults = sum(bool(fault) for _, fault in done)
-    trial.same(f"a play of actions, killed at each of {len(done)} system calls", (faults, len(done) > 0), (0, True))
+    trial.same(f"a play of actions, {title} killed at each of {len(done)} system calls", (faults, len(done) > 0), (0, True))

@@ -42,9 +42,9 @@ class Cut:
         self.mine = Program(trial.front.path, trial.home / f"lost{number}", trial.port)
         self.mine.say("init", *self.boxes)
         self.mine.say("play")
-        text = f"Message-ID: {self.put}\n\n{'hello ' * 500}\n".encode()
-        for words in (("flag", self.boxes[0], self.stay, "+", r"\Flagged"), ("move", self.boxes[0], self.go, self.boxes[1]), ("append", self.boxes[0], "work")):
-            self.mine.say(*words, given=text)
+        self.mine.say("flag", self.boxes[0], self.stay, "+", r"\Flagged")
+        self.mine.say("move", self.boxes[0], self.go, self.boxes[1])
+        self.mine.say("append", self.boxes[0], "work", given=f"Message-ID: {self.put}\n\n{'hello ' * 500}\n".encode())
 
     def played(self, cut: Optional[cutting.Cut]) -> Outcome:
         """What became of them, once they were played to the end behind this cut, if there is one."""

@@ -172,7 +172,8 @@ class Trial:
         with Other(self.server.port, self.server.address) as other:
             other.create(self.box)
         direct = {**environment, "MAIL_SERVER": f"{self.server.address}:{self.server.port}", "MAIL_USER": kinds.USER}
-        for words, given in ((["init", self.box], b""), (["play"], b""), (["append", self.box], self.letter.text)):
+        # On a busy machine a server may not answer in time.
+        for words, given in ((["init", self.box], b""), (["play", "--retry", "3"], b""), (["append", self.box], self.letter.text)):
             ran = subprocess.run([str(self.settings.front.path), *words], env=direct, input=given, capture_output=True)
             if ran.returncode:
                 told = (ran.stdout + ran.stderr).decode(errors="replace").strip().splitlines()
@@ -219,10 +220,7 @@ class Trial:
 
     def dead(self, line: Line, words: List[str], environment: Environment) -> None:
         """A play whose line dies before the letter's last part."""
-        base = line.carried()
-        play = self.start(words, environment)
-        if not play.wait_for(self.before_last_part(line, base), 600):
-            raise RuntimeError("no last part was seen")
+        play = self.at_last_part(line, words, environment)
         if self.row.event in (STUCK, LONG_STUCK) and isinstance(line, lines.Relay):
             line.fall_alone()
         else:
@@ -236,6 +234,16 @@ class Trial:
             self.note("KILL")
             play.send(signal.SIGKILL)
         self.end(play)
+
+    def at_last_part(self, line: Line, words: List[str], environment: Environment) -> plays.Play:
+        """A play whose last part is about to go out. On a busy machine one may end before."""
+        for _ in range(3):
+            base = line.carried()
+            play = self.start(words, environment)
+            if play.wait_for(self.before_last_part(line, base), 600):
+                return play
+            self.end(play)
+        raise RuntimeError("no last part was seen")
 
     def rise_later(self, line: Line) -> None:
         """Lets the line come back."""

@@ -91,7 +91,7 @@ def by_turns(line: str, way: str, event: str) -> str:
 def open_rows() -> Iterator[Row]:
     """What no client can close: what the network itself keeps for longer than the second look waits on a line that lives."""
     for kind, way in itertools.product(("Dovecot", "Cyrus"), ("plain", "tunnel")):
-        for catenate, event in ((True, STUCK), (False, STUCK), (False, LONG_STUCK)):
+        for catenate, event in itertools.product((True, False), (STUCK, LONG_STUCK)):
             yield Row(kind, catenate, "relay", way, 20_000, 40_000, event)
         yield Row(kind, True, "relay", way, 1_000, 100_000, KILL)
         yield Row(kind, False, "relay", way, 1_000, 300_000, KILL)
