@@ -61,14 +61,14 @@ mowerbean play [--retry N] [--trace FILE]
 Connects, plays the waiting actions back in their order, fetches what is new of each
 mailbox, and prints `played N conflicts C`. Status 1 says that C isn't 0: report --long
 prints why. Status 4 says that the connection was lost: play again. The next play waits
-2 seconds (pause=) first, since a server may still carry out a command of the lost one.
+2 seconds (pause=) first: a server may still carry out a command of the lost connection.
 
   mowerbean play
   mowerbean play --retry 5      plays again up to 5 times, while the status is 4
   mowerbean -v play             prints each command and its answer on standard error
-  mowerbean play --trace FILE   keeps all that is said, without passwords and letters
+  mowerbean play --trace FILE   logs what is said, without passwords and messages
 
-Ctrl-C lets the command under way end first, so that a letter isn't cut off after its
+Ctrl-C lets the command under way end first, so that a message isn't cut off after its
 last byte. A second one stops at once.
 TEXT
         list) cat <<'TEXT' ;;
