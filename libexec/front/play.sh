@@ -41,7 +41,7 @@ late_seconds() {
 left_to_wait() {
     left=0 how='' ended='' more=''
     late_seconds
-    whole=$((pause + late))
+    whole=$(((pause > gap ? pause : gap) + late))
     if [ ! -e "$mark" ] || [ "$whole" -eq 0 ]; then
         left=$late
         return
@@ -278,10 +278,15 @@ take_play_options() {
     while [ $# -gt 0 ]; do
         case $1:$# in
             -v:*) verbose=yes ;;
-            --retry:1 | --trace:1) break ;;
+            --retry:1 | --retry-for:1 | --trace:1) break ;;
             --retry:*)
                 as_number "$2" 999 || stop 2 '--retry takes a number up to 999: see mowerbean help play'
                 retries=$as_number
+                shift
+                ;;
+            --retry-for:*)
+                as_seconds "$2" || stop 2 '--retry-for takes a time such as 90s, 20m or 2h, up to 168h: see mowerbean help play'
+                retry_for=$as_seconds
                 shift
                 ;;
             --trace:*)
@@ -296,7 +301,8 @@ take_play_options() {
     options=$((options - $#))
 }
 
-# Whether another play is to follow: at once after a second look of link, and as --retry has it where trying again may help.
+# Whether another play is to follow: at once after a second look of link, and as --retry and --retry-for have it where trying again
+# may help.
 plays_again() {
     at_once=''
     if [ "$status" -ne 4 ] || [ -n "$asked" ]; then
@@ -307,17 +313,15 @@ plays_again() {
         return 0
     fi
     looks=0
-    if [ "$retries" -eq 0 ] || [ "$link_status" -eq 4 ]; then
-        return 1
-    fi
+    may_retry || return 1
     explain "$status"
-    retries=$((retries - 1))
 }
 
 play() {
-    retries=0 trace='' looks=0 at_once=''
+    retries='' retry_for='' trace='' looks=0 at_once=''
     take_play_options "$@"
     shift "$options"
+    [ -n "$retries$retry_for" ] || retries=0
     if [ $# -gt 0 ] || ! has_journal; then
         # The program says what is wrong. It is given no server and no password.
         env MAIL_SERVER= "$program" play "$@"
@@ -330,6 +334,7 @@ play() {
     trap 'signalled INT' INT
     trap 'signalled TERM' TERM
     trap 'signalled HUP' HUP
+    begin_retries
     play_once
     while plays_again; do
         play_once

@@ -10,7 +10,7 @@ a network.
 
   init BOX ..             sets up a journal for 1 to 32 mailboxes
                             mowerbean init INBOX Archive
-  play [--retry N]        plays what waits on the server, and fetches what is new
+  play [--retry-for TIME] plays what waits on the server, and fetches what is new
                             mowerbean play
   list BOX                shows a mailbox: ID, mod-sequence and flags of each message
                             mowerbean list INBOX
@@ -56,7 +56,7 @@ A journal.0 or journal.1 that init didn't make is refused, and stays as it is.
   mowerbean -a work init INBOX Archive 'Sent Items'
 TEXT
         play) cat <<'TEXT' ;;
-mowerbean play [--retry N] [--trace FILE]
+mowerbean play [--retry-for TIME] [--retry N] [--trace FILE]
 
 Connects, plays the waiting actions back in their order, fetches what is new of each
 mailbox, and prints `played N conflicts C`. Status 1 says that C isn't 0: report --long
@@ -64,9 +64,14 @@ prints why. Status 4 says that the connection was lost: play again. The next pla
 2 seconds (pause=) first: a server may still carry out a command of the lost connection.
 
   mowerbean play
-  mowerbean play --retry 5      plays again up to 5 times, while the status is 4
+  mowerbean play --retry-for 20m
+                                plays again for 20 minutes, while the status is 4
+  mowerbean play --retry 5      plays again up to 5 times
   mowerbean -v play             prints each command and its answer on standard error
   mowerbean play --trace FILE   logs what is said, without passwords and messages
+
+A TIME is a number with s, m or h. The pauses of --retry-for are 2, 4, 8 up to 60 seconds,
+and 2 again after a play that got further. A wrong address or certificate ends both.
 
 Ctrl-C lets the command under way end first, so that a message isn't cut off after its
 last byte. A second one stops at once.
