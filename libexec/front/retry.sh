@@ -21,8 +21,9 @@ as_seconds() {
 
 # Begins to count: $until is when the last play may begin, and $gap the seconds before the next one.
 begin_retries() {
-    gap=0 until='' sizes=$(journal_sizes)
+    gap=0 until=''
     if [ -n "$retry_for" ]; then
+        sizes=$(journal_sizes)
         take_moment
         until=$((moment + retry_for * 100))
     fi
@@ -30,9 +31,7 @@ begin_retries() {
 
 # The sizes of the journal's files. A play that gained something has recorded it there.
 journal_sizes() {
-    for file in "$folder/journal.0" "$folder/journal.1"; do
-        wc -c <"$file" 2>/dev/null
-    done
+    wc -c "$folder/journal.0" "$folder/journal.1" 2>/dev/null
 }
 
 # Puts the pause before the next play into $gap: the first one again, where the last play gained something.
