@@ -69,7 +69,7 @@ _mowerbean() {
         place=$((COMP_CWORD - at))
         case $place:${COMP_WORDS[at]} in
             0:*) words=(init play list flag move append queue report help --help --version -a -q -v -w) ;;
-            *:play) words=(--retry --retry-for --trace) ;;
+            *:play) words=(--retry --retry-for --then --trace) ;;
             1:report) words=(--long) ;;
             1:help) words=(init play list flag move append queue report) ;;
             1:list | 1:flag | 1:move | 1:append | 3:move) mapfile -t words < <(_mowerbean_boxes) ;;

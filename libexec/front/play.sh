@@ -257,6 +257,7 @@ play_once() {
         exec 8<"$folder"
         flock -w 5 8 2>/dev/null
     fi
+    look_before
     write_mark begun || no_mark
     play_to_the_end
     take_status
@@ -264,6 +265,7 @@ play_once() {
         0 | 1 | 2 | 9 | "$NO_PROGRAM" | "$BAD_ACCOUNT") write_mark ended ;;
         *) write_mark "lost $(date +%s)" ;;
     esac
+    look_after
     if [ -n "$can_lock" ]; then
         exec 8>&-
     fi
@@ -278,7 +280,7 @@ take_play_options() {
     while [ $# -gt 0 ]; do
         case $1:$# in
             -v:*) verbose=yes ;;
-            --retry:1 | --retry-for:1 | --trace:1) break ;;
+            --retry:1 | --retry-for:1 | --trace:1 | --then:1) break ;;
             --retry:*)
                 as_number "$2" 999 || stop 2 '--retry takes a number up to 999: see mowerbean help play'
                 retries=$as_number
@@ -292,6 +294,11 @@ take_play_options() {
             --trace:*)
                 trace=$2
                 [ -n "$trace" ] || stop 2 '--trace takes the name of a file: see mowerbean help play'
+                shift
+                ;;
+            --then:*)
+                then_command=$2
+                [ -n "$then_command" ] || stop 2 '--then takes a command: see mowerbean help play'
                 shift
                 ;;
             *) break ;;
@@ -318,7 +325,7 @@ plays_again() {
 }
 
 play() {
-    retries='' retry_for='' trace='' looks=0 at_once=''
+    retries='' retry_for='' trace='' then_command='' looks=0 at_once=''
     take_play_options "$@"
     shift "$options"
     [ -n "$retries$retry_for" ] || retries=0
@@ -335,9 +342,11 @@ play() {
     trap 'signalled TERM' TERM
     trap 'signalled HUP' HUP
     begin_retries
+    begin_news
     play_once
     while plays_again; do
         play_once
     done
     trap - INT TERM HUP
+    end_news
 }

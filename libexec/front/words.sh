@@ -56,7 +56,7 @@ A journal.0 or journal.1 that init didn't make is refused, and stays as it is.
   mowerbean -a work init INBOX Archive 'Sent Items'
 TEXT
         play) cat <<'TEXT' ;;
-mowerbean play [--retry-for TIME] [--retry N] [--trace FILE]
+mowerbean play [--retry-for TIME] [--retry N] [--then COMMAND] [--trace FILE]
 
 Connects, plays the waiting actions back in their order, fetches what is new of each
 mailbox, and prints `played N conflicts C`. Status 1 says that C isn't 0: report --long
@@ -67,6 +67,8 @@ prints why. Status 4 says that the connection was lost: play again. The next pla
   mowerbean play --retry-for 20m
                                 plays again for 20 minutes, while the status is 4
   mowerbean play --retry 5      plays again up to 5 times
+  mowerbean play --then 'notmuch new'
+                                runs this where something came, or a conflict did
   mowerbean -v play             prints each command and its answer on standard error
   mowerbean play --trace FILE   logs what is said, without passwords and messages
 
