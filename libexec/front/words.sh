@@ -35,7 +35,7 @@ list shows it.
                where it is there): lines tls=HOST:PORT, user=, password_command= and more
   -q           leaves out the line that explains a status on a terminal
   -w SECONDS   flag, move and append wait as long for a play under way (else 60)
-  -v           play prints each command and its answer on standard error
+  -v           play prints each command, its answer and how far it is on standard error
 
 MAIL_DIR, MAIL_SERVER, MAIL_USER, MAIL_PASSWORD, MAIL_PAUSE and MAIL_TIME decide over
 that file. Status: 0 done, 1 done with conflicts, 4 no connection, 10 refused; man
@@ -69,7 +69,7 @@ prints why. Status 4 says that the connection was lost: play again. The next pla
   mowerbean play --retry 5      plays again up to 5 times
   mowerbean play --then 'notmuch new'
                                 runs this where something came, or a conflict did
-  mowerbean -v play             prints each command and its answer on standard error
+  mowerbean -v play             prints each command, its answer and how far it is
   mowerbean play --trace FILE   logs what is said, without passwords and messages
 
 A TIME is a number with s, m or h. The pauses of --retry-for are 2, 4, 8 up to 60 seconds,
