@@ -6,7 +6,7 @@ function __mowerbean_words
     set -l words (commandline -opc)[2..]
     while set -q words[1]
         switch $words[1]
-            case -q -v
+            case -q -v -A
                 set -e words[1]
             case -a -w
                 set -e words[1]
@@ -66,6 +66,7 @@ function __mowerbean_ids
 end
 
 complete -c mowerbean -f
+complete -c mowerbean -s A -d 'take all accounts'
 complete -c mowerbean -s q -d 'explain no status'
 complete -c mowerbean -s v -d 'print what is said, for play'
 complete -c mowerbean -s w -x -d 'wait for a play, for flag, move and append'

@@ -33,6 +33,7 @@ list shows it.
 
   -a ACCOUNT   takes the account of ~/.config/mowerbean/ACCOUNT.conf (else default.conf,
                where it is there): lines tls=HOST:PORT, user=, password_command= and more
+  -A           play, list, queue and report for all accounts, one after another
   -q           leaves out the line that explains a status on a terminal
   -w SECONDS   flag, move and append wait as long for a play under way (else 60)
   -v           play prints each command, its answer and how far it is on standard error
