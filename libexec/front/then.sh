@@ -6,7 +6,7 @@
 
 # Makes room for what is printed before and after a play.
 begin_news() {
-    new=0 changed=0 gone=0 conflicts=0 has_news='' lists=''
+    new=0 changed=0 gone=0 conflicts=0 has_news='' is_marked='' lists=''
     if [ -n "$then_command$verbose" ]; then
         lists=$(mktemp -d) || stop "$NO_PROGRAM" 'no folder for temporary files can be made. Nothing was played'
         trap 'rm -rf "$lists"' EXIT
@@ -26,13 +26,29 @@ keep_lists() {
     run report >"$lists/$1/report" 2>/dev/null
 }
 
-# Before a play. A command that an earlier play left to be run is run after this one.
+# Before a play.
 look_before() {
-    if [ -n "$then_command" ]; then
-        [ ! -e "$folder/mowerbean.then" ] || has_news=yes
-        put_line "$folder/mowerbean.then" owed
+    if [ -n "$lists" ] && keep_lists before && [ -n "$then_command" ] && [ -z "$is_marked" ]; then
+        mark_command
+        is_marked=yes
     fi
-    [ -z "$lists" ] || keep_lists before
+}
+
+# Marks that the command may have to be run, by how many lines the report has that it was told of. A mark that is there is of a play
+# that was cut off, or of a command that failed: it is run after this play.
+mark_command() {
+    known='' lines=$(report_lines before)
+    if [ -e "$folder/mowerbean.then" ]; then
+        has_news=yes
+        read -r known <"$folder/mowerbean.then"
+        as_number "$known" "$lines" && conflicts=$((lines - as_number))
+    else
+        put_line "$folder/mowerbean.then" "$lines"
+    fi
+}
+
+report_lines() {
+    wc -l <"$lists/$1/report" | tr -d ' '
 }
 
 # After a play. One that was stopped at once leaves its news to the next one.
@@ -88,7 +104,7 @@ take_news() {
 }
 
 take_conflicts() {
-    more=$(($(wc -l <"$lists/after/report") - $(wc -l <"$lists/before/report")))
+    more=$(($(report_lines after) - $(report_lines before)))
     if [ "$more" -gt 0 ]; then
         conflicts=$((conflicts + more)) has_news=yes
     fi

@@ -74,15 +74,21 @@ news_of_lost_plays() {
     ends 4 0
     MAIL_PAUSE=0 ask play --retry 1 --then "$told"
     same '  and one that is tried again: once' "$status, $(echo "$notice" | grep -c ' 1 0 0 0$')" '0, 1'
-    # A play that is cut off before it could look.
+    put_lists next '1' '' ''
     put_lists now 1 '' ''
+    ends 4 0
+    MAIL_PAUSE=0 ask play --retry 1 --then "$told"
+    same '  and one that is tried again, where nothing came' "$status, $(echo "$notice" | grep -c ' 0 0 0 0$')" '0, 0'
+    # A play that is cut off before it could look.
+    put_lists now 1 '' '1 nothing already-so'
+    put_lists next '1;2' '' '1 nothing already-so;2 nothing refused-no'
     : >"$work/stub/dies"
     "$stub" play --then "$told" >"$work/notice" 2>&1 </dev/null
     rm "$work/stub/dies"
     MAIL_PAUSE=0 ask play
     same '  and one that is cut off leaves it' "$status, $notice" "0, $(without_link)"
     ask play --then "$told"
-    same '    to the next one with --then' "$status, $(echo "$notice" | tail -n 1)" '0,  0 0 0 0'
+    same '    to the next one with --then' "$status, $(echo "$notice" | tail -n 1)" '0,  0 0 0 1'
     ask play --then "$told"
     same '    once' "$status, $notice" "0, $(without_link)"
 }
