@@ -37,7 +37,7 @@ _mowerbean() {
     # The options in front of the command.
     while ((at < COMP_CWORD)); do
         case ${COMP_WORDS[at]} in
-            -q | -v) ((at += 1)) ;;
+            -q | -v | -A) ((at += 1)) ;;
             -w) ((at += 2)) ;;
             -a)
                 if ((at + 1 >= COMP_CWORD)); then
@@ -68,8 +68,8 @@ _mowerbean() {
     else
         place=$((COMP_CWORD - at))
         case $place:${COMP_WORDS[at]} in
-            0:*) words=(init play list flag move append queue report help --help --version -a -q -v -w) ;;
-            *:play) words=(--retry --trace) ;;
+            0:*) words=(init play list flag move append queue report help --help --version -a -A -q -v -w) ;;
+            *:play) words=(--retry --retry-for --then --trace) ;;
             1:report) words=(--long) ;;
             1:help) words=(init play list flag move append queue report) ;;
             1:list | 1:flag | 1:move | 1:append | 3:move) mapfile -t words < <(_mowerbean_boxes) ;;

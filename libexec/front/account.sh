@@ -168,12 +168,17 @@ read_account() {
     done <"$file"
 }
 
+# The folder of the accounts' files; none where no home is known.
+find_configs() {
+    configs=${XDG_CONFIG_HOME:-${HOME:+$HOME/.config}}
+    configs=${configs:+$configs/mowerbean}
+}
+
 # Reads the account's file, where there is one, and fills what the environment leaves open.
 take_account() {
     account_dir='' account_way='' account_server='' account_cafile='' account_user='' account_command='' account_link=''
     file='' is_open='' pause=2 session_time=''
-    configs=${XDG_CONFIG_HOME:-${HOME:+$HOME/.config}}
-    configs=${configs:+$configs/mowerbean}
+    find_configs
     case $account in
         '') ;;
         .* | -* | *[!A-Za-z0-9._@+-]*) stop "$BAD_ACCOUNT" "an account's name has letters, digits and ._@+- alone: $account" ;;

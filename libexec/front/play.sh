@@ -41,7 +41,7 @@ late_seconds() {
 left_to_wait() {
     left=0 how='' ended='' more=''
     late_seconds
-    whole=$((pause + late))
+    whole=$(((pause > gap ? pause : gap) + late))
     if [ ! -e "$mark" ] || [ "$whole" -eq 0 ]; then
         left=$late
         return
@@ -257,6 +257,7 @@ play_once() {
         exec 8<"$folder"
         flock -w 5 8 2>/dev/null
     fi
+    look_before
     write_mark begun || no_mark
     play_to_the_end
     take_status
@@ -264,6 +265,7 @@ play_once() {
         0 | 1 | 2 | 9 | "$NO_PROGRAM" | "$BAD_ACCOUNT") write_mark ended ;;
         *) write_mark "lost $(date +%s)" ;;
     esac
+    look_after
     if [ -n "$can_lock" ]; then
         exec 8>&-
     fi
@@ -278,15 +280,25 @@ take_play_options() {
     while [ $# -gt 0 ]; do
         case $1:$# in
             -v:*) verbose=yes ;;
-            --retry:1 | --trace:1) break ;;
+            --retry:1 | --retry-for:1 | --trace:1 | --then:1) break ;;
             --retry:*)
                 as_number "$2" 999 || stop 2 '--retry takes a number up to 999: see mowerbean help play'
                 retries=$as_number
                 shift
                 ;;
+            --retry-for:*)
+                as_seconds "$2" || stop 2 '--retry-for takes a time such as 90s, 20m or 2h, up to 168h: see mowerbean help play'
+                retry_for=$as_seconds
+                shift
+                ;;
             --trace:*)
                 trace=$2
                 [ -n "$trace" ] || stop 2 '--trace takes the name of a file: see mowerbean help play'
+                shift
+                ;;
+            --then:*)
+                then_command=$2
+                [ -n "$then_command" ] || stop 2 '--then takes a command: see mowerbean help play'
                 shift
                 ;;
             *) break ;;
@@ -296,7 +308,8 @@ take_play_options() {
     options=$((options - $#))
 }
 
-# Whether another play is to follow: at once after a second look of link, and as --retry has it where trying again may help.
+# Whether another play is to follow: at once after a second look of link, and as --retry and --retry-for have it where trying again
+# may help.
 plays_again() {
     at_once=''
     if [ "$status" -ne 4 ] || [ -n "$asked" ]; then
@@ -307,17 +320,15 @@ plays_again() {
         return 0
     fi
     looks=0
-    if [ "$retries" -eq 0 ] || [ "$link_status" -eq 4 ]; then
-        return 1
-    fi
+    may_retry || return 1
     explain "$status"
-    retries=$((retries - 1))
 }
 
 play() {
-    retries=0 trace='' looks=0 at_once=''
+    retries='' retry_for='' trace='' then_command='' looks=0 at_once=''
     take_play_options "$@"
     shift "$options"
+    [ -n "$retries$retry_for" ] || retries=0
     if [ $# -gt 0 ] || ! has_journal; then
         # The program says what is wrong. It is given no server and no password.
         env MAIL_SERVER= "$program" play "$@"
@@ -330,9 +341,12 @@ play() {
     trap 'signalled INT' INT
     trap 'signalled TERM' TERM
     trap 'signalled HUP' HUP
+    begin_retries
+    begin_news
     play_once
     while plays_again; do
         play_once
     done
     trap - INT TERM HUP
+    end_news
 }

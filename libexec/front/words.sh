@@ -10,7 +10,7 @@ a network.
 
   init BOX ..             sets up a journal for 1 to 32 mailboxes
                             mowerbean init INBOX Archive
-  play [--retry N]        plays what waits on the server, and fetches what is new
+  play [--retry-for TIME] plays what waits on the server, and fetches what is new
                             mowerbean play
   list BOX                shows a mailbox: ID, mod-sequence and flags of each message
                             mowerbean list INBOX
@@ -33,9 +33,10 @@ list shows it.
 
   -a ACCOUNT   takes the account of ~/.config/mowerbean/ACCOUNT.conf (else default.conf,
                where it is there): lines tls=HOST:PORT, user=, password_command= and more
+  -A           play, list, queue and report for all accounts, one after another
   -q           leaves out the line that explains a status on a terminal
   -w SECONDS   flag, move and append wait as long for a play under way (else 60)
-  -v           play prints each command and its answer on standard error
+  -v           play prints each command, its answer and how far it is on standard error
 
 MAIL_DIR, MAIL_SERVER, MAIL_USER, MAIL_PASSWORD, MAIL_PAUSE and MAIL_TIME decide over
 that file. Status: 0 done, 1 done with conflicts, 4 no connection, 10 refused; man
@@ -56,7 +57,7 @@ A journal.0 or journal.1 that init didn't make is refused, and stays as it is.
   mowerbean -a work init INBOX Archive 'Sent Items'
 TEXT
         play) cat <<'TEXT' ;;
-mowerbean play [--retry N] [--trace FILE]
+mowerbean play [--retry-for TIME] [--retry N] [--then COMMAND] [--trace FILE]
 
 Connects, plays the waiting actions back in their order, fetches what is new of each
 mailbox, and prints `played N conflicts C`. Status 1 says that C isn't 0: report --long
@@ -64,9 +65,16 @@ prints why. Status 4 says that the connection was lost: play again. The next pla
 2 seconds (pause=) first: a server may still carry out a command of the lost connection.
 
   mowerbean play
-  mowerbean play --retry 5      plays again up to 5 times, while the status is 4
-  mowerbean -v play             prints each command and its answer on standard error
+  mowerbean play --retry-for 20m
+                                plays again for 20 minutes, while the status is 4
+  mowerbean play --retry 5      plays again up to 5 times
+  mowerbean play --then 'notmuch new'
+                                runs this where something came, or a conflict did
+  mowerbean -v play             prints each command, its answer and how far it is
   mowerbean play --trace FILE   logs what is said, without passwords and messages
+
+A TIME is a number with s, m or h. The pauses of --retry-for are 2, 4, 8 up to 60 seconds,
+and 2 again after a play that got further. A wrong address or certificate ends both.
 
 Ctrl-C lets the command under way end first, so that a message isn't cut off after its
 last byte. A second one stops at once.
