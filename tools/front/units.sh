@@ -7,7 +7,7 @@ put_units() {
     for unit in "$top"/contrib/systemd/*; do
         sed "s|@PREFIX@|$work/stub|g" "$unit" >"$work/units/${unit##*/}"
     done
-    cp "$top/contrib/notify" "$top/contrib/save-sent" "$work/stub/share/mowerbean"
+    cp "$top/contrib/notify" "$top/contrib/save-sent" "$top/contrib/spool.sh" "$work/stub/share/mowerbean"
 }
 
 units() {
