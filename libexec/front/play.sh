@@ -16,8 +16,12 @@ write_mark() {
 }
 
 no_mark() {
+    no_file "$mark" 'the pause after a lost connection'
+}
+
+no_file() {
     echo 'error disk'
-    say "$mark can't be written, so the pause after a lost connection could be forgotten. Nothing was played: is the disk full?"
+    say "$1 can't be written, so $2 could be forgotten. Nothing was played: is the disk full?"
     explain 3
     exit 3
 }
@@ -257,9 +261,14 @@ play_once() {
         exec 8<"$folder"
         flock -w 5 8 2>/dev/null
     fi
-    write_mark begun || no_mark
+    keep_server || no_file "$folder/mowerbean.server" 'whose the journal is'
+    write_mark begun || {
+        forget_server
+        no_mark
+    }
     play_to_the_end
     take_status
+    forget_server
     case $status in
         0 | 1 | 2 | 9 | "$NO_PROGRAM" | "$BAD_ACCOUNT") write_mark ended ;;
         *) write_mark "lost $(date +%s)" ;;
@@ -278,15 +287,16 @@ take_play_options() {
     while [ $# -gt 0 ]; do
         case $1:$# in
             -v:*) verbose=yes ;;
+            --moved:*) moved=yes ;;
             --retry:1 | --trace:1) break ;;
             --retry:*)
-                as_number "$2" 999 || stop 2 '--retry takes a number up to 999: see mowerbean help play'
+                as_number "$2" 999 || stop_words '--retry takes a number up to 999: see mowerbean help play'
                 retries=$as_number
                 shift
                 ;;
             --trace:*)
                 trace=$2
-                [ -n "$trace" ] || stop 2 '--trace takes the name of a file: see mowerbean help play'
+                [ -n "$trace" ] || stop_words '--trace takes the name of a file: see mowerbean help play'
                 shift
                 ;;
             *) break ;;
@@ -315,16 +325,22 @@ plays_again() {
 }
 
 play() {
-    retries=0 trace='' looks=0 at_once=''
+    retries=0 trace='' looks=0 at_once='' moved=''
     take_play_options "$@"
     shift "$options"
-    if [ $# -gt 0 ] || ! has_journal; then
+    if [ $# -gt 0 ]; then
+        wrong="$(printable "$1") is no word of play, or lacks its value"
+        judge play "$@"
+        return
+    fi
+    if ! has_journal; then
         # The program says what is wrong. It is given no server and no password.
-        env MAIL_SERVER= "$program" play "$@"
+        MAIL_SERVER='' "$program" play
         status=$?
         return
     fi
     take_play_settings
+    look_at_server
     choose_link
     ask_password
     trap 'signalled INT' INT
@@ -335,4 +351,5 @@ play() {
         play_once
     done
     trap - INT TERM HUP
+    name_unseen
 }
