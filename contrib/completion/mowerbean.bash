@@ -34,10 +34,10 @@ _mowerbean_accounts() {
 # The words that may stand after these ones of the line, options left out.
 _mowerbean_next() {
     case $#:${1-} in
-        0:*) words=(init play list flag move append queue report help --help --version -a -q -v -w -h -V) ;;
+        0:*) words=(account init play list flag move append queue report help --help --version -a -q -v -w -h -V) ;;
         *:play) words=(--retry --trace --moved) ;;
         *:report) words=(--new --long) ;;
-        1:help) words=(init play list flag move append queue report) ;;
+        1:help) words=(account init play list flag move append queue report) ;;
         1:list | 1:flag | 1:move | 1:append | 3:move) mapfile -t words < <(_mowerbean_boxes) ;;
         2:flag | 2:move) mapfile -t words < <(_mowerbean_ids "$2") ;;
         3:flag) words=(+ -) ;;

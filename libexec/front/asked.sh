@@ -26,6 +26,7 @@ find_wrong() {
         append) wrong_count 1 $((MOST_WORDS + 1)) BOX "$@" || wrong_box "$2" ;;
         letter) wrong_count 1 1 N "$@" || wrong_number "$2" ;;
         queue | history) wrong_count 0 0 '' "$@" ;;
+        account) wrong_count 0 1 NAME "$@" ;;
         play | report | --help | --version) ;;
         *) wrong="no such command: $(printable "${1-}")" ;;
     esac

@@ -5,9 +5,11 @@ help_all() {
     cat <<'TEXT'
 usage: mowerbean [-a ACCOUNT] [-q] COMMAND ..
 
-A mail client for people behind a poor link. All commands but play work without
-a network.
+A mail client for people behind a poor link. All commands but account and play work
+without a network.
 
+  account [NAME]          asks for an account, tries its server, and writes its file
+                            mowerbean account
   init BOX ..             sets up a journal for 1 to 32 mailboxes
                             mowerbean init INBOX Archive
   play [--retry N]        plays what waits on the server, and fetches what is new
@@ -46,6 +48,17 @@ TEXT
 
 help_of() {
     case $1 in
+        account) cat <<'TEXT' ;;
+mowerbean account [NAME]
+
+Asks for the server, the user, a command that prints the password, and the mailboxes. It
+tries them on the server, where it changes nothing: log-in, what the server offers, and
+whether each mailbox is there. Then it writes ~/.config/mowerbean/NAME.conf (without NAME
+default.conf), for you alone. A file that is there stays as it is.
+
+  mowerbean account             then: mowerbean init INBOX Archive
+  mowerbean account work        then: mowerbean -a work init INBOX Archive
+TEXT
         init) cat <<'TEXT' ;;
 mowerbean init BOX ..
 
