@@ -109,11 +109,13 @@ class Log:
     """What a person sees: reasons, the lines of --verbose, the line of progress, and the trace."""
 
     STEP = 0.2
+    LOG_STEP = 10.0  # Between two lines of a log in which no action was done.
 
     def __init__(self, trace: Optional[int], is_verbose: bool, is_progress: bool, actions: Optional[int]) -> None:
         self.trace, self.is_verbose, self.is_progress, self.actions = trace, is_verbose, is_progress, actions
         self.began = time.monotonic()
         self.shown, self.shown_at = "", 0.0
+        self.logged, self.logged_at, self.logged_done = "", self.began, 0
 
     def say(self, text: str) -> None:
         """Prints a line for people."""
@@ -148,9 +150,16 @@ class Log:
             self.say(f"the trace ends, as it can't be written: {error.strerror}")
 
     def progress(self, done: int, moved: int, now: float) -> None:
-        """Shows how far the session is."""
+        """Shows how far the session is: on a terminal in one line, in a log in a line after each action, and where one takes long."""
         of = "" if self.actions is None else f" of {self.actions}"
-        self.show(f"{done}{of} actions, {moved // 1000} KB", now)
+        text = f"{done}{of} actions, {moved // 1000} KB"
+        self.show(text, now)
+        if not self.is_verbose or self.is_progress:
+            return
+        if done != self.logged_done or (text != self.logged and now - self.logged_at >= self.LOG_STEP):
+            self.logged, self.logged_at, self.logged_done = text, now, done
+            with contextlib.suppress(OSError):
+                print(f"-- {text}, {now - self.began:.0f} s", file=sys.stderr, flush=True)
 
     def show(self, text: str, now: float) -> None:
         """Rewrites the line of progress, where there is one and the last one has stood long enough to be read."""

@@ -32,12 +32,13 @@ RESET = struct.pack("ii", 1, 0)
 
 # Runs link with other values of its constants: `MODULE.NAME=VALUE` each, up to `--`.
 RUN = """
-import importlib, runpy, sys
+import functools, importlib, runpy, sys
 sys.path.insert(0, sys.argv.pop(1))
 while (word := sys.argv.pop(1)) != "--":
     name, value = word.split("=")
-    module, name = name.split(".")
-    setattr(importlib.import_module(module), name, float(value))
+    module, *names, name = name.split(".")
+    where = functools.reduce(getattr, names, importlib.import_module(module))
+    setattr(where, name, float(value))
 runpy.run_path(sys.path[0] + "/link", run_name="__main__")
 """
 QUICK_LOOK: Lowered = {"LOOK_CATENATE": 1.0, "LOOK_CRLF": 1.5, "LOOK_STEP": 0.2, "LOOK_ANSWER": 2.0, "LOOK_SILENCE": 3.0}
@@ -138,7 +139,7 @@ class Tried:
 
 def module_of(name: str) -> str:
     """The module that has a constant."""
-    return "link_words" if hasattr(link_words, name) else "link_ends"
+    return "link_words" if hasattr(link_words, name.split(".")[0]) else "link_ends"
 
 
 class Case(unittest.TestCase):
@@ -747,6 +748,21 @@ class Sessions(Case):
         self.assertTrue(said.endswith(" \r"), f"the line of progress still stands when the program may print: {said!r}")
         program.link.close()
         self.assertEqual(tried.ended(), (0, ""))
+
+
+    def test_progress_in_a_log(self) -> None:
+        tried, program, server = self.join("--verbose", "--actions", "2", lowered={"Log.LOG_STEP": 0.5})
+        self.ask(program, server, b"P1 UID MOVE 1 a\r\n", b"P1 OK done\r\n")
+        self.begin(program, server, b"x" * 100_000, b"P2")
+        time.sleep(1.5)
+        server.say(b"+ OK\r\n")
+        server.hear(5)
+        self.ask(program, server, b"", b"P2 OK done\r\n")
+        self.ask(program, server, b"C9 LOGOUT\r\n", b"* BYE bye\r\n")
+        program.link.close()
+        status, said = tried.ended()
+        lines = [re.sub(r"[0-9]+ s$", "so many s", line) for line in said.splitlines() if line.startswith("--")]
+        self.assertEqual(lines, [f"-- {done} of 2 actions, {kept} KB, so many s" for done, kept in ((1, 0), (1, 100), (2, 100))], said)
 
 
 if __name__ == "__main__":

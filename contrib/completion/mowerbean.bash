@@ -34,8 +34,8 @@ _mowerbean_accounts() {
 # The words that may stand after these ones of the line, options left out.
 _mowerbean_next() {
     case $#:${1-} in
-        0:*) words=(account init play list flag move append queue report help --help --version -a -q -v -w -h -V) ;;
-        *:play) words=(--retry --trace --moved) ;;
+        0:*) words=(account init play list flag move append queue report help --help --version -a -A -q -v -w -h -V) ;;
+        *:play) words=(--retry --retry-for --then --trace --moved) ;;
         *:report) words=(--new --long) ;;
         1:help) words=(account init play list flag move append queue report) ;;
         1:list | 1:flag | 1:move | 1:append | 3:move) mapfile -t words < <(_mowerbean_boxes) ;;
@@ -50,7 +50,7 @@ _mowerbean() {
     local -a _mowerbean_front=() plain=() words=()
     COMPREPLY=()
     for ((at = 1; at < COMP_CWORD; at++)); do
-        if [[ ${COMP_WORDS[at]} =~ ^-[qvhV]*([aw])(.*)$ ]]; then
+        if [[ ${COMP_WORDS[at]} =~ ^-[qvhVA]*([aw])(.*)$ ]]; then
             value=${BASH_REMATCH[2]}
             if [[ -z $value ]] && ((++at < COMP_CWORD)); then
                 value=${COMP_WORDS[at]}

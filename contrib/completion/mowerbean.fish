@@ -6,7 +6,7 @@ function __mowerbean_words
     set -l words (commandline -opc)[2..]
     while set -q words[1]
         switch $words[1]
-            case -q -v
+            case -q -v -A
                 set -e words[1]
             case -a -w
                 set -e words[1]
@@ -57,6 +57,7 @@ function __mowerbean_ids
 end
 
 complete -c mowerbean -f
+complete -c mowerbean -s A -d 'take all accounts'
 complete -c mowerbean -s q -d 'explain no status'
 complete -c mowerbean -s v -d 'print what is said, for play'
 complete -c mowerbean -s w -x -d 'wait for a play, for flag, move and append'
@@ -65,7 +66,9 @@ complete -c mowerbean -n '__mowerbean_at 0 ""' -s h -l help -d 'print the help'
 complete -c mowerbean -n '__mowerbean_at 0 ""' -s V -l version -d 'print the version'
 complete -c mowerbean -n '__mowerbean_at 0 ""' -a 'account init play list flag move append queue report help'
 complete -c mowerbean -n '__mowerbean_at 1 help' -a 'account init play list flag move append queue report'
-complete -c mowerbean -n '__mowerbean_at 1 play' -l retry -d 'play again while the connection is lost'
+complete -c mowerbean -n '__mowerbean_behind 1 play' -l retry -x -d 'play again up to so many times'
+complete -c mowerbean -n '__mowerbean_behind 1 play' -l retry-for -x -d 'play again for so long, as 20m'
+complete -c mowerbean -n '__mowerbean_behind 1 play' -l then -x -d 'run this where something came'
 complete -c mowerbean -n '__mowerbean_behind 1 play' -l trace -r -d 'keep what is said in a file'
 complete -c mowerbean -n '__mowerbean_behind 1 play' -l moved -d 'the account has another server or user'
 complete -c mowerbean -n '__mowerbean_behind 1 report' -l long -d 'what was asked for, and a sentence'

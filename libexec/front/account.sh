@@ -247,10 +247,15 @@ forget_account() {
     file='' is_open='' not_counted='' pause=2 session_time=''
 }
 
-# Looks at the account's name, and where its file is to be.
-look_at_name() {
+# The folder of the accounts' files; none where no home is known.
+find_configs() {
     configs=${XDG_CONFIG_HOME:-${HOME:+$HOME/.config}}
     configs=${configs:+$configs/mowerbean}
+}
+
+# Looks at the account's name, and where its file is to be.
+look_at_name() {
+    find_configs
     case $account in
         '') return ;;
         .* | -* | *[!A-Za-z0-9._@+-]*) stop "$BAD_ACCOUNT" "an account's name has letters, digits and ._@+- alone: $account" ;;

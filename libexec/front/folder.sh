@@ -34,7 +34,7 @@ put_line() {
 
 # Refuses what isn't a plain file: a link would be followed, and a FIFO would hang.
 look_at_files() {
-    for name in lock play boxes sent line server shown; do
+    for name in lock play boxes sent line server shown 'then'; do
         if [ -L "$folder/mowerbean.$name" ] || { [ -e "$folder/mowerbean.$name" ] && [ ! -f "$folder/mowerbean.$name" ]; }; then
             stop "$BAD_ACCOUNT" "$folder/mowerbean.$name is no plain file. Nothing was done: look who put it there, and remove it"
         fi

@@ -46,6 +46,8 @@ start_link() {
     [ -z "$verbose" ] || set -- "$@" --verbose
     if [ -z "$quiet" ] && [ -t 2 ]; then
         set -- "$@" --progress --actions "$(actions)"
+    elif [ -n "$verbose" ]; then
+        set -- "$@" --actions "$(actions)"
     fi
     open_bell || return 0
     python3 -Es "$libexec/link" "$@" </dev/null >&7 6<&- 7>&- &

@@ -45,7 +45,7 @@ late_seconds() {
 left_to_wait() {
     left=0 how='' ended='' more=''
     late_seconds
-    whole=$((pause + late))
+    whole=$(((pause > gap ? pause : gap) + late))
     if [ ! -e "$mark" ] || [ "$whole" -eq 0 ]; then
         left=$late
         return
@@ -262,6 +262,7 @@ play_once() {
         flock -w 5 8 2>/dev/null
     fi
     keep_server || no_file "$folder/mowerbean.server" 'whose the journal is'
+    look_before
     write_mark begun || {
         forget_server
         no_mark
@@ -273,6 +274,7 @@ play_once() {
         0 | 1 | 2 | 9 | "$NO_PROGRAM" | "$BAD_ACCOUNT") write_mark ended ;;
         *) write_mark "lost $(date +%s)" ;;
     esac
+    look_after
     if [ -n "$can_lock" ]; then
         exec 8>&-
     fi
@@ -288,15 +290,25 @@ take_play_options() {
         case $1:$# in
             -v:*) verbose=yes ;;
             --moved:*) moved=yes ;;
-            --retry:1 | --trace:1) break ;;
+            --retry:1 | --retry-for:1 | --trace:1 | --then:1) break ;;
             --retry:*)
                 as_number "$2" 999 || stop_words '--retry takes a number up to 999: see mowerbean help play'
                 retries=$as_number
                 shift
                 ;;
+            --retry-for:*)
+                as_seconds "$2" || stop_words '--retry-for takes a time such as 90s, 20m or 2h, up to 168h: see mowerbean help play'
+                retry_for=$as_seconds
+                shift
+                ;;
             --trace:*)
                 trace=$2
                 [ -n "$trace" ] || stop_words '--trace takes the name of a file: see mowerbean help play'
+                shift
+                ;;
+            --then:*)
+                then_command=$2
+                [ -n "$then_command" ] || stop_words '--then takes a command: see mowerbean help play'
                 shift
                 ;;
             *) break ;;
@@ -306,7 +318,8 @@ take_play_options() {
     options=$((options - $#))
 }
 
-# Whether another play is to follow: at once after a second look of link, and as --retry has it where trying again may help.
+# Whether another play is to follow: at once after a second look of link, and as --retry and --retry-for have it where trying again
+# may help.
 plays_again() {
     at_once=''
     if [ "$status" -ne 4 ] || [ -n "$asked" ]; then
@@ -317,17 +330,15 @@ plays_again() {
         return 0
     fi
     looks=0
-    if [ "$retries" -eq 0 ] || [ "$link_status" -eq 4 ]; then
-        return 1
-    fi
+    may_retry || return 1
     explain "$status"
-    retries=$((retries - 1))
 }
 
 play() {
-    retries=0 trace='' looks=0 at_once='' moved=''
+    retries='' retry_for='' trace='' then_command='' looks=0 at_once='' moved=''
     take_play_options "$@"
     shift "$options"
+    [ -n "$retries$retry_for" ] || retries=0
     if [ $# -gt 0 ]; then
         wrong="$(printable "$1") is no word of play, or lacks its value"
         judge play "$@"
@@ -346,10 +357,13 @@ play() {
     trap 'signalled INT' INT
     trap 'signalled TERM' TERM
     trap 'signalled HUP' HUP
+    begin_retries
+    begin_news
     play_once
     while plays_again; do
         play_once
     done
     trap - INT TERM HUP
+    end_news
     name_unseen
 }

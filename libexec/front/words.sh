@@ -12,7 +12,7 @@ without a network.
                             mowerbean account
   init BOX ..             sets up a journal for 1 to 32 mailboxes
                             mowerbean init INBOX Archive
-  play [--retry N]        plays what waits on the server, and fetches what is new
+  play [--retry-for TIME] plays what waits on the server, and fetches what is new
                             mowerbean play
   list BOX                shows a mailbox: ID, mod-sequence and flags of each message
                             mowerbean list INBOX
@@ -35,9 +35,10 @@ list shows it. FLAG is seen, flagged, answered, draft, deleted, or a keyword.
 
   -a ACCOUNT   takes the account of ~/.config/mowerbean/ACCOUNT.conf alone. Without it
                default.conf is taken, where it is there
+  -A           play, list, queue and report for all accounts, one after another
   -q           leaves out the line that explains a status on a terminal
   -w SECONDS   flag, move and append wait as long for a play under way (else 60)
-  -v           play prints each command and its answer on standard error
+  -v           play prints each command, its answer and how far it is on standard error
 
 Options stand before the command or after it; after -- there are none. Without -a the
 variables MAIL_DIR, MAIL_SERVER, MAIL_USER, MAIL_PASSWORD, MAIL_PAUSE and MAIL_TIME decide
@@ -70,7 +71,7 @@ A journal.0 or journal.1 that init didn't make is refused, and stays as it is.
   mowerbean -a work init INBOX Archive 'Sent Items'
 TEXT
         play) cat <<'TEXT' ;;
-mowerbean play [--retry N] [--trace FILE] [--moved]
+mowerbean play [--retry-for TIME] [--retry N] [--then COMMAND] [--trace FILE] [--moved]
 
 Connects, plays the waiting actions back in their order, fetches what is new of each
 mailbox, and prints `played N conflicts C`. Status 1 says that C isn't 0: report --long
@@ -79,10 +80,17 @@ prints why. Status 4 says that the connection was lost: play again. The next pla
 A line on standard error says where there are conflicts that no report has shown.
 
   mowerbean play
-  mowerbean play --retry 5      plays again up to 5 times, while the status is 4
-  mowerbean -v play             prints each command and its answer on standard error
+  mowerbean play --retry-for 20m
+                                plays again for 20 minutes, while the status is 4
+  mowerbean play --retry 5      plays again up to 5 times
+  mowerbean play --then 'notmuch new'
+                                runs this where something came, or a conflict did
+  mowerbean -v play             prints each command, its answer and how far it is
   mowerbean play --trace FILE   logs what is said, without passwords and messages
   mowerbean play --moved        the journal's account has another server or user now
+
+A TIME is a number with s, m or h. The pauses of --retry-for are 2, 4, 8 up to 60 seconds,
+and 2 again after a play that got further. A wrong address or certificate ends both.
 
 Ctrl-C lets the command under way end first, so that a message isn't cut off after its
 last byte. A second one stops at once.
@@ -147,7 +155,7 @@ TEXT
 # What a status says, whether anything is lost, and what to do.
 meaning() {
     case $1 in
-        1) echo 'played to the end, but some actions could not be done. Nothing is lost: see mowerbean report --long' ;;
+        1) echo 'played to the end, but some actions could not be done. Nothing is lost: see mowerbean report --new --long' ;;
         2) echo "these words are no command. Nothing was done: see mowerbean --help" ;;
         3) echo 'the disk failed, or another run uses the journal. What was accepted before is kept: look at the disk, then at mowerbean queue' ;;
         4) echo 'no connection, or it was lost. What was accepted is kept: play again, and it goes on from there' ;;

@@ -78,7 +78,7 @@ locks_that_fail() {
 
 # The files beside the journal: what they aren't, and what a full disk leaves.
 files() {
-    for name in play lock boxes sent line; do
+    for name in play lock boxes sent line 'then'; do
         folder "planted-$name"
         echo precious >"$work/precious"
         ln -s "$work/precious" "$MAIL_DIR/mowerbean.$name"

@@ -19,7 +19,7 @@ spooled() {
 letters() {
     unset MAIL_DIR
     mkdir -p "$work/real/share/mowerbean"
-    cp "$top/contrib/save-sent" "$work/real/share/mowerbean/save-sent"
+    cp "$top/contrib/save-sent" "$top/contrib/spool.sh" "$work/real/share/mowerbean"
     spool=$HOME/.local/state/mowerbean/spool
     config "dir=$work/sent"
     save 'Subject: early\n\nbody\n' -a work Archive '\Seen'
@@ -39,6 +39,9 @@ letters() {
     has '  and its file is named' "$notice" "kept as $spool/"
     same '  for its owner alone' "$(stat -c %a "$spool" "$spool"/*.refused | tr '\n' ' ')" '700 600 '
     rm -f "$spool"/*
+    save 'From ann@x Mon Jan  1 00:00:00 2026\nMessage-ID: <mbox@x>\n\nbody\n' -a work Archive
+    same 'the line of an mbox before a message' "$status, $("$real" -a work queue | tail -n 1 | cut -d ' ' -f 3-)" '0, append Archive <mbox@x>'
+    same '  is not in it' "$(grep -c 'From ann' "$work/sent/journal.0")" 0
     handed_in_again
 }
 

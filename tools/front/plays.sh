@@ -32,12 +32,12 @@ $MAIL_DIR 127.0.0.1:4143 none none, "
     echo ca >"$work/ca.pem"
     config "dir=$MAIL_DIR" 'tls=mail' "cafile=$work/ca.pem" 'time=90' 'password_command=echo hidden-word'
     ask -a work -v play --trace "$work/trace" --retry 1
-    same 'TLS and all the rest' "$(linked)" "--folder $MAIL_DIR --tls mail:993 --cafile $work/ca.pem --time 90 --trace $work/trace --verbose"
+    same 'TLS and all the rest' "$(linked)" "--folder $MAIL_DIR --tls mail:993 --cafile $work/ca.pem --time 90 --trace $work/trace --verbose --actions 0"
     same '  with the password for the program alone' "$(tail -n 1 "$work/stub/linked"), $(sed -n 's/^MAIL_PASSWORD=//p' "$work/stub/env")" \
         'no password, hidden-word'
     config "dir=$MAIL_DIR" 'starttls=mail:0144'
     ask -a work play -v
-    same 'STARTTLS' "$(linked)" "--folder $MAIL_DIR --starttls mail:144 --verbose"
+    same 'STARTTLS' "$(linked)" "--folder $MAIL_DIR --starttls mail:144 --verbose --actions 0"
     cp "$configs/work.conf" "$configs/default.conf"
     MAIL_SERVER=other ask play
     same '  and the environment decides over it' "$(linked)" "--folder $MAIL_DIR --server other:143"
