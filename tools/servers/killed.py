@@ -17,8 +17,7 @@ BEFALLS: Dict[str, Tuple[Tuple[int, ...], Tuple[str, ...]]] = {
     "signal=KILL": ((-9,), ()),
     "error=EIO": ((0, 3, 4, 11, 12), ("exit_group", "brk")),
 }
-# The seconds after which no more system calls are tried, and how many plays of actions are tried at a time.
-BUDGET = 60
+# How many plays of actions are tried at a time.
 AT_ONCE = 8
 # What stands in the place of the program, and of the helper for the line: each runs under what the environment names.
 PROGRAM_UNDER = """#!/bin/sh
@@ -52,8 +51,8 @@ def calls_of(trace: pathlib.Path, first: str = "/dev/null") -> List[Call]:
     return found
 
 
-def first_plays(trial: Trial) -> None:
-    """Kills a first play at each of its system calls, and lets each of them fail."""
+def first_plays(trial: Trial, seconds: int) -> None:
+    """Kills a first play at each of its system calls, and lets each of them fail, as far as the seconds go for each."""
     if not can_trace():
         return
     with Other(trial.port) as other:
@@ -61,14 +60,14 @@ def first_plays(trial: Trial) -> None:
     trace = trial.home / "trace"
     trial.begin(*SMALL).say("play", under=("strace", "-f", "-o", str(trace)))
     for what, (_, but) in BEFALLS.items():
-        first_plays_of(trial, what, [call for call in calls_of(trace) if call[0] not in but], wanted)
+        first_plays_of(trial, what, [call for call in calls_of(trace) if call[0] not in but], wanted, seconds)
 
 
-def first_plays_of(trial: Trial, what: str, left: List[Call], wanted: List[List[str]]) -> None:
+def first_plays_of(trial: Trial, what: str, left: List[Call], wanted: List[List[str]], seconds: int) -> None:
     """Does this to a first play at each of these system calls, as far as the time goes."""
     faults = tried = 0
     began = time.monotonic()
-    while left and time.monotonic() - began < BUDGET:
+    while left and time.monotonic() - began < seconds:
         name, place = left.pop(0)
         tried += 1
         if fault := fault_of_first(trial, f"{name}:{what}:when={place}", BEFALLS[what][0], wanted):
@@ -136,7 +135,7 @@ def put_under(trial: Trial) -> None:
         place.chmod(0o755)
 
 
-def played_actions(trial: Trial) -> None:
+def played_actions(trial: Trial, seconds: int) -> None:
     """Kills the program, and the helper for the line, in a play of three actions at their system calls, and plays them to the end."""
     if not can_trace():
         return
@@ -145,7 +144,7 @@ def played_actions(trial: Trial) -> None:
     for which, title, first in (("TRY_PROGRAM", "the program", "/dev/null"), ("TRY_LINK", "the helper for the line", "listen(")):
         trace = trial.home / which
         Actions(trial, next(numbers)).play_under(which, "strace", "-f", "-o", str(trace))
-        killed_at(trial, which, title, calls_of(trace, first), numbers)
+        killed_at(trial, which, title, calls_of(trace, first), numbers, seconds)
 
 
 def spread(calls: List[Call]) -> List[Call]:
@@ -153,9 +152,9 @@ def spread(calls: List[Call]) -> List[Call]:
     return [call for start in range(16) for call in calls[(start * 7) % 16 :: 16]]
 
 
-def killed_at(trial: Trial, which: str, title: str, calls: List[Call], numbers: Iterator[int]) -> None:
+def killed_at(trial: Trial, which: str, title: str, calls: List[Call], numbers: Iterator[int], seconds: int) -> None:
     """Kills at these system calls, many at a time, as far as the time goes."""
-    ends = time.monotonic() + BUDGET
+    ends = time.monotonic() + seconds
     order = spread(calls)
 
     def tried(number: int, call: Call) -> str:
