@@ -32,8 +32,8 @@ pub record Talks {Self T : Type 0} (L : Ghosts Self) (tag : Tag) (command : Comm
   pub blames : Blames L old new result
 
 -- These are the replies. Whatever was selected, they are the server's answer to this command at one moment of the call; to
--- a question that answer is OK. All that came is in them, and it is no more than a reply may have. Where they say OK, the
--- command's whole text was sent.
+-- a question that answer is OK. All that came is in them, it is no more than a reply may have, and no set of flags in it is
+-- too large. Where they say OK, the command's whole text was sent.
 pub record HasReply {Self : Type 0} (L : Ghosts Self) (tag : Tag) (command : Command) (old new : Self) (before after : Stream)
     (r : Replies) : Type 0 where
   pub answered : L.tells_server → (selected : Option (List ℕ)) → Stands selected (L.clock old) (L.link old).connection before
