@@ -7,8 +7,8 @@ use Rattle.play_driver.proofs.turning.turn.Goals as goal
 
 pub next_tag_in-tag-requires : goal.next_tag_in-tag-requires
 next_tag_in-tag-requires g c =
-    question_selected c.args.player.now c.args.store.now.book c.args.session c.in-Ask.command c.requires.fold c.requires.beside
-    c.requires.selected (sym c.requires.needed ∙ c.in-Ask.is)
+    question_selected c.args.player.now c.args.store.now.book c.args.session c.in-Ask.command c.requires.fold c.requires.rests.beside
+    c.requires.rests.selected (sym c.requires.needed ∙ c.in-Ask.is)
 
 pub returns-in-Ask-clause-valid : goal.returns-in-Ask-clause-valid
 returns-in-Ask-clause-valid g c = λ t made kept known fair none box was now is.
