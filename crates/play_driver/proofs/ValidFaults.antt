@@ -101,7 +101,13 @@ asked_other (needs.Send n sent) count tag command asked = other_need (needs.Send
 asked_other needs.Finished count tag command asked = absurd asked
 
 pub records_other : (need : Need) (event : Event) → Records need event → (box : List ℕ) → need ≢ needs.Select box
-RECORDS
+records_other (needs.Select name) event records = absurd records
+records_other (needs.Ask command) event records = absurd records
+records_other (needs.Commit recorded) event records = other_need (needs.Commit recorded) (needs.Commit recorded) refl refl
+records_other (needs.Settle n outcome) event records = other_need (needs.Settle n outcome) (needs.Settle n outcome) refl refl
+records_other (needs.Send n command) event records = absurd records
+records_other needs.Finished event records = absurd records
+
 -- so a turn in which no mailbox is selected doesn't fail for that
 pub turn_valid : (p : Standing) (link : LinkState) (fault : PlayFault) → TurnFails p link fault → ((box : List ℕ) → need_at p ≢ needs.Select box) →
     (name : List ℕ) (kept told : ℕ) → fault ≡ faults.Validity name kept told → ⊥

@@ -30,5 +30,7 @@ pub mod TrueRecords
 pub mod Accuses
 pub mod GoesOn
 pub mod Reasons
+pub mod Surely
 pub mod Rests
 pub mod TakesTurn
+pub mod Gathering

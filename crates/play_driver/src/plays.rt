@@ -26,6 +26,7 @@ ghost use Rattle.play_driver.specs.Accuses.{Accuses};
 ghost use Rattle.play_driver.specs.GoesOn.{GoesOn, RunGoesOn, SyncsOn};
 ghost use Rattle.play_driver.specs.Reasons.{Reasons, RunReasons};
 ghost use Rattle.play_driver.specs.Rests.{Rests, Stored};
+ghost use Rattle.play_driver.specs.Surely.{EndSurely};
 ghost use Rattle.play_driver.specs.TakesTurn.{Excuses, RunsOn};
 
 use crate::counting::played_since;
@@ -63,6 +64,8 @@ pub fn play<W: World>(
     // twice; and each intent and each conflict that is recorded has its reason.
     ensures goes_on { RunGoesOn W.Clocked world.old world.new store.old.book }
     ensures reasons { RunReasons W.Clocked world.old world.new store.old.book store.new.book result }
+    ensures surely { W.tells_server → IsKept mail Kept (W.clock world.old).now
+        → AllFair mail played (W.clock world.old) (W.clock world.new) → EndSurely store.old.book store.new.book }
     ensures stored { Stored W.Clocked world.new (W.seen world.new) store.old.book store.new result }
 
     // After Ok each action has an outcome, and each mailbox of the book has a cache that is the server's as it answered for its rows in

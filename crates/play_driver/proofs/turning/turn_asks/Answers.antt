@@ -1,4 +1,4 @@
-use Rattle.std.proofs.Common.{rules, Option, ap, subst, sym}
+use Rattle.std.proofs.Common.{rules, Option, ap, refl, subst, sym}
 use Rattle.action_queue.specs.Book.{meaning}
 use Rattle.imap_session.specs.declared.permits.Permits.{Permits}
 use Rattle.playback.specs.declared.player.Player.{Player}
@@ -14,6 +14,9 @@ use Rattle.play_driver.proofs.OneTurn.{known_of, faultless_of, stands_kept, sync
 use Rattle.play_driver.proofs.OverOne.{asked_talks}
 use Rattle.play_driver.proofs.Parts.{grows}
 use Rattle.play_driver.proofs.Progressing.{firm_left, linked_progress, linked_sides, rests_left}
+use Rattle.play_driver.proofs.ValidFaults.{asked_other, turn_valid}
+use Rattle.play_driver.specs.Turning.{standing_of}
+use Rattle.play_driver.specs.declared.fault.PlayFault.TheVariants as faults
 use Rattle.play_driver.proofs.turning.turn_asks.Goals as goal
 
 pub chosen_in-chosen-requires : goal.chosen_in-chosen-requires
@@ -130,5 +133,8 @@ returns-in_err-chosen-clause-excuses g c = record {
       faultless_of _ _ c.book.ensures _ _ _ _ c.ask.result (c.ask.ensures.faultless t) made
       (stands_kept c.args.store.now _ _ _ _ _ (c.requires.left (g.W.Clocked.server_with_files t)) (c.requires.rests.stands t) kept)
       (known_in c.args.session c.chosen_in-chosen.result c.chosen_in-chosen.ensures made _ _ _ known) fair fault (search rules);
-  valid = search rules;
+  valid = λ t made kept known fair none box was now is.
+      turn_valid (standing_of (g.W.Clocked.link c.args.world.now) c.args.session c.args.store.now c.args.player.now) _ (faults.Validity box was now)
+      ((returns-in_err-chosen-clause-takes g c).why (g.W.Clocked.server_with_files t) (faults.Validity box was now) is)
+      (asked_other _ _ _ _ c.requires.needed) box was now refl;
 }

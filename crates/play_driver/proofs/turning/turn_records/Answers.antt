@@ -1,9 +1,12 @@
-use Rattle.std.proofs.Common.{rules, subst, sym}
+use Rattle.std.proofs.Common.{rules, refl, subst, sym}
 use Rattle.action_queue.specs.Book.{Meaning}
 use Rattle.play_driver.specs.Sessions.{permits_in}
 use Rattle.play_driver.specs.TrueRecords.{IsTrueBefore}
 use Rattle.play_driver.specs.Turning.TurnFails.{not_recorded}
 use Rattle.play_driver.proofs.OneTurn.{left_kept, record_goes, record_takes, true_kept, no_reply_fault, records_turn, stands_kept, true_more}
+use Rattle.play_driver.proofs.ValidFaults.{records_other, turn_valid}
+use Rattle.play_driver.specs.Turning.{standing_of}
+use Rattle.play_driver.specs.declared.fault.PlayFault.TheVariants as faults
 use Rattle.play_driver.proofs.turning.turn_records.Goals as goal
 
 pub returns-in_err-record-clause-goes_on : goal.returns-in_err-record-clause-goes_on
@@ -112,5 +115,8 @@ pub returns-in_err-record-clause-excuses : goal.returns-in_err-record-clause-exc
 returns-in_err-record-clause-excuses g c = record {
   faultless = λ t made kept known fair fault is.
       no_reply_fault c.args.event c.args.store.now fault (c.record.ensures.why fault (search rules));
-  valid = search rules;
+  valid = λ t made kept known fair none box was now is.
+      turn_valid (standing_of (g.W.Clocked.link c.args.world.now) c.args.session c.args.store.now c.args.player.now) _ (faults.Validity box was now)
+      ((returns-in_err-record-clause-takes g c).why (g.W.Clocked.server_with_files t) (faults.Validity box was now) is)
+      (records_other _ _ c.requires.needed) box was now refl;
 }
