@@ -3,7 +3,6 @@
 ghost use Rattle.std.specs.Prelude.{◌≡◌, ◌≢◌, ◌<◌, ◌+◌, IfOk, IsTrue, is_some, true};
 ghost use Rattle.action_queue.specs.declared.event.Event.{Event};
 ghost use Rattle.imap_session.specs.Dialogue.{next_tag};
-ghost use Rattle.playback.specs.Allowed.{Records};
 ghost use Rattle.playback.specs.Left.{left};
 ghost use Rattle.playback.specs.Needs.{need_of};
 ghost use Rattle.playback.specs.declared.need.Need.TheVariants as needs;
@@ -77,15 +76,11 @@ pub(crate) fn turn<W: World>(
             let tag = next_tag_in(&session);
             turn_asks(session, store, player, world, tag, &command)
         }
-        Need::Commit(event) => turn_records(alloc, session, store, player, world, event),
-        Need::Settle(id, outcome) => turn_records(
-            alloc,
-            session,
-            store,
-            player,
-            world,
-            Event::Settle { id, outcome },
-        ),
+        Need::Commit(event) => record(alloc, session, store, player, world, event),
+        Need::Settle(id, outcome) => {
+            let event = Event::Settle { id, outcome };
+            record(alloc, session, store, player, world, event)
+        }
         Need::Send(id, command) => turn_asks(
             session,
             store,
@@ -159,38 +154,6 @@ fn turn_asks<W: World>(
     let chosen = chosen_in(session);
     let chosen = ask(player, store.book(), chosen, world, tag, command)?;
     Ok(Session::Chosen(chosen))
-}
-
-// An event is recorded. Its clauses are those of `turn`.
-fn turn_records<W: World>(
-    alloc: Global,
-    session: Session,
-    store: &mut Store,
-    player: &mut Player,
-    world: &mut W,
-    event: Event,
-) -> Result<Session, PlayFault>
-    requires needed { Records (need_of player.old store.old.book) event }
-    requires fold { IsFold store.old.book }
-    requires rests { Rests W.Clocked world.old player.old store.old.book session }
-    requires room { count_of session + 2 < 4294967295 }
-    requires sound { IsTrue store.old.journal.failed → ⊥ }
-    requires left { W.tells_files → IsAsLeft mail store.old (W.clock world.old).now (W.seen world.old) }
-    ensures goes_on { GoesOn W.Clocked world.old world.new session player.old player.new
-        store.old.book store.new.book result }
-    ensures synced { SyncsOn W.Clocked world.old world.new player.old player.new
-        store.old.book store.new.book result }
-    ensures reasons { Reasons W.Clocked (Unit {0}) world.old world.new session player.old
-        store.old.book store.new.book result }
-    ensures takes { TakesTurn W.Clocked world.old world.new session player.old player.new
-        store.old store.new result }
-    ensures excuses { Excuses W.Clocked world.old world.new session player.old store.old.book result }
-    ensures accuses { Accuses W.Clocked world.old world.new result }
-    ensures rests { IfOk result (Rests W.Clocked world.new player.new store.new.book) }
-    ensures stored { Stored W.Clocked world.new (W.seen world.new) store.old.book store.new result }
-{
-    record(alloc, store, player, world, event)?;
-    Ok(session)
 }
 
 // The tag of the session's next question.
