@@ -60,3 +60,4 @@ pub mod RenewedEntered
 pub mod CompleteRun
 pub mod Surely
 pub mod Recorded
+pub mod OverLink

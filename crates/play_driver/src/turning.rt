@@ -10,10 +10,8 @@ ghost use Rattle.store_core.specs.Fold.{IsFold};
 ghost use Rattle.store_core.specs.Holding.{IsAsLeft};
 ghost use Rattle.store_core.specs.Mail.{mail};
 ghost use Rattle.play_driver.specs.Sessions.{count_of, selected_in};
-ghost use Rattle.play_driver.specs.Turning.{IsAskedFor};
 ghost use Rattle.play_driver.specs.declared.fault.PlayFault.{PlayFault};
-ghost use Rattle.play_driver.specs.declared.session.Session.TheVariants as sessions;
-ghost use Rattle.play_driver.specs.Accuses.{Accuses, AccusesLink};
+ghost use Rattle.play_driver.specs.Accuses.{Accuses};
 ghost use Rattle.play_driver.specs.GoesOn.{GoesOn, SyncsOn};
 ghost use Rattle.play_driver.specs.Reasons.{Reasons};
 ghost use Rattle.play_driver.specs.Rests.{Rests, Stored};
@@ -71,17 +69,17 @@ pub(crate) fn turn<W: World>(
     ensures stored { Stored W.Clocked world.new (W.seen world.new) store.old.book store.new result }
 {
     match need {
-        Need::Select(name) => turn_selects(alloc, session, store, player, world, &name),
+        Need::Select(name) => select(alloc, session, store, player, world, &name),
         Need::Ask(command) => {
             let tag = next_tag_in(&session);
-            turn_asks(session, store, player, world, tag, &command)
+            ask(session, store, player, world, tag, &command)
         }
         Need::Commit(event) => record(alloc, session, store, player, world, event),
         Need::Settle(id, outcome) => {
             let event = Event::Settle { id, outcome };
             record(alloc, session, store, player, world, event)
         }
-        Need::Send(id, command) => turn_asks(
+        Need::Send(id, command) => ask(
             session,
             store,
             player,
@@ -93,69 +91,6 @@ pub(crate) fn turn<W: World>(
     }
 }
 
-// A mailbox is resynchronised. Its clauses are those of `turn`.
-fn turn_selects<W: World>(
-    alloc: Global,
-    session: Session,
-    store: &Store,
-    player: &mut Player,
-    world: &mut W,
-    name: &BoxName,
-) -> Result<Session, PlayFault>
-    requires needed { need_of player.old store.now.book ≡ needs.Select name.now }
-    requires fold { IsFold store.now.book }
-    requires rests { Rests W.Clocked world.old player.old store.now.book session }
-    requires room { count_of session + 2 < 4294967295 }
-    requires left { W.tells_files → IsAsLeft mail store.now (W.clock world.old).now (W.seen world.old) }
-    ensures goes_on { GoesOn W.Clocked world.old world.new session player.old player.new
-        store.now.book store.now.book result }
-    ensures synced { SyncsOn W.Clocked world.old world.new player.old player.new
-        store.now.book store.now.book result }
-    ensures reasons { Reasons W.Clocked (Unit {0}) world.old world.new session player.old
-        store.now.book store.now.book result }
-    ensures takes { TakesTurn W.Clocked world.old world.new session player.old player.new
-        store.now store.now result }
-    ensures excuses { Excuses W.Clocked world.old world.new session player.old store.now.book result }
-    ensures accuses { AccusesLink W.Clocked world.old world.new result }
-    ensures rests { IfOk result (Rests W.Clocked world.new player.new store.now.book) }
-    ensures left { W.tells_files → IsAsLeft mail store.now (W.clock world.new).now (W.seen world.new) }
-{
-    let chosen = select(alloc, session, player, store.book(), world, name)?;
-    Ok(Session::Chosen(chosen))
-}
-
-// A question, or the command of an action, is asked. Its clauses are those of `turn`.
-fn turn_asks<W: World>(
-    session: Session,
-    store: &Store,
-    player: &mut Player,
-    world: &mut W,
-    tag: Tag,
-    command: &Command,
-) -> Result<Session, PlayFault>
-    requires needed { IsAskedFor (need_of player.old store.now.book) (count_of session) tag command.now }
-    requires fold { IsFold store.now.book }
-    requires rests { Rests W.Clocked world.old player.old store.now.book session }
-    requires room { count_of session + 2 < 4294967295 }
-    requires left { W.tells_files → IsAsLeft mail store.now (W.clock world.old).now (W.seen world.old) }
-    ensures goes_on { GoesOn W.Clocked world.old world.new session player.old player.new
-        store.now.book store.now.book result }
-    ensures synced { SyncsOn W.Clocked world.old world.new player.old player.new
-        store.now.book store.now.book result }
-    ensures reasons { Reasons W.Clocked (Unit {0}) world.old world.new session player.old
-        store.now.book store.now.book result }
-    ensures takes { TakesTurn W.Clocked world.old world.new session player.old player.new
-        store.now store.now result }
-    ensures excuses { Excuses W.Clocked world.old world.new session player.old store.now.book result }
-    ensures accuses { AccusesLink W.Clocked world.old world.new result }
-    ensures rests { IfOk result (Rests W.Clocked world.new player.new store.now.book) }
-    ensures left { W.tells_files → IsAsLeft mail store.now (W.clock world.new).now (W.seen world.new) }
-{
-    let chosen = chosen_in(session);
-    let chosen = ask(player, store.book(), chosen, world, tag, command)?;
-    Ok(Session::Chosen(chosen))
-}
-
 // The tag of the session's next question.
 fn next_tag_in(session: &Session) -> Tag
     requires { is_some (selected_in session.now) ≡ true }
@@ -164,16 +99,5 @@ fn next_tag_in(session: &Session) -> Tag
     match session {
         Session::Ready(_) => unreachable!(),
         Session::Chosen(chosen) => chosen.next_tag(),
-    }
-}
-
-// The session in which a mailbox is selected.
-fn chosen_in(session: Session) -> Chosen
-    requires { is_some (selected_in session) ≡ true }
-    ensures { session ≡ sessions.Chosen result }
-{
-    match session {
-        Session::Ready(_) => unreachable!(),
-        Session::Chosen(chosen) => chosen,
     }
 }
