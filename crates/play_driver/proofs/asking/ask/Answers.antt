@@ -156,12 +156,12 @@ returns-in-Ok-clause-goes_on g c =
     let needed = subst (λ (x : Session). IsAskedFor (need_of c.args.player.now b) (count_of x) c.args.tag c.args.command.now) is c.requires.needed in
     let lawful = lawful_fold c.args.player.now b c.requires.fold c.requires.rests.beside in
     let permits : c.permits_due-permits.result ≡ permits_due c.chosen_in-chosen.result.permits (due_action b.queue) =
-    c.permits_due-permits.ensures ∙ ap (λ (x : Meaning). permits_due c.in_ok-answer.answer.0.permits (due_action x.queue)) c.book.ensures
+    c.permits_due-permits.ensures ∙ ap (λ (x : Meaning). permits_due c.in_ok-answer.answer.0.permits (due_action x.queue)) c.book-book.ensures
     ∙ ap (λ (x : Option Permits). permits_due x (due_action b.queue)) c.in_ok-answer.ensures.permits in
     let knows =
     subst (λ (x : Meaning). (w : World) → KeptBook x w.course.now w.waiting → IsReply c.in_ok-answer.answer.1 w →
     IsFair c.permits_due-permits.result x w → Knows c.args.player.now x w → Knows c.heard.new.self x (given w))
-    c.book.ensures c.in-Ok.ensures.knows in
+    c.book-book.ensures c.in-Ok.ensures.knows in
     goes_over g.W.Clocked c.args.world.now c.ask.new.link c.args.session c.args.player.now c.args.store.now _
     c.requires.rests c.requires.left c.ask.ensures.talks.files _ _
     (λ t made stands known.
@@ -200,7 +200,7 @@ returns-in-Ok-clause-synced g c = λ t start first kept fair so_far.
     let b = c.args.store.now.book in
     let value : IsHeard c.args.player.now b c.permits_due-permits.result c.in_ok-answer.answer.1 c.heard.new.self =
     subst (λ (x : Meaning). IsSound x → IsHeard c.args.player.now x c.permits_due-permits.result c.in_ok-answer.answer.1 c.heard.new.self)
-    c.book.ensures c.in-Ok.ensures.value (fold_sound b c.requires.fold) in
+    c.book-book.ensures c.in-Ok.ensures.value (fold_sound b c.requires.fold) in
     let only = only_told c.args.player.now b c.permits_due-permits.result c.in_ok-answer.answer.1 c.heard.new.self value in
     synced_asked _ _ _ _ _ start (grows Any (LinkStep AnyStep) _ _ (c.ask.ensures.talks.files (g.W.Clocked.server_with_files t)))
     (ap (λ (p : Player). p.resynced) only) (ap (λ (p : Player). p.learns) only) so_far
@@ -213,11 +213,11 @@ returns-in-Ok-clause-takes g c =
     let needed = subst (λ (x : Session). IsAskedFor (need_of c.args.player.now b) (count_of x) c.args.tag c.args.command.now) is c.requires.needed in
     let lawful = lawful_fold c.args.player.now b c.requires.fold c.requires.rests.beside in
     let permits : c.permits_due-permits.result ≡ permits_due c.chosen_in-chosen.result.permits (due_action b.queue) =
-    c.permits_due-permits.ensures ∙ ap (λ (x : Meaning). permits_due c.in_ok-answer.answer.0.permits (due_action x.queue)) c.book.ensures
+    c.permits_due-permits.ensures ∙ ap (λ (x : Meaning). permits_due c.in_ok-answer.answer.0.permits (due_action x.queue)) c.book-book.ensures
     ∙ ap (λ (x : Option Permits). permits_due x (due_action b.queue)) c.in_ok-answer.ensures.permits in
     let value : IsHeard c.args.player.now b c.permits_due-permits.result c.in_ok-answer.answer.1 c.heard.new.self =
     subst (λ (x : Meaning). IsSound x → IsHeard c.args.player.now x c.permits_due-permits.result c.in_ok-answer.answer.1 c.heard.new.self)
-    c.book.ensures c.in-Ok.ensures.value (fold_sound b c.requires.fold) in
+    c.book-book.ensures c.in-Ok.ensures.value (fold_sound b c.requires.fold) in
     let only = only_told c.args.player.now b c.permits_due-permits.result c.in_ok-answer.answer.1 c.heard.new.self value in
     record {
       turns = λ t.
@@ -240,7 +240,7 @@ returns-in-Ok-clause-takes g c =
       kept = search rules;
       entered = λ entry e. record { same = ap (λ (p : Player). p.resumed) only ∙ e.same; further = e.further; pending = e.pending };
       falls = subst (λ (x : Meaning). IsSound x → Awaits (need_of c.args.player.now x) → left c.heard.new.self x < left c.args.player.now x)
-          c.book.ensures c.in-Ok.ensures.falls (fold_sound b c.requires.fold)
+          c.book-book.ensures c.in-Ok.ensures.falls (fold_sound b c.requires.fold)
           (asked_awaits (need_of c.args.player.now b) _ c.args.tag c.args.command.now c.requires.needed);
       counted = search rules;
     }
@@ -251,10 +251,10 @@ returns-in-Ok-clause-rests g c =
     let rests = subst (Rests g.W.Clocked c.args.world.now c.args.player.now b) c.chosen_in-chosen.ensures c.requires.rests in
     let value : IsHeard c.args.player.now b c.permits_due-permits.result c.in_ok-answer.answer.1 c.heard.new.self =
     subst (λ (x : Meaning). IsSound x → IsHeard c.args.player.now x c.permits_due-permits.result c.in_ok-answer.answer.1 c.heard.new.self)
-    c.book.ensures c.in-Ok.ensures.value (fold_sound b c.requires.fold) in
+    c.book-book.ensures c.in-Ok.ensures.value (fold_sound b c.requires.fold) in
     let only = only_told c.args.player.now b c.permits_due-permits.result c.in_ok-answer.answer.1 c.heard.new.self value in
     record {
-      beside = subst (λ (x : Meaning). IsSound x → IsBeside c.args.player.now x → IsBeside c.heard.new.self x) c.book.ensures
+      beside = subst (λ (x : Meaning). IsSound x → IsBeside c.args.player.now x → IsBeside c.heard.new.self x) c.book-book.ensures
           c.in-Ok.ensures.beside (fold_sound b c.requires.fold) c.requires.rests.beside;
       selected = ap (λ (p : Player). name_of p.selected) only ∙ rests.selected ∙ ap Some (sym c.in_ok-answer.ensures.name);
       stands = c.in_ok-answer.ensures.stands;
@@ -302,7 +302,7 @@ returns-in-Err-clause-takes g c =
     let needed = subst (λ (x : Session). IsAskedFor (need_of c.args.player.now b) (count_of x) c.args.tag c.args.command.now) is c.requires.needed in
     let lawful = lawful_fold c.args.player.now b c.requires.fold c.requires.rests.beside in
     let permits : c.permits_due-permits.result ≡ permits_due c.chosen_in-chosen.result.permits (due_action b.queue) =
-    c.permits_due-permits.ensures ∙ ap (λ (x : Meaning). permits_due c.in_ok-answer.answer.0.permits (due_action x.queue)) c.book.ensures
+    c.permits_due-permits.ensures ∙ ap (λ (x : Meaning). permits_due c.in_ok-answer.answer.0.permits (due_action x.queue)) c.book-book.ensures
     ∙ ap (λ (x : Option Permits). permits_due x (due_action b.queue)) c.in_ok-answer.ensures.permits in
     record {
       turns = search rules;
@@ -320,7 +320,7 @@ returns-in-Err-clause-takes g c =
           })
           (subst (λ (x : Bool). IsHeardFault c.args.player.now b x c.in_ok-answer.answer.1 c.in-Err.unheard) permits
           (subst (λ (x : Meaning). IsHeardFault c.args.player.now x c.permits_due-permits.result c.in_ok-answer.answer.1 c.in-Err.unheard)
-          c.book.ensures c.in-Err.ensures.fault))
+          c.book-book.ensures c.in-Err.ensures.fault))
           (unheard_told {T = Session} c.unheard_of.result fault c.name.result.now c.chosen_in-chosen.result.name c.in-Err.unheard is_err
           c.unheard_of.ensures (c.name.ensures ∙ c.in_ok-answer.ensures.name)));
       same = search rules;
@@ -349,10 +349,10 @@ returns-in-Err-clause-excuses g c =
           heard_faultless c.args.player.now b c.chosen_in-chosen.result.permits c.permits_due-permits.result made _ c.in_ok-answer.answer.1
           c.chosen_in-chosen.result.name heard c.in-Err.unheard fault
           (subst (λ (x : Meaning). IsHeardFault c.args.player.now x c.permits_due-permits.result c.in_ok-answer.answer.1 c.in-Err.unheard)
-          c.book.ensures c.in-Err.ensures.fault)
+          c.book-book.ensures c.in-Err.ensures.fault)
           (λ w item kept reply knows lacks.
           subst (λ (x : Meaning). (v : World) (i : Item) → KeptBook x v.course.now v.waiting → IsReply c.in_ok-answer.answer.1 v →
-          Knows c.args.player.now x v → Err c.in-Err.unheard ≡ Err (unheards.Lacks i) → ⊥) c.book.ensures c.in-Err.ensures.honest
+          Knows c.args.player.now x v → Err c.in-Err.unheard ≡ Err (unheards.Lacks i) → ⊥) c.book-book.ensures c.in-Err.ensures.honest
           w item kept reply knows (ap (λ (u : Unheard). Err u) lacks))
           (unheard_told {T = Session} c.unheard_of.result fault c.name.result.now c.chosen_in-chosen.result.name c.in-Err.unheard is_err
           c.unheard_of.ensures (c.name.ensures ∙ c.in_ok-answer.ensures.name));

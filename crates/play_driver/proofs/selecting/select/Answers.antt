@@ -59,7 +59,7 @@ returns-in_err-answer-clause-takes g c = record {
   why = λ t fault is.
       let f = c.in_err-answer.field-0.0 in
       not_asked (g.W.Clocked.link c.args.world.now) c.args.session c.args.store.now c.args.player.now c.args.store.now.book refl c.args.name.now
-      (option_copied c.cache_in-kept.result) (c.cache_in-kept.ensures ∙ ap (λ (x : Meaning). cache_at c.args.name.now x.boxes) c.book.ensures)
+      (option_copied c.cache_in-kept.result) (c.cache_in-kept.ensures ∙ ap (λ (x : Meaning). cache_at c.args.name.now x.boxes) c.book-book.ensures)
       c.requires.needed (c.requires.rests.still t)
       (g.W.Clocked.link c.resynchronise.new.link) f fault (told_as of_session c.from_residual.result f c.from_residual.ensures.1 fault is)
       (λ heard h. c.resynchronise.ensures.gathers.why t _ heard h f c.in_err-answer.was);
@@ -91,20 +91,20 @@ returns-in_err-answer-clause-excuses g c = record {
 -- what is handed over fits what the player needs
 pub chosen-requires : goal.chosen-requires
 chosen-requires g c =
-    let needed : need_of c.args.player.now (meaning c.book.result.now) ≡ needs.Select c.args.name.now =
-    subst (λ (x : Meaning). need_of c.args.player.now x ≡ needs.Select c.args.name.now) (sym c.book.ensures) c.requires.needed in
+    let needed : need_of c.args.player.now (meaning c.book-book.result.now) ≡ needs.Select c.args.name.now =
+    subst (λ (x : Meaning). need_of c.args.player.now x ≡ needs.Select c.args.name.now) (sym c.book-book.ensures) c.requires.needed in
     search rules
 
 -- the player takes it
 pub returns-in-Ok-clause-goes_on : goal.returns-in-Ok-clause-goes_on
 returns-in-Ok-clause-goes_on g c =
     let kept : option_copied c.cache_in-kept.result ≡ cache_at c.args.name.now c.args.store.now.book.boxes =
-    c.cache_in-kept.ensures ∙ ap (λ (x : Meaning). cache_at c.args.name.now x.boxes) c.book.ensures in
+    c.cache_in-kept.ensures ∙ ap (λ (x : Meaning). cache_at c.args.name.now x.boxes) c.book-book.ensures in
     let value : IsChosen c.args.player.now c.args.store.now.book c.in_ok-answer.answer.1 c.chosen.new.self =
-    subst (λ (x : Meaning). IsChosen c.args.player.now x c.in_ok-answer.answer.1 c.chosen.new.self) c.book.ensures c.in-Ok.ensures.value in
+    subst (λ (x : Meaning). IsChosen c.args.player.now x c.in_ok-answer.answer.1 c.chosen.new.self) c.book-book.ensures c.in-Ok.ensures.value in
     let knows =
     subst (λ (x : Meaning). (delta : Delta) (w : World) → c.in_ok-answer.answer.1 ≡ Ok delta → KeptBook x w.course.now w.waiting →
-    IsGathered delta x w → Knows c.args.player.now x w → Knows c.chosen.new.self x (given w)) c.book.ensures c.in-Ok.ensures.knows in
+    IsGathered delta x w → Knows c.args.player.now x w → Knows c.chosen.new.self x (given w)) c.book-book.ensures c.in-Ok.ensures.knows in
     goes_over g.W.Clocked c.args.world.now c.resynchronise.new.link c.args.session c.args.player.now c.args.store.now _
     c.requires.rests c.requires.left c.resynchronise.ensures.gathers.files _ _
     (λ t made stands known. asks_joined c.args.store.now.book _ _ stands (c.resynchronise.ensures.gathers.told t))
@@ -132,9 +132,9 @@ returns-in-Ok-clause-left g c = λ t.
 pub returns-in-Ok-clause-synced : goal.returns-in-Ok-clause-synced
 returns-in-Ok-clause-synced g c = λ t start first here fair so_far.
     let kept : option_copied c.cache_in-kept.result ≡ cache_at c.args.name.now c.args.store.now.book.boxes =
-    c.cache_in-kept.ensures ∙ ap (λ (x : Meaning). cache_at c.args.name.now x.boxes) c.book.ensures in
+    c.cache_in-kept.ensures ∙ ap (λ (x : Meaning). cache_at c.args.name.now x.boxes) c.book-book.ensures in
     let value : IsChosen c.args.player.now c.args.store.now.book c.in_ok-answer.answer.1 c.chosen.new.self =
-    subst (λ (x : Meaning). IsChosen c.args.player.now x c.in_ok-answer.answer.1 c.chosen.new.self) c.book.ensures c.in-Ok.ensures.value in
+    subst (λ (x : Meaning). IsChosen c.args.player.now x c.in_ok-answer.answer.1 c.chosen.new.self) c.book-book.ensures c.in-Ok.ensures.value in
     synced_read _ _ _ _ _ start
     (grows Any (LinkStep AnyStep) _ _ (c.resynchronise.ensures.gathers.files (g.W.Clocked.server_with_files t)))
     (chosen_keeps c.args.player.now c.chosen.new.self c.args.store.now.book c.in_ok-answer.answer.1 value).resynced c.args.store.now.book refl
@@ -147,9 +147,9 @@ returns-in-Ok-clause-synced g c = λ t start first here fair so_far.
 pub returns-in-Ok-clause-takes : goal.returns-in-Ok-clause-takes
 returns-in-Ok-clause-takes g c =
     let kept : option_copied c.cache_in-kept.result ≡ cache_at c.args.name.now c.args.store.now.book.boxes =
-    c.cache_in-kept.ensures ∙ ap (λ (x : Meaning). cache_at c.args.name.now x.boxes) c.book.ensures in
+    c.cache_in-kept.ensures ∙ ap (λ (x : Meaning). cache_at c.args.name.now x.boxes) c.book-book.ensures in
     let value : IsChosen c.args.player.now c.args.store.now.book c.in_ok-answer.answer.1 c.chosen.new.self =
-    subst (λ (x : Meaning). IsChosen c.args.player.now x c.in_ok-answer.answer.1 c.chosen.new.self) c.book.ensures c.in-Ok.ensures.value in
+    subst (λ (x : Meaning). IsChosen c.args.player.now x c.in_ok-answer.answer.1 c.chosen.new.self) c.book-book.ensures c.in-Ok.ensures.value in
     let stays = chosen_keeps c.args.player.now c.chosen.new.self c.args.store.now.book c.in_ok-answer.answer.1 value in
     record {
       turns = λ t.
@@ -167,7 +167,7 @@ returns-in-Ok-clause-takes g c =
       kept = search rules;
       entered = λ entry e. record { same = stays.resumed ∙ e.same; further = e.further; pending = e.pending };
       falls = subst (λ (x : Meaning). (name : List ℕ) → IsSound x → need_of c.args.player.now x ≡ needs.Select name →
-          left c.chosen.new.self x < left c.args.player.now x) c.book.ensures c.in-Ok.ensures.falls
+          left c.chosen.new.self x < left c.args.player.now x) c.book-book.ensures c.in-Ok.ensures.falls
           c.args.name.now (fold_sound c.args.store.now.book c.requires.fold) c.requires.needed;
       counted = search rules;
     }
@@ -175,12 +175,12 @@ returns-in-Ok-clause-takes g c =
 pub returns-in-Ok-clause-rests : goal.returns-in-Ok-clause-rests
 returns-in-Ok-clause-rests g c =
     let value : IsChosen c.args.player.now c.args.store.now.book c.in_ok-answer.answer.1 c.chosen.new.self =
-    subst (λ (x : Meaning). IsChosen c.args.player.now x c.in_ok-answer.answer.1 c.chosen.new.self) c.book.ensures c.in-Ok.ensures.value in
+    subst (λ (x : Meaning). IsChosen c.args.player.now x c.in_ok-answer.answer.1 c.chosen.new.self) c.book-book.ensures c.in-Ok.ensures.value in
     let taken = taken_delta c.args.player.now c.chosen.new.self c.args.store.now.book c.in_ok-answer.answer.1 value in
     let takes =
     chosen_takes c.args.player.now c.args.store.now.book taken.0 c.args.name.now c.chosen.new.self c.requires.needed taken.2 in
     record {
-      beside = subst (λ (x : Meaning). IsSound x → IsBeside c.args.player.now x → IsBeside c.chosen.new.self x) c.book.ensures
+      beside = subst (λ (x : Meaning). IsSound x → IsBeside c.args.player.now x → IsBeside c.chosen.new.self x) c.book-book.ensures
           c.in-Ok.ensures.beside (fold_sound c.args.store.now.book c.requires.fold) c.requires.rests.beside;
       selected = takes.selected ∙ ap Some (sym c.in_ok-answer.ensures.name);
       stands = λ t. subst (λ (n : List ℕ). Stands (Some n) (g.W.Clocked.clock c.resynchronise.new.link)
@@ -215,7 +215,7 @@ returns-in-Err-clause-left g c = λ t.
 pub returns-in-Err-clause-takes : goal.returns-in-Err-clause-takes
 returns-in-Err-clause-takes g c =
     let kept : option_copied c.cache_in-kept.result ≡ cache_at c.args.name.now c.args.store.now.book.boxes =
-    c.cache_in-kept.ensures ∙ ap (λ (x : Meaning). cache_at c.args.name.now x.boxes) c.book.ensures in
+    c.cache_in-kept.ensures ∙ ap (λ (x : Meaning). cache_at c.args.name.now x.boxes) c.book-book.ensures in
     record {
       turns = search rules;
       why = λ t fault is.
@@ -223,8 +223,8 @@ returns-in-Err-clause-takes g c =
           (option_copied c.cache_in-kept.result) kept c.requires.needed (c.requires.rests.still t)
           (stage_of (g.W.Clocked.link c.resynchronise.new.link) (sessions.Chosen c.in_ok-answer.answer.0)) c.in_ok-answer.answer.1
           c.in_ok-answer.answer.0.permits c.in-Err.unheard fault (c.in_ok-answer.ensures.came t)
-          (subst (λ (x : Meaning). IsChosenFault c.args.player.now x c.in_ok-answer.answer.1 c.in-Err.unheard) c.book.ensures c.in-Err.ensures.fault)
-          (subst (λ (x : Meaning). WhyNotChosen c.in-Err.unheard c.in_ok-answer.answer.1 c.args.player.now x) c.book.ensures c.in-Err.ensures.why)
+          (subst (λ (x : Meaning). IsChosenFault c.args.player.now x c.in_ok-answer.answer.1 c.in-Err.unheard) c.book-book.ensures c.in-Err.ensures.fault)
+          (subst (λ (x : Meaning). WhyNotChosen c.in-Err.unheard c.in_ok-answer.answer.1 c.args.player.now x) c.book-book.ensures c.in-Err.ensures.why)
           (refused_as c.unheard_of.result fault (of_unheard c.args.name.now c.in-Err.unheard) is c.unheard_of.ensures);
       same = search rules;
       stays = search rules;
@@ -237,8 +237,8 @@ returns-in-Err-clause-takes g c =
 pub returns-in-Err-clause-excuses : goal.returns-in-Err-clause-excuses
 returns-in-Err-clause-excuses g c =
     let kept : option_copied c.cache_in-kept.result ≡ cache_at c.args.name.now c.args.store.now.book.boxes =
-    c.cache_in-kept.ensures ∙ ap (λ (x : Meaning). cache_at c.args.name.now x.boxes) c.book.ensures in
-    let why = subst (λ (x : Meaning). WhyNotChosen c.in-Err.unheard c.in_ok-answer.answer.1 c.args.player.now x) c.book.ensures
+    c.cache_in-kept.ensures ∙ ap (λ (x : Meaning). cache_at c.args.name.now x.boxes) c.book-book.ensures in
+    let why = subst (λ (x : Meaning). WhyNotChosen c.in-Err.unheard c.in_ok-answer.answer.1 c.args.player.now x) c.book-book.ensures
     c.in-Err.ensures.why in
     record {
       faultless = λ t made here known fair fault is.
