@@ -58,3 +58,6 @@ pub mod ToHave
 pub mod ValidFaults
 pub mod RenewedEntered
 pub mod CompleteRun
+pub mod Surely
+pub mod Recorded
+pub mod OverLink
