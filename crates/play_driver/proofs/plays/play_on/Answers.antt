@@ -31,7 +31,7 @@ loop-at-init g c = record {
   left = c.requires.left;
   progress = λ t. progress_start c.args.store.now.book (g.W.Clocked.clock c.args.world.now);
   later = later_start c.args.store.now.book;
-  gone = λ t made kept known fair. gone_start made _ _ _ _ known;
+  gone = λ t made kept known. gone_start made _ _ _ _ known;
   entered = λ entry e. e;
   truly = λ t made entry kept known fair e truly. truly;
   synced = λ t made start grows kept known fair so. so;
@@ -44,7 +44,7 @@ loop-at-init g c = record {
 
 -- what is needed wasn't said
 pub returns-in_err-need-clause-joined : goal.returns-in_err-need-clause-joined
-returns-in_err-need-clause-joined g c = λ t made kept known fair. (c.loop-at.invariant.gone t made kept known fair).joined
+returns-in_err-need-clause-joined g c = λ t made kept known. (c.loop-at.invariant.gone t made kept known).joined
 
 pub returns-in_err-need-clause-why : goal.returns-in_err-need-clause-why
 returns-in_err-need-clause-why g c = λ t fault is.
@@ -68,7 +68,7 @@ returns-in_err-need-clause-valid g c = λ t made kept known fair none box was no
 
 -- nothing is needed
 pub returns-then-is_finished-clause-joined : goal.returns-then-is_finished-clause-joined
-returns-then-is_finished-clause-joined g c = λ t made kept known fair. (c.loop-at.invariant.gone t made kept known fair).joined
+returns-then-is_finished-clause-joined g c = λ t made kept known. (c.loop-at.invariant.gone t made kept known).joined
 
 pub returns-then-is_finished-clause-sound_still : goal.returns-then-is_finished-clause-sound_still
 returns-then-is_finished-clause-sound_still g c = λ no_disk. is_sound c.loop-at.store.journal.failed c.loop-at.invariant.sound
