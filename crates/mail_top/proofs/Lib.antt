@@ -1,5 +1,6 @@
 pub mod Admitting
 pub mod Beginnings
+pub mod Between
 pub mod Connections
 pub mod Endings
 pub mod Goings

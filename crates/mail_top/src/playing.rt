@@ -16,7 +16,7 @@ ghost use Rattle.play_driver.specs.declared.fault.Why.TheVariants as whys;
 ghost use Rattle.mail_top.specs.CompletePlay.{IsTheServers, WaitsForNone};
 ghost use Rattle.mail_top.specs.Connecting.{ConnectsAtFirst};
 ghost use Rattle.mail_top.specs.Ending.{EndsPlay};
-ghost use Rattle.mail_top.specs.Headline.{NeverTwice};
+ghost use Rattle.mail_top.specs.Headline.{StaysOnce};
 ghost use Rattle.mail_top.specs.KeptNow.{IsKeptNow, StaysKept};
 ghost use Rattle.mail_top.specs.Leaving.{KeepsStep, MayBeLeft, RequestStep};
 ghost use Rattle.mail_top.specs.Played.{AreSynced};
@@ -81,8 +81,7 @@ pub fn play<W: World>(alloc: Global, account: &Account, world: &mut W) -> Result
         WaitsForNone (W.seen world.old) (W.clock world.old).now.outside.server → IsTheServers (status_of_play result) → ⊥ }
     ensures kept { W.tells_server → IsKeptNow (W.clock world.old).now →
         AllFair mail played (W.clock world.old) (W.clock world.new) → IsKeptNow (W.clock world.new).now }
-    ensures twice { W.tells_server → IsKeptNow (W.clock world.old).now →
-        AllFair mail played (W.clock world.old) (W.clock world.new) → NeverTwice (W.clock world.old) (W.clock world.new) }
+    ensures twice { W.tells_server → IsKeptNow (W.clock world.old).now → StaysOnce (W.clock world.old) (W.clock world.new) }
 
     // It connects before it asks for anything, and not again.
     ensures connects { W.tells_server → ConnectsAtFirst (W.clock world.old) (W.clock world.new) }

@@ -2,20 +2,20 @@
 
 ghost use Rattle.std.specs.Prelude.{◌≡◌, ◌≢◌, ◌⊎◌, ◌≤◌, ◌↔◌, ℕ, List, [], map, string_bytes};
 ghost use Rattle.world_traits.specs.Calls.{Rose};
-ghost use Rattle.world_traits.specs.Moments.{OneSideAtRest};
+ghost use Rattle.world_traits.specs.Moments.{Clock, OneSideAtRest};
 ghost use Rattle.journal_core.specs.Creating.{IsUnbegun};
 ghost use Rattle.journal_core.specs.OneSide.{EachOneSide};
 ghost use Rattle.store_core.specs.Mail.{mail};
 ghost use Rattle.store_core.specs.Steps.{Books};
 ghost use Rattle.store_core.specs.Taking.{HasBooks};
-ghost use Rattle.play_driver.specs.Joining.{AllFair};
+ghost use Rattle.play_driver.specs.Joining.{AllFair, Grows};
 ghost use Rattle.play_driver.specs.Played.{played};
 ghost use Rattle.play_driver.specs.Serving.{AllServing};
 ghost use Rattle.mail_top.specs.CompletePlay.{IsPlayed, IsTheServers, WaitsForNone};
 ghost use Rattle.mail_top.specs.Connecting.{ConnectsAtFirst};
 ghost use Rattle.mail_top.specs.Ending.{IsDone, IsTakable, IsListable};
 ghost use Rattle.mail_top.specs.Going.{Goes, GoesRequest};
-ghost use Rattle.mail_top.specs.Headline.{AlwaysOwned, Finishes, NeverTwice, OnceOrReported};
+ghost use Rattle.mail_top.specs.Headline.{AlwaysOwned, Finishes, NeverTwice, OnceOrReported, StaysOnce};
 ghost use Rattle.mail_top.specs.KeptNow.{IsKeptNow, StaysKept};
 ghost use Rattle.mail_top.specs.Leaving.{LosesNone};
 ghost use Rattle.mail_top.specs.Played.{AreSynced, CameThrough};
@@ -78,8 +78,7 @@ fn carry_out<W: World, I: Source>(
     ensures joined { W.tells_server → OneSideAtRest (W.clock world.old).now →
         (books : Books mail) → HasBooks mail books (W.clock world.old).now →
         IsKeptNow (W.clock world.old).now → StaysKept (W.clock world.old) (W.clock world.new) }
-    ensures twice { W.tells_server → IsKeptNow (W.clock world.old).now →
-        AllFair mail played (W.clock world.old) (W.clock world.new) → NeverTwice (W.clock world.old) (W.clock world.new) }
+    ensures twice { W.tells_server → IsKeptNow (W.clock world.old).now → StaysOnce (W.clock world.old) (W.clock world.new) }
     ensures kept { W.tells_server → WritesPlay (map string_bytes words.now) → IsKeptNow (W.clock world.old).now →
         AllFair mail played (W.clock world.old) (W.clock world.new) → IsKeptNow (W.clock world.new).now }
     ensures truly { W.tells_server → WritesPlay (map string_bytes words.now) → IsKeptNow (W.clock world.old).now →
@@ -142,8 +141,7 @@ fn answer<W: World, I: Source>(
     ensures joined { W.tells_server → OneSideAtRest (W.clock world.old).now →
         (books : Books mail) → HasBooks mail books (W.clock world.old).now →
         IsKeptNow (W.clock world.old).now → StaysKept (W.clock world.old) (W.clock world.new) }
-    ensures twice { W.tells_server → IsKeptNow (W.clock world.old).now →
-        AllFair mail played (W.clock world.old) (W.clock world.new) → NeverTwice (W.clock world.old) (W.clock world.new) }
+    ensures twice { W.tells_server → IsKeptNow (W.clock world.old).now → StaysOnce (W.clock world.old) (W.clock world.new) }
     ensures kept { W.tells_server → ((input : List ℕ) → request_of asked.now input ≡ Play) → IsKeptNow (W.clock world.old).now →
         AllFair mail played (W.clock world.old) (W.clock world.new) → IsKeptNow (W.clock world.new).now }
     ensures truly { W.tells_server → ((input : List ℕ) → request_of asked.now input ≡ Play) → IsKeptNow (W.clock world.old).now →
@@ -285,22 +283,23 @@ pub fn run<W: World, I: Source, S: Sink>(
     // No action that all images hold at entry is lost.
     ensures held { W.tells_files → LosesNone (W.clock world.old).now (W.clock world.new).now }
 
-    // Where one side was at rest at entry and its books are known and kept, and others are fair, each moment is kept, and joined to the
-    // one before it by one step of the book beside the server.
+    // Where one side was at rest at entry and its books are known and kept: up to each moment to which others were fair each moment is
+    // kept, and joined to the one before it by one step of the book beside the server.
     ensures joined { W.tells_server → OneSideAtRest (W.clock world.old).now →
         (books : Books mail) → HasBooks mail books (W.clock world.old).now →
         IsKeptNow (W.clock world.old).now → StaysKept (W.clock world.old) (W.clock world.new) }
 
-    // Where the book is kept at entry and others are fair, no action takes effect twice: at each moment the server's history has at
-    // most one change of each.
-    ensures twice { W.tells_server → IsKeptNow (W.clock world.old).now →
-        AllFair mail played (W.clock world.old) (W.clock world.new) → NeverTwice (W.clock world.old) (W.clock world.new) }
+    // Where the book is kept at entry, no action takes effect twice: up to each moment to which others were fair the server's history
+    // has at most one change of each.
+    ensures twice { W.tells_server → IsKeptNow (W.clock world.old).now → (at : Clock) → Grows (W.clock world.old) at →
+        Grows at (W.clock world.new) → AllFair mail played (W.clock world.old) at → NeverTwice (W.clock world.old) at }
 
     // Nor has the server's history, under the premises of `joined`, a change of this client's that no action wants of the book that a
     // stop leaves.
     ensures owned { W.tells_server → OneSideAtRest (W.clock world.old).now →
         (books : Books mail) → HasBooks mail books (W.clock world.old).now → IsKeptNow (W.clock world.old).now →
-        AllFair mail played (W.clock world.old) (W.clock world.new) → AlwaysOwned (W.clock world.old) (W.clock world.new) }
+        (at : Clock) → Grows (W.clock world.old) at → Grows at (W.clock world.new) →
+        AllFair mail played (W.clock world.old) at → AlwaysOwned (W.clock world.old) at }
 
     // Then each intent and each conflict that a `play` recorded had its reason at that moment.
     ensures truly { W.tells_server → WritesPlay (map string_bytes words.now) → IsKeptNow (W.clock world.old).now →

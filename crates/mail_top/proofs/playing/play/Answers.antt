@@ -175,7 +175,7 @@ returns-in_err-store-clause-kept g c tells kept fair =
     (narrowed _ _ (c.open.ensures.told (g.W.Clocked.server_with_files tells)))
 
 pub returns-in_err-store-clause-twice : goal.returns-in_err-store-clause-twice
-returns-in_err-store-clause-twice g c tells kept fair =
+returns-in_err-store-clause-twice g c tells kept =
     still_once _ _ _ kept (only_opens _ _ (c.open.ensures.held (g.W.Clocked.server_with_files tells)))
 
 pub returns-in_err-played-clause-kept : goal.returns-in_err-played-clause-kept
@@ -185,12 +185,11 @@ returns-in_err-played-clause-kept g c tells kept fair =
     kept_last _ _ here (c.play.ensures.joined tells here) (play_fair _ _ _ _ _ (c.open.ensures.held files) (c.play.ensures.progress files) fair)
 
 pub returns-in_err-played-clause-twice : goal.returns-in_err-played-clause-twice
-returns-in_err-played-clause-twice g c tells kept fair =
+returns-in_err-played-clause-twice g c tells kept =
     let files = g.W.Clocked.server_with_files tells in
     let opens = c.open.ensures.held files in
     let here = opened_kept (g.W.Clocked.clock c.args.world.now) (g.W.Clocked.clock c.open.new.disk) kept (narrowed _ _ (c.open.ensures.told files)) in
-    play_once _ _ _ _ kept (only_opens _ _ opens) (c.play.ensures.joined tells here)
-    (play_fair _ _ _ _ _ opens (c.play.ensures.progress files) fair)
+    play_once _ _ _ _ _ kept (only_opens _ _ opens) (c.play.ensures.progress files) (c.play.ensures.joined tells here)
 
 pub returns-clause-kept : goal.returns-clause-kept
 returns-clause-kept g c tells kept fair =
@@ -199,9 +198,8 @@ returns-clause-kept g c tells kept fair =
     kept_last _ _ here (c.play.ensures.joined tells here) (play_fair _ _ _ _ _ (c.open.ensures.held files) (c.play.ensures.progress files) fair)
 
 pub returns-clause-twice : goal.returns-clause-twice
-returns-clause-twice g c tells kept fair =
+returns-clause-twice g c tells kept =
     let files = g.W.Clocked.server_with_files tells in
     let opens = c.open.ensures.held files in
     let here = opened_kept (g.W.Clocked.clock c.args.world.now) (g.W.Clocked.clock c.open.new.disk) kept (narrowed _ _ (c.open.ensures.told files)) in
-    play_once _ _ _ _ kept (only_opens _ _ opens) (c.play.ensures.joined tells here)
-    (play_fair _ _ _ _ _ opens (c.play.ensures.progress files) fair)
+    play_once _ _ _ _ _ kept (only_opens _ _ opens) (c.play.ensures.progress files) (c.play.ensures.joined tells here)

@@ -56,7 +56,7 @@ pub returns-in-Init-clause-kept : goal.returns-in-Init-clause-kept
 returns-in-Init-clause-kept g c tells asks = absurd (never_init _ (sym (ap (λ (a : Asked). request_of a []) c.in-Init.is) ∙ asks []))
 
 pub returns-in-Init-clause-twice : goal.returns-in-Init-clause-twice
-returns-in-Init-clause-twice g c tells kept fair =
+returns-in-Init-clause-twice g c tells kept =
     request_once (Init _) (never_init _) _ _ _ kept (c.init.ensures.keeps (g.W.Clocked.server_with_files tells))
 
 pub returns-in-Init-clause-taken : goal.returns-in-Init-clause-taken
@@ -127,7 +127,7 @@ pub returns-in-Act-clause-kept : goal.returns-in-Act-clause-kept
 returns-in-Act-clause-kept g c tells asks = absurd (never_act _ (sym (ap (λ (a : Asked). request_of a []) c.in-Act.is) ∙ asks []))
 
 pub returns-in-Act-clause-twice : goal.returns-in-Act-clause-twice
-returns-in-Act-clause-twice g c tells kept fair =
+returns-in-Act-clause-twice g c tells kept =
     let went = c.accept.ensures.goes (g.W.Clocked.server_with_files tells) in
     request_once (Act (wanted_of _ went.0)) (never_act _) _ _ _ kept went.2.goes.keeps
 
@@ -175,7 +175,7 @@ pub returns-in-Rows-clause-kept : goal.returns-in-Rows-clause-kept
 returns-in-Rows-clause-kept g c tells asks = absurd (never_rows _ (sym (ap (λ (a : Asked). request_of a []) c.in-Rows.is) ∙ asks []))
 
 pub returns-in-Rows-clause-twice : goal.returns-in-Rows-clause-twice
-returns-in-Rows-clause-twice g c tells kept fair =
+returns-in-Rows-clause-twice g c tells kept =
     request_once (Rows _) (never_rows _) _ _ _ kept (c.list.ensures.keeps (g.W.Clocked.server_with_files tells))
 
 pub returns-in-Rows-clause-taken : goal.returns-in-Rows-clause-taken
@@ -228,7 +228,7 @@ pub returns-in-Queue-clause-kept : goal.returns-in-Queue-clause-kept
 returns-in-Queue-clause-kept g c tells asks = absurd (never_queue (sym (ap (λ (a : Asked). request_of a []) c.in-Queue.is) ∙ asks []))
 
 pub returns-in-Queue-clause-twice : goal.returns-in-Queue-clause-twice
-returns-in-Queue-clause-twice g c tells kept fair =
+returns-in-Queue-clause-twice g c tells kept =
     request_once Queue never_queue _ _ _ kept (c.queue.ensures.keeps (g.W.Clocked.server_with_files tells))
 
 pub returns-in-Queue-clause-taken : goal.returns-in-Queue-clause-taken
@@ -281,7 +281,7 @@ pub returns-in-Report-clause-kept : goal.returns-in-Report-clause-kept
 returns-in-Report-clause-kept g c tells asks = absurd (never_report (sym (ap (λ (a : Asked). request_of a []) c.in-Report.is) ∙ asks []))
 
 pub returns-in-Report-clause-twice : goal.returns-in-Report-clause-twice
-returns-in-Report-clause-twice g c tells kept fair =
+returns-in-Report-clause-twice g c tells kept =
     request_once Report never_report _ _ _ kept (c.report.ensures.keeps (g.W.Clocked.server_with_files tells))
 
 pub returns-in-Report-clause-taken : goal.returns-in-Report-clause-taken

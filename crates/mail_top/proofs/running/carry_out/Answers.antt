@@ -44,7 +44,7 @@ pub returns-in-None-clause-kept : goal.returns-in-None-clause-kept
 returns-in-None-clause-kept g c tells asks kept fair = kept
 
 pub returns-in-None-clause-twice : goal.returns-in-None-clause-twice
-returns-in-None-clause-twice g c tells kept fair = nothing_twice _
+returns-in-None-clause-twice g c tells kept = nothing_twice _
 
 pub returns-in-None-clause-words : goal.returns-in-None-clause-words
 returns-in-None-clause-words g c = (λ is. c.in-None.ensures.none refl, λ nothing. c.ending_of_words.ensures.status)
@@ -102,3 +102,7 @@ returns-in-Some-clause-whole g c tells append = c.answer.ensures.whole tells (as
 
 pub returns-in-None-clause-serves : goal.returns-in-None-clause-serves
 returns-in-None-clause-serves g c tells asks = absurd (c.in-None.ensures.none refl [] Play asks)
+
+pub returns-in-Some-clause-serves : goal.returns-in-Some-clause-serves
+returns-in-Some-clause-serves g c tells asks =
+    c.answer.ensures.serves tells (λ input. one_request (map string_bytes c.args.words.now) input _ Play (c.in-Some.ensures.some input) asks)

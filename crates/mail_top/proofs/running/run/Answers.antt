@@ -90,7 +90,7 @@ returns-clause-synced g c tells asks through kept fair =
     ended.synced tells asks (said_through _ _ c.say.ensures.status through) kept fair
 
 pub returns-clause-owned : goal.returns-clause-owned
-returns-clause-owned g c tells one books have kept fair = stays_owned _ _ (c.carry_out-ending.ensures.joined tells one books have kept) fair
+returns-clause-owned g c tells one books have kept = stays_owned _ _ (c.carry_out-ending.ensures.joined tells one books have kept)
 
 pub returns-clause-finishes : goal.returns-clause-finishes
 returns-clause-finishes g c tells asks through =
