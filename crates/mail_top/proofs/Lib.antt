@@ -1,5 +1,6 @@
 pub mod Admitting
 pub mod Beginnings
+pub mod Besides
 pub mod Connections
 pub mod Endings
 pub mod Goings

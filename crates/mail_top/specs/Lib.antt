@@ -1,4 +1,8 @@
 pub mod Actions
+pub mod BesideServer
+pub mod Causing
+pub mod CompletePlay
+pub mod Completing
 pub mod Connecting
 pub mod Course
 pub mod Ending
@@ -10,15 +14,16 @@ pub mod KeptNow
 pub mod Leaving
 pub mod Names
 pub mod Played
-pub mod CompletePlay
 pub mod Printing
 pub mod Reading
+pub mod ReadsInput
 pub mod Reasons
+pub mod Resting
 pub mod Runs
 pub mod Saying
 pub mod Showing
 pub mod Telling
 pub mod Texts
 pub mod TruePlay
-pub mod Words
 pub mod Weighing
+pub mod Words

@@ -30,7 +30,8 @@ pub fn list<D: Disk>(alloc: Global, disk: &mut D, name: &BoxName) -> Result<Byte
     ensures count { D.disk_faults disk.old ≤ D.disk_faults disk.new }
     ensures link { D.link disk.new ≡ D.link disk.old }
 {
-    let Some(text) = show_book(alloc, disk, &Rows { name })? else {
+    let shown = show_book(alloc, disk, &Rows { name })?;
+    let Some(text) = shown else {
         return Err(Refusal::from(Reason::NoMailbox));
     };
     Ok(text)

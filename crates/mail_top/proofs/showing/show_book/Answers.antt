@@ -5,8 +5,8 @@ use Rattle.mail_top.proofs.showing.show_book.Goals as goal
 
 pub returns-in_err-store-clause-ends : goal.returns-in_err-store-clause-ends
 returns-in_err-store-clause-ends g c tells =
-    unopened_showing _ _ _ c.in_err-store.was c.from_residual.ensures.1 _ (narrowed _ _ (c.open.ensures.told tells)) (c.open.ensures.seen tells)
-    c.open.ensures.only (c.open.ensures.broken tells) _
+    unopened_showing _ _ _ c.in_err-store.was c.from_residual.ensures.1 c.open.ensures.only _ (narrowed _ _ (c.open.ensures.told tells))
+    (c.open.ensures.seen tells) (c.open.ensures.broken tells) _
 
 pub returns-in_err-store-clause-reads : goal.returns-in_err-store-clause-reads
 returns-in_err-store-clause-reads g c tells = record {
