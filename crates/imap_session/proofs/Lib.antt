@@ -20,3 +20,4 @@ pub mod Greetings
 pub mod Offering
 pub mod Farewells
 pub mod Talks
+pub mod Conversing

@@ -14,3 +14,8 @@ pub mod LogIn
 pub mod Greeting
 pub mod Leaving
 pub mod Enquiring
+pub mod Blame
+pub mod Receiving
+pub mod Exchange
+pub mod Conversing
+pub mod Sending

@@ -1,25 +1,24 @@
 //! One command and its whole reply.
 
-ghost use Rattle.std.specs.Prelude.{◌≡◌, ◌≢◌, ◌≤◌, ◌<◌, ◌++◌, ◌+◌, ◌-◌, [], ◌∷◌, ℕ, List, Option, Some, None, IfOk, OnOk, IsErrOf, IsTrue, length, take, drop, MatchOption, IfSome, IfNone, true, false};
+ghost use Rattle.std.specs.Prelude.{◌≡◌, ◌≢◌, ◌<◌, ◌++◌, ◌+◌, ◌-◌, [], ◌∷◌, ℕ, List, Option, Some, None, IfOk, OnOk, IsErrOf, IsTrue, length, take, drop, MatchOption, IfSome, IfNone, true, false};
 ghost use Rattle.imap_model.specs.CommandText.{IsWritable, parts_of};
 ghost use Rattle.imap_model.specs.Held.{IsSent};
 ghost use Rattle.imap_model.specs.Small.{IsSmall, IsSmallCode};
 ghost use Rattle.imap_model.specs.declared.response.Response.{Response};
 ghost use Rattle.imap_model.specs.declared.response.Response.TheVariants as responses;
 ghost use Rattle.imap_model.specs.declared.ending.Ending.TheVariants as endings;
-ghost use Rattle.world_traits.specs.Asking.{Asking};
-ghost use Rattle.world_traits.specs.Calls.{Rose};
-ghost use Rattle.world_traits.specs.Links.{Linked, AnyStep};
 ghost use Rattle.world_traits.specs.Moments.{Clock};
-ghost use Rattle.imap_session.specs.Causes.{Fails, FailsBehind};
-ghost use Rattle.imap_session.specs.Hearing.{Hears, Reads};
+ghost use Rattle.imap_session.specs.Sending.{GoesOn, IsEarly, Sends};
+ghost use Rattle.imap_session.specs.Exchange.{FailsFor, HasReply, Talks};
+ghost use Rattle.imap_session.specs.Causes.{Fails};
+ghost use Rattle.imap_session.specs.Hearing.{Reads};
 ghost use Rattle.imap_session.specs.Faults.{HasParts, IsCount, Unfit, more_parts};
 ghost use Rattle.imap_session.specs.Knowing.{IsEnd};
 ghost use Rattle.imap_session.specs.Permanent.{behind_all, behind_code, permitted};
-ghost use Rattle.imap_session.specs.Replying.{AllSmall, AreSmall, Came, HeardDone, HeardEarly, HeardOn, ReceivedAtMost, read_as};
-ghost use Rattle.imap_session.specs.Sent.{joined, SentFront};
+ghost use Rattle.imap_session.specs.Replying.{AllSmall, HeardDone, HeardEarly, HeardOn, read_as};
+ghost use Rattle.imap_session.specs.Sent.{joined};
 ghost use Rattle.imap_session.specs.declared.permits.Permits.{Permits};
-ghost use Rattle.imap_session.specs.Session.{Answered, Begun, Follows, IsReady, KeepsSelection, Sending, Stands, waiting_of};
+ghost use Rattle.imap_session.specs.Session.{Answered, Begun, Follows, IsReady, KeepsSelection, Stands, waiting_of};
 ghost use Rattle.imap_session.specs.declared.fault.SessionFault.{SessionFault};
 ghost use Rattle.imap_session.specs.declared.fault.SessionFault.TheVariants as faults;
 
@@ -89,8 +88,7 @@ fn turned(line: Line, tag: Tag) -> Result<Option<Completion>, SessionFault>
     requires ended { IsEnd true line.response }
     ensures value { IfOk result (λ o. MatchOption o (line.response ≡ responses.Go)
         (λ d. line.response ≡ responses.Done tag d.ending d.code)) }
-    ensures accepted { IfOk result (λ o. IfSome o (λ d. IsCount tag → d.ending ≡ endings.Ok)) }
-    ensures refused { IfOk result (λ o. IfSome o (λ d. d.ending ≢ endings.Ok)) }
+    ensures early { IfOk result (λ o. IfSome o (λ d. IsEarly tag d.ending)) }
     ensures small { IsSmall line.response → IfOk result (λ o. IfSome o (λ d. IsSmallCode d.code)) }
     ensures why { (fault : SessionFault) → IsErrOf result fault
         → Unfit tag (IsTrue true) line.frame line.response fault }
@@ -119,23 +117,14 @@ fn send_on<L: Link>(
         (L.link link.old).connection feed.old }
     requires keeps { KeepsSelection command.now }
     requires silent { L.tells_server → listener.old.rows ≡ [] }
-    ensures files { L.tells_files → Linked AnyStep (L.clock link.old) (L.clock link.new) }
-    ensures told { L.tells_server → (selected : Option (List ℕ)) (before : List (List ℕ)) (next : List ℕ)
-        (behind : List (List ℕ)) (old : Clock)
-        → IsReady (waiting_of selected tag command.now) before part.now (next ∷ behind) old (L.clock link.old)
+    ensures sends { Sends L.Clocked part.now link.old link.new result }
+    ensures goes_on { L.tells_server → (selected : Option (List ℕ)) (before : List (List ℕ)) (next : List ℕ)
+        (behind : List (List ℕ)) (start : Clock)
+        → IsReady (waiting_of selected tag command.now) before part.now (next ∷ behind) start (L.clock link.old)
         (L.link link.old).connection feed.old
-        → Linked (Asking old.now.outside.talk.told tag command.now) (L.clock link.old) (L.clock link.new) }
-    ensures went { L.tells_server → (selected : Option (List ℕ)) (before : List (List ℕ)) (next : List ℕ)
-        (behind : List (List ℕ)) (old : Clock)
-        → IsReady (waiting_of selected tag command.now) before part.now (next ∷ behind) old (L.clock link.old)
-        (L.link link.old).connection feed.old
-        → IfOk result (λ o. MatchOption o
-        ((listener.new.rows ≡ []) × Sending (waiting_of selected tag command.now) (before ++ part.now ∷ []) old
-        (L.clock link.new) (L.link link.new).connection feed.new)
-        (λ d. Answered (waiting_of selected tag command.now) (read_as listener.new.rows d.ending d.code) old
-        (L.clock link.new) (L.link link.new).connection feed.new)) }
-    ensures accepted { IfOk result (λ o. IfSome o (λ d. IsCount tag → d.ending ≡ endings.Ok)) }
-    ensures refused { IfOk result (λ o. IfSome o (λ d. d.ending ≢ endings.Ok)) }
+        → GoesOn L.Clocked (waiting_of selected tag command.now) before part.now start link.old link.new feed.new
+        listener.new.rows result }
+    ensures early { IfOk result (λ o. IfSome o (λ d. IsEarly tag d.ending)) }
     ensures small { AllSmall listener.old.rows
         → IfOk result (λ o. AllSmall listener.new.rows × IfSome o (λ d. IsSmallCode d.code)) }
     ensures reads { L.tells_files → (heard : List Response) (had : List ℕ) (most : ℕ)
@@ -150,16 +139,6 @@ fn send_on<L: Link>(
         → Reads heard had most left.old (L.link link.old).connection feed.old → (fault : SessionFault)
         → IsErrOf result fault
         → Fails heard tag 1 had most (L.link link.new).connection fault }
-    ensures sent { L.tells_files → SentFront part.now (L.link link.old).sent (L.link link.new).sent }
-    ensures sent_all { L.tells_files → OnOk result ((L.link link.new).sent ≡ (L.link link.old).sent ++ part.now) }
-    ensures honest { L.tells_server → (selected : Option (List ℕ)) (before : List (List ℕ)) (next : List ℕ)
-        (behind : List (List ℕ)) (old : Clock)
-        → IsReady (waiting_of selected tag command.now) before part.now (next ∷ behind) old (L.clock link.old)
-        (L.link link.old).connection feed.old
-        → (at : ℕ) → IsErrOf result (faults.BadReply at) → ⊥ }
-    ensures disk { L.disk_faults link.new ≡ L.disk_faults link.old }
-    ensures count { (L.link link.old).faults ≤ (L.link link.new).faults }
-    ensures cause { IsErrOf result faults.Link → Rose (L.link link.old).faults (L.link link.new).faults }
 {
     link.send(part)?;
     let line = listen(alloc, feed, left, link, listener, true)?;
@@ -184,9 +163,7 @@ fn begin<L: Link>(
     requires silent { L.tells_server → listener.old.rows ≡ [] }
     requires stands { L.tells_server → (selected : Option (List ℕ)) × Stands selected (L.clock link.old)
         (L.link link.old).connection feed.old }
-    ensures files { L.tells_files → Linked AnyStep (L.clock link.old) (L.clock link.new) }
-    ensures told { L.tells_server → Linked (Asking (L.clock link.old).now.outside.talk.told tag command.now)
-        (L.clock link.old) (L.clock link.new) }
+    ensures talks { Talks L.Clocked tag command.now link.old link.new result }
     ensures begun { L.tells_server → (selected : Option (List ℕ))
         → Stands selected (L.clock link.old) (L.link link.old).connection feed.old
         → IfOk result (λ o. MatchOption o
@@ -194,8 +171,7 @@ fn begin<L: Link>(
         (L.link link.new).connection feed.new)
         (λ d. Answered (waiting_of selected tag command.now) (read_as listener.new.rows d.ending d.code)
         (L.clock link.old) (L.clock link.new) (L.link link.new).connection feed.new)) }
-    ensures accepted { IfOk result (λ o. IfSome o (λ d. IsCount tag → d.ending ≡ endings.Ok)) }
-    ensures refused { IfOk result (λ o. IfSome o (λ d. d.ending ≢ endings.Ok)) }
+    ensures early { IfOk result (λ o. IfSome o (λ d. IsEarly tag d.ending)) }
     ensures small { AllSmall listener.old.rows
         → IfOk result (λ o. AllSmall listener.new.rows × IfSome o (λ d. IsSmallCode d.code)) }
     ensures reads { L.tells_files → (heard : List Response) (had : List ℕ) (most : ℕ)
@@ -211,13 +187,8 @@ fn begin<L: Link>(
         → Reads heard had most left.old (L.link link.old).connection feed.old → (fault : SessionFault)
         → IsErrOf result fault
         → Fails heard tag (more_parts tag command.now) had most (L.link link.new).connection fault }
-    ensures sent { L.tells_files → SentFront (joined parts.now) (L.link link.old).sent (L.link link.new).sent }
-    ensures sent_all { L.tells_files
+    ensures whole { L.tells_files
         → IfOk result (λ o. IfNone o ((L.link link.new).sent ≡ (L.link link.old).sent ++ joined parts.now)) }
-    ensures honest { L.tells_server → (at : ℕ) → IsErrOf result (faults.BadReply at) → ⊥ }
-    ensures disk { L.disk_faults link.new ≡ L.disk_faults link.old }
-    ensures count { (L.link link.old).faults ≤ (L.link link.new).faults }
-    ensures cause { IsErrOf result faults.Link → Rose (L.link link.old).faults (L.link link.new).faults }
 {
     let last = parts.len() - 1;
     for index in 0..last {
@@ -269,35 +240,11 @@ pub fn exchange<L: Link>(
     requires follows { L.tells_files → Follows (L.link link.old).connection feed.old }
     requires stands { L.tells_server → (selected : Option (List ℕ)) × Stands selected (L.clock link.old)
         (L.link link.old).connection feed.old }
-    ensures files { L.tells_files → Linked AnyStep (L.clock link.old) (L.clock link.new) }
-    ensures told { L.tells_server → Linked (Asking (L.clock link.old).now.outside.talk.told tag command.now)
-        (L.clock link.old) (L.clock link.new) }
-    ensures answered { L.tells_server → (selected : Option (List ℕ))
-        → Stands selected (L.clock link.old) (L.link link.old).connection feed.old
-        → IfOk result
-        (λ a. Answered (waiting_of selected tag command.now) a.replies (L.clock link.old) (L.clock link.new)
-        (L.link link.new).connection feed.new) }
-    ensures accepted { IfOk result (λ a. IsCount tag → a.replies.ending ≡ endings.Ok) }
-    ensures came { L.tells_files → (heard : List Response) → Hears heard (L.link link.old).connection feed.old
-        → IfOk result
-        (λ a. Came heard tag command.now a.replies (L.link link.old) (L.link link.new) feed.new) }
-    ensures small { IfOk result (λ a. AreSmall a.replies) }
-    ensures within { L.tells_files → (heard : List Response) → (h : Hears heard (L.link link.old).connection feed.old)
-        → OnOk result (ReceivedAtMost h.connection.received (L.link link.new).connection) }
+    ensures talks { Talks L.Clocked tag command.now link.old link.new result }
+    ensures replied { IfOk result
+        (λ a. HasReply L.Clocked tag command.now link.old link.new feed.old feed.new a.replies) }
     ensures permits { IfOk result (λ a. a.permits ≡ permitted permits a.replies) }
-    ensures why { L.tells_files → (heard : List Response) → (h : Hears heard (L.link link.old).connection feed.old)
-        → (fault : SessionFault) → IsErrOf result fault
-        → FailsBehind heard tag command.now h.connection.received (L.link link.new).connection fault }
-    ensures sent { L.tells_files → SentFront (joined (parts_of tag command.now)) (L.link link.old).sent
-        (L.link link.new).sent }
-    ensures whole { L.tells_files
-        → IfOk result
-        (λ a. a.replies.ending ≡ endings.Ok → (L.link link.new).sent ≡ (L.link link.old).sent ++ joined
-        (parts_of tag command.now)) }
-    ensures honest { L.tells_server → (at : ℕ) → IsErrOf result (faults.BadReply at) → ⊥ }
-    ensures disk { L.disk_faults link.new ≡ L.disk_faults link.old }
-    ensures count { (L.link link.old).faults ≤ (L.link link.new).faults }
-    ensures cause { IsErrOf result faults.Link → Rose (L.link link.old).faults (L.link link.new).faults }
+    ensures fails { FailsFor L.Clocked tag command.now link.old link.new feed.old result }
 {
     let parts = write(alloc, tag, command)?;
     let mut left = MOST;
@@ -333,34 +280,10 @@ pub fn converse<L: Link>(
     requires follows { L.tells_files → Follows (L.link link.old).connection feed.old }
     requires stands { L.tells_server → (selected : Option (List ℕ)) × Stands selected (L.clock link.old)
         (L.link link.old).connection feed.old }
-    ensures files { L.tells_files → Linked AnyStep (L.clock link.old) (L.clock link.new) }
-    ensures told { L.tells_server → Linked (Asking (L.clock link.old).now.outside.talk.told tag command.now)
-        (L.clock link.old) (L.clock link.new) }
-    ensures answered { L.tells_server → (selected : Option (List ℕ))
-        → Stands selected (L.clock link.old) (L.link link.old).connection feed.old
-        → IfOk result
-        (λ r. Answered (waiting_of selected tag command.now) r (L.clock link.old) (L.clock link.new)
-        (L.link link.new).connection feed.new) }
-    ensures accepted { IfOk result (λ r. IsCount tag → r.ending ≡ endings.Ok) }
-    ensures came { L.tells_files → (heard : List Response) → Hears heard (L.link link.old).connection feed.old
-        → IfOk result (λ r. Came heard tag command.now r (L.link link.old) (L.link link.new) feed.new) }
-    ensures small { IfOk result AreSmall }
-    ensures within { L.tells_files → (heard : List Response) → (h : Hears heard (L.link link.old).connection feed.old)
-        → OnOk result (ReceivedAtMost h.connection.received (L.link link.new).connection) }
+    ensures talks { Talks L.Clocked tag command.now link.old link.new result }
+    ensures replied { IfOk result (HasReply L.Clocked tag command.now link.old link.new feed.old feed.new) }
     ensures still { L.tells_files → OnOk result (Follows (L.link link.new).connection feed.new) }
-    ensures why { L.tells_files → (heard : List Response) → (h : Hears heard (L.link link.old).connection feed.old)
-        → (fault : SessionFault) → IsErrOf result fault
-        → FailsBehind heard tag command.now h.connection.received (L.link link.new).connection fault }
-    ensures sent { L.tells_files → SentFront (joined (parts_of tag command.now)) (L.link link.old).sent
-        (L.link link.new).sent }
-    ensures whole { L.tells_files
-        → IfOk result
-        (λ r. r.ending ≡ endings.Ok → (L.link link.new).sent ≡ (L.link link.old).sent ++ joined
-        (parts_of tag command.now)) }
-    ensures honest { L.tells_server → (at : ℕ) → IsErrOf result (faults.BadReply at) → ⊥ }
-    ensures disk { L.disk_faults link.new ≡ L.disk_faults link.old }
-    ensures count { (L.link link.old).faults ≤ (L.link link.new).faults }
-    ensures cause { IsErrOf result faults.Link → Rose (L.link link.old).faults (L.link link.new).faults }
+    ensures fails { FailsFor L.Clocked tag command.now link.old link.new feed.old result }
 {
     let answer = exchange(alloc, feed, link, tag, command, None)?;
     Ok(answer.replies)

@@ -1,12 +1,13 @@
 //! A connection that was just made (RFC 9051, sections 3 and 7.1).
 
-ghost use Rattle.std.specs.Prelude.{◌≡◌, ◌⊎◌, ◌≤◌, ℕ, List, [], ◌∷◌, None, IfOk, OnOk, OnErr, IsErrOf};
-ghost use Rattle.imap_model.specs.Talking.{Answering, Connecting};
-ghost use Rattle.world_traits.specs.Calls.{Rose};
+ghost use Rattle.std.specs.Prelude.{◌≡◌, ◌⊎◌, ℕ, [], None, IfOk, OnOk, OnErr, IsErrOf};
+ghost use Rattle.imap_model.specs.Talking.{Connecting};
 ghost use Rattle.world_traits.specs.Connected.{IsGreeted, WasConnected};
 ghost use Rattle.world_traits.specs.Links.{Linked, AnyStep};
+ghost use Rattle.imap_session.specs.Blame.{Blames};
 ghost use Rattle.imap_session.specs.Faults.{NoHello};
 ghost use Rattle.imap_session.specs.Greeting.{Greets, IsBegun};
+ghost use Rattle.imap_session.specs.Receiving.{Receives};
 ghost use Rattle.imap_session.specs.Replying.{ReceivedAtMost};
 ghost use Rattle.imap_session.specs.Session.{Follows, IsFresh, Stands};
 ghost use Rattle.imap_session.specs.declared.fault.SessionFault.{SessionFault};
@@ -42,10 +43,7 @@ impl Fresh {
             → OnErr result (((L.link link.new).sent ≡ []) ⊎
             ((L.link link.new).sent ≡ (L.link link.old).sent)) }
         ensures only { (fault : SessionFault) → IsErrOf result fault → fault ≡ faults.Link }
-        ensures disk { L.disk_faults link.new ≡ L.disk_faults link.old }
-        ensures count { (L.link link.old).faults ≤ (L.link link.new).faults }
-        ensures cause { IsErrOf result faults.Link
-            → Rose (L.link link.old).faults (L.link link.new).faults }
+        ensures blames { Blames L.Clocked link.old link.new result }
     {
         link.connect()?;
         let conversation = Conversation {
@@ -61,8 +59,7 @@ impl Fresh {
     pub fn greet<L: Link>(self, link: &mut L) -> Result<Greeted, SessionFault>
         requires fresh { L.tells_files → IsFresh (L.link link.old) self.conversation.feed }
         requires greeted { L.tells_server → IsGreeted (L.clock link.old).now.outside }
-        ensures files { L.tells_files → Linked AnyStep (L.clock link.old) (L.clock link.new) }
-        ensures told { L.tells_server → Linked Answering (L.clock link.old) (L.clock link.new) }
+        ensures receives { Receives L.Clocked link.old link.new result }
         ensures within { L.tells_files
             → OnOk result (ReceivedAtMost [] (L.link link.new).connection) }
         ensures begun { L.tells_server
@@ -77,12 +74,7 @@ impl Fresh {
         ensures counted { IfOk result (λ s. s.conversation.count ≡ self.conversation.count) }
         ensures why { L.tells_files → (fault : SessionFault) → IsErrOf result fault
             → NoHello (L.link link.new).connection fault }
-        ensures sent { L.tells_files → (L.link link.new).sent ≡ (L.link link.old).sent }
         ensures honest { L.tells_server → (at : ℕ) → IsErrOf result (faults.BadReply at) → ⊥ }
-        ensures disk { L.disk_faults link.new ≡ L.disk_faults link.old }
-        ensures count { (L.link link.old).faults ≤ (L.link link.new).faults }
-        ensures cause { IsErrOf result faults.Link
-            → Rose (L.link link.old).faults (L.link link.new).faults }
     {
         let Fresh {
             conversation: Conversation {

@@ -1,16 +1,11 @@
 //! A connection whose greeting was read (RFC 9051, sections 3.1 and 3.2).
 
-ghost use Rattle.std.specs.Prelude.{◌≡◌, ◌≤◌, ◌<◌, ◌+◌, ℕ, List, Some, None, IfOk, OnOk, IsErrOf};
-ghost use Rattle.imap_model.specs.declared.item.Item.{Item};
-ghost use Rattle.imap_model.specs.declared.response.Response.{Response};
-ghost use Rattle.world_traits.specs.Calls.{Rose};
-ghost use Rattle.world_traits.specs.Links.{Linked, AnyStep};
-ghost use Rattle.imap_session.specs.Dialogue.{BrokeOff, CameToEnd, SentIn, Talked, TalkedOut, next_tag, so_far};
-ghost use Rattle.imap_session.specs.Hearing.{Hears};
+ghost use Rattle.std.specs.Prelude.{◌≡◌, ◌≤◌, ◌<◌, ◌+◌, None, IfOk};
+ghost use Rattle.imap_session.specs.Conversing.{Concludes, Converses};
+ghost use Rattle.imap_session.specs.Dialogue.{next_tag};
 ghost use Rattle.imap_session.specs.LogIn.{SwitchedOn, enabling, entering};
 ghost use Rattle.imap_session.specs.Session.{Follows, Stands};
 ghost use Rattle.imap_session.specs.declared.fault.SessionFault.{SessionFault};
-ghost use Rattle.imap_session.specs.declared.fault.SessionFault.TheVariants as faults;
 
 use crate::asking::converse;
 use crate::conversation::Conversation;
@@ -50,51 +45,15 @@ impl Greeted {
         requires stands { L.tells_server
             → Stands None (L.clock link.old) (L.link link.old).connection self.conversation.feed }
 
-        // Over a link that tells its server, each question was answered at one moment of this call.
-        ensures files { L.tells_files → Linked AnyStep (L.clock link.old) (L.clock link.new) }
-        ensures told { L.tells_server
-            → Talked (entering self.preauth account.now) self.conversation.count
-            (so_far (L.clock link.old) (L.link link.old))
-            (so_far (L.clock link.new) (L.link link.new)) }
-        ensures answered { L.tells_server
-            → OnOk result (TalkedOut
-            (entering self.preauth account.now) self.conversation.count None
-            (so_far (L.clock link.old) (L.link link.old))
-            (so_far (L.clock link.new) (L.link link.new))) }
-        ensures lacking { L.tells_server → (item : Item) → IsErrOf result (faults.Lacking item)
-            → TalkedOut (entering self.preauth account.now) self.conversation.count (Some item)
-            (so_far (L.clock link.old) (L.link link.old))
-            (so_far (L.clock link.new) (L.link link.new)) }
-
-        // Which bytes were sent and received, and how the connection stands then.
-        ensures came { L.tells_files → (heard : List Response)
-            → (h : Hears heard (L.link link.old).connection self.conversation.feed)
-            → IfOk result (λ s. CameToEnd
-            (entering self.preauth account.now) self.conversation.count
-            (L.link link.old).sent h.connection.received heard (record { count = s.conversation.count; rev2 = s.rev2 })
-            (L.link link.new) s.conversation.feed) }
-        ensures sent { L.tells_files
-            → SentIn (entering self.preauth account.now) self.conversation.count
-            (L.link link.old).sent (L.link link.new).sent }
-        ensures stands { L.tells_server
-            → IfOk result (λ s. Stands None (L.clock link.new)
-            (L.link link.new).connection s.conversation.feed) }
+        ensures converses { Converses L.Clocked (entering self.preauth account.now) self.conversation.count
+            link.old link.new self.conversation.feed result }
+        ensures concludes { IfOk result (λ s. Concludes L.Clocked (entering self.preauth account.now)
+            self.conversation.count link.old link.new self.conversation.feed s.conversation.feed
+            (record { count = s.conversation.count; rev2 = s.rev2 })) }
         ensures still { L.tells_files
             → IfOk result (λ s. Follows (L.link link.new).connection s.conversation.feed) }
         ensures preauth { IfOk result (λ s. s.preauth ≡ self.preauth) }
         ensures counted { IfOk result (λ s. s.conversation.count ≤ self.conversation.count + 3) }
-
-        // Why it ends otherwise, on the bytes received.
-        ensures why { L.tells_files → (heard : List Response)
-            → (h : Hears heard (L.link link.old).connection self.conversation.feed)
-            → (fault : SessionFault) → IsErrOf result fault
-            → BrokeOff (entering self.preauth account.now) self.conversation.count
-            (L.link link.old).sent h.connection.received heard (L.link link.new) fault }
-        ensures honest { L.tells_server → (at : ℕ) → IsErrOf result (faults.BadReply at) → ⊥ }
-        ensures disk { L.disk_faults link.new ≡ L.disk_faults link.old }
-        ensures count { (L.link link.old).faults ≤ (L.link link.new).faults }
-        ensures cause { IsErrOf result faults.Link
-            → Rose (L.link link.old).faults (L.link link.new).faults }
     {
         let Greeted {
             conversation: Conversation {
@@ -148,52 +107,17 @@ impl Greeted {
         requires stands { L.tells_server
             → Stands None (L.clock link.old) (L.link link.old).connection self.conversation.feed }
 
-        // Over a link that tells its server, each question was answered at one moment of this call.
-        ensures files { L.tells_files → Linked AnyStep (L.clock link.old) (L.clock link.new) }
-        ensures told { L.tells_server
-            → Talked (enabling self.rev2) self.conversation.count
-            (so_far (L.clock link.old) (L.link link.old))
-            (so_far (L.clock link.new) (L.link link.new)) }
-        ensures answered { L.tells_server
-            → OnOk result (TalkedOut (enabling self.rev2) self.conversation.count None
-            (so_far (L.clock link.old) (L.link link.old))
-            (so_far (L.clock link.new) (L.link link.new))) }
+        ensures converses { Converses L.Clocked (enabling self.rev2) self.conversation.count
+            link.old link.new self.conversation.feed result }
+        ensures concludes { IfOk result (λ s. Concludes L.Clocked (enabling self.rev2)
+            self.conversation.count link.old link.new self.conversation.feed s.conversation.feed
+            (record { count = s.conversation.count; rev2 = self.rev2 })) }
         ensures enabled { L.tells_server
             → IfOk result (λ s. SwitchedOn self.rev2 (next_tag self.conversation.count)
             (L.clock link.old) (L.clock link.new) (L.link link.new).connection s.conversation.feed) }
-        ensures lacking { L.tells_server → (item : Item) → IsErrOf result (faults.Lacking item)
-            → TalkedOut (enabling self.rev2) self.conversation.count (Some item)
-            (so_far (L.clock link.old) (L.link link.old))
-            (so_far (L.clock link.new) (L.link link.new)) }
-
-        // Which bytes were sent and received, and how the connection stands then.
-        ensures came { L.tells_files → (heard : List Response)
-            → (h : Hears heard (L.link link.old).connection self.conversation.feed)
-            → IfOk result (λ s. CameToEnd (enabling self.rev2) self.conversation.count
-            (L.link link.old).sent h.connection.received heard
-            (record { count = s.conversation.count; rev2 = self.rev2 })
-            (L.link link.new) s.conversation.feed) }
-        ensures sent { L.tells_files
-            → SentIn (enabling self.rev2) self.conversation.count (L.link link.old).sent
-            (L.link link.new).sent }
-        ensures stands { L.tells_server
-            → IfOk result (λ s. Stands None (L.clock link.new)
-            (L.link link.new).connection s.conversation.feed) }
         ensures still { L.tells_files
             → IfOk result (λ s. Follows (L.link link.new).connection s.conversation.feed) }
         ensures counted { IfOk result (λ s. s.conversation.count ≡ self.conversation.count + 1) }
-
-        // Why it ends otherwise, on the bytes received.
-        ensures why { L.tells_files → (heard : List Response)
-            → (h : Hears heard (L.link link.old).connection self.conversation.feed)
-            → (fault : SessionFault) → IsErrOf result fault
-            → BrokeOff (enabling self.rev2) self.conversation.count (L.link link.old).sent h.connection.received heard
-            (L.link link.new) fault }
-        ensures honest { L.tells_server → (at : ℕ) → IsErrOf result (faults.BadReply at) → ⊥ }
-        ensures disk { L.disk_faults link.new ≡ L.disk_faults link.old }
-        ensures count { (L.link link.old).faults ≤ (L.link link.new).faults }
-        ensures cause { IsErrOf result faults.Link
-            → Rose (L.link link.old).faults (L.link link.new).faults }
     {
         let Greeted {
             conversation: Conversation {

@@ -1,22 +1,16 @@
 //! The end of a session (RFC 9051, sections 6.1.3 and 7.1.5).
 
-ghost use Rattle.std.specs.Prelude.{◌≡◌, ◌≢◌, ◌≤◌, ◌<◌, ◌+◌, ◌++◌, [], ◌∷◌, ℕ, List, Option, Some, None, OnOk, IsErrOf, false, length};
+ghost use Rattle.std.specs.Prelude.{◌≡◌, ◌≢◌, ◌<◌, ◌+◌, [], ◌∷◌, ℕ, List, Option, Some, None, OnOk, IsErrOf, false, length};
 ghost use Rattle.imap_model.specs.declared.command.Command.TheVariants as commands;
 ghost use Rattle.imap_model.specs.declared.response.Response.{Response};
 ghost use Rattle.imap_model.specs.declared.response.Response.TheVariants as responses;
-ghost use Rattle.world_traits.specs.Asking.{Asking};
-ghost use Rattle.world_traits.specs.Calls.{Rose};
-ghost use Rattle.world_traits.specs.Links.{Linked, AnyStep};
-ghost use Rattle.imap_session.specs.Dialogue.{next_tag, next_text};
+ghost use Rattle.imap_session.specs.Dialogue.{next_tag};
 ghost use Rattle.imap_session.specs.Faults.{IsCount, Unfit};
-ghost use Rattle.imap_session.specs.Hearing.{Hears};
 ghost use Rattle.imap_session.specs.Knowing.{IsEnd};
-ghost use Rattle.imap_session.specs.Leaving.{IsFarewell, Left, Staying};
-ghost use Rattle.imap_session.specs.Replying.{ReceivedAtMost};
-ghost use Rattle.imap_session.specs.Sent.{SentFront};
+ghost use Rattle.imap_session.specs.Leaving.{IsFarewell, Leaves};
 ghost use Rattle.imap_session.specs.Session.{Follows, Stands};
+ghost use Rattle.imap_session.specs.Exchange.{Talks};
 ghost use Rattle.imap_session.specs.declared.fault.SessionFault.{SessionFault};
-ghost use Rattle.imap_session.specs.declared.fault.SessionFault.TheVariants as faults;
 
 use crate::asking::finish;
 use crate::conversation::Conversation;
@@ -39,35 +33,10 @@ impl Ready {
             → Follows (L.link link.old).connection self.conversation.feed }
         requires stands { L.tells_server
             → Stands None (L.clock link.old) (L.link link.old).connection self.conversation.feed }
-        ensures files { L.tells_files → Linked AnyStep (L.clock link.old) (L.clock link.new) }
-        ensures told { L.tells_server
-            → Linked (Asking (L.clock link.old).now.outside.talk.told
-            (next_tag self.conversation.count) commands.Logout) (L.clock link.old)
-            (L.clock link.new) }
-        ensures left { L.tells_files → (heard : List Response)
-            → Hears heard (L.link link.old).connection self.conversation.feed
-            → OnOk result (Left heard (next_tag self.conversation.count)
-            (L.link link.new).connection) }
-        ensures within { L.tells_files → (heard : List Response)
-            → (h : Hears heard (L.link link.old).connection self.conversation.feed)
-            → OnOk result (ReceivedAtMost h.connection.received
-            (L.link link.new).connection) }
-        ensures why { L.tells_files → (heard : List Response)
-            → (h : Hears heard (L.link link.old).connection self.conversation.feed)
-            → (fault : SessionFault) → IsErrOf result fault
-            → Staying heard (next_tag self.conversation.count)
-            h.connection.received (L.link link.new).connection fault }
-        ensures sent { L.tells_files
-            → SentFront (next_text self.conversation.count commands.Logout) (L.link link.old).sent
-            (L.link link.new).sent }
-        ensures whole { L.tells_files
-            → OnOk result ((L.link link.new).sent ≡
-            (L.link link.old).sent ++ next_text self.conversation.count commands.Logout) }
-        ensures honest { L.tells_server → (at : ℕ) → IsErrOf result (faults.BadReply at) → ⊥ }
-        ensures disk { L.disk_faults link.new ≡ L.disk_faults link.old }
-        ensures count { (L.link link.old).faults ≤ (L.link link.new).faults }
-        ensures cause { IsErrOf result faults.Link
-            → Rose (L.link link.old).faults (L.link link.new).faults }
+        ensures talks { Talks L.Clocked (next_tag self.conversation.count) commands.Logout
+            link.old link.new result }
+        ensures leaves { Leaves L.Clocked (next_tag self.conversation.count)
+            link.old link.new self.conversation.feed result }
     {
         let Ready {
             conversation: Conversation {
@@ -90,35 +59,10 @@ impl Chosen {
         requires stands { L.tells_server
             → Stands (Some self.name) (L.clock link.old)
             (L.link link.old).connection self.conversation.feed }
-        ensures files { L.tells_files → Linked AnyStep (L.clock link.old) (L.clock link.new) }
-        ensures told { L.tells_server
-            → Linked (Asking (L.clock link.old).now.outside.talk.told
-            (next_tag self.conversation.count) commands.Logout) (L.clock link.old)
-            (L.clock link.new) }
-        ensures left { L.tells_files → (heard : List Response)
-            → Hears heard (L.link link.old).connection self.conversation.feed
-            → OnOk result (Left heard (next_tag self.conversation.count)
-            (L.link link.new).connection) }
-        ensures within { L.tells_files → (heard : List Response)
-            → (h : Hears heard (L.link link.old).connection self.conversation.feed)
-            → OnOk result (ReceivedAtMost h.connection.received
-            (L.link link.new).connection) }
-        ensures why { L.tells_files → (heard : List Response)
-            → (h : Hears heard (L.link link.old).connection self.conversation.feed)
-            → (fault : SessionFault) → IsErrOf result fault
-            → Staying heard (next_tag self.conversation.count)
-            h.connection.received (L.link link.new).connection fault }
-        ensures sent { L.tells_files
-            → SentFront (next_text self.conversation.count commands.Logout) (L.link link.old).sent
-            (L.link link.new).sent }
-        ensures whole { L.tells_files
-            → OnOk result ((L.link link.new).sent ≡
-            (L.link link.old).sent ++ next_text self.conversation.count commands.Logout) }
-        ensures honest { L.tells_server → (at : ℕ) → IsErrOf result (faults.BadReply at) → ⊥ }
-        ensures disk { L.disk_faults link.new ≡ L.disk_faults link.old }
-        ensures count { (L.link link.old).faults ≤ (L.link link.new).faults }
-        ensures cause { IsErrOf result faults.Link
-            → Rose (L.link link.old).faults (L.link link.new).faults }
+        ensures talks { Talks L.Clocked (next_tag self.conversation.count) commands.Logout
+            link.old link.new result }
+        ensures leaves { Leaves L.Clocked (next_tag self.conversation.count)
+            link.old link.new self.conversation.feed result }
     {
         let Chosen {
             conversation: Conversation {
@@ -143,33 +87,8 @@ fn log_out<L: Link>(
     requires follows { L.tells_files → Follows (L.link link.old).connection feed.old }
     requires stands { L.tells_server → (selected : Option (List ℕ))
         × Stands selected (L.clock link.old) (L.link link.old).connection feed.old }
-    ensures files { L.tells_files → Linked AnyStep (L.clock link.old) (L.clock link.new) }
-    ensures told { L.tells_server
-        → Linked (Asking (L.clock link.old).now.outside.talk.told (next_tag count) commands.Logout)
-        (L.clock link.old) (L.clock link.new) }
-    ensures left { L.tells_files → (heard : List Response)
-        → Hears heard (L.link link.old).connection feed.old
-        → OnOk result (Left heard (next_tag count) (L.link link.new).connection) }
-    ensures within { L.tells_files → (heard : List Response)
-        → (h : Hears heard (L.link link.old).connection feed.old)
-        → OnOk result (ReceivedAtMost h.connection.received
-        (L.link link.new).connection) }
-    ensures why { L.tells_files → (heard : List Response)
-        → (h : Hears heard (L.link link.old).connection feed.old)
-        → (fault : SessionFault) → IsErrOf result fault
-        → Staying heard (next_tag count) h.connection.received
-        (L.link link.new).connection fault }
-    ensures sent { L.tells_files
-        → SentFront (next_text count commands.Logout) (L.link link.old).sent
-        (L.link link.new).sent }
-    ensures whole { L.tells_files
-        → OnOk result ((L.link link.new).sent ≡
-        (L.link link.old).sent ++ next_text count commands.Logout) }
-    ensures honest { L.tells_server → (at : ℕ) → IsErrOf result (faults.BadReply at) → ⊥ }
-    ensures disk { L.disk_faults link.new ≡ L.disk_faults link.old }
-    ensures count { (L.link link.old).faults ≤ (L.link link.new).faults }
-    ensures cause { IsErrOf result faults.Link
-        → Rose (L.link link.old).faults (L.link link.new).faults }
+    ensures talks { Talks L.Clocked (next_tag count) commands.Logout link.old link.new result }
+    ensures leaves { Leaves L.Clocked (next_tag count) link.old link.new feed.old result }
 {
     let tag = Tag::Count(count + 1);
     let parts = write(alloc, tag, &Command::Logout)?;

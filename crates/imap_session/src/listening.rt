@@ -1,6 +1,6 @@
 //! Reads responses.
 
-ghost use Rattle.std.specs.Prelude.{◌≡◌, ◌≢◌, ◌≤◌, ◌<◌, ◌++◌, ◌+◌, [], ◌∷◌, ℕ, List, Option, Some, IfOk, OnOk, IsErrOf, IsTrue, ◌↔◌, length};
+ghost use Rattle.std.specs.Prelude.{◌≡◌, ◌≢◌, ◌<◌, ◌++◌, ◌+◌, [], ◌∷◌, ℕ, List, Option, Some, IfOk, OnOk, IsErrOf, IsTrue, ◌↔◌, length};
 ghost use Rattle.mail_base.specs.Frames.{FirstFault, NoWhole};
 ghost use Rattle.mail_base.specs.declared.frame.FeedFault.{FeedFault};
 ghost use Rattle.mail_base.specs.declared.frame.FeedFault.TheVariants as feeds;
@@ -9,10 +9,8 @@ ghost use Rattle.literal_feed.specs.Stream.{NoFault};
 ghost use Rattle.imap_response.specs.Within.{SpellsWithin};
 ghost use Rattle.imap_model.specs.Responses.{Spells};
 ghost use Rattle.imap_model.specs.Small.{IsSmall};
-ghost use Rattle.imap_model.specs.Talking.{Answering};
 ghost use Rattle.imap_model.specs.declared.response.Response.{Response};
-ghost use Rattle.world_traits.specs.Calls.{Rose};
-ghost use Rattle.world_traits.specs.Links.{Linked, AnyStep};
+ghost use Rattle.imap_session.specs.Receiving.{Receives};
 ghost use Rattle.imap_session.specs.Causes.{ReadingFails};
 ghost use Rattle.imap_session.specs.Hearing.{Reads, ReadsLast};
 ghost use Rattle.imap_session.specs.Faults.{Reading, LineBad, of_feed};
@@ -75,8 +73,7 @@ fn receive<L: Link>(feed: &mut Feed, left: &mut u64, link: &mut L) -> Result<(),
     requires owed { L.tells_server → Listening (L.clock link.old).now.outside (L.link link.old).connection feed.old }
     requires cut { NoWhole feed.old.bytes }
     requires sound { NoFault feed.old }
-    ensures files { L.tells_files → Linked AnyStep (L.clock link.old) (L.clock link.new) }
-    ensures told { L.tells_server → Linked Answering (L.clock link.old) (L.clock link.new) }
+    ensures receives { Receives L.Clocked link.old link.new result }
     ensures reads { L.tells_files → (heard : List Response) (had : List ℕ) (most : ℕ)
         → Reads heard had most left.old (L.link link.old).connection feed.old
         → OnOk result (Reads heard had most left.new (L.link link.new).connection feed.new) }
@@ -84,12 +81,8 @@ fn receive<L: Link>(feed: &mut Feed, left: &mut u64, link: &mut L) -> Result<(),
         → Reads heard had most left.old (L.link link.old).connection feed.old
         → (fault : SessionFault) → IsErrOf result fault
         → Reading heard had most (L.link link.new).connection fault }
-    ensures sent { L.tells_files → (L.link link.new).sent ≡ (L.link link.old).sent }
     ensures less { OnOk result (left.new < left.old) }
     ensures sum { OnOk result (length feed.new.bytes + left.new ≡ length feed.old.bytes + left.old) }
-    ensures disk { L.disk_faults link.new ≡ L.disk_faults link.old }
-    ensures count { (L.link link.old).faults ≤ (L.link link.new).faults }
-    ensures cause { IsErrOf result faults.Link → Rose (L.link link.old).faults (L.link link.new).faults }
 {
     let mut piece = [0; 4096];
     let count = link.recv(&mut piece)?;
@@ -147,8 +140,7 @@ pub fn next<L: Link>(
     link: &mut L,
 ) -> Result<Line, SessionFault>
     requires owed { L.tells_server → Listening (L.clock link.old).now.outside (L.link link.old).connection feed.old }
-    ensures files { L.tells_files → Linked AnyStep (L.clock link.old) (L.clock link.new) }
-    ensures told { L.tells_server → Linked Answering (L.clock link.old) (L.clock link.new) }
+    ensures receives { Receives L.Clocked link.old link.new result }
     ensures reads { L.tells_files → (heard : List Response) (had : List ℕ) (most : ℕ)
         → Reads heard had most left.old (L.link link.old).connection feed.old
         → IfOk result
@@ -161,10 +153,6 @@ pub fn next<L: Link>(
         → Reads heard had most left.old (L.link link.old).connection feed.old
         → (fault : SessionFault) → IsErrOf result fault
         → Reading heard had most (L.link link.new).connection fault }
-    ensures sent { L.tells_files → (L.link link.new).sent ≡ (L.link link.old).sent }
-    ensures disk { L.disk_faults link.new ≡ L.disk_faults link.old }
-    ensures count { (L.link link.old).faults ≤ (L.link link.new).faults }
-    ensures cause { IsErrOf result faults.Link → Rose (L.link link.old).faults (L.link link.new).faults }
 {
     loop {
         if let Some(frame) = feed.take()? {
@@ -204,8 +192,7 @@ pub fn listen<L: Link>(
     part: bool,
 ) -> Result<Line, SessionFault>
     requires asked { L.tells_server → Asked part (L.clock link.old) (L.link link.old).connection feed.old }
-    ensures files { L.tells_files → Linked AnyStep (L.clock link.old) (L.clock link.new) }
-    ensures told { L.tells_server → Linked Answering (L.clock link.old) (L.clock link.new) }
+    ensures receives { Receives L.Clocked link.old link.new result }
     ensures reads { L.tells_files → (heard : List Response) (had : List ℕ) (most : ℕ)
         → Reads heard had most left.old (L.link link.old).connection feed.old
         → IfOk result
@@ -221,10 +208,6 @@ pub fn listen<L: Link>(
         → Reads heard had most left.old (L.link link.old).connection feed.old
         → (fault : SessionFault) → IsErrOf result fault
         → ReadingFails part heard had most (L.link link.new).connection fault }
-    ensures sent { L.tells_files → (L.link link.new).sent ≡ (L.link link.old).sent }
-    ensures disk { L.disk_faults link.new ≡ L.disk_faults link.old }
-    ensures count { (L.link link.old).faults ≤ (L.link link.new).faults }
-    ensures cause { IsErrOf result faults.Link → Rose (L.link link.old).faults (L.link link.new).faults }
 {
     loop {
         let line = next(alloc, feed, left, link)?;

@@ -1,16 +1,12 @@
 //! What a user is logged in by, and what a server must offer (RFC 9051, sections 6.1.1, 6.2.2 and 6.2.3).
 
-ghost use Rattle.std.specs.Prelude.{◌≡◌, ◌≤◌, ◌<◌, ◌+◌, ℕ, List, Some, None, IfOk, OnOk, IsErrOf, IsTrue, codes};
+ghost use Rattle.std.specs.Prelude.{◌≡◌, ◌<◌, ◌+◌, None, IfOk, OnOk, IsErrOf, IsTrue, codes};
 ghost use Rattle.imap_model.specs.CommandText.{IsCarried};
 ghost use Rattle.imap_model.specs.declared.item.Item.{Item};
 ghost use Rattle.imap_model.specs.declared.item.Item.TheVariants as items;
-ghost use Rattle.imap_model.specs.declared.response.Response.{Response};
-ghost use Rattle.world_traits.specs.Calls.{Rose};
-ghost use Rattle.world_traits.specs.Links.{Linked, AnyStep};
-ghost use Rattle.imap_session.specs.Dialogue.{BrokeOff, CameToEnd, SentIn, Talked, TalkedOut, so_far};
+ghost use Rattle.imap_session.specs.Conversing.{Concludes, Converses};
 ghost use Rattle.imap_session.specs.Dialogue.Dialogue.{Asks, Ends, Lacks};
 ghost use Rattle.imap_session.specs.Enabled.{is_enabled};
-ghost use Rattle.imap_session.specs.Hearing.{Hears};
 ghost use Rattle.imap_session.specs.LogIn.{NoWay, fitness, logged_in, way_in};
 ghost use Rattle.imap_session.specs.Session.{Follows, KeepsSelection, Stands};
 ghost use Rattle.imap_session.specs.declared.fault.SessionFault.{SessionFault};
@@ -96,32 +92,9 @@ pub fn check_offer<L: Link>(
     requires follows { L.tells_files → Follows (L.link link.old).connection feed.old }
     requires stands { L.tells_server
         → Stands None (L.clock link.old) (L.link link.old).connection feed.old }
-    ensures files { L.tells_files → Linked AnyStep (L.clock link.old) (L.clock link.new) }
-    ensures told { L.tells_server → Talked logged_in count (so_far (L.clock link.old) (L.link link.old))
-        (so_far (L.clock link.new) (L.link link.new)) }
-    ensures answered { L.tells_server
-        → OnOk result (TalkedOut logged_in count None (so_far (L.clock link.old) (L.link link.old))
-        (so_far (L.clock link.new) (L.link link.new))) }
-    ensures lacking { L.tells_server → (item : Item) → IsErrOf result (faults.Lacking item)
-        → TalkedOut logged_in count (Some item) (so_far (L.clock link.old) (L.link link.old))
-        (so_far (L.clock link.new) (L.link link.new)) }
-    ensures stands { L.tells_server
-        → OnOk result (Stands None (L.clock link.new) (L.link link.new).connection feed.new) }
-    ensures came { L.tells_files → (heard : List Response)
-        → (h : Hears heard (L.link link.old).connection feed.old)
-        → IfOk result (λ rev2. CameToEnd logged_in count (L.link link.old).sent h.connection.received heard
-        (record { count = count + 1; rev2 = rev2 }) (L.link link.new) feed.new) }
-    ensures why { L.tells_files → (heard : List Response)
-        → (h : Hears heard (L.link link.old).connection feed.old)
-        → (fault : SessionFault) → IsErrOf result fault
-        → BrokeOff logged_in count (L.link link.old).sent h.connection.received heard (L.link link.new) fault }
-    ensures sent { L.tells_files
-        → SentIn logged_in count (L.link link.old).sent (L.link link.new).sent }
-    ensures honest { L.tells_server → (at : ℕ) → IsErrOf result (faults.BadReply at) → ⊥ }
-    ensures disk { L.disk_faults link.new ≡ L.disk_faults link.old }
-    ensures count { (L.link link.old).faults ≤ (L.link link.new).faults }
-    ensures cause { IsErrOf result faults.Link
-        → Rose (L.link link.old).faults (L.link link.new).faults }
+    ensures converses { Converses L.Clocked logged_in count link.old link.new feed.old result }
+    ensures concludes { IfOk result (λ rev2. Concludes L.Clocked logged_in count
+        link.old link.new feed.old feed.new (record { count = count + 1; rev2 = rev2 })) }
 {
     let offer = converse(
         alloc,
@@ -147,36 +120,10 @@ fn log_in_by<L: Link>(
     requires follows { L.tells_files → Follows (L.link link.old).connection feed.old }
     requires stands { L.tells_server
         → Stands None (L.clock link.old) (L.link link.old).connection feed.old }
-    ensures files { L.tells_files → Linked AnyStep (L.clock link.old) (L.clock link.new) }
-    ensures told { L.tells_server
-        → Talked (Asks command.now (λ s. logged_in)) count (so_far (L.clock link.old) (L.link link.old))
-        (so_far (L.clock link.new) (L.link link.new)) }
-    ensures answered { L.tells_server
-        → OnOk result (TalkedOut (Asks command.now (λ s. logged_in)) count None
-        (so_far (L.clock link.old) (L.link link.old)) (so_far (L.clock link.new) (L.link link.new))) }
-    ensures lacking { L.tells_server → (item : Item) → IsErrOf result (faults.Lacking item)
-        → TalkedOut (Asks command.now (λ s. logged_in)) count (Some item)
-        (so_far (L.clock link.old) (L.link link.old)) (so_far (L.clock link.new) (L.link link.new)) }
-    ensures stands { L.tells_server
-        → OnOk result (Stands None (L.clock link.new) (L.link link.new).connection feed.new) }
-    ensures came { L.tells_files → (heard : List Response)
-        → (h : Hears heard (L.link link.old).connection feed.old)
-        → IfOk result (λ rev2. CameToEnd (Asks command.now (λ s. logged_in)) count
-        (L.link link.old).sent h.connection.received heard (record { count = count + 2; rev2 = rev2 })
-        (L.link link.new) feed.new) }
-    ensures why { L.tells_files → (heard : List Response)
-        → (h : Hears heard (L.link link.old).connection feed.old)
-        → (fault : SessionFault) → IsErrOf result fault
-        → BrokeOff (Asks command.now (λ s. logged_in)) count (L.link link.old).sent h.connection.received heard
-        (L.link link.new) fault }
-    ensures sent { L.tells_files
-        → SentIn (Asks command.now (λ s. logged_in)) count (L.link link.old).sent
-        (L.link link.new).sent }
-    ensures honest { L.tells_server → (at : ℕ) → IsErrOf result (faults.BadReply at) → ⊥ }
-    ensures disk { L.disk_faults link.new ≡ L.disk_faults link.old }
-    ensures count { (L.link link.old).faults ≤ (L.link link.new).faults }
-    ensures cause { IsErrOf result faults.Link
-        → Rose (L.link link.old).faults (L.link link.new).faults }
+    ensures converses { Converses L.Clocked (Asks command.now (λ s. logged_in)) count link.old link.new
+        feed.old result }
+    ensures concludes { IfOk result (λ rev2. Concludes L.Clocked (Asks command.now (λ s. logged_in)) count
+        link.old link.new feed.old feed.new (record { count = count + 2; rev2 = rev2 })) }
 {
     converse(alloc, feed, link, Tag::Count(count + 1), command)?;
     check_offer(alloc, feed, link, count + 1)
@@ -195,36 +142,10 @@ pub fn log_in<L: Link>(
     requires follows { L.tells_files → Follows (L.link link.old).connection feed.old }
     requires stands { L.tells_server
         → Stands None (L.clock link.old) (L.link link.old).connection feed.old }
-    ensures files { L.tells_files → Linked AnyStep (L.clock link.old) (L.clock link.new) }
-    ensures told { L.tells_server
-        → Talked (way_in account.now offer.now) count (so_far (L.clock link.old) (L.link link.old))
-        (so_far (L.clock link.new) (L.link link.new)) }
-    ensures answered { L.tells_server
-        → OnOk result (TalkedOut (way_in account.now offer.now) count None
-        (so_far (L.clock link.old) (L.link link.old)) (so_far (L.clock link.new) (L.link link.new))) }
-    ensures lacking { L.tells_server → (item : Item) → IsErrOf result (faults.Lacking item)
-        → TalkedOut (way_in account.now offer.now) count (Some item)
-        (so_far (L.clock link.old) (L.link link.old)) (so_far (L.clock link.new) (L.link link.new)) }
-    ensures stands { L.tells_server
-        → OnOk result (Stands None (L.clock link.new) (L.link link.new).connection feed.new) }
-    ensures came { L.tells_files → (heard : List Response)
-        → (h : Hears heard (L.link link.old).connection feed.old)
-        → IfOk result (λ rev2. CameToEnd (way_in account.now offer.now) count
-        (L.link link.old).sent h.connection.received heard (record { count = count + 2; rev2 = rev2 })
-        (L.link link.new) feed.new) }
-    ensures why { L.tells_files → (heard : List Response)
-        → (h : Hears heard (L.link link.old).connection feed.old)
-        → (fault : SessionFault) → IsErrOf result fault
-        → BrokeOff (way_in account.now offer.now) count (L.link link.old).sent h.connection.received heard
-        (L.link link.new) fault }
-    ensures sent { L.tells_files
-        → SentIn (way_in account.now offer.now) count (L.link link.old).sent
-        (L.link link.new).sent }
-    ensures honest { L.tells_server → (at : ℕ) → IsErrOf result (faults.BadReply at) → ⊥ }
-    ensures disk { L.disk_faults link.new ≡ L.disk_faults link.old }
-    ensures count { (L.link link.old).faults ≤ (L.link link.new).faults }
-    ensures cause { IsErrOf result faults.Link
-        → Rose (L.link link.old).faults (L.link link.new).faults }
+    ensures converses { Converses L.Clocked (way_in account.now offer.now) count link.old link.new
+        feed.old result }
+    ensures concludes { IfOk result (λ rev2. Concludes L.Clocked (way_in account.now offer.now) count
+        link.old link.new feed.old feed.new (record { count = count + 2; rev2 = rev2 })) }
 {
     let command = way(account, offer)?;
     log_in_by(alloc, feed, link, count, &command)

@@ -1,5 +1,5 @@
 -- A run enters, as its calls tell it.
-use Rattle.std.proofs.Common.{◌≡◌, ℕ, Bool, List, Result, Ok, Err, IfOk}
+use Rattle.std.proofs.Common.{◌≡◌, ℕ, Bool, List, Result, Err}
 use Rattle.mail_base.specs.Account.{Credentials}
 use Rattle.imap_model.specs.declared.response.Response.{Response}
 use Rattle.world_traits.specs.LinkState.{LinkState}
@@ -59,13 +59,12 @@ module _ (account : Credentials) (old : LinkState) (preauth : Bool) (p : Stage) 
         (record { heard = more.0; hears = more.1; broke = why more.0 more.1 fault is })
 
     -- it was
-    pub entered_so : (r : Result Ready SessionFault) → ((heard : List Response) → (h : Hears heard k.link.connection k.feed) →
-        IfOk r (λ s. CameToEnd (enabling rev2) k.count k.link.sent h.connection.received heard (record { count = s.conversation.count; rev2 = rev2 }) link
-        s.conversation.feed)) → IfOk r (λ s. HasEntered account (stage_of link (sessions.Ready s)))
-    entered_so (Ok s) ends = record {
+    pub entered_so : (s : Ready) → ((heard : List Response) → (h : Hears heard k.link.connection k.feed) →
+        CameToEnd (enabling rev2) k.count k.link.sent h.connection.received heard (record { count = s.conversation.count; rev2 = rev2 }) link
+        s.conversation.feed) → HasEntered account (stage_of link (sessions.Ready s))
+    entered_so s ends = record {
       rev2 = rev2;
       known = k;
       logged_in = record { preauth = preauth; greeted = p; hello = hello; came = came };
       came = record { heard = more.0; hears = more.1; came = ends more.0 more.1 };
     }
-    entered_so (Err e) ends = tt

@@ -58,3 +58,4 @@ pub mod ToHave
 pub mod ValidFaults
 pub mod RenewedEntered
 pub mod CompleteRun
+pub mod Surely

@@ -2,9 +2,11 @@
 use Rattle.action_queue.specs.Book.{Meaning, cache_at, learned}
 use Rattle.action_queue.specs.declared.event.Event.{Event}
 use Rattle.imap_model.specs.Lookups.{validity_of}
+use Rattle.imap_model.specs.declared.command.Command.{Command}
 use Rattle.imap_model.specs.declared.replies.Replies.{Replies}
 use Rattle.imap_session.specs.declared.fault.SessionFault.{SessionFault}
 use Rattle.imap_session.specs.declared.permits.Permits.{Permits}
+use Rattle.mail_base.specs.declared.tag.Tag.{Tag}
 use Rattle.mailbox_cache.specs.declared.cache.Cache.{Cache}
 use Rattle.mailbox_cache.specs.declared.delta.Delta.{Delta}
 use Rattle.play_driver.proofs.KnownWalk.{kept_here}
@@ -20,10 +22,10 @@ use Rattle.play_driver.specs.Recording.{NotRecorded}
 use Rattle.play_driver.specs.Recording.NotRecorded.{disk, full, wanting as no_memory}
 use Rattle.play_driver.specs.Renewed.{HasValidity, NoneRenewed}
 use Rattle.play_driver.specs.Resynchronising.{Resyncs}
-use Rattle.play_driver.specs.Turning.{Standing, TurnFails, need_at}
+use Rattle.play_driver.specs.Turning.{IsAskedFor, Standing, TurnFails, need_at}
 use Rattle.play_driver.specs.Turning.TurnFails.{not_answered, not_chosen, not_heard, not_recorded, not_told, wanting}
 use Rattle.play_driver.specs.declared.fault.PlayFault.{PlayFault}
-use Rattle.playback.specs.Allowed.{IsOtherValidity, IsToHave, WhyNotChosen}
+use Rattle.playback.specs.Allowed.{IsOtherValidity, IsToHave, Records, WhyNotChosen}
 use Rattle.playback.specs.Needs.{need_of}
 use Rattle.playback.specs.Replying.{IsHeardFault}
 use Rattle.playback.specs.Why.{OfDue}
@@ -87,6 +89,24 @@ pub other_need : (need needed : Need) → need ≡ needed → is_select need ≡
 other_need need needed same other box is =
     let selects : is_select need ≡ true = ap is_select (same ∙ is) in
     absurd cc
+
+-- a question that is asked isn't a mailbox's selection, nor is an event that is recorded
+pub asked_other : (need : Need) (count : ℕ) (tag : Tag) (command : Command) → IsAskedFor need count tag command → (box : List ℕ) →
+    need ≢ needs.Select box
+asked_other (needs.Select name) count tag command asked = absurd asked
+asked_other (needs.Ask question) count tag command asked = other_need (needs.Ask question) (needs.Ask question) refl refl
+asked_other (needs.Commit event) count tag command asked = absurd asked
+asked_other (needs.Settle n outcome) count tag command asked = absurd asked
+asked_other (needs.Send n sent) count tag command asked = other_need (needs.Send n sent) (needs.Send n sent) refl refl
+asked_other needs.Finished count tag command asked = absurd asked
+
+pub records_other : (need : Need) (event : Event) → Records need event → (box : List ℕ) → need ≢ needs.Select box
+records_other (needs.Select name) event records = absurd records
+records_other (needs.Ask command) event records = absurd records
+records_other (needs.Commit recorded) event records = other_need (needs.Commit recorded) (needs.Commit recorded) refl refl
+records_other (needs.Settle n outcome) event records = other_need (needs.Settle n outcome) (needs.Settle n outcome) refl refl
+records_other (needs.Send n command) event records = absurd records
+records_other needs.Finished event records = absurd records
 
 -- so a turn in which no mailbox is selected doesn't fail for that
 pub turn_valid : (p : Standing) (link : LinkState) (fault : PlayFault) → TurnFails p link fault → ((box : List ℕ) → need_at p ≢ needs.Select box) →

@@ -27,3 +27,10 @@ pub mod Settled
 pub mod Played
 pub mod KnownAt
 pub mod TrueRecords
+pub mod Accuses
+pub mod GoesOn
+pub mod Reasons
+pub mod Surely
+pub mod Rests
+pub mod TakesTurn
+pub mod Gathering

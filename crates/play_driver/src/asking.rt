@@ -1,7 +1,7 @@
 //! A question, or the command of an action, is asked, and the player takes its reply.
 
-ghost use Rattle.std.specs.Prelude.{◌≡◌, ◌≤◌, ◌<◌, ◌+◌, ℕ, Some, IfOk, IsErrOf, OnOk};
-ghost use Rattle.action_queue.specs.Book.{Meaning, meaning};
+ghost use Rattle.std.specs.Prelude.{◌≡◌, ◌<◌, ◌+◌, Some, IfOk, IsErrOf, OnOk};
+ghost use Rattle.action_queue.specs.Book.{meaning};
 ghost use Rattle.action_queue.specs.Queues.{due_action};
 ghost use Rattle.imap_model.specs.Mutating.{is_mutating};
 ghost use Rattle.imap_model.specs.declared.replies.Replies.{Replies};
@@ -11,12 +11,10 @@ ghost use Rattle.playback.specs.Kept.{Kept};
 ghost use Rattle.playback.specs.Left.{left};
 ghost use Rattle.playback.specs.Needs.{IsBeside, need_of};
 ghost use Rattle.playback.specs.Replying.{IsHeard};
-ghost use Rattle.playback.specs.Worlds.{name_of};
 ghost use Rattle.store_core.specs.Fold.{IsFold};
 ghost use Rattle.store_core.specs.Holding.{Holding};
 ghost use Rattle.store_core.specs.Mail.{mail};
 ghost use Rattle.world_traits.specs.Asking.{Asking};
-ghost use Rattle.world_traits.specs.Calls.{Rose};
 ghost use Rattle.world_traits.specs.Links.{AnyStep, Linked};
 ghost use Rattle.world_traits.specs.Moments.{Clock};
 ghost use Rattle.play_driver.specs.Faults.{IsReplyFault};
@@ -26,9 +24,9 @@ ghost use Rattle.play_driver.specs.Played.{played};
 ghost use Rattle.play_driver.specs.Stages.{stage_of};
 ghost use Rattle.play_driver.specs.Turning.{AskedBetween, IsAskedFor, TurnFails, permits_due, standing_of};
 ghost use Rattle.play_driver.specs.declared.fault.PlayFault.{PlayFault};
-ghost use Rattle.play_driver.specs.declared.fault.PlayFault.TheVariants as faults;
-ghost use Rattle.play_driver.specs.declared.fault.Why.TheVariants as whys;
 ghost use Rattle.play_driver.specs.declared.session.Session.TheVariants as sessions;
+ghost use Rattle.play_driver.specs.Accuses.{AccusesLink};
+ghost use Rattle.play_driver.specs.Rests.{Rests};
 
 use crate::PlayFault;
 use crate::fault::unheard_of;
@@ -53,11 +51,8 @@ pub(crate) fn ask<L: Link>(
 ) -> Result<Chosen, PlayFault>
     requires needed { IsAskedFor (need_of player.old (meaning book.now)) chosen.conversation.count tag command.now }
     requires fold { IsFold (meaning book.now) }
-    requires beside { IsBeside player.old (meaning book.now) }
-    requires selected { name_of player.old.selected ≡ Some chosen.name }
+    requires rests { Rests L.Clocked link.old player.old (meaning book.now) (sessions.Chosen chosen) }
     requires room { chosen.conversation.count + 1 < 4294967295 }
-    requires follows { L.tells_files → Follows (L.link link.old).connection chosen.conversation.feed }
-    requires stands { L.tells_server → Stands (Some chosen.name) (L.clock link.old) (L.link link.old).connection chosen.conversation.feed }
 
     // Where the book is kept, and the player knows the connection, each moment is kept and joined to the one before it, and the player
     // knows the connection still.
@@ -90,14 +85,10 @@ pub(crate) fn ask<L: Link>(
     // Why it ends otherwise, on the bytes received; and what was sent.
     ensures why { L.tells_files → (store : Holding mail) → store.book ≡ meaning book.now → (fault : PlayFault) → IsErrOf result fault
         → TurnFails (standing_of (L.link link.old) (sessions.Chosen chosen) store player.old) (L.link link.new) fault }
-    ensures honest { L.tells_server → (at : ℕ) → IsErrOf result (faults.BadReply (whys.At at)) → ⊥ }
     ensures faultless { L.tells_server → (made : Clock) → StandsKept (meaning book.now) (L.clock link.old)
         → KnownAt made (L.clock link.old) chosen.permits player.old (meaning book.now) → AllFair mail played (L.clock link.old) (L.clock link.new)
         → (fault : PlayFault) → IsErrOf result fault → IsReplyFault fault → ⊥ }
-    ensures no_disk { IsErrOf result faults.Disk → ⊥ }
-    ensures disk { L.disk_faults link.new ≡ L.disk_faults link.old }
-    ensures count { (L.link link.old).faults ≤ (L.link link.new).faults }
-    ensures cause { IsErrOf result faults.Link → Rose (L.link link.old).faults (L.link link.new).faults }
+    ensures accuses { AccusesLink L.Clocked link.old link.new result }
 {
     let answer = chosen.ask(link, tag, command)?;
     let (chosen, replies) = answer;

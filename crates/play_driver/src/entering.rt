@@ -1,8 +1,7 @@
 //! A run enters: it connects, reads the greeting, logs the user in and enables QRESYNC.
 
-ghost use Rattle.std.specs.Prelude.{◌≡◌, ◌≤◌, ℕ, List, None, IfOk, IsErrOf, OnOk};
+ghost use Rattle.std.specs.Prelude.{◌≤◌, ℕ, List, None, IfOk, IsErrOf, OnOk};
 ghost use Rattle.imap_model.specs.declared.item.Item.{Item};
-ghost use Rattle.world_traits.specs.Calls.{Rose};
 ghost use Rattle.world_traits.specs.Links.{Linked, LinkStep, AnyStep};
 ghost use Rattle.imap_session.specs.Enquiring.{Enquiring};
 ghost use Rattle.imap_session.specs.Session.{Follows, Stands};
@@ -13,6 +12,7 @@ ghost use Rattle.play_driver.specs.Questioning.{ConnectsFirst, Questioning};
 ghost use Rattle.play_driver.specs.Serving.{AllServing};
 ghost use Rattle.play_driver.specs.Stages.{stage_of};
 ghost use Rattle.play_driver.specs.declared.session.Session.TheVariants as sessions;
+ghost use Rattle.imap_session.specs.Blame.{Blames};
 
 use imap_session::{Fresh, Ready, SessionFault};
 use mail_base::Account;
@@ -42,9 +42,7 @@ pub(crate) fn enter<L: Link>(
     // Where the server serves, it neither refuses nor lacks a thing.
     ensures serves { L.tells_server → AllServing (L.clock link.old) (L.clock link.new)
         → ((line : List ℕ) → IsErrOf result (faults.Refused line) → ⊥) × ((item : Item) → IsErrOf result (faults.Lacking item) → ⊥) }
-    ensures disk { L.disk_faults link.new ≡ L.disk_faults link.old }
-    ensures count { (L.link link.old).faults ≤ (L.link link.new).faults }
-    ensures cause { IsErrOf result faults.Link → Rose (L.link link.old).faults (L.link link.new).faults }
+    ensures blames { Blames L.Clocked link.old link.new result }
 {
     let fresh = Fresh::connect(alloc, link)?;
     let greeted = fresh.greet(link)?;

@@ -1,7 +1,7 @@
 //! An event that playback needs is recorded.
 
-ghost use Rattle.std.specs.Prelude.{◌≡◌, ◌⊎◌, ◌≤◌, ◌<◌, ℕ, Option, Some, None, Ok, IsErr, IsErrOf, IsTrue, OnOk, false};
-ghost use Rattle.action_queue.specs.Book.{Meaning, after};
+ghost use Rattle.std.specs.Prelude.{◌≡◌, ◌⊎◌, ◌<◌, Option, Some, Ok, IsErr, IsErrOf, IsTrue, OnOk, false};
+ghost use Rattle.action_queue.specs.Book.{Meaning};
 ghost use Rattle.action_queue.specs.Writable.{IsWritable};
 ghost use Rattle.imap_session.specs.declared.permits.Permits.{Permits};
 ghost use Rattle.journal_core.specs.OneSide.{EachOneSide};
@@ -16,18 +16,18 @@ ghost use Rattle.store_core.specs.Mail.{mail, MayCome};
 ghost use Rattle.store_core.specs.Taking.{IsTaking, Takes};
 ghost use Rattle.store_core.specs.declared.fault.CommitFault.{CommitFault};
 ghost use Rattle.store_core.specs.declared.fault.CommitFault.TheVariants as commits;
-ghost use Rattle.world_traits.specs.Calls.{Rose};
 ghost use Rattle.world_traits.specs.Moments.{Clock};
 ghost use Rattle.play_driver.specs.Faults.{of_commit};
 ghost use Rattle.play_driver.specs.Joining.{Grows, StaysJoined};
 ghost use Rattle.play_driver.specs.KnownAt.{KnownAt, StandsKept};
 ghost use Rattle.play_driver.specs.Played.{played};
 ghost use Rattle.play_driver.specs.Progress.{IsLater, IsPlayEvent, Progresses};
-ghost use Rattle.play_driver.specs.Recording.{IsRecordedIn, NotRecorded, TakesMemory, recorded};
+ghost use Rattle.play_driver.specs.Recording.{IsRecordedIn, NotRecorded, recorded};
 ghost use Rattle.play_driver.specs.Settled.{IsSyncedSoFar};
 ghost use Rattle.play_driver.specs.TrueRecords.{TrueEvent};
 ghost use Rattle.play_driver.specs.declared.fault.PlayFault.{PlayFault};
 ghost use Rattle.play_driver.specs.declared.fault.PlayFault.TheVariants as faults;
+ghost use Rattle.play_driver.specs.Accuses.{AccusesDisk};
 
 use crate::PlayFault;
 use action_queue::Event;
@@ -93,9 +93,7 @@ pub(crate) fn record<D: Disk>(
     ensures why { (fault : PlayFault) → IsErrOf result fault → NotRecorded event store.old fault }
     ensures stopped { D.tells_files → IsErrOf result faults.Disk
         → IsTaking mail (Some store.new.book) event (D.clock disk.new).now }
-    ensures link { D.link disk.new ≡ D.link disk.old }
-    ensures count { D.disk_faults disk.old ≤ D.disk_faults disk.new }
-    ensures cause { IsErrOf result faults.Disk → Rose (D.disk_faults disk.old) (D.disk_faults disk.new) }
+    ensures accuses { AccusesDisk D.Clocked disk.old disk.new (IsErrOf result faults.Disk) }
 {
     enter_event(alloc, store, disk, event)?;
     player.committed(store.book());
@@ -121,9 +119,7 @@ fn enter_event<D: Disk>(
     ensures stays { IsErr result → store.new.book ≡ store.old.book }
     ensures kept { IsErr result → (IsErrOf result commits.Disk → ⊥) → (store.new ≡ store.old) × (disk.new ≡ disk.old) }
     ensures each_one_side { D.tells_files → EachOneSide (D.clock disk.old) (D.clock disk.new) }
-    ensures link { D.link disk.new ≡ D.link disk.old }
-    ensures count { D.disk_faults disk.old ≤ D.disk_faults disk.new }
-    ensures cause { IsErrOf result commits.Disk → Rose (D.disk_faults disk.old) (D.disk_faults disk.new) }
+    ensures accuses { AccusesDisk D.Clocked disk.old disk.new (IsErrOf result commits.Disk) }
 {
     match event {
         Event::Settle { id, outcome } => store.settle(disk, id, outcome),

@@ -1,19 +1,14 @@
 //! A mailbox is resynchronised (RFC 7162, section 3.2.5).
 
-ghost use Rattle.std.specs.Prelude.{◌≡◌, ◌≤◌, ◌<◌, ◌+◌, ℕ, List, Some, IfOk, IsErrOf};
+ghost use Rattle.std.specs.Prelude.{◌≡◌, ◌≤◌, ◌<◌, ◌+◌, List, Some, IfOk};
 ghost use Rattle.std.specs.Option.{option_copied};
 ghost use Rattle.imap_model.specs.declared.response.Response.{Response};
-ghost use Rattle.world_traits.specs.Calls.{Rose};
-ghost use Rattle.world_traits.specs.Links.{Linked, AnyStep};
-ghost use Rattle.imap_session.specs.Dialogue.{BrokeOff, Dialogue, SentIn};
 ghost use Rattle.imap_session.specs.Hearing.{Hears};
 ghost use Rattle.imap_session.specs.Session.{Follows, Stands};
 ghost use Rattle.imap_session.specs.declared.fault.SessionFault.{SessionFault};
-ghost use Rattle.imap_session.specs.declared.fault.SessionFault.TheVariants as faults;
-ghost use Rattle.imap_session.specs.Enquiring.{Enquiring};
-ghost use Rattle.play_driver.specs.Questioning.{Questioning};
-ghost use Rattle.play_driver.specs.Resynchronising.{resync, Resyncs, DeltaCame, IsLearnable};
+ghost use Rattle.play_driver.specs.Resynchronising.{Resyncs, DeltaCame, IsLearnable};
 ghost use Rattle.play_driver.specs.Sessions.{selected_in, count_of, feed_of};
+ghost use Rattle.play_driver.specs.Gathering.{Gathers};
 
 use crate::Session;
 use crate::gathering::gather;
@@ -39,41 +34,31 @@ pub fn resynchronise<L: Link>(
 ) -> Result<(Chosen, Result<Delta, ResyncFault>), SessionFault>
     requires room { count_of session + 2 < 4294967295 }
     requires follows { L.tells_files → Follows (L.link link.old).connection (feed_of session) }
-    requires stands { L.tells_server → Stands (selected_in session) (L.clock link.old) (L.link link.old).connection (feed_of session) }
+    requires stands { L.tells_server → Stands (selected_in session)
+        (L.clock link.old) (L.link link.old).connection (feed_of session) }
+    ensures gathers { Gathers L.Clocked name.now (option_copied kept.entry)
+        link.old link.new session result }
 
     // Over a link that tells its server, the delta is that of the server's answers, each at one moment of this call.
-    ensures files { L.tells_files → Linked AnyStep (L.clock link.old) (L.clock link.new) }
-    ensures told { L.tells_server → Linked Enquiring (L.clock link.old) (L.clock link.new) }
-    ensures asks { L.tells_server → Linked Questioning (L.clock link.old) (L.clock link.new) }
     ensures value { L.tells_server
-        → IfOk result (λ p. Resyncs (selected_in session) (count_of session) p.0.conversation.count name.now (option_copied kept.entry) p.1
-        p.0.permits (L.clock link.old) (L.clock link.new)) }
+        → IfOk result (λ p. Resyncs (selected_in session) (count_of session) p.0.conversation.count
+        name.now (option_copied kept.entry) p.1 p.0.permits (L.clock link.old) (L.clock link.new)) }
 
     // It is that of the bytes that came, and may be learned of this cache.
-    ensures came { L.tells_files → (heard : List Response) → (h : Hears heard (L.link link.old).connection (feed_of session))
-        → IfOk result (λ p. DeltaCame (count_of session) p.0.conversation.count name.now (option_copied kept.entry) p.1
-        p.0.permits (L.link link.old).sent h.connection.received heard (L.link link.new) p.0.conversation.feed) }
+    ensures came { L.tells_files → (heard : List Response)
+        → (h : Hears heard (L.link link.old).connection (feed_of session))
+        → IfOk result (λ p. DeltaCame (count_of session) p.0.conversation.count
+        name.now (option_copied kept.entry) p.1 p.0.permits
+        (L.link link.old).sent h.connection.received heard (L.link link.new) p.0.conversation.feed) }
     ensures learnable { IfOk result (λ p. IfOk p.1 (IsLearnable (option_copied kept.entry))) }
 
     // How the connection stands then.
-    ensures stands { L.tells_server
-        → IfOk result (λ p. Stands (Some name.now) (L.clock link.new) (L.link link.new).connection p.0.conversation.feed) }
-    ensures still { L.tells_files → IfOk result (λ p. Follows (L.link link.new).connection p.0.conversation.feed) }
+    ensures stands { L.tells_server → IfOk result (λ p. Stands (Some name.now)
+        (L.clock link.new) (L.link link.new).connection p.0.conversation.feed) }
+    ensures still { L.tells_files
+        → IfOk result (λ p. Follows (L.link link.new).connection p.0.conversation.feed) }
     ensures name { IfOk result (λ p. p.0.name ≡ name.now) }
     ensures counted { IfOk result (λ p. p.0.conversation.count ≤ count_of session + 2) }
-
-    // Why it ends otherwise, on the bytes received; and what was sent. Whatever is asked behind it.
-    ensures why { L.tells_files → (next : Dialogue) (heard : List Response)
-        → (h : Hears heard (L.link link.old).connection (feed_of session))
-        → (fault : SessionFault) → IsErrOf result fault
-        → BrokeOff (resync name.now (option_copied kept.entry) next) (count_of session)
-        (L.link link.old).sent h.connection.received heard (L.link link.new) fault }
-    ensures honest { L.tells_server → (at : ℕ) → IsErrOf result (faults.BadReply at) → ⊥ }
-    ensures sent { L.tells_files → (next : Dialogue) → SentIn (resync name.now (option_copied kept.entry) next)
-        (count_of session) (L.link link.old).sent (L.link link.new).sent }
-    ensures disk { L.disk_faults link.new ≡ L.disk_faults link.old }
-    ensures count { (L.link link.old).faults ≤ (L.link link.new).faults }
-    ensures cause { IsErrOf result faults.Link → Rose (L.link link.old).faults (L.link link.new).faults }
 {
     let came = gather(session, link, name, kept)?;
     let (chosen, gathered) = came;

@@ -2,7 +2,7 @@
 
 ghost use Rattle.std.specs.Prelude.{◌≡◌, ◌≤◌, ◌<◌, ◌+◌, ℕ, List, Some, Ok, IfOk, IsErrOf, OnOk};
 ghost use Rattle.std.specs.Option.{option_copied};
-ghost use Rattle.action_queue.specs.Book.{Meaning, cache_at, learned, meaning};
+ghost use Rattle.action_queue.specs.Book.{cache_at, learned, meaning};
 ghost use Rattle.imap_session.specs.Session.{Follows, Stands};
 ghost use Rattle.mailbox_cache.specs.declared.delta.Delta.{Delta};
 ghost use Rattle.playback.specs.Choosing.{IsChosen};
@@ -15,7 +15,6 @@ ghost use Rattle.playback.specs.declared.need.Need.TheVariants as needs;
 ghost use Rattle.store_core.specs.Fold.{IsFold};
 ghost use Rattle.store_core.specs.Holding.{Holding};
 ghost use Rattle.store_core.specs.Mail.{mail};
-ghost use Rattle.world_traits.specs.Calls.{Rose};
 ghost use Rattle.world_traits.specs.Links.{Any, AnyStep, Linked};
 ghost use Rattle.world_traits.specs.Moments.{Became, Clock};
 ghost use Rattle.play_driver.specs.Faults.{IsReplyFault};
@@ -24,14 +23,15 @@ ghost use Rattle.play_driver.specs.KnownAt.{KnownAt, StandsKept};
 ghost use Rattle.play_driver.specs.Played.{played};
 ghost use Rattle.play_driver.specs.Questioning.{Questioning};
 ghost use Rattle.play_driver.specs.Renewed.{NoneRenewed};
-ghost use Rattle.play_driver.specs.Sessions.{count_of, feed_of, permits_in, selected_in};
+ghost use Rattle.play_driver.specs.Sessions.{count_of, permits_in};
 ghost use Rattle.play_driver.specs.Stages.{DeltaCameOf, stage_of};
 ghost use Rattle.play_driver.specs.Synced.{IsReadAt};
 ghost use Rattle.play_driver.specs.Turning.{TurnFails, standing_of};
 ghost use Rattle.play_driver.specs.declared.fault.PlayFault.{PlayFault};
 ghost use Rattle.play_driver.specs.declared.fault.PlayFault.TheVariants as faults;
-ghost use Rattle.play_driver.specs.declared.fault.Why.TheVariants as whys;
 ghost use Rattle.play_driver.specs.declared.session.Session.TheVariants as sessions;
+ghost use Rattle.play_driver.specs.Accuses.{AccusesLink};
+ghost use Rattle.play_driver.specs.Rests.{Rests};
 
 use crate::fault::unheard_of;
 use crate::{PlayFault, Session, resynchronise};
@@ -57,11 +57,8 @@ pub(crate) fn select<L: Link>(
 ) -> Result<Chosen, PlayFault>
     requires needed { need_of player.old (meaning book.now) ≡ needs.Select name.now }
     requires fold { IsFold (meaning book.now) }
-    requires beside { IsBeside player.old (meaning book.now) }
-    requires selected { name_of player.old.selected ≡ selected_in session }
+    requires rests { Rests L.Clocked link.old player.old (meaning book.now) session }
     requires room { count_of session + 2 < 4294967295 }
-    requires follows { L.tells_files → Follows (L.link link.old).connection (feed_of session) }
-    requires stands { L.tells_server → Stands (selected_in session) (L.clock link.old) (L.link link.old).connection (feed_of session) }
 
     // Where the book is kept, and the player knows the connection, each moment is kept and joined to the one before it, and the player
     // knows the connection still. What is to be recorded makes a cache that is the server's as it answered for its rows in this call.
@@ -99,16 +96,12 @@ pub(crate) fn select<L: Link>(
     // Why it ends otherwise, on the bytes received; and what was sent.
     ensures why { L.tells_files → (store : Holding mail) → store.book ≡ meaning book.now → (fault : PlayFault) → IsErrOf result fault
         → TurnFails (standing_of (L.link link.old) session store player.old) (L.link link.new) fault }
-    ensures honest { L.tells_server → (at : ℕ) → IsErrOf result (faults.BadReply (whys.At at)) → ⊥ }
     ensures faultless { L.tells_server → StandsKept (meaning book.now) (L.clock link.old) → AllFair mail played (L.clock link.old) (L.clock link.new)
         → (fault : PlayFault) → IsErrOf result fault → IsReplyFault fault → ⊥ }
     ensures valid { L.tells_server → StandsKept (meaning book.now) (L.clock link.old) → AllFair mail played (L.clock link.old) (L.clock link.new)
         → NoneRenewed (meaning book.now) (L.clock link.old).now.outside.server
         → (name : List ℕ) (kept told : ℕ) → IsErrOf result (faults.Validity name kept told) → ⊥ }
-    ensures no_disk { IsErrOf result faults.Disk → ⊥ }
-    ensures disk { L.disk_faults link.new ≡ L.disk_faults link.old }
-    ensures count { (L.link link.old).faults ≤ (L.link link.new).faults }
-    ensures cause { IsErrOf result faults.Link → Rose (L.link link.old).faults (L.link link.new).faults }
+    ensures accuses { AccusesLink L.Clocked link.old link.new result }
 {
     let kept = cache_in(book, name);
     let answer = resynchronise(alloc, session, link, name, kept)?;

@@ -7,7 +7,7 @@ use Rattle.imap_session.specs.Faults.{more_parts}
 use Rattle.imap_session.specs.Knowing.{requests}
 use Rattle.imap_session.specs.Sent.{joined}
 use Rattle.imap_session.specs.Session.{Sending, waiting_of}
-use Rattle.imap_session.proofs.Sent.{sent_all, sent_more, sent_part}
+use Rattle.imap_session.proofs.Sent.{sent_all, sent_as, sent_more, sent_part}
 use Rattle.imap_session.proofs.Sending.{begins_sending, begun, next_of, ready_at, end_ready, ready_arrives, ready_failed, has_parts, last_of_at}
 use Rattle.imap_session.proofs.Replying.{heard_nothing, heard_at, on_on, on_done}
 use Rattle.imap_session.proofs.NoReply.{fails_on, link_fails}
@@ -51,21 +51,21 @@ pub loop-index-preserved : goal.loop-index-preserved
 loop-index-preserved g c =
     let n = next_of c.loop-index.index c.args.parts.now c.loop-index-test.true in
     record {
-      files = λ t. linked_then AnyStep _ _ _ (c.loop-index.invariant.files t) (c.send_on.ensures.files t);
+      files = λ t. linked_then AnyStep _ _ _ (c.loop-index.invariant.files t) (c.send_on.ensures.sends.files t);
       told = λ t.
           let s = c.requires.stands t in
           let ready = ready_at (waiting_of s.0 c.args.tag c.args.command.now) c.args.parts.now (take c.loop-index.index c.args.parts.now)
           c.part_at-part.result.now (drop (c.loop-index.index + 1) c.args.parts.now) (n.0 ∷ n.1) _ _ _ _ c.requires.held c.requires.text
           c.part_at-part.ensures.cut n.2 (c.loop-index.invariant.sending t s.0 s.1) in
           asking_then _ c.args.tag c.args.command.now _ _ _ (c.loop-index.invariant.told t)
-          (c.send_on.ensures.told t s.0 (take c.loop-index.index c.args.parts.now) n.0 n.1 (g.L.Clocked.clock c.args.link.now) ready);
+          (c.send_on.ensures.goes_on t s.0 (take c.loop-index.index c.args.parts.now) n.0 n.1 (g.L.Clocked.clock c.args.link.now) ready).told;
       sending = λ t selected stands.
           let w = waiting_of selected c.args.tag c.args.command.now in
           let ready = ready_at w c.args.parts.now (take c.loop-index.index c.args.parts.now) c.part_at-part.result.now
           (drop (c.loop-index.index + 1) c.args.parts.now) (n.0 ∷ n.1) _ _ _ _ c.requires.held c.requires.text c.part_at-part.ensures.cut n.2
           (c.loop-index.invariant.sending t selected stands) in
           let went = MatchOption-at_none _ _ c.in_default.is
-          (c.in_ok-done.ensures.went t selected (take c.loop-index.index c.args.parts.now) n.0 n.1 (g.L.Clocked.clock c.args.link.now) ready) in
+          (c.in_ok-done.ensures.goes_on t selected (take c.loop-index.index c.args.parts.now) n.0 n.1 (g.L.Clocked.clock c.args.link.now) ready).went in
           subst (λ (xs : List (List ℕ)). Sending w xs (g.L.Clocked.clock c.args.link.now) (g.L.Clocked.clock c.send_on.new.link)
           (g.L.Clocked.link c.send_on.new.link).connection c.send_on.new.feed) (sym c.part_at-part.ensures.more) went.1;
       silent = λ t.
@@ -74,7 +74,7 @@ loop-index-preserved g c =
           c.part_at-part.result.now (drop (c.loop-index.index + 1) c.args.parts.now) (n.0 ∷ n.1) _ _ _ _ c.requires.held c.requires.text
           c.part_at-part.ensures.cut n.2 (c.loop-index.invariant.sending t s.0 s.1) in
           (MatchOption-at_none _ _ c.in_default.is
-          (c.in_ok-done.ensures.went t s.0 (take c.loop-index.index c.args.parts.now) n.0 n.1 (g.L.Clocked.clock c.args.link.now) ready)).0;
+          (c.in_ok-done.ensures.goes_on t s.0 (take c.loop-index.index c.args.parts.now) n.0 n.1 (g.L.Clocked.clock c.args.link.now) ready).went).0;
       reads = λ t heard had most r.
           let h = c.loop-index.invariant.reads t heard had most r in
           on_on heard _ _ _ c.loop-index.index had most _ _ _ _ _ _ h
@@ -82,9 +82,9 @@ loop-index-preserved g c =
       permits = λ start is. c.in_ok-done.ensures.permits start (c.loop-index.invariant.permits start is);
       small = λ all. (c.in_ok-done.ensures.small (c.loop-index.invariant.small all)).0;
       sent = λ t. sent_more (take c.loop-index.index c.args.parts.now) c.part_at-part.result.now _ _ _ _ c.part_at-part.ensures.more
-          (c.loop-index.invariant.sent t) (c.in_ok-done.ensures.sent_all t);
-      disk = c.send_on.ensures.disk ∙ c.loop-index.invariant.disk;
-      count = omega (arith, c.send_on.ensures.count, c.loop-index.invariant.count);
+          (c.loop-index.invariant.sent t) (c.in_ok-done.ensures.sends.whole t);
+      disk = c.send_on.ensures.sends.blames.disk ∙ c.loop-index.invariant.disk;
+      count = omega (arith, c.send_on.ensures.sends.blames.count, c.loop-index.invariant.count);
     }
 
 pub send-requires : goal.send-requires
@@ -95,31 +95,49 @@ send-requires g c = record {
       (h.connection, h.there);
 }
 
-pub returns-in_err-done-clause-files : goal.returns-in_err-done-clause-files
-returns-in_err-done-clause-files g c = λ t. linked_then AnyStep _ _ _ (c.loop-index.invariant.files t) (c.send_on.ensures.files t)
+pub returns-in_err-done-clause-talks : goal.returns-in_err-done-clause-talks
+returns-in_err-done-clause-talks g c = record {
+  files = λ t. linked_then AnyStep _ _ _ (c.loop-index.invariant.files t) (c.send_on.ensures.sends.files t);
+  told = λ t.
+      let n = next_of c.loop-index.index c.args.parts.now c.loop-index-test.true in
+      let s = c.requires.stands t in
+      let ready = ready_at (waiting_of s.0 c.args.tag c.args.command.now) c.args.parts.now (take c.loop-index.index c.args.parts.now)
+      c.part_at-part.result.now (drop (c.loop-index.index + 1) c.args.parts.now) (n.0 ∷ n.1) _ _ _ _ c.requires.held c.requires.text
+      c.part_at-part.ensures.cut n.2 (c.loop-index.invariant.sending t s.0 s.1) in
+      asking_then _ c.args.tag c.args.command.now _ _ _ (c.loop-index.invariant.told t)
+      (c.send_on.ensures.goes_on t s.0 (take c.loop-index.index c.args.parts.now) n.0 n.1 (g.L.Clocked.clock c.args.link.now) ready).told;
+  sent = λ t.
+      sent_as _ _ _ _ (ap joined c.requires.text)
+      (sent_part c.args.parts.now (take c.loop-index.index c.args.parts.now) c.part_at-part.result.now (drop (c.loop-index.index + 1) c.args.parts.now) _
+      _ _ c.part_at-part.ensures.cut (c.loop-index.invariant.sent t) (c.send_on.ensures.sends.sent t));
+  honest = λ t at is.
+      let n = next_of c.loop-index.index c.args.parts.now c.loop-index-test.true in
+      let s = c.requires.stands t in
+      let ready = ready_at (waiting_of s.0 c.args.tag c.args.command.now) c.args.parts.now (take c.loop-index.index c.args.parts.now)
+      c.part_at-part.result.now (drop (c.loop-index.index + 1) c.args.parts.now) (n.0 ∷ n.1) _ _ _ _ c.requires.held c.requires.text
+      c.part_at-part.ensures.cut n.2 (c.loop-index.invariant.sending t s.0 s.1) in
+      (c.send_on.ensures.goes_on t s.0 (take c.loop-index.index c.args.parts.now) n.0 n.1 (g.L.Clocked.clock c.args.link.now) ready).honest at (search rules);
+  blames = search rules;
+}
 
-pub returns-in_err-done-clause-told : goal.returns-in_err-done-clause-told
-returns-in_err-done-clause-told g c = λ t.
-    let n = next_of c.loop-index.index c.args.parts.now c.loop-index-test.true in
-    let s = c.requires.stands t in
-    let ready = ready_at (waiting_of s.0 c.args.tag c.args.command.now) c.args.parts.now (take c.loop-index.index c.args.parts.now)
-    c.part_at-part.result.now (drop (c.loop-index.index + 1) c.args.parts.now) (n.0 ∷ n.1) _ _ _ _ c.requires.held c.requires.text
-    c.part_at-part.ensures.cut n.2 (c.loop-index.invariant.sending t s.0 s.1) in
-    asking_then _ c.args.tag c.args.command.now _ _ _ (c.loop-index.invariant.told t)
-    (c.send_on.ensures.told t s.0 (take c.loop-index.index c.args.parts.now) n.0 n.1 (g.L.Clocked.clock c.args.link.now) ready)
-
-pub returns-in-Some-clause-files : goal.returns-in-Some-clause-files
-returns-in-Some-clause-files g c = λ t. linked_then AnyStep _ _ _ (c.loop-index.invariant.files t) (c.send_on.ensures.files t)
-
-pub returns-in-Some-clause-told : goal.returns-in-Some-clause-told
-returns-in-Some-clause-told g c = λ t.
-    let n = next_of c.loop-index.index c.args.parts.now c.loop-index-test.true in
-    let s = c.requires.stands t in
-    let ready = ready_at (waiting_of s.0 c.args.tag c.args.command.now) c.args.parts.now (take c.loop-index.index c.args.parts.now)
-    c.part_at-part.result.now (drop (c.loop-index.index + 1) c.args.parts.now) (n.0 ∷ n.1) _ _ _ _ c.requires.held c.requires.text
-    c.part_at-part.ensures.cut n.2 (c.loop-index.invariant.sending t s.0 s.1) in
-    asking_then _ c.args.tag c.args.command.now _ _ _ (c.loop-index.invariant.told t)
-    (c.send_on.ensures.told t s.0 (take c.loop-index.index c.args.parts.now) n.0 n.1 (g.L.Clocked.clock c.args.link.now) ready)
+pub returns-in-Some-clause-talks : goal.returns-in-Some-clause-talks
+returns-in-Some-clause-talks g c = record {
+  files = λ t. linked_then AnyStep _ _ _ (c.loop-index.invariant.files t) (c.send_on.ensures.sends.files t);
+  told = λ t.
+      let n = next_of c.loop-index.index c.args.parts.now c.loop-index-test.true in
+      let s = c.requires.stands t in
+      let ready = ready_at (waiting_of s.0 c.args.tag c.args.command.now) c.args.parts.now (take c.loop-index.index c.args.parts.now)
+      c.part_at-part.result.now (drop (c.loop-index.index + 1) c.args.parts.now) (n.0 ∷ n.1) _ _ _ _ c.requires.held c.requires.text
+      c.part_at-part.ensures.cut n.2 (c.loop-index.invariant.sending t s.0 s.1) in
+      asking_then _ c.args.tag c.args.command.now _ _ _ (c.loop-index.invariant.told t)
+      (c.send_on.ensures.goes_on t s.0 (take c.loop-index.index c.args.parts.now) n.0 n.1 (g.L.Clocked.clock c.args.link.now) ready).told;
+  sent = λ t.
+      sent_as _ _ _ _ (ap joined c.requires.text)
+      (sent_part c.args.parts.now (take c.loop-index.index c.args.parts.now) c.part_at-part.result.now (drop (c.loop-index.index + 1) c.args.parts.now) _
+      _ _ c.part_at-part.ensures.cut (c.loop-index.invariant.sent t) (c.send_on.ensures.sends.sent t));
+  honest = search rules;
+  blames = search rules;
+}
 
 pub returns-in-Some-clause-begun : goal.returns-in-Some-clause-begun
 returns-in-Some-clause-begun g c = λ t selected stands.
@@ -128,37 +146,56 @@ returns-in-Some-clause-begun g c = λ t selected stands.
     c.part_at-part.result.now (drop (c.loop-index.index + 1) c.args.parts.now) (n.0 ∷ n.1) _ _ _ _ c.requires.held c.requires.text
     c.part_at-part.ensures.cut n.2 (c.loop-index.invariant.sending t selected stands) in
     MatchOption-at_some _ _ c.in-Some.done c.in-Some.is
-    (c.in_ok-done.ensures.went t selected (take c.loop-index.index c.args.parts.now) n.0 n.1 (g.L.Clocked.clock c.args.link.now) ready)
+    (c.in_ok-done.ensures.goes_on t selected (take c.loop-index.index c.args.parts.now) n.0 n.1 (g.L.Clocked.clock c.args.link.now) ready).went
 
-pub returns-in_err-send-clause-files : goal.returns-in_err-send-clause-files
-returns-in_err-send-clause-files g c = λ t. linked_then AnyStep _ _ _ (c.loop-index.invariant.files t) (c.send.ensures.files t)
+pub returns-in_err-send-clause-talks : goal.returns-in_err-send-clause-talks
+returns-in_err-send-clause-talks g c = record {
+  files = λ t. linked_then AnyStep _ _ _ (c.loop-index.invariant.files t) (c.send.ensures.files t);
+  told = λ t.
+      let s = c.requires.stands t in
+      let w = waiting_of s.0 c.args.tag c.args.command.now in
+      let at_end : c.loop-index.index ≡ length c.args.parts.now - 1 = omega (arith, c.loop-index-test.false, c.loop-index.auto.index-end) in
+      let ready = end_ready w c.args.parts.now c.loop-index.index c.part_at-end.result.now _ _ _ _ c.requires.held c.requires.text c.requires.some
+      at_end c.part_at-end.ensures.cut (c.loop-index.invariant.sending t s.0 s.1) in
+      asking_then _ c.args.tag c.args.command.now _ _ _ (c.loop-index.invariant.told t)
+      (ready_failed w _ c.part_at-end.result.now [] _ _ _ _ _ ready
+      (c.in_err-send.ensures.told t c.args.tag c.args.command.now (take (length c.args.parts.now - 1) c.args.parts.now) [] ready.part_of
+      ready.sending.awaits).failed);
+  sent = λ t.
+      let f = c.in_err-send.ensures.front t in
+      let at_end : c.loop-index.index ≡ length c.args.parts.now - 1 = omega (arith, c.loop-index-test.false, c.loop-index.auto.index-end) in
+      sent_as _ _ _ _ (ap joined c.requires.text)
+      (sent_part c.args.parts.now (take (length c.args.parts.now - 1) c.args.parts.now) c.part_at-end.result.now
+      (drop (length c.args.parts.now - 1 + 1) c.args.parts.now) _ _ _ c.part_at-end.ensures.cut
+      (c.loop-index.invariant.sent t ∙ ap (λ (i : ℕ). (g.L.Clocked.link c.args.link.now).sent ++ joined (take i c.args.parts.now)) at_end)
+      (record { n = f.0; is = f.1 }));
+  honest = search rules;
+  blames = search rules;
+}
 
-pub returns-in_err-send-clause-told : goal.returns-in_err-send-clause-told
-returns-in_err-send-clause-told g c = λ t.
-    let s = c.requires.stands t in
-    let w = waiting_of s.0 c.args.tag c.args.command.now in
-    let at_end : c.loop-index.index ≡ length c.args.parts.now - 1 = omega (arith, c.loop-index-test.false, c.loop-index.auto.index-end) in
-    let ready = end_ready w c.args.parts.now c.loop-index.index c.part_at-end.result.now _ _ _ _ c.requires.held c.requires.text c.requires.some
-    at_end c.part_at-end.ensures.cut (c.loop-index.invariant.sending t s.0 s.1) in
-    asking_then _ c.args.tag c.args.command.now _ _ _ (c.loop-index.invariant.told t)
-    (ready_failed w _ c.part_at-end.result.now [] _ _ _ _ _ ready
-    (c.in_err-send.ensures.told t c.args.tag c.args.command.now (take (length c.args.parts.now - 1) c.args.parts.now) [] ready.part_of
-    ready.sending.awaits).failed)
-
-pub returns-clause-files : goal.returns-clause-files
-returns-clause-files g c = λ t. linked_then AnyStep _ _ _ (c.loop-index.invariant.files t) (c.send.ensures.files t)
-
-pub returns-clause-told : goal.returns-clause-told
-returns-clause-told g c = λ t.
-    let s = c.requires.stands t in
-    let w = waiting_of s.0 c.args.tag c.args.command.now in
-    let at_end : c.loop-index.index ≡ length c.args.parts.now - 1 = omega (arith, c.loop-index-test.false, c.loop-index.auto.index-end) in
-    let ready = end_ready w c.args.parts.now c.loop-index.index c.part_at-end.result.now _ _ _ _ c.requires.held c.requires.text c.requires.some
-    at_end c.part_at-end.ensures.cut (c.loop-index.invariant.sending t s.0 s.1) in
-    asking_then _ c.args.tag c.args.command.now _ _ _ (c.loop-index.invariant.told t)
-    (ready_arrives w _ c.part_at-end.result.now [] _ _ _ _ _ ready
-    (c.in_ok-send.ensures.told t c.args.tag c.args.command.now (take (length c.args.parts.now - 1) c.args.parts.now) [] ready.part_of
-    ready.sending.awaits).done)
+pub returns-clause-talks : goal.returns-clause-talks
+returns-clause-talks g c = record {
+  files = λ t. linked_then AnyStep _ _ _ (c.loop-index.invariant.files t) (c.send.ensures.files t);
+  told = λ t.
+      let s = c.requires.stands t in
+      let w = waiting_of s.0 c.args.tag c.args.command.now in
+      let at_end : c.loop-index.index ≡ length c.args.parts.now - 1 = omega (arith, c.loop-index-test.false, c.loop-index.auto.index-end) in
+      let ready = end_ready w c.args.parts.now c.loop-index.index c.part_at-end.result.now _ _ _ _ c.requires.held c.requires.text c.requires.some
+      at_end c.part_at-end.ensures.cut (c.loop-index.invariant.sending t s.0 s.1) in
+      asking_then _ c.args.tag c.args.command.now _ _ _ (c.loop-index.invariant.told t)
+      (ready_arrives w _ c.part_at-end.result.now [] _ _ _ _ _ ready
+      (c.in_ok-send.ensures.told t c.args.tag c.args.command.now (take (length c.args.parts.now - 1) c.args.parts.now) [] ready.part_of
+      ready.sending.awaits).done);
+  sent = λ t.
+      let at_end : c.loop-index.index ≡ length c.args.parts.now - 1 = omega (arith, c.loop-index-test.false, c.loop-index.auto.index-end) in
+      sent_as _ _ _ _ (ap joined c.requires.text)
+      (sent_part c.args.parts.now (take (length c.args.parts.now - 1) c.args.parts.now) c.part_at-end.result.now
+      (drop (length c.args.parts.now - 1 + 1) c.args.parts.now) _ _ _ c.part_at-end.ensures.cut
+      (c.loop-index.invariant.sent t ∙ ap (λ (i : ℕ). (g.L.Clocked.link c.args.link.now).sent ++ joined (take i c.args.parts.now)) at_end)
+      (sent_all c.part_at-end.result.now _ _ (c.in_ok-send.ensures.sent t)));
+  honest = search rules;
+  blames = search rules;
+}
 
 pub returns-clause-begun : goal.returns-clause-begun
 returns-clause-begun g c = λ t selected stands.
@@ -188,7 +225,7 @@ returns-in-Some-clause-reads g c = λ t heard had most r.
       done = on_done heard _ _ _ c.loop-index.index had most _ _ _ _ _ _ h c.args.tag c.in-Some.done.ending c.in-Some.done.code 0 c.loop-index.index
           none_more (MatchOption-at_some _ _ c.in-Some.done c.in-Some.is (c.in_ok-done.ensures.reads t (heard ++ h.told) had most h.reads));
       sent = sent_more (take c.loop-index.index c.args.parts.now) c.part_at-part.result.now _ _ _ _ c.part_at-part.ensures.more
-          (c.loop-index.invariant.sent t) (c.in_ok-done.ensures.sent_all t);
+          (c.loop-index.invariant.sent t) (c.in_ok-done.ensures.sends.whole t);
     }
 
 pub returns-in-Some-clause-permits : goal.returns-in-Some-clause-permits
@@ -205,35 +242,8 @@ returns-in_err-done-clause-why g c = λ t heard had most r fault is.
 pub returns-in_err-send-clause-why : goal.returns-in_err-send-clause-why
 returns-in_err-send-clause-why g c = λ t heard had most r fault is. inl (link_fails _ heard _ _ _ fault (search rules))
 
-pub returns-in_err-done-clause-sent : goal.returns-in_err-done-clause-sent
-returns-in_err-done-clause-sent g c = λ t.
-    sent_part c.args.parts.now (take c.loop-index.index c.args.parts.now) c.part_at-part.result.now (drop (c.loop-index.index + 1) c.args.parts.now) _
-    _ _ c.part_at-part.ensures.cut (c.loop-index.invariant.sent t) (c.send_on.ensures.sent t)
-
-pub returns-in-Some-clause-sent : goal.returns-in-Some-clause-sent
-returns-in-Some-clause-sent g c = λ t.
-    sent_part c.args.parts.now (take c.loop-index.index c.args.parts.now) c.part_at-part.result.now (drop (c.loop-index.index + 1) c.args.parts.now) _
-    _ _ c.part_at-part.ensures.cut (c.loop-index.invariant.sent t) (c.send_on.ensures.sent t)
-
-pub returns-in_err-send-clause-sent : goal.returns-in_err-send-clause-sent
-returns-in_err-send-clause-sent g c = λ t.
-    let f = c.in_err-send.ensures.front t in
-    let at_end : c.loop-index.index ≡ length c.args.parts.now - 1 = omega (arith, c.loop-index-test.false, c.loop-index.auto.index-end) in
-    sent_part c.args.parts.now (take (length c.args.parts.now - 1) c.args.parts.now) c.part_at-end.result.now
-    (drop (length c.args.parts.now - 1 + 1) c.args.parts.now) _ _ _ c.part_at-end.ensures.cut
-    (c.loop-index.invariant.sent t ∙ ap (λ (i : ℕ). (g.L.Clocked.link c.args.link.now).sent ++ joined (take i c.args.parts.now)) at_end)
-    (record { n = f.0; is = f.1 })
-
-pub returns-clause-sent : goal.returns-clause-sent
-returns-clause-sent g c = λ t.
-    let at_end : c.loop-index.index ≡ length c.args.parts.now - 1 = omega (arith, c.loop-index-test.false, c.loop-index.auto.index-end) in
-    sent_part c.args.parts.now (take (length c.args.parts.now - 1) c.args.parts.now) c.part_at-end.result.now
-    (drop (length c.args.parts.now - 1 + 1) c.args.parts.now) _ _ _ c.part_at-end.ensures.cut
-    (c.loop-index.invariant.sent t ∙ ap (λ (i : ℕ). (g.L.Clocked.link c.args.link.now).sent ++ joined (take i c.args.parts.now)) at_end)
-    (sent_all c.part_at-end.result.now _ _ (c.in_ok-send.ensures.sent t))
-
-pub returns-clause-sent_all : goal.returns-clause-sent_all
-returns-clause-sent_all g c = λ t.
+pub returns-clause-whole : goal.returns-clause-whole
+returns-clause-whole g c = λ t.
     let at_end : c.loop-index.index ≡ length c.args.parts.now - 1 = omega (arith, c.loop-index-test.false, c.loop-index.auto.index-end) in
     let none = last_of_at (length c.args.parts.now - 1) c.args.parts.now c.requires.some refl in
     sent_more (take (length c.args.parts.now - 1) c.args.parts.now) c.part_at-end.result.now c.args.parts.now _ _ _
@@ -241,15 +251,6 @@ returns-clause-sent_all g c = λ t.
     none)
     (c.loop-index.invariant.sent t ∙ ap (λ (i : ℕ). (g.L.Clocked.link c.args.link.now).sent ++ joined (take i c.args.parts.now)) at_end)
     (c.in_ok-send.ensures.sent t)
-
-pub returns-in_err-done-clause-honest : goal.returns-in_err-done-clause-honest
-returns-in_err-done-clause-honest g c = λ t at is.
-    let n = next_of c.loop-index.index c.args.parts.now c.loop-index-test.true in
-    let s = c.requires.stands t in
-    let ready = ready_at (waiting_of s.0 c.args.tag c.args.command.now) c.args.parts.now (take c.loop-index.index c.args.parts.now)
-    c.part_at-part.result.now (drop (c.loop-index.index + 1) c.args.parts.now) (n.0 ∷ n.1) _ _ _ _ c.requires.held c.requires.text
-    c.part_at-part.ensures.cut n.2 (c.loop-index.invariant.sending t s.0 s.1) in
-    c.send_on.ensures.honest t s.0 (take c.loop-index.index c.args.parts.now) n.0 n.1 (g.L.Clocked.clock c.args.link.now) ready at (search rules)
 
 pub returns-in-Some-clause-small : goal.returns-in-Some-clause-small
 returns-in-Some-clause-small g c = λ all.

@@ -16,14 +16,30 @@ use Rattle.imap_session.proofs.Spelled.{all_spelled}
 use Rattle.imap_session.proofs.Talking.{answers_asking, asking_then, linked_then}
 use Rattle.imap_session.proofs.leaving.log_out.Goals as goal
 
-pub returns-in_err-parts-clause-why : goal.returns-in_err-parts-clause-why
-returns-in_err-parts-clause-why g c = λ t heard h fault is. inl (memory_fails _ heard _ _ _ fault (search rules))
+pub returns-in_err-parts-clause-leaves : goal.returns-in_err-parts-clause-leaves
+returns-in_err-parts-clause-leaves g c = record {
+  left = search rules;
+  within = search rules;
+  whole = search rules;
+  why = λ t heard h fault is. inl (memory_fails _ heard _ _ _ fault (search rules));
+}
 
-pub returns-in_err-send-clause-why : goal.returns-in_err-send-clause-why
-returns-in_err-send-clause-why g c = λ t heard h fault is. inl (link_fails _ heard _ _ _ fault (search rules))
+pub returns-in_err-send-clause-leaves : goal.returns-in_err-send-clause-leaves
+returns-in_err-send-clause-leaves g c = record {
+  left = search rules;
+  within = search rules;
+  whole = search rules;
+  why = λ t heard h fault is. inl (link_fails _ heard _ _ _ fault (search rules));
+}
 
-pub returns-in_err-parts-clause-sent : goal.returns-in_err-parts-clause-sent
-returns-in_err-parts-clause-sent g c = λ t. sent_none _ _ _ refl
+pub returns-in_err-parts-clause-talks : goal.returns-in_err-parts-clause-talks
+returns-in_err-parts-clause-talks g c = record {
+  files = search rules;
+  told = search rules;
+  sent = λ t. sent_none _ _ _ refl;
+  honest = search rules;
+  blames = search rules;
+}
 
 pub only_part-requires : goal.only_part-requires
 only_part-requires g c = ap (λ (xs : List (List ℕ)). length xs) (c.as_slice.ensures ∙ c.in_ok-parts.ensures.text) ∙ logout_alone (c.args.count + 1)
@@ -31,19 +47,22 @@ only_part-requires g c = ap (λ (xs : List (List ℕ)). length xs) (c.as_slice.e
 pub send-requires : goal.send-requires
 send-requires g c = record { there = λ t. let s = c.requires.stands t in (s.1.hears.connection, s.1.hears.there) }
 
-pub returns-in_err-send-clause-told : goal.returns-in_err-send-clause-told
-returns-in_err-send-clause-told g c = λ t.
-    let s = c.requires.stands t in
-    let ready = logout_ready s.0 (next_tag c.args.count) _ c.only_part.result.now _ _ _ s.1 c.write.ensures.sent
-    (c.as_slice.ensures ∙ c.in_ok-parts.ensures.text) c.only_part.ensures in
-    ready_failed (waiting_of s.0 (next_tag c.args.count) commands.Logout) [] c.only_part.result.now [] _ _ _ _ _ ready
-    (c.in_err-send.ensures.told t (next_tag c.args.count) commands.Logout [] [] ready.part_of ready.sending.awaits).failed
-
-pub returns-in_err-send-clause-sent : goal.returns-in_err-send-clause-sent
-returns-in_err-send-clause-sent g c = λ t.
-    let f = c.in_err-send.ensures.front t in
-    sent_as c.only_part.result.now _ _ _ (logout_sent (next_tag c.args.count) _ _ (c.as_slice.ensures
-    ∙ c.in_ok-parts.ensures.text) c.only_part.ensures) (record { n = f.0; is = f.1 })
+pub returns-in_err-send-clause-talks : goal.returns-in_err-send-clause-talks
+returns-in_err-send-clause-talks g c = record {
+  files = search rules;
+  told = λ t.
+      let s = c.requires.stands t in
+      let ready = logout_ready s.0 (next_tag c.args.count) _ c.only_part.result.now _ _ _ s.1 c.write.ensures.sent
+      (c.as_slice.ensures ∙ c.in_ok-parts.ensures.text) c.only_part.ensures in
+      ready_failed (waiting_of s.0 (next_tag c.args.count) commands.Logout) [] c.only_part.result.now [] _ _ _ _ _ ready
+      (c.in_err-send.ensures.told t (next_tag c.args.count) commands.Logout [] [] ready.part_of ready.sending.awaits).failed;
+  sent = λ t.
+      let f = c.in_err-send.ensures.front t in
+      sent_as c.only_part.result.now _ _ _ (logout_sent (next_tag c.args.count) _ _ (c.as_slice.ensures
+      ∙ c.in_ok-parts.ensures.text) c.only_part.ensures) (record { n = f.0; is = f.1 });
+  honest = search rules;
+  blames = search rules;
+}
 
 pub listen-requires : goal.listen-requires
 listen-requires g c = record {
@@ -57,97 +76,93 @@ listen-requires g c = record {
       (c.in_ok-send.ensures.told t (next_tag c.args.count) commands.Logout [] [] ready.part_of ready.sending.awaits).done);
 }
 
-pub returns-in_err-line-clause-files : goal.returns-in_err-line-clause-files
-returns-in_err-line-clause-files g c = λ t. linked_then AnyStep _ _ _ (c.send.ensures.files t) (c.listen.ensures.files t)
+pub returns-in_err-line-clause-talks : goal.returns-in_err-line-clause-talks
+returns-in_err-line-clause-talks g c = record {
+  files = λ t. linked_then AnyStep _ _ _ (c.send.ensures.files t) (c.listen.ensures.receives.files t);
+  told = λ t.
+      let s = c.requires.stands t in
+      let ready = logout_ready s.0 (next_tag c.args.count) _ c.only_part.result.now _ _ _ s.1 c.write.ensures.sent
+      (c.as_slice.ensures ∙ c.in_ok-parts.ensures.text) c.only_part.ensures in
+      asking_then _ (next_tag c.args.count) commands.Logout _ _ _
+      (ready_arrives (waiting_of s.0 (next_tag c.args.count) commands.Logout) [] c.only_part.result.now [] _ _ _ _ _ ready
+      (c.in_ok-send.ensures.told t (next_tag c.args.count) commands.Logout [] [] ready.part_of ready.sending.awaits).done)
+      (answers_asking _ (next_tag c.args.count) commands.Logout _ _ (c.listen.ensures.receives.told t));
+  sent = λ t.
+      sent_as c.only_part.result.now _ _ _ (logout_sent (next_tag c.args.count) _ _ (c.as_slice.ensures
+      ∙ c.in_ok-parts.ensures.text) c.only_part.ensures)
+      (sent_all c.only_part.result.now _ _ (c.listen.ensures.receives.sent t ∙ c.in_ok-send.ensures.sent t));
+  honest = λ t at is.
+      let f = g.L.Clocked.server_with_files t in
+      let s = c.requires.stands t in
+      all_spelled _ at _ (g.L.Clocked.clock c.listen.new.link).now.outside _
+      (c.listen.ensures.why f _ _ _ (reads_at _ _ _ _ _ _ _ (c.in_ok-send.ensures.received f) (as_reads _ 268435456 _ _ s.1.hears))
+      (faults.BadReply at) (search rules)).reading (g.met.L.Link.honest c.listen.new.link t);
+  blames = search rules;
+}
 
-pub returns-in_err-line-clause-told : goal.returns-in_err-line-clause-told
-returns-in_err-line-clause-told g c = λ t.
-    let s = c.requires.stands t in
-    let ready = logout_ready s.0 (next_tag c.args.count) _ c.only_part.result.now _ _ _ s.1 c.write.ensures.sent
-    (c.as_slice.ensures ∙ c.in_ok-parts.ensures.text) c.only_part.ensures in
-    asking_then _ (next_tag c.args.count) commands.Logout _ _ _
-    (ready_arrives (waiting_of s.0 (next_tag c.args.count) commands.Logout) [] c.only_part.result.now [] _ _ _ _ _ ready
-    (c.in_ok-send.ensures.told t (next_tag c.args.count) commands.Logout [] [] ready.part_of ready.sending.awaits).done)
-    (answers_asking _ (next_tag c.args.count) commands.Logout _ _ (c.listen.ensures.told t))
+pub returns-in_err-line-clause-leaves : goal.returns-in_err-line-clause-leaves
+returns-in_err-line-clause-leaves g c = record {
+  left = search rules;
+  within = search rules;
+  whole = search rules;
+  why = λ t heard h fault is.
+      inl (c.listen.ensures.why t heard _ _ (reads_at heard _ _ _ _ _ _ (c.in_ok-send.ensures.received t) (as_reads heard 268435456 _ _ h)) fault
+      (search rules));
+}
 
-pub returns-in_err-line-clause-why : goal.returns-in_err-line-clause-why
-returns-in_err-line-clause-why g c = λ t heard h fault is.
-    inl (c.listen.ensures.why t heard _ _ (reads_at heard _ _ _ _ _ _ (c.in_ok-send.ensures.received t) (as_reads heard 268435456 _ _ h)) fault
-    (search rules))
+pub returns-clause-talks : goal.returns-clause-talks
+returns-clause-talks g c = record {
+  files = λ t. linked_then AnyStep _ _ _ (c.send.ensures.files t) (c.listen.ensures.receives.files t);
+  told = λ t.
+      let s = c.requires.stands t in
+      let ready = logout_ready s.0 (next_tag c.args.count) _ c.only_part.result.now _ _ _ s.1 c.write.ensures.sent
+      (c.as_slice.ensures ∙ c.in_ok-parts.ensures.text) c.only_part.ensures in
+      asking_then _ (next_tag c.args.count) commands.Logout _ _ _
+      (ready_arrives (waiting_of s.0 (next_tag c.args.count) commands.Logout) [] c.only_part.result.now [] _ _ _ _ _ ready
+      (c.in_ok-send.ensures.told t (next_tag c.args.count) commands.Logout [] [] ready.part_of ready.sending.awaits).done)
+      (answers_asking _ (next_tag c.args.count) commands.Logout _ _ (c.listen.ensures.receives.told t));
+  sent = λ t.
+      sent_as c.only_part.result.now _ _ _ (logout_sent (next_tag c.args.count) _ _ (c.as_slice.ensures
+      ∙ c.in_ok-parts.ensures.text) c.only_part.ensures)
+      (sent_all c.only_part.result.now _ _ (c.listen.ensures.receives.sent t ∙ c.in_ok-send.ensures.sent t));
+  honest = λ t at is.
+      let f = g.L.Clocked.server_with_files t in
+      let s = c.requires.stands t in
+      let w = waiting_of s.0 (next_tag c.args.count) commands.Logout in
+      let ready = logout_ready s.0 (next_tag c.args.count) _ c.only_part.result.now _ _ _ s.1 c.write.ensures.sent
+      (c.as_slice.ensures ∙ c.in_ok-parts.ensures.text) c.only_part.ensures in
+      let started = begun w [] c.only_part.result.now _ _ _ _ _ _ ready.sending (c.in_ok-send.ensures.received f) ready.part_of
+      (c.in_ok-send.ensures.told t (next_tag c.args.count) commands.Logout [] [] ready.part_of ready.sending.awaits).done in
+      let reads = c.in_ok-line.ensures.reads f started.told _ _ (as_reads started.told 268435456 _ _ started.hears) in
+      begun_fit w _ _ _ _ _ _ _ reads.told c.in_ok-line.line.response started (c.listen.ensures.receives.told t) reads.reads.reads.hears
+      (g.met.L.Link.honest c.listen.new.link t) ⊥ c.in_ok-line.line.frame at (λ no. no) (c.farewell.ensures.why (faults.BadReply at) is).0;
+  blames = record {
+    disk = search rules;
+    count = search rules;
+    cause = λ is. absurd (c.farewell.ensures.why faults.Link is).0;
+  };
+}
 
-pub returns-in_err-line-clause-sent : goal.returns-in_err-line-clause-sent
-returns-in_err-line-clause-sent g c = λ t.
-    sent_as c.only_part.result.now _ _ _ (logout_sent (next_tag c.args.count) _ _ (c.as_slice.ensures
-    ∙ c.in_ok-parts.ensures.text) c.only_part.ensures)
-    (sent_all c.only_part.result.now _ _ (c.listen.ensures.sent t ∙ c.in_ok-send.ensures.sent t))
-
-pub returns-in_err-line-clause-honest : goal.returns-in_err-line-clause-honest
-returns-in_err-line-clause-honest g c = λ t at is.
-    let f = g.L.Clocked.server_with_files t in
-    let s = c.requires.stands t in
-    all_spelled _ at _ (g.L.Clocked.clock c.listen.new.link).now.outside _
-    (c.listen.ensures.why f _ _ _ (reads_at _ _ _ _ _ _ _ (c.in_ok-send.ensures.received f) (as_reads _ 268435456 _ _ s.1.hears))
-    (faults.BadReply at) (search rules)).reading (g.met.L.Link.honest c.listen.new.link t)
-
-pub returns-clause-files : goal.returns-clause-files
-returns-clause-files g c = λ t. linked_then AnyStep _ _ _ (c.send.ensures.files t) (c.listen.ensures.files t)
-
-pub returns-clause-told : goal.returns-clause-told
-returns-clause-told g c = λ t.
-    let s = c.requires.stands t in
-    let ready = logout_ready s.0 (next_tag c.args.count) _ c.only_part.result.now _ _ _ s.1 c.write.ensures.sent
-    (c.as_slice.ensures ∙ c.in_ok-parts.ensures.text) c.only_part.ensures in
-    asking_then _ (next_tag c.args.count) commands.Logout _ _ _
-    (ready_arrives (waiting_of s.0 (next_tag c.args.count) commands.Logout) [] c.only_part.result.now [] _ _ _ _ _ ready
-    (c.in_ok-send.ensures.told t (next_tag c.args.count) commands.Logout [] [] ready.part_of ready.sending.awaits).done)
-    (answers_asking _ (next_tag c.args.count) commands.Logout _ _ (c.listen.ensures.told t))
-
-pub returns-clause-left : goal.returns-clause-left
-returns-clause-left g c = λ t heard h.
-    let r = c.in_ok-line.ensures.reads t heard _ _
-    (reads_at heard _ _ _ _ _ _ (c.in_ok-send.ensures.received t) (as_reads heard 268435456 _ _ h)) in
-    on_ok_then c.farewell.result (IsFarewell (next_tag c.args.count) c.in_ok-line.line.response) _
-    (λ f. left_so heard r.told c.in_ok-line.line.response (next_tag c.args.count) _ _ r.reads.reads.hears r.none f)
-    c.farewell.ensures.farewell
-
-pub returns-clause-why : goal.returns-clause-why
-returns-clause-why g c = λ t heard h fault is.
-    let r = c.in_ok-line.ensures.reads t heard _ _
-    (reads_at heard _ _ _ _ _ _ (c.in_ok-send.ensures.received t) (as_reads heard 268435456 _ _ h)) in
-    stays_so heard (next_tag c.args.count) _ _ c.in_ok-line.line.frame c.in_ok-line.line.response fault
-    (last_whole heard _ _ c.in_ok-line.line.frame c.in_ok-line.line.response _ _ _ _ _ r c.in_ok-line.ensures.spells) (c.farewell.ensures.why fault is)
-
-pub returns-clause-sent : goal.returns-clause-sent
-returns-clause-sent g c = λ t.
-    sent_as c.only_part.result.now _ _ _ (logout_sent (next_tag c.args.count) _ _ (c.as_slice.ensures
-    ∙ c.in_ok-parts.ensures.text) c.only_part.ensures)
-    (sent_all c.only_part.result.now _ _ (c.listen.ensures.sent t ∙ c.in_ok-send.ensures.sent t))
-
-pub returns-clause-whole : goal.returns-clause-whole
-returns-clause-whole g c = λ t.
-    on_ok_always c.farewell.result
-    (c.listen.ensures.sent t ∙ c.in_ok-send.ensures.sent t
-    ∙ ap (λ (x : List ℕ). (g.L.Clocked.link c.args.link.now).sent ++ x)
-    (logout_sent (next_tag c.args.count) _ _ (c.as_slice.ensures ∙ c.in_ok-parts.ensures.text) c.only_part.ensures))
-
-pub returns-clause-honest : goal.returns-clause-honest
-returns-clause-honest g c = λ t at is.
-    let f = g.L.Clocked.server_with_files t in
-    let s = c.requires.stands t in
-    let w = waiting_of s.0 (next_tag c.args.count) commands.Logout in
-    let ready = logout_ready s.0 (next_tag c.args.count) _ c.only_part.result.now _ _ _ s.1 c.write.ensures.sent
-    (c.as_slice.ensures ∙ c.in_ok-parts.ensures.text) c.only_part.ensures in
-    let started = begun w [] c.only_part.result.now _ _ _ _ _ _ ready.sending (c.in_ok-send.ensures.received f) ready.part_of
-    (c.in_ok-send.ensures.told t (next_tag c.args.count) commands.Logout [] [] ready.part_of ready.sending.awaits).done in
-    let reads = c.in_ok-line.ensures.reads f started.told _ _ (as_reads started.told 268435456 _ _ started.hears) in
-    begun_fit w _ _ _ _ _ _ _ reads.told c.in_ok-line.line.response started (c.listen.ensures.told t) reads.reads.reads.hears
-    (g.met.L.Link.honest c.listen.new.link t) ⊥ c.in_ok-line.line.frame at (λ no. no) (c.farewell.ensures.why (faults.BadReply at) is).0
-
-pub returns-clause-cause : goal.returns-clause-cause
-returns-clause-cause g c = λ is. absurd (c.farewell.ensures.why faults.Link is).0
-
-pub returns-clause-within : goal.returns-clause-within
-returns-clause-within g c = λ t heard h.
-    let r = c.in_ok-line.ensures.reads t heard _ _
-    (reads_at heard _ _ _ _ _ _ (c.in_ok-send.ensures.received t) (as_reads heard 268435456 _ _ h)) in
-    on_ok_always c.farewell.result (at_most _ _ _ _ _ r.reads.reads)
+pub returns-clause-leaves : goal.returns-clause-leaves
+returns-clause-leaves g c = record {
+  left = λ t heard h.
+      let r = c.in_ok-line.ensures.reads t heard _ _
+      (reads_at heard _ _ _ _ _ _ (c.in_ok-send.ensures.received t) (as_reads heard 268435456 _ _ h)) in
+      on_ok_then c.farewell.result (IsFarewell (next_tag c.args.count) c.in_ok-line.line.response) _
+      (λ f. left_so heard r.told c.in_ok-line.line.response (next_tag c.args.count) _ _ r.reads.reads.hears r.none f)
+      c.farewell.ensures.farewell;
+  within = λ t heard h.
+      let r = c.in_ok-line.ensures.reads t heard _ _
+      (reads_at heard _ _ _ _ _ _ (c.in_ok-send.ensures.received t) (as_reads heard 268435456 _ _ h)) in
+      on_ok_always c.farewell.result (at_most _ _ _ _ _ r.reads.reads);
+  whole = λ t.
+      on_ok_always c.farewell.result
+      (c.listen.ensures.receives.sent t ∙ c.in_ok-send.ensures.sent t
+      ∙ ap (λ (x : List ℕ). (g.L.Clocked.link c.args.link.now).sent ++ x)
+      (logout_sent (next_tag c.args.count) _ _ (c.as_slice.ensures ∙ c.in_ok-parts.ensures.text) c.only_part.ensures));
+  why = λ t heard h fault is.
+      let r = c.in_ok-line.ensures.reads t heard _ _
+      (reads_at heard _ _ _ _ _ _ (c.in_ok-send.ensures.received t) (as_reads heard 268435456 _ _ h)) in
+      stays_so heard (next_tag c.args.count) _ _ c.in_ok-line.line.frame c.in_ok-line.line.response fault
+      (last_whole heard _ _ c.in_ok-line.line.frame c.in_ok-line.line.response _ _ _ _ _ r c.in_ok-line.ensures.spells) (c.farewell.ensures.why fault is);
+}

@@ -31,11 +31,13 @@ next-requires g c = record {
       asked_listens c.args.part _ _ _ _ _ _ i.0 asked (c.loop-line.invariant.told t) r.hears i.2 (g.met.L.Link.honest c.loop-line.link t);
 }
 
-pub returns-in_err-line-clause-files : goal.returns-in_err-line-clause-files
-returns-in_err-line-clause-files g c = λ t. linked_then AnyStep _ _ _ (c.loop-line.invariant.files t) (c.next.ensures.files t)
-
-pub returns-in_err-line-clause-told : goal.returns-in_err-line-clause-told
-returns-in_err-line-clause-told g c = λ t. linked_then Answering _ _ _ (c.loop-line.invariant.told t) (c.next.ensures.told t)
+pub returns-in_err-line-clause-receives : goal.returns-in_err-line-clause-receives
+returns-in_err-line-clause-receives g c = record {
+  files = λ t. linked_then AnyStep _ _ _ (c.loop-line.invariant.files t) (c.next.ensures.receives.files t);
+  told = λ t. linked_then Answering _ _ _ (c.loop-line.invariant.told t) (c.next.ensures.receives.told t);
+  sent = search rules;
+  blames = search rules;
+}
 
 pub returns-in_err-line-clause-why : goal.returns-in_err-line-clause-why
 returns-in_err-line-clause-why g c = λ t heard had most r fault is.
@@ -45,11 +47,13 @@ returns-in_err-line-clause-why g c = λ t heard had most r fault is.
 pub returns-in_err-hear-clause-why : goal.returns-in_err-hear-clause-why
 returns-in_err-hear-clause-why g c = λ t heard had most r fault is. memory_fails _ heard _ _ _ fault (search rules)
 
-pub returns-then-ends-clause-files : goal.returns-then-ends-clause-files
-returns-then-ends-clause-files g c = λ t. linked_then AnyStep _ _ _ (c.loop-line.invariant.files t) (c.next.ensures.files t)
-
-pub returns-then-ends-clause-told : goal.returns-then-ends-clause-told
-returns-then-ends-clause-told g c = λ t. linked_then Answering _ _ _ (c.loop-line.invariant.told t) (c.next.ensures.told t)
+pub returns-then-ends-clause-receives : goal.returns-then-ends-clause-receives
+returns-then-ends-clause-receives g c = record {
+  files = λ t. linked_then AnyStep _ _ _ (c.loop-line.invariant.files t) (c.next.ensures.receives.files t);
+  told = λ t. linked_then Answering _ _ _ (c.loop-line.invariant.told t) (c.next.ensures.receives.told t);
+  sent = search rules;
+  blames = search rules;
+}
 
 pub returns-then-ends-clause-reads : goal.returns-then-ends-clause-reads
 returns-then-ends-clause-reads g c = λ t heard had most r.
@@ -62,11 +66,13 @@ returns-then-ends-clause-reads g c = λ t heard had most r.
           (c.in_ok-line.ensures.reads t (heard ++ i.0) had most (i.3 t heard had most r));
     }
 
-pub returns-in_err-hear-clause-files : goal.returns-in_err-hear-clause-files
-returns-in_err-hear-clause-files g c = λ t. linked_then AnyStep _ _ _ (c.loop-line.invariant.files t) (c.next.ensures.files t)
-
-pub returns-in_err-hear-clause-told : goal.returns-in_err-hear-clause-told
-returns-in_err-hear-clause-told g c = λ t. linked_then Answering _ _ _ (c.loop-line.invariant.told t) (c.next.ensures.told t)
+pub returns-in_err-hear-clause-receives : goal.returns-in_err-hear-clause-receives
+returns-in_err-hear-clause-receives g c = record {
+  files = λ t. linked_then AnyStep _ _ _ (c.loop-line.invariant.files t) (c.next.ensures.receives.files t);
+  told = λ t. linked_then Answering _ _ _ (c.loop-line.invariant.told t) (c.next.ensures.receives.told t);
+  sent = search rules;
+  blames = search rules;
+}
 
 pub loop-line-preserved : goal.loop-line-preserved
 loop-line-preserved g c =
@@ -74,8 +80,8 @@ loop-line-preserved g c =
     let r = c.in_ok-line.line.response in
     let not : IsEnd c.args.part r → ⊥ = λ e. let yes = c.ends.ensures.1 e in let nay = c.if-ends.false in cc in
     record {
-      files = λ t. linked_then AnyStep _ _ _ (c.loop-line.invariant.files t) (c.next.ensures.files t);
-      told = λ t. linked_then Answering _ _ _ (c.loop-line.invariant.told t) (c.next.ensures.told t);
+      files = λ t. linked_then AnyStep _ _ _ (c.loop-line.invariant.files t) (c.next.ensures.receives.files t);
+      told = λ t. linked_then Answering _ _ _ (c.loop-line.invariant.told t) (c.next.ensures.receives.told t);
       heard = (
         i.0 ++ r ∷ [],
         told_more _ _ _ i.0 r i.1 c.in_ok-hear.ensures.rows,
@@ -86,7 +92,7 @@ loop-line-preserved g c =
       permits = λ start is. permits_on start _ _ _ _ r (c.loop-line.invariant.permits start is) c.in_ok-hear.ensures.permits
           c.in_ok-hear.ensures.rows;
       small = λ all. small_on _ _ r (c.loop-line.invariant.small all) c.in_ok-line.ensures.small c.in_ok-hear.ensures.rows;
-      sent = λ t. c.next.ensures.sent t ∙ c.loop-line.invariant.sent t;
-      disk = c.next.ensures.disk ∙ c.loop-line.invariant.disk;
-      count = omega (arith, c.next.ensures.count, c.loop-line.invariant.count);
+      sent = λ t. c.next.ensures.receives.sent t ∙ c.loop-line.invariant.sent t;
+      disk = c.next.ensures.receives.blames.disk ∙ c.loop-line.invariant.disk;
+      count = omega (arith, c.next.ensures.receives.blames.count, c.loop-line.invariant.count);
     }

@@ -47,8 +47,17 @@ returns-in_err-check-clause-why g c = λ tells heard had most r fault is.
     let bad = c.check.ensures.why fault (search rules) in
     subst (Reading heard had most _) (sym bad.1) (fed_why heard had most _ _ _ reads cut bad.0 bad.2)
 
-pub returns-in_err-check-clause-cause : goal.returns-in_err-check-clause-cause
-returns-in_err-check-clause-cause g c = λ is. let bad = c.check.ensures.why faults.Link (search rules) in absurd (feed_no_link bad.0 bad.1)
+pub returns-in_err-check-clause-receives : goal.returns-in_err-check-clause-receives
+returns-in_err-check-clause-receives g c = record {
+  files = search rules;
+  told = search rules;
+  sent = search rules;
+  blames = record {
+    disk = search rules;
+    count = search rules;
+    cause = λ is. let bad = c.check.ensures.why faults.Link (search rules) in absurd (feed_no_link bad.0 bad.1);
+  };
+}
 
 pub receive-requires : goal.receive-requires
 receive-requires g c =
@@ -65,23 +74,25 @@ loop-frame-preserved g c =
     let none = MatchOption-at_none _ _ c.in_default.is c.in_ok-frame.ensures.none in
     let same = c.check.ensures.kept ∙ none.1 in
     record {
-      files = λ t. linked_then AnyStep _ _ _ (c.loop-frame.invariant.files t) (c.receive.ensures.files t);
-      told = λ t. linked_then Answering _ _ _ (c.loop-frame.invariant.told t) (c.receive.ensures.told t);
-      owed = λ t. listens_on _ _ _ _ _ _ (listens_same _ _ _ _ (c.loop-frame.invariant.owed t) same) (c.receive.ensures.told t)
+      files = λ t. linked_then AnyStep _ _ _ (c.loop-frame.invariant.files t) (c.receive.ensures.receives.files t);
+      told = λ t. linked_then Answering _ _ _ (c.loop-frame.invariant.told t) (c.receive.ensures.receives.told t);
+      owed = λ t. listens_on _ _ _ _ _ _ (listens_same _ _ _ _ (c.loop-frame.invariant.owed t) same) (c.receive.ensures.receives.told t)
           (λ heard h. (c.in_ok-receive.ensures.reads (g.L.Clocked.server_with_files t) heard _ _ (as_reads heard c.loop-frame.left _ _ h)).hears);
       reads = λ t heard had most r. c.in_ok-receive.ensures.reads t heard had most
           (reads_same heard had most _ _ _ _ (c.loop-frame.invariant.reads t heard had most r) same);
-      sent = λ t. c.receive.ensures.sent t ∙ c.loop-frame.invariant.sent t;
+      sent = λ t. c.receive.ensures.receives.sent t ∙ c.loop-frame.invariant.sent t;
       sum = omega (arith, c.in_ok-receive.ensures.sum, ap (λ (s : Stream). length s.bytes) same, c.loop-frame.invariant.sum);
-      disk = c.receive.ensures.disk ∙ c.loop-frame.invariant.disk;
-      count = omega (arith, c.receive.ensures.count, c.loop-frame.invariant.count);
+      disk = c.receive.ensures.receives.blames.disk ∙ c.loop-frame.invariant.disk;
+      count = omega (arith, c.receive.ensures.receives.blames.count, c.loop-frame.invariant.count);
     }
 
-pub returns-in_err-receive-clause-files : goal.returns-in_err-receive-clause-files
-returns-in_err-receive-clause-files g c = λ t. linked_then AnyStep _ _ _ (c.loop-frame.invariant.files t) (c.receive.ensures.files t)
-
-pub returns-in_err-receive-clause-told : goal.returns-in_err-receive-clause-told
-returns-in_err-receive-clause-told g c = λ t. linked_then Answering _ _ _ (c.loop-frame.invariant.told t) (c.receive.ensures.told t)
+pub returns-in_err-receive-clause-receives : goal.returns-in_err-receive-clause-receives
+returns-in_err-receive-clause-receives g c = record {
+  files = λ t. linked_then AnyStep _ _ _ (c.loop-frame.invariant.files t) (c.receive.ensures.receives.files t);
+  told = λ t. linked_then Answering _ _ _ (c.loop-frame.invariant.told t) (c.receive.ensures.receives.told t);
+  sent = search rules;
+  blames = search rules;
+}
 
 pub returns-in_err-receive-clause-why : goal.returns-in_err-receive-clause-why
 returns-in_err-receive-clause-why g c = λ tells heard had most r fault is.
@@ -89,8 +100,17 @@ returns-in_err-receive-clause-why g c = λ tells heard had most r fault is.
     c.receive.ensures.why tells heard had most
     (reads_same heard had most _ _ _ _ (c.loop-frame.invariant.reads tells heard had most r) (c.check.ensures.kept ∙ none.1)) fault (search rules)
 
-pub returns-in-Some-clause-cause : goal.returns-in-Some-clause-cause
-returns-in-Some-clause-cause g c = λ is. absurd (c.line_of.ensures.why faults.Link is)
+pub returns-in-Some-clause-receives : goal.returns-in-Some-clause-receives
+returns-in-Some-clause-receives g c = record {
+  files = search rules;
+  told = search rules;
+  sent = search rules;
+  blames = record {
+    disk = search rules;
+    count = search rules;
+    cause = λ is. absurd (c.line_of.ensures.why faults.Link is);
+  };
+}
 
 pub returns-in-Some-clause-less : goal.returns-in-Some-clause-less
 returns-in-Some-clause-less g c =

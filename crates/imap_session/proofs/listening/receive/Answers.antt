@@ -1,4 +1,4 @@
-use Rattle.std.proofs.Common.{arith, ◌≤◌, length, refl, sym, subst}
+use Rattle.std.proofs.Common.{rules, arith, ◌≤◌, length, refl, sym, subst}
 use Rattle.imap_session.specs.Faults.{Reading}
 use Rattle.imap_session.specs.declared.fault.SessionFault.TheVariants as faults
 use Rattle.imap_session.proofs.Dialogues.{on_ok_then}
@@ -34,8 +34,17 @@ returns-clause-sum g c =
 pub returns-clause-why : goal.returns-clause-why
 returns-clause-why g c = λ t heard had most r fault is. subst (Reading heard had most _) (sym (c.put_in.ensures.why fault is)) tt
 
-pub returns-clause-cause : goal.returns-clause-cause
-returns-clause-cause g c = λ is. absurd (link_memory (c.put_in.ensures.why faults.Link is))
+pub returns-clause-receives : goal.returns-clause-receives
+returns-clause-receives g c = record {
+  files = search rules;
+  told = search rules;
+  sent = search rules;
+  blames = record {
+    disk = search rules;
+    count = search rules;
+    cause = λ is. absurd (link_memory (c.put_in.ensures.why faults.Link is));
+  };
+}
 
 pub returns-clause-less : goal.returns-clause-less
 returns-clause-less g c = on_ok_always c.put_in.result (omega (arith, c.in_ok-count.ensures.some, c.if-left-size.false))

@@ -19,65 +19,65 @@ use Rattle.play_driver.proofs.asking.ask.Goals as goal
 pub ask-requires-clause-asked : goal.ask-requires-clause-asked
 ask-requires-clause-asked g c =
     let b = meaning c.args.book.now in
-    let lawful = lawful_fold c.args.player.now b c.requires.fold c.requires.beside in
+    let lawful = lawful_fold c.args.player.now b c.requires.fold c.requires.rests.beside in
     (askable (need_of c.args.player.now b) c.args.player.now b c.args.chosen.conversation.count c.args.tag c.args.command.now
     c.requires.needed lawful).asked
 
 pub ask-requires-clause-tagged : goal.ask-requires-clause-tagged
 ask-requires-clause-tagged g c =
     let b = meaning c.args.book.now in
-    let lawful = lawful_fold c.args.player.now b c.requires.fold c.requires.beside in
+    let lawful = lawful_fold c.args.player.now b c.requires.fold c.requires.rests.beside in
     (askable (need_of c.args.player.now b) c.args.player.now b c.args.chosen.conversation.count c.args.tag c.args.command.now
     c.requires.needed lawful).tagged
 
 pub ask-requires-clause-carried : goal.ask-requires-clause-carried
 ask-requires-clause-carried g c =
     let b = meaning c.args.book.now in
-    let lawful = lawful_fold c.args.player.now b c.requires.fold c.requires.beside in
+    let lawful = lawful_fold c.args.player.now b c.requires.fold c.requires.rests.beside in
     (askable (need_of c.args.player.now b) c.args.player.now b c.args.chosen.conversation.count c.args.tag c.args.command.now
     c.requires.needed lawful).carried
 
 pub returns-in_err-answer-clause-joined : goal.returns-in_err-answer-clause-joined
 returns-in_err-answer-clause-joined g c = λ t made stands known.
     let b = meaning c.args.book.now in
-    let lawful = lawful_fold c.args.player.now b c.requires.fold c.requires.beside in
+    let lawful = lawful_fold c.args.player.now b c.requires.fold c.requires.rests.beside in
     asked_stays c.args.player.now b c.args.chosen.permits made _ c.args.chosen.conversation.count c.args.tag c.args.command.now c.args.chosen.name
-    stands known c.requires.selected (c.requires.stands t).selects c.requires.needed lawful _ (c.ask.ensures.told t)
+    stands known c.requires.rests.selected (c.requires.rests.stands t).selects c.requires.needed lawful _ (c.ask.ensures.talks.told t)
 
 pub returns-in_err-answer-clause-why : goal.returns-in_err-answer-clause-why
 returns-in_err-answer-clause-why g c = λ t store same fault is.
-    let follows = c.requires.follows t in
+    let follows = c.requires.rests.still t in
     let f = c.in_err-answer.field-0.0 in
     not_answered_so _ _ c.args.chosen store c.args.player.now (meaning c.args.book.now) c.args.tag c.args.command.now f fault same
-    c.requires.needed follows (c.ask.ensures.sent t) (c.ask.ensures.why t follows.0 follows.1 f (search rules))
+    c.requires.needed follows (c.ask.ensures.talks.sent t) (c.ask.ensures.fails.why t follows.0 follows.1 f (search rules))
     (told_as of_session c.from_residual.result f c.from_residual.ensures.1 fault is)
 
 pub returns-in_err-answer-clause-faultless : goal.returns-in_err-answer-clause-faultless
 returns-in_err-answer-clause-faultless g c = λ t made stands known fair fault is.
     let files = g.L.Clocked.server_with_files t in
-    let follows = c.requires.follows files in
+    let follows = c.requires.rests.still files in
     let f = c.in_err-answer.field-0.0 in
-    session_faultless c.ask.result (c.ask.ensures.honest t) f fault c.in_err-answer.was
+    session_faultless c.ask.result (c.ask.ensures.talks.honest t) f fault c.in_err-answer.was
     (asked_whole follows.0 c.args.tag c.args.command.now follows.1.connection.received _ f
-    (c.ask.ensures.why files follows.0 follows.1 f c.in_err-answer.was))
+    (c.ask.ensures.fails.why files follows.0 follows.1 f c.in_err-answer.was))
     (told_as of_session c.from_residual.result f c.from_residual.ensures.1 fault is)
 
 pub returns-in-Ok-clause-joined : goal.returns-in-Ok-clause-joined
 returns-in-Ok-clause-joined g c = λ t made stands known.
     let b = meaning c.args.book.now in
-    let lawful = lawful_fold c.args.player.now b c.requires.fold c.requires.beside in
+    let lawful = lawful_fold c.args.player.now b c.requires.fold c.requires.rests.beside in
     asked_stays c.args.player.now b c.args.chosen.permits made _ c.args.chosen.conversation.count c.args.tag c.args.command.now c.args.chosen.name
-    stands known c.requires.selected (c.requires.stands t).selects c.requires.needed lawful _ (c.ask.ensures.told t)
+    stands known c.requires.rests.selected (c.requires.rests.stands t).selects c.requires.needed lawful _ (c.ask.ensures.talks.told t)
 
 pub returns-in-Ok-clause-known : goal.returns-in-Ok-clause-known
 returns-in-Ok-clause-known g c = λ t made stands known fair.
     let b = meaning c.args.book.now in
-    let lawful = lawful_fold c.args.player.now b c.requires.fold c.requires.beside in
+    let lawful = lawful_fold c.args.player.now b c.requires.fold c.requires.rests.beside in
     let permits = c.permits_due-permits.ensures ∙ ap (λ (x : Option Permits). permits_due x (due_action b.queue)) c.in_ok-answer.ensures.permits in
     let heard =
     asked_heard c.args.player.now b c.args.chosen.permits made _ c.args.chosen.conversation.count c.args.tag c.args.command.now c.args.chosen.name
-    stands known c.requires.selected (c.requires.stands t).selects c.requires.needed lawful _ (c.ask.ensures.told t) fair c.in_ok-answer.answer.1 _ _
-    (c.in_ok-answer.ensures.answered t) c.in_ok-answer.ensures.accepted in
+    stands known c.requires.rests.selected (c.requires.rests.stands t).selects c.requires.needed lawful _ (c.ask.ensures.talks.told t) fair c.in_ok-answer.answer.1 _ _
+    (c.in_ok-answer.ensures.replied.answered t _ (c.requires.rests.stands t)) c.in_ok-answer.ensures.replied.accepted in
     heard_known c.args.player.now c.heard.new.self b c.args.chosen.permits made _ c.in_ok-answer.answer.1 c.args.chosen.name
     ((c.in_ok-answer.ensures.stands t).selects ∙ ap Some c.in_ok-answer.ensures.name) heard
     (λ w kept reply polite knows.
@@ -87,12 +87,12 @@ pub returns-in-Ok-clause-came : goal.returns-in-Ok-clause-came
 returns-in-Ok-clause-came g c = λ t.
     let b = meaning c.args.book.now in
     let permits = c.permits_due-permits.ensures ∙ ap (λ (x : Option Permits). permits_due x (due_action b.queue)) c.in_ok-answer.ensures.permits in
-    let follows = c.requires.follows t in (
+    let follows = c.requires.rests.still t in (
       c.in_ok-answer.answer.1,
       record {
         heard = follows.0;
         hears = follows.1;
-        came = c.in_ok-answer.ensures.came t follows.0 follows.1;
+        came = c.in_ok-answer.ensures.replied.came t follows.0 follows.1;
         counted = c.in_ok-answer.ensures.counted;
       },
       subst (λ (x : Bool). IsHeard c.args.player.now b x c.in_ok-answer.answer.1 c.heard.new.self) permits
@@ -105,7 +105,7 @@ returns-in-Ok-clause-only g c =
     (c.in-Ok.ensures.value (fold_sound (meaning c.args.book.now) c.requires.fold))
 
 pub returns-in-Ok-clause-beside : goal.returns-in-Ok-clause-beside
-returns-in-Ok-clause-beside g c = c.in-Ok.ensures.beside (fold_sound (meaning c.args.book.now) c.requires.fold) c.requires.beside
+returns-in-Ok-clause-beside g c = c.in-Ok.ensures.beside (fold_sound (meaning c.args.book.now) c.requires.fold) c.requires.rests.beside
 
 pub returns-in-Ok-clause-falls : goal.returns-in-Ok-clause-falls
 returns-in-Ok-clause-falls g c =
@@ -116,21 +116,21 @@ returns-in-Ok-clause-falls g c =
 pub returns-in-Err-clause-joined : goal.returns-in-Err-clause-joined
 returns-in-Err-clause-joined g c = λ t made stands known.
     let b = meaning c.args.book.now in
-    let lawful = lawful_fold c.args.player.now b c.requires.fold c.requires.beside in
+    let lawful = lawful_fold c.args.player.now b c.requires.fold c.requires.rests.beside in
     asked_stays c.args.player.now b c.args.chosen.permits made _ c.args.chosen.conversation.count c.args.tag c.args.command.now c.args.chosen.name
-    stands known c.requires.selected (c.requires.stands t).selects c.requires.needed lawful _ (c.ask.ensures.told t)
+    stands known c.requires.rests.selected (c.requires.rests.stands t).selects c.requires.needed lawful _ (c.ask.ensures.talks.told t)
 
 pub returns-in-Err-clause-why : goal.returns-in-Err-clause-why
 returns-in-Err-clause-why g c = λ t store same fault is.
     let b = meaning c.args.book.now in
     let permits = c.permits_due-permits.ensures ∙ ap (λ (x : Option Permits). permits_due x (due_action b.queue)) c.in_ok-answer.ensures.permits in
-    let follows = c.requires.follows t in
+    let follows = c.requires.rests.still t in
     not_heard_so _ _ c.args.chosen c.in_ok-answer.answer.0 store c.args.player.now b c.args.tag c.args.command.now c.in_ok-answer.answer.1
     c.in-Err.unheard fault same c.requires.needed
     (record {
       heard = follows.0;
       hears = follows.1;
-      came = c.in_ok-answer.ensures.came t follows.0 follows.1;
+      came = c.in_ok-answer.ensures.replied.came t follows.0 follows.1;
       counted = c.in_ok-answer.ensures.counted;
     })
     (subst (λ (x : Bool). IsHeardFault c.args.player.now b x c.in_ok-answer.answer.1 c.in-Err.unheard) permits c.in-Err.ensures.fault)
@@ -140,12 +140,12 @@ returns-in-Err-clause-why g c = λ t store same fault is.
 pub returns-in-Err-clause-faultless : goal.returns-in-Err-clause-faultless
 returns-in-Err-clause-faultless g c = λ t made stands known fair fault is.
     let b = meaning c.args.book.now in
-    let lawful = lawful_fold c.args.player.now b c.requires.fold c.requires.beside in
+    let lawful = lawful_fold c.args.player.now b c.requires.fold c.requires.rests.beside in
     let r = c.in_ok-answer.answer.1 in
     let heard =
     asked_heard c.args.player.now b c.args.chosen.permits made _ c.args.chosen.conversation.count c.args.tag c.args.command.now c.args.chosen.name
-    stands known c.requires.selected (c.requires.stands t).selects c.requires.needed lawful _ (c.ask.ensures.told t) fair r _ _
-    (c.in_ok-answer.ensures.answered t) c.in_ok-answer.ensures.accepted in
+    stands known c.requires.rests.selected (c.requires.rests.stands t).selects c.requires.needed lawful _ (c.ask.ensures.talks.told t) fair r _ _
+    (c.in_ok-answer.ensures.replied.answered t _ (c.requires.rests.stands t)) c.in_ok-answer.ensures.replied.accepted in
     heard_faultless c.args.player.now b c.args.chosen.permits c.permits_due-permits.result made _ r c.args.chosen.name heard c.in-Err.unheard fault
     c.in-Err.ensures.fault
     (λ w item kept reply knows lacks. c.in-Err.ensures.honest w item kept reply knows (ap (λ (u : Unheard). Err u) lacks))

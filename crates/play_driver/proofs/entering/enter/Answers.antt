@@ -1,4 +1,5 @@
 use Rattle.std.proofs.Common.{◌∙◌, ℕ, arith, refl, rules, subst, sym}
+use Rattle.imap_session.proofs.Outcomes.{if_ok_more}
 use Rattle.imap_session.proofs.Talks.{answers_enquires, connects_enquires, enabling_asks, entering_asks}
 use Rattle.imap_session.proofs.Talking.{linked_then}
 use Rattle.imap_session.specs.Dialogue.{so_far}
@@ -39,20 +40,20 @@ returns-in_err-fresh-clause-serves g c = λ t serving. (
 )
 
 pub returns-in_err-greeted-clause-files : goal.returns-in_err-greeted-clause-files
-returns-in_err-greeted-clause-files g c = λ t. linked_then AnyStep _ _ _ (c.connect.ensures.files t) (c.greet.ensures.files t)
+returns-in_err-greeted-clause-files g c = λ t. linked_then AnyStep _ _ _ (c.connect.ensures.files t) (c.greet.ensures.receives.files t)
 
 pub returns-in_err-greeted-clause-told : goal.returns-in_err-greeted-clause-told
 returns-in_err-greeted-clause-told g c = λ t.
-    linked_then Enquiring _ _ _ (connects_enquires _ _ (c.connect.ensures.told t)) (answers_enquires _ _ (c.greet.ensures.told t))
+    linked_then Enquiring _ _ _ (connects_enquires _ _ (c.connect.ensures.told t)) (answers_enquires _ _ (c.greet.ensures.receives.told t))
 
 pub returns-in_err-greeted-clause-once : goal.returns-in_err-greeted-clause-once
 returns-in_err-greeted-clause-once g c = λ t.
     goes_behind (LinkStep Questioning) _ _ _ (connects_first (LinkStep Questioning) _ _ (c.connect.ensures.told t))
-    (answers_over _ _ (c.greet.ensures.told t))
+    (answers_over _ _ (c.greet.ensures.receives.told t))
 
 pub returns-in_err-greeted-clause-why : goal.returns-in_err-greeted-clause-why
 returns-in_err-greeted-clause-why g c = λ t fault is.
-    ungreeted (c.greet.ensures.why t fault (search rules)) (c.greet.ensures.sent t ∙ c.in_ok-fresh.ensures.sent t)
+    ungreeted (c.greet.ensures.why t fault (search rules)) (c.greet.ensures.receives.sent t ∙ c.in_ok-fresh.ensures.sent t)
 
 pub returns-in_err-greeted-clause-serves : goal.returns-in_err-greeted-clause-serves
 returns-in_err-greeted-clause-serves g c = λ t serving.
@@ -66,21 +67,21 @@ returns-in_err-greeted-clause-serves g c = λ t serving.
 
 pub returns-in_err-known-clause-files : goal.returns-in_err-known-clause-files
 returns-in_err-known-clause-files g c = λ t.
-    linked_then AnyStep _ _ _ (linked_then AnyStep _ _ _ (c.connect.ensures.files t) (c.greet.ensures.files t)) (c.authenticate.ensures.files t)
+    linked_then AnyStep _ _ _ (linked_then AnyStep _ _ _ (c.connect.ensures.files t) (c.greet.ensures.receives.files t)) (c.authenticate.ensures.converses.files t)
 
 pub returns-in_err-known-clause-told : goal.returns-in_err-known-clause-told
 returns-in_err-known-clause-told g c = λ t.
-    let first = linked_then Enquiring _ _ _ (connects_enquires _ _ (c.connect.ensures.told t)) (answers_enquires _ _ (c.greet.ensures.told t)) in
+    let first = linked_then Enquiring _ _ _ (connects_enquires _ _ (c.connect.ensures.told t)) (answers_enquires _ _ (c.greet.ensures.receives.told t)) in
     entering_told _ _ _ first (g.L.Clocked.link c.greet.new.link) (g.L.Clocked.link c.authenticate.new.link) c.in_ok-greeted.greeted.conversation.count
-    c.in_ok-greeted.greeted.preauth c.args.account.now (c.authenticate.ensures.told t)
+    c.in_ok-greeted.greeted.preauth c.args.account.now (c.authenticate.ensures.converses.told t)
 
 pub returns-in_err-known-clause-once : goal.returns-in_err-known-clause-once
 returns-in_err-known-clause-once g c = λ t.
     let first =
     goes_behind (LinkStep Questioning) _ _ _ (connects_first (LinkStep Questioning) _ _ (c.connect.ensures.told t))
-    (answers_over _ _ (c.greet.ensures.told t)) in
+    (answers_over _ _ (c.greet.ensures.receives.told t)) in
     entering_over _ _ _ first (g.L.Clocked.link c.greet.new.link) (g.L.Clocked.link c.authenticate.new.link) c.in_ok-greeted.greeted.conversation.count
-    c.in_ok-greeted.greeted.preauth c.args.account.now (c.authenticate.ensures.told t)
+    c.in_ok-greeted.greeted.preauth c.args.account.now (c.authenticate.ensures.converses.told t)
 
 pub returns-in_err-known-clause-why : goal.returns-in_err-known-clause-why
 returns-in_err-known-clause-why g c = λ t fault is.
@@ -89,9 +90,9 @@ returns-in_err-known-clause-why g c = λ t fault is.
     unknown_so c.args.account.now (g.L.Clocked.link c.args.link.now) greeted.preauth p
     (record {
       unasked = c.in_ok-greeted.ensures.counted ∙ c.in_ok-fresh.ensures.counted;
-      unsent = c.greet.ensures.sent t ∙ c.in_ok-fresh.ensures.sent t;
+      unsent = c.greet.ensures.receives.sent t ∙ c.in_ok-fresh.ensures.sent t;
       greets = c.in_ok-greeted.ensures.greeting t;
-    }) (c.in_ok-greeted.ensures.still t) c.authenticate.result (g.L.Clocked.link c.authenticate.new.link) (c.authenticate.ensures.why t) fault (search rules)
+    }) (c.in_ok-greeted.ensures.still t) c.authenticate.result (g.L.Clocked.link c.authenticate.new.link) (c.authenticate.ensures.converses.why t) fault (search rules)
 
 pub returns-in_err-known-clause-serves : goal.returns-in_err-known-clause-serves
 returns-in_err-known-clause-serves g c = λ t serving.
@@ -106,10 +107,10 @@ returns-in_err-known-clause-serves g c = λ t serving.
           never_told RefusesRun _ served.told (entry_told _ _ _ line _ why (g.met.L.Link.honest c.authenticate.new.link t)),
       λ item is. lacks_behind _ _ (c.connect.ensures.told t) (c.in_ok-fresh.ensures.greeted t) at new greeted.preauth d
           (entering_asks greeted.preauth c.args.account.now) (entering_remains greeted.preauth c.args.account.now) greeted.conversation.count item
-          (answers_over _ _ (c.greet.ensures.told t)) (began_so greeted.preauth _ (c.in_ok-greeted.ensures.begun t))
+          (answers_over _ _ (c.greet.ensures.receives.told t)) (began_so greeted.preauth _ (c.in_ok-greeted.ensures.begun t))
           (subst (λ (n : ℕ). LacksNothing greeted.preauth d n) (sym (c.in_ok-greeted.ensures.counted ∙ c.in_ok-fresh.ensures.counted))
           (entering_lacks_none greeted.preauth c.args.account.now))
-          (c.authenticate.ensures.lacking t item (search rules)) serving,
+          (c.authenticate.ensures.converses.lacking t item (search rules)) serving,
     )
 
 pub enable-requires-clause-room : goal.enable-requires-clause-room
@@ -117,28 +118,28 @@ enable-requires-clause-room g c = omega (arith, c.in_ok-known.ensures.counted, c
 
 pub returns-clause-files : goal.returns-clause-files
 returns-clause-files g c = λ t.
-    let first = linked_then AnyStep _ _ _ (c.connect.ensures.files t) (c.greet.ensures.files t) in
-    linked_then AnyStep _ _ _ (linked_then AnyStep _ _ _ first (c.authenticate.ensures.files t)) (c.enable.ensures.files t)
+    let first = linked_then AnyStep _ _ _ (c.connect.ensures.files t) (c.greet.ensures.receives.files t) in
+    linked_then AnyStep _ _ _ (linked_then AnyStep _ _ _ first (c.authenticate.ensures.converses.files t)) (c.enable.ensures.converses.files t)
 
 pub returns-clause-told : goal.returns-clause-told
 returns-clause-told g c = λ t.
-    let first = linked_then Enquiring _ _ _ (connects_enquires _ _ (c.connect.ensures.told t)) (answers_enquires _ _ (c.greet.ensures.told t)) in
+    let first = linked_then Enquiring _ _ _ (connects_enquires _ _ (c.connect.ensures.told t)) (answers_enquires _ _ (c.greet.ensures.receives.told t)) in
     let second =
     entering_told _ _ _ first (g.L.Clocked.link c.greet.new.link) (g.L.Clocked.link c.authenticate.new.link) c.in_ok-greeted.greeted.conversation.count
-    c.in_ok-greeted.greeted.preauth c.args.account.now (c.authenticate.ensures.told t) in
+    c.in_ok-greeted.greeted.preauth c.args.account.now (c.authenticate.ensures.converses.told t) in
     enabling_told _ _ _ second (g.L.Clocked.link c.authenticate.new.link) (g.L.Clocked.link c.enable.new.link) c.in_ok-known.known.conversation.count
-    c.in_ok-known.known.rev2 (c.enable.ensures.told t)
+    c.in_ok-known.known.rev2 (c.enable.ensures.converses.told t)
 
 pub returns-clause-once : goal.returns-clause-once
 returns-clause-once g c = λ t.
     let first =
     goes_behind (LinkStep Questioning) _ _ _ (connects_first (LinkStep Questioning) _ _ (c.connect.ensures.told t))
-    (answers_over _ _ (c.greet.ensures.told t)) in
+    (answers_over _ _ (c.greet.ensures.receives.told t)) in
     let second =
     entering_over _ _ _ first (g.L.Clocked.link c.greet.new.link) (g.L.Clocked.link c.authenticate.new.link) c.in_ok-greeted.greeted.conversation.count
-    c.in_ok-greeted.greeted.preauth c.args.account.now (c.authenticate.ensures.told t) in
+    c.in_ok-greeted.greeted.preauth c.args.account.now (c.authenticate.ensures.converses.told t) in
     enabling_over _ _ _ second (g.L.Clocked.link c.authenticate.new.link) (g.L.Clocked.link c.enable.new.link) c.in_ok-known.known.conversation.count
-    c.in_ok-known.known.rev2 (c.enable.ensures.told t)
+    c.in_ok-known.known.rev2 (c.enable.ensures.converses.told t)
 
 pub returns-clause-entered : goal.returns-clause-entered
 returns-clause-entered g c = λ t.
@@ -146,13 +147,18 @@ returns-clause-entered g c = λ t.
     let known = c.in_ok-known.known in
     let p : Stage = record { link = g.L.Clocked.link c.greet.new.link; feed = greeted.conversation.feed; count = greeted.conversation.count } in
     let k : Stage = record { link = g.L.Clocked.link c.authenticate.new.link; feed = known.conversation.feed; count = known.conversation.count } in
-    entered_so c.args.account.now (g.L.Clocked.link c.args.link.now) greeted.preauth p
+    if_ok_more c.enable.result _ _
+    (λ s ends. entered_so c.args.account.now (g.L.Clocked.link c.args.link.now) greeted.preauth p
     (record {
       unasked = c.in_ok-greeted.ensures.counted ∙ c.in_ok-fresh.ensures.counted;
-      unsent = c.greet.ensures.sent t ∙ c.in_ok-fresh.ensures.sent t;
+      unsent = c.greet.ensures.receives.sent t ∙ c.in_ok-fresh.ensures.sent t;
       greets = c.in_ok-greeted.ensures.greeting t;
-    }) (c.in_ok-greeted.ensures.still t) known.rev2 k (c.in_ok-known.ensures.came t) (c.in_ok-known.ensures.still t) (g.L.Clocked.link c.enable.new.link)
-    c.enable.result (c.enable.ensures.came t)
+    }) (c.in_ok-greeted.ensures.still t) known.rev2 k (c.in_ok-known.ensures.concludes.came t) (c.in_ok-known.ensures.still t)
+    (g.L.Clocked.link c.enable.new.link) s (ends.came t))
+    c.enable.ensures.concludes
+
+pub returns-clause-stands : goal.returns-clause-stands
+returns-clause-stands g c = λ t. if_ok_more c.enable.result _ _ (λ s ends. ends.stands t) c.enable.ensures.concludes
 
 pub returns-clause-why : goal.returns-clause-why
 returns-clause-why g c = λ t fault is.
@@ -163,19 +169,19 @@ returns-clause-why g c = λ t fault is.
     unfit_so c.args.account.now (g.L.Clocked.link c.args.link.now) greeted.preauth p
     (record {
       unasked = c.in_ok-greeted.ensures.counted ∙ c.in_ok-fresh.ensures.counted;
-      unsent = c.greet.ensures.sent t ∙ c.in_ok-fresh.ensures.sent t;
+      unsent = c.greet.ensures.receives.sent t ∙ c.in_ok-fresh.ensures.sent t;
       greets = c.in_ok-greeted.ensures.greeting t;
-    }) (c.in_ok-greeted.ensures.still t) known.rev2 k (c.in_ok-known.ensures.came t) (c.in_ok-known.ensures.still t) (g.L.Clocked.link c.enable.new.link)
-    c.enable.result (c.enable.ensures.why t) fault is
+    }) (c.in_ok-greeted.ensures.still t) known.rev2 k (c.in_ok-known.ensures.concludes.came t) (c.in_ok-known.ensures.still t) (g.L.Clocked.link c.enable.new.link)
+    c.enable.result (c.enable.ensures.converses.why t) fault is
 
 pub returns-clause-opened : goal.returns-clause-opened
 returns-clause-opened g c = λ t.
     let greeted = g.L.Clocked.link c.greet.new.link in
     let known = g.L.Clocked.link c.authenticate.new.link in
     in_any c.enable.result _
-    (opens_from _ _ _ _ _ (c.connect.ensures.told t) (c.in_ok-fresh.ensures.greeted t) (c.greet.ensures.told t) greeted known known
+    (opens_from _ _ _ _ _ (c.connect.ensures.told t) (c.in_ok-fresh.ensures.greeted t) (c.greet.ensures.receives.told t) greeted known known
     (g.L.Clocked.link c.enable.new.link) c.in_ok-greeted.greeted.conversation.count c.in_ok-known.known.conversation.count
-    c.in_ok-greeted.greeted.preauth c.in_ok-known.known.rev2 c.args.account.now (c.authenticate.ensures.told t) (c.enable.ensures.told t))
+    c.in_ok-greeted.greeted.preauth c.in_ok-known.known.rev2 c.args.account.now (c.authenticate.ensures.converses.told t) (c.enable.ensures.converses.told t))
 
 pub returns-clause-serves : goal.returns-clause-serves
 returns-clause-serves g c = λ t serving.
@@ -187,8 +193,8 @@ returns-clause-serves g c = λ t serving.
     let new = so_far (g.L.Clocked.clock c.enable.new.link) (g.L.Clocked.link c.enable.new.link) in
     let asks = asks_behind (g.L.Clocked.clock c.connect.new.link) at mid (entering greeted.preauth c.args.account.now)
     (entering_asks greeted.preauth c.args.account.now)
-    (entering_remains greeted.preauth c.args.account.now) greeted.conversation.count (answers_over _ _ (c.greet.ensures.told t))
-    (c.authenticate.ensures.told t) in
+    (entering_remains greeted.preauth c.args.account.now) greeted.conversation.count (answers_over _ _ (c.greet.ensures.receives.told t))
+    (c.authenticate.ensures.converses.told t) in
     let served = served_end _ _ (enters_talking _ _ (returns-clause-once g c t)) serving in (
       λ line is.
           let why = returns-clause-why g c f (faults.Refused line) is in
@@ -196,5 +202,5 @@ returns-clause-serves g c = λ t serving.
       λ item is. lacks_behind _ _ (c.connect.ensures.told t) (c.in_ok-fresh.ensures.greeted t) mid new
           (begins_preauth (g.L.Clocked.clock c.authenticate.new.link).now.outside.talk.told) (enabling known.rev2) (enabling_asks known.rev2)
           (enabling_remains known.rev2) known.conversation.count item asks refl
-          (enabling_lacks_none (begins_preauth (g.L.Clocked.clock c.authenticate.new.link).now.outside.talk.told) known.rev2 known.conversation.count) (c.enable.ensures.lacking t item is) serving,
+          (enabling_lacks_none (begins_preauth (g.L.Clocked.clock c.authenticate.new.link).now.outside.talk.told) known.rev2 known.conversation.count) (c.enable.ensures.converses.lacking t item is) serving,
     )

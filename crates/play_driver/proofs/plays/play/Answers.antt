@@ -1,6 +1,7 @@
 use Rattle.play_driver.proofs.CompleteRun.{comes_session, comes_turn, leaving_lacks, unrefused_leave, unrefused_turn}
 use Rattle.play_driver.proofs.EntersServed.{enters_talking}
 use Rattle.play_driver.proofs.Links.{left_there}
+use Rattle.play_driver.proofs.Surely.{run_surely}
 use Rattle.play_driver.proofs.RenewedEntered.{renewed_entered}
 use Rattle.play_driver.proofs.Faulting.{ok_no_err, told_as}
 use Rattle.play_driver.proofs.OverOne.{enters_run, goes_behind, leave_run, talks_run}
@@ -23,21 +24,33 @@ use Rattle.std.proofs.Common.{rules}
 use Rattle.play_driver.proofs.plays.play.Goals as goal
 
 -- it didn't enter
-pub returns-in_err-ready-clause-progress : goal.returns-in_err-ready-clause-progress
-returns-in_err-ready-clause-progress g c = λ t. linked_progress c.args.store.now.book AnyStep _ _
-    (firm_left c.args.store.now (g.W.Clocked.clock c.args.world.now) _ (c.requires.left t)) (c.enter.ensures.files t)
+pub returns-in_err-ready-clause-goes_on : goal.returns-in_err-ready-clause-goes_on
+returns-in_err-ready-clause-goes_on g c = record {
+  progress = λ t. linked_progress c.args.store.now.book AnyStep _ _
+      (firm_left c.args.store.now (g.W.Clocked.clock c.args.world.now) _ (c.requires.left t)) (c.enter.ensures.files t);
+  joined = λ t kept.
+      let f = g.W.Clocked.server_with_files t in
+      questions_stay c.args.store.now.book _ _ (firm_left c.args.store.now (g.W.Clocked.clock c.args.world.now) _ (c.requires.left f))
+      (c.enter.ensures.told t) kept;
+  each_one_side = λ t.
+      linked_sides AnyStep _ _ (rests_left c.args.store.now (g.W.Clocked.clock c.args.world.now) _ (c.requires.left t)) (c.enter.ensures.files t);
+  once = λ t. enters_run _ _ (c.enter.ensures.once t);
+}
 
-pub returns-in_err-ready-clause-joined : goal.returns-in_err-ready-clause-joined
-returns-in_err-ready-clause-joined g c = λ t kept.
-    let f = g.W.Clocked.server_with_files t in
-    questions_stay c.args.store.now.book _ _ (firm_left c.args.store.now (g.W.Clocked.clock c.args.world.now) _ (c.requires.left f))
-    (c.enter.ensures.told t) kept
+pub returns-in_err-ready-clause-reasons : goal.returns-in_err-ready-clause-reasons
+returns-in_err-ready-clause-reasons g c = record {
+  truly = λ t kept fair no_disk.
+      let f = g.W.Clocked.server_with_files t in
+      true_one c.args.store.now.book _ _ (firm_left c.args.store.now (g.W.Clocked.clock c.args.world.now) _ (c.requires.left f))
+      (c.enter.ensures.once t);
+  stopped = search rules;
+  stopped_truly = search rules;
+}
 
-pub returns-in_err-ready-clause-truly : goal.returns-in_err-ready-clause-truly
-returns-in_err-ready-clause-truly g c = λ t kept fair no_disk.
-    let f = g.W.Clocked.server_with_files t in
-    true_one c.args.store.now.book _ _ (firm_left c.args.store.now (g.W.Clocked.clock c.args.world.now) _ (c.requires.left f))
-    (c.enter.ensures.once t)
+pub returns-in_err-ready-clause-surely : goal.returns-in_err-ready-clause-surely
+returns-in_err-ready-clause-surely g c = λ t kept fair.
+    let reasons = returns-in_err-ready-clause-reasons g c in
+    run_surely _ _ _ _ _ (λ is. reasons.stopped_truly t is kept fair) (λ other. reasons.truly t kept fair other)
 
 pub returns-in_err-ready-clause-faultless : goal.returns-in_err-ready-clause-faultless
 returns-in_err-ready-clause-faultless g c = λ t kept fair why is.
@@ -45,17 +58,15 @@ returns-in_err-ready-clause-faultless g c = λ t kept fair why is.
     let bad = bad_at x why (told_as of_session c.from_residual.result x c.from_residual.ensures.1 (faults.BadReply why) is) in
     c.enter.ensures.honest t bad.0 (c.in_err-ready.was ∙ ap (λ (f : SessionFault). Err f) bad.1)
 
-pub returns-in_err-ready-clause-left : goal.returns-in_err-ready-clause-left
-returns-in_err-ready-clause-left g c = λ t no_disk.
-    left_there mail AnyStep c.args.store.now (g.W.Clocked.clock c.args.world.now) (g.W.Clocked.clock c.enter.new.link) _ _ (c.requires.left t)
-    (c.enter.ensures.files t) (g.met.W.Disk.seen_is c.enter.new.link t)
-
-pub returns-in_err-ready-clause-each_one_side : goal.returns-in_err-ready-clause-each_one_side
-returns-in_err-ready-clause-each_one_side g c = λ t.
-    linked_sides AnyStep _ _ (rests_left c.args.store.now (g.W.Clocked.clock c.args.world.now) _ (c.requires.left t)) (c.enter.ensures.files t)
-
-pub returns-in_err-ready-clause-once : goal.returns-in_err-ready-clause-once
-returns-in_err-ready-clause-once g c = λ t. enters_run _ _ (c.enter.ensures.once t)
+pub returns-in_err-ready-clause-stored : goal.returns-in_err-ready-clause-stored
+returns-in_err-ready-clause-stored g c = record {
+  fold = search rules;
+  later = search rules;
+  left = λ t no_disk.
+      left_there mail AnyStep c.args.store.now (g.W.Clocked.clock c.args.world.now) (g.W.Clocked.clock c.enter.new.link) _ _ (c.requires.left t)
+      (c.enter.ensures.files t) (g.met.W.Disk.seen_is c.enter.new.link t);
+  sound_still = search rules;
+}
 
 pub returns-in_err-ready-clause-why : goal.returns-in_err-ready-clause-why
 returns-in_err-ready-clause-why g c = λ t fault is.
@@ -83,30 +94,52 @@ play_on-requires-clause-left g c = λ t.
     (c.enter.ensures.files t) (g.met.W.Disk.seen_is c.enter.new.link t)
 
 -- a turn failed
-pub returns-in_err-last-clause-progress : goal.returns-in_err-last-clause-progress
-returns-in_err-last-clause-progress g c = λ t.
-    progress_two c.args.store.now.book _ _ _ (firm_left c.args.store.now (g.W.Clocked.clock c.args.world.now) _ (c.requires.left t))
-    (c.enter.ensures.files t) (c.play_on.ensures.progress t)
+pub returns-in_err-last-clause-goes_on : goal.returns-in_err-last-clause-goes_on
+returns-in_err-last-clause-goes_on g c = record {
+  progress = λ t.
+      progress_two c.args.store.now.book _ _ _ (firm_left c.args.store.now (g.W.Clocked.clock c.args.world.now) _ (c.requires.left t))
+      (c.enter.ensures.files t) (c.play_on.ensures.goes_on.progress t);
+  joined = λ t kept.
+      let f = g.W.Clocked.server_with_files t in
+      let r : HasBegun c.args.store.now.book c.begin-player.result (g.W.Clocked.clock c.args.world.now) (g.W.Clocked.clock c.enter.new.link) =
+      has_begun c.args.alloc _ _ _ c.begin-player.ensures.value c.begin-player.ensures.entered c.book-2.ensures _ _
+      (firm_left c.args.store.now (g.W.Clocked.clock c.args.world.now) _ (c.requires.left f)) (c.enter.ensures.told t)
+      (c.in_ok-ready.ensures.opened t) _ _ (c.in_ok-ready.ensures.stands t) in
+      run_two _ _ _ _ r kept _ (progress_grows _ _ _ (c.play_on.ensures.goes_on.progress f)) (c.play_on.ensures.goes_on.joined t r.opened.made);
+  each_one_side = λ t.
+      sides_then _ _ _
+      (linked_sides AnyStep _ _ (rests_left c.args.store.now (g.W.Clocked.clock c.args.world.now) _ (c.requires.left t)) (c.enter.ensures.files t))
+      (c.play_on.ensures.goes_on.each_one_side t);
+  once = λ t. goes_behind RunStep _ _ _ (enters_run _ _ (c.enter.ensures.once t)) (talks_run _ _ (c.play_on.ensures.goes_on.talks t));
+}
 
-pub returns-in_err-last-clause-joined : goal.returns-in_err-last-clause-joined
-returns-in_err-last-clause-joined g c = λ t kept.
-    let f = g.W.Clocked.server_with_files t in
-    let r : HasBegun c.args.store.now.book c.begin-player.result (g.W.Clocked.clock c.args.world.now) (g.W.Clocked.clock c.enter.new.link) =
-    has_begun c.args.alloc _ _ _ c.begin-player.ensures.value c.begin-player.ensures.entered c.book-2.ensures _ _
-    (firm_left c.args.store.now (g.W.Clocked.clock c.args.world.now) _ (c.requires.left f)) (c.enter.ensures.told t)
-    (c.in_ok-ready.ensures.opened t) _ _ (c.in_ok-ready.ensures.stands t) in
-    run_two _ _ _ _ r kept _ (progress_grows _ _ _ (c.play_on.ensures.progress f)) (c.play_on.ensures.joined t r.opened.made)
+pub returns-in_err-last-clause-reasons : goal.returns-in_err-last-clause-reasons
+returns-in_err-last-clause-reasons g c = record {
+  truly = λ t kept fair no_disk.
+      let f = g.W.Clocked.server_with_files t in
+      let r : HasBegun c.args.store.now.book c.begin-player.result (g.W.Clocked.clock c.args.world.now) (g.W.Clocked.clock c.enter.new.link) =
+      has_begun c.args.alloc _ _ _ c.begin-player.ensures.value c.begin-player.ensures.entered c.book-2.ensures _ _
+      (firm_left c.args.store.now (g.W.Clocked.clock c.args.world.now) _ (c.requires.left f)) (c.enter.ensures.told t)
+      (c.in_ok-ready.ensures.opened t) _ _ (c.in_ok-ready.ensures.stands t) in
+      true_two _ _ _ _ r kept _ (progress_grows _ _ _ (c.play_on.ensures.goes_on.progress f)) c.play_on.new.store.book fair (c.play_on.ensures.goes_on.talks t)
+      (λ here knows second entered truly. c.play_on.ensures.reasons.truly t r.opened.made c.args.store.now.book here knows second entered truly
+      (λ disk. no_disk (search rules)));
+  stopped = search rules;
+  stopped_truly = λ t is kept fair.
+      let f = g.W.Clocked.server_with_files t in
+      let r : HasBegun c.args.store.now.book c.begin-player.result (g.W.Clocked.clock c.args.world.now) (g.W.Clocked.clock c.enter.new.link) =
+      has_begun c.args.alloc _ _ _ c.begin-player.ensures.value c.begin-player.ensures.entered c.book-2.ensures _ _
+      (firm_left c.args.store.now (g.W.Clocked.clock c.args.world.now) _ (c.requires.left f)) (c.enter.ensures.told t)
+      (c.in_ok-ready.ensures.opened t) _ _ (c.in_ok-ready.ensures.stands t) in
+      let s = c.play_on.ensures.reasons.stopped f (search rules) in
+      stopped_two _ _ _ _ r kept _ (progress_grows _ _ _ (c.play_on.ensures.goes_on.progress f)) c.play_on.new.store.book s.0 fair (c.play_on.ensures.goes_on.talks t)
+      (s.3 t r.opened.made c.args.store.now.book);
+}
 
-pub returns-in_err-last-clause-truly : goal.returns-in_err-last-clause-truly
-returns-in_err-last-clause-truly g c = λ t kept fair no_disk.
-    let f = g.W.Clocked.server_with_files t in
-    let r : HasBegun c.args.store.now.book c.begin-player.result (g.W.Clocked.clock c.args.world.now) (g.W.Clocked.clock c.enter.new.link) =
-    has_begun c.args.alloc _ _ _ c.begin-player.ensures.value c.begin-player.ensures.entered c.book-2.ensures _ _
-    (firm_left c.args.store.now (g.W.Clocked.clock c.args.world.now) _ (c.requires.left f)) (c.enter.ensures.told t)
-    (c.in_ok-ready.ensures.opened t) _ _ (c.in_ok-ready.ensures.stands t) in
-    true_two _ _ _ _ r kept _ (progress_grows _ _ _ (c.play_on.ensures.progress f)) c.play_on.new.store.book fair (c.play_on.ensures.talks t)
-    (λ here knows second entered truly. c.play_on.ensures.truly t r.opened.made c.args.store.now.book here knows second entered truly
-    (λ disk. no_disk (search rules)))
+pub returns-in_err-last-clause-surely : goal.returns-in_err-last-clause-surely
+returns-in_err-last-clause-surely g c = λ t kept fair.
+    let reasons = returns-in_err-last-clause-reasons g c in
+    run_surely _ _ _ _ _ (λ is. reasons.stopped_truly t is kept fair) (λ other. reasons.truly t kept fair other)
 
 pub returns-in_err-last-clause-faultless : goal.returns-in_err-last-clause-faultless
 returns-in_err-last-clause-faultless g c = λ t kept fair why is.
@@ -115,37 +148,22 @@ returns-in_err-last-clause-faultless g c = λ t kept fair why is.
     has_begun c.args.alloc _ _ _ c.begin-player.ensures.value c.begin-player.ensures.entered c.book-2.ensures _ _
     (firm_left c.args.store.now (g.W.Clocked.clock c.args.world.now) _ (c.requires.left f)) (c.enter.ensures.told t)
     (c.in_ok-ready.ensures.opened t) _ _ (c.in_ok-ready.ensures.stands t) in
-    faultless_two _ _ _ _ r kept _ (progress_grows _ _ _ (c.play_on.ensures.progress f)) fair
-    (λ here knows second. c.play_on.ensures.faultless t r.opened.made here knows second (faults.BadReply why) (search rules) tt)
+    faultless_two _ _ _ _ r kept _ (progress_grows _ _ _ (c.play_on.ensures.goes_on.progress f)) fair
+    (λ here knows second. c.play_on.ensures.excuses.faultless t r.opened.made here knows second (faults.BadReply why) (search rules) tt)
 
-pub returns-in_err-last-clause-left : goal.returns-in_err-last-clause-left
-returns-in_err-last-clause-left g c = λ t no_disk. c.play_on.ensures.left t (λ is. no_disk (search rules))
-
-pub returns-in_err-last-clause-stopped_truly : goal.returns-in_err-last-clause-stopped_truly
-returns-in_err-last-clause-stopped_truly g c = λ t is kept fair.
-    let f = g.W.Clocked.server_with_files t in
-    let r : HasBegun c.args.store.now.book c.begin-player.result (g.W.Clocked.clock c.args.world.now) (g.W.Clocked.clock c.enter.new.link) =
-    has_begun c.args.alloc _ _ _ c.begin-player.ensures.value c.begin-player.ensures.entered c.book-2.ensures _ _
-    (firm_left c.args.store.now (g.W.Clocked.clock c.args.world.now) _ (c.requires.left f)) (c.enter.ensures.told t)
-    (c.in_ok-ready.ensures.opened t) _ _ (c.in_ok-ready.ensures.stands t) in
-    let s = c.play_on.ensures.stopped f (search rules) in
-    stopped_two _ _ _ _ r kept _ (progress_grows _ _ _ (c.play_on.ensures.progress f)) c.play_on.new.store.book s.0 fair (c.play_on.ensures.talks t)
-    (s.3 t r.opened.made c.args.store.now.book)
-
-pub returns-in_err-last-clause-each_one_side : goal.returns-in_err-last-clause-each_one_side
-returns-in_err-last-clause-each_one_side g c = λ t.
-    sides_then _ _ _
-    (linked_sides AnyStep _ _ (rests_left c.args.store.now (g.W.Clocked.clock c.args.world.now) _ (c.requires.left t)) (c.enter.ensures.files t))
-    (c.play_on.ensures.each_one_side t)
-
-pub returns-in_err-last-clause-once : goal.returns-in_err-last-clause-once
-returns-in_err-last-clause-once g c = λ t. goes_behind RunStep _ _ _ (enters_run _ _ (c.enter.ensures.once t)) (talks_run _ _ (c.play_on.ensures.talks t))
+pub returns-in_err-last-clause-stored : goal.returns-in_err-last-clause-stored
+returns-in_err-last-clause-stored g c = record {
+  fold = search rules;
+  later = search rules;
+  left = λ t no_disk. c.play_on.ensures.stored.left t (λ is. no_disk (search rules));
+  sound_still = search rules;
+}
 
 pub returns-in_err-last-clause-why : goal.returns-in_err-last-clause-why
 returns-in_err-last-clause-why g c = λ t fault is.
     let begun = begins_so c.args.alloc _ _ _ c.begin-player.ensures.value c.book-2.ensures in
     stops_early c.args.account.now c.args.alloc c.args.store.now c.begin-player.result begun (g.W.Clocked.link c.enter.new.link) c.in_ok-ready.ready
-    (c.in_ok-ready.ensures.entered t) c.play_on.new.store _ _ fault (c.play_on.ensures.why t fault (search rules))
+    (c.in_ok-ready.ensures.entered t) c.play_on.new.store _ _ fault (c.play_on.ensures.runs.why t fault (search rules))
 
 pub returns-in_err-last-clause-complete : goal.returns-in_err-last-clause-complete
 returns-in_err-last-clause-complete g c = λ t kept fair serving renewed fault is.
@@ -154,66 +172,84 @@ returns-in_err-last-clause-complete g c = λ t kept fair serving renewed fault i
     has_begun c.args.alloc _ _ _ c.begin-player.ensures.value c.begin-player.ensures.entered c.book-2.ensures _ _
     (firm_left c.args.store.now (g.W.Clocked.clock c.args.world.now) _ (c.requires.left f)) (c.enter.ensures.told t)
     (c.in_ok-ready.ensures.opened t) _ _ (c.in_ok-ready.ensures.stands t) in
-    let more = progress_grows _ _ _ (c.play_on.ensures.progress f) in
+    let more = progress_grows _ _ _ (c.play_on.ensures.goes_on.progress f) in
     let is_on : c.play_on.result ≡ Err fault = search rules in
     comes_turn fault
-    (unrefused_turn _ _ (goes_behind TalkStep _ _ _ (enters_talking _ _ (c.enter.ensures.once t)) (c.play_on.ensures.talks t)) serving _ _ _ fault
-    (c.play_on.ensures.why f fault is_on) (g.met.W.Link.honest c.play_on.new.world t))
+    (unrefused_turn _ _ (goes_behind TalkStep _ _ _ (enters_talking _ _ (c.enter.ensures.once t)) (c.play_on.ensures.goes_on.talks t)) serving _ _ _ fault
+    (c.play_on.ensures.runs.why f fault is_on) (g.met.W.Link.honest c.play_on.new.world t))
     (λ reply. faultless_two _ _ _ _ r kept _ more fair
-    (λ here knows second. c.play_on.ensures.faultless t r.opened.made here knows second fault is_on reply))
+    (λ here knows second. c.play_on.ensures.excuses.faultless t r.opened.made here knows second fault is_on reply))
     (λ name before told e. faultless_two _ _ _ _ r kept _ more fair
-    (λ here knows second. c.play_on.ensures.valid t r.opened.made here knows second
+    (λ here knows second. c.play_on.ensures.excuses.valid t r.opened.made here knows second
     (renewed_entered c.args.store.now.book _ _ (c.enter.ensures.told t) renewed) name before told (is_on ∙ ap (λ (x : PlayFault). Err x) e)))
 
 -- it didn't leave
-pub returns-in_err-leave-clause-progress : goal.returns-in_err-leave-clause-progress
-returns-in_err-leave-clause-progress g c = λ t.
-    let later = c.play_on.ensures.left t (ok_no_err c.play_on.result c.in_ok-last.last _ c.in_ok-last.was) in
-    progress_three c.args.store.now.book _ _ _ (firm_left c.args.store.now (g.W.Clocked.clock c.args.world.now) _ (c.requires.left t))
-    (c.enter.ensures.files t) (c.play_on.ensures.progress t)
-    c.play_on.new.store.book _ c.play_on.ensures.later (firm_left c.play_on.new.store (g.W.Clocked.clock c.play_on.new.world) _ later)
-    (c.leave.ensures.files t)
+pub returns-in_err-leave-clause-goes_on : goal.returns-in_err-leave-clause-goes_on
+returns-in_err-leave-clause-goes_on g c = record {
+  progress = λ t.
+      let later = c.play_on.ensures.stored.left t (ok_no_err c.play_on.result c.in_ok-last.last _ c.in_ok-last.was) in
+      progress_three c.args.store.now.book _ _ _ (firm_left c.args.store.now (g.W.Clocked.clock c.args.world.now) _ (c.requires.left t))
+      (c.enter.ensures.files t) (c.play_on.ensures.goes_on.progress t)
+      c.play_on.new.store.book _ c.play_on.ensures.stored.later (firm_left c.play_on.new.store (g.W.Clocked.clock c.play_on.new.world) _ later)
+      (c.leave.ensures.talks.files t);
+  joined = λ t kept.
+      let f = g.W.Clocked.server_with_files t in
+      let r : HasBegun c.args.store.now.book c.begin-player.result (g.W.Clocked.clock c.args.world.now) (g.W.Clocked.clock c.enter.new.link) =
+      has_begun c.args.alloc _ _ _ c.begin-player.ensures.value c.begin-player.ensures.entered c.book-2.ensures _ _
+      (firm_left c.args.store.now (g.W.Clocked.clock c.args.world.now) _ (c.requires.left f)) (c.enter.ensures.told t)
+      (c.in_ok-ready.ensures.opened t) _ _ (c.in_ok-ready.ensures.stands t) in
+      let more = progress_grows _ _ _ (c.play_on.ensures.goes_on.progress f) in
+      let later = c.play_on.ensures.stored.left f (ok_no_err c.play_on.result c.in_ok-last.last _ c.in_ok-last.was) in
+      let before = run_grows _ _ _ _ r _ more in
+      let q = leaves_asking _ _ _ _ (c.leave.ensures.talks.told t) in
+      run_three _ _ _ before c.play_on.new.store.book (firm_left c.play_on.new.store (g.W.Clocked.clock c.play_on.new.world) _ later) q kept
+      (run_two _ _ _ _ r kept _ more (c.play_on.ensures.goes_on.joined t r.opened.made));
+  each_one_side = λ t.
+      let later = c.play_on.ensures.stored.left t (ok_no_err c.play_on.result c.in_ok-last.last _ c.in_ok-last.was) in
+      let first =
+      linked_sides AnyStep _ _ (rests_left c.args.store.now (g.W.Clocked.clock c.args.world.now) _ (c.requires.left t)) (c.enter.ensures.files t) in
+      sides_then _ _ _ (sides_then _ _ _ first (c.play_on.ensures.goes_on.each_one_side t))
+      (linked_sides AnyStep _ _ (rests_left c.play_on.new.store (g.W.Clocked.clock c.play_on.new.world) _ later) (c.leave.ensures.talks.files t));
+  once = λ t.
+      goes_behind RunStep _ _ _ (goes_behind RunStep _ _ _ (enters_run _ _ (c.enter.ensures.once t)) (talks_run _ _ (c.play_on.ensures.goes_on.talks t)))
+      (leave_run _ _ _ _ (c.leave.ensures.talks.told t));
+}
 
-pub returns-in_err-leave-clause-joined : goal.returns-in_err-leave-clause-joined
-returns-in_err-leave-clause-joined g c = λ t kept.
-    let f = g.W.Clocked.server_with_files t in
-    let r : HasBegun c.args.store.now.book c.begin-player.result (g.W.Clocked.clock c.args.world.now) (g.W.Clocked.clock c.enter.new.link) =
-    has_begun c.args.alloc _ _ _ c.begin-player.ensures.value c.begin-player.ensures.entered c.book-2.ensures _ _
-    (firm_left c.args.store.now (g.W.Clocked.clock c.args.world.now) _ (c.requires.left f)) (c.enter.ensures.told t)
-    (c.in_ok-ready.ensures.opened t) _ _ (c.in_ok-ready.ensures.stands t) in
-    let more = progress_grows _ _ _ (c.play_on.ensures.progress f) in
-    let later = c.play_on.ensures.left f (ok_no_err c.play_on.result c.in_ok-last.last _ c.in_ok-last.was) in
-    let before = run_grows _ _ _ _ r _ more in
-    let q = leaves_asking _ _ _ _ (c.leave.ensures.told t) in
-    run_three _ _ _ before c.play_on.new.store.book (firm_left c.play_on.new.store (g.W.Clocked.clock c.play_on.new.world) _ later) q kept
-    (run_two _ _ _ _ r kept _ more (c.play_on.ensures.joined t r.opened.made))
+pub returns-in_err-leave-clause-reasons : goal.returns-in_err-leave-clause-reasons
+returns-in_err-leave-clause-reasons g c = record {
+  truly = λ t kept fair no_disk.
+      let f = g.W.Clocked.server_with_files t in
+      let r : HasBegun c.args.store.now.book c.begin-player.result (g.W.Clocked.clock c.args.world.now) (g.W.Clocked.clock c.enter.new.link) =
+      has_begun c.args.alloc _ _ _ c.begin-player.ensures.value c.begin-player.ensures.entered c.book-2.ensures _ _
+      (firm_left c.args.store.now (g.W.Clocked.clock c.args.world.now) _ (c.requires.left f)) (c.enter.ensures.told t)
+      (c.in_ok-ready.ensures.opened t) _ _ (c.in_ok-ready.ensures.stands t) in
+      let more = progress_grows _ _ _ (c.play_on.ensures.goes_on.progress f) in
+      let later = c.play_on.ensures.stored.left f (ok_no_err c.play_on.result c.in_ok-last.last _ c.in_ok-last.was) in
+      let before = run_grows _ _ _ _ r _ more in
+      let q = leaves_asking _ _ _ _ (c.leave.ensures.talks.told t) in
+      true_three _ _ _ before c.play_on.new.store.book
+      (firm_left c.play_on.new.store (g.W.Clocked.clock c.play_on.new.world) _ later) q c.args.store.now.book
+      (leave_run _ _ _ _ (c.leave.ensures.talks.told t))
+      (true_two _ _ _ _ r kept _ more c.play_on.new.store.book
+      (fair_run _ _ _ before c.play_on.new.store.book
+      (firm_left c.play_on.new.store (g.W.Clocked.clock c.play_on.new.world) _ later) q fair) (c.play_on.ensures.goes_on.talks t)
+      (λ here knows second entered truly. c.play_on.ensures.reasons.truly t r.opened.made c.args.store.now.book here knows second entered truly
+      (ok_no_err c.play_on.result c.in_ok-last.last _ c.in_ok-last.was)));
+  stopped = search rules;
+  stopped_truly = search rules;
+}
 
-pub returns-in_err-leave-clause-truly : goal.returns-in_err-leave-clause-truly
-returns-in_err-leave-clause-truly g c = λ t kept fair no_disk.
-    let f = g.W.Clocked.server_with_files t in
-    let r : HasBegun c.args.store.now.book c.begin-player.result (g.W.Clocked.clock c.args.world.now) (g.W.Clocked.clock c.enter.new.link) =
-    has_begun c.args.alloc _ _ _ c.begin-player.ensures.value c.begin-player.ensures.entered c.book-2.ensures _ _
-    (firm_left c.args.store.now (g.W.Clocked.clock c.args.world.now) _ (c.requires.left f)) (c.enter.ensures.told t)
-    (c.in_ok-ready.ensures.opened t) _ _ (c.in_ok-ready.ensures.stands t) in
-    let more = progress_grows _ _ _ (c.play_on.ensures.progress f) in
-    let later = c.play_on.ensures.left f (ok_no_err c.play_on.result c.in_ok-last.last _ c.in_ok-last.was) in
-    let before = run_grows _ _ _ _ r _ more in
-    let q = leaves_asking _ _ _ _ (c.leave.ensures.told t) in
-    true_three _ _ _ before c.play_on.new.store.book
-    (firm_left c.play_on.new.store (g.W.Clocked.clock c.play_on.new.world) _ later) q c.args.store.now.book
-    (leave_run _ _ _ _ (c.leave.ensures.told t))
-    (true_two _ _ _ _ r kept _ more c.play_on.new.store.book
-    (fair_run _ _ _ before c.play_on.new.store.book
-    (firm_left c.play_on.new.store (g.W.Clocked.clock c.play_on.new.world) _ later) q fair) (c.play_on.ensures.talks t)
-    (λ here knows second entered truly. c.play_on.ensures.truly t r.opened.made c.args.store.now.book here knows second entered truly
-    (ok_no_err c.play_on.result c.in_ok-last.last _ c.in_ok-last.was)))
+pub returns-in_err-leave-clause-surely : goal.returns-in_err-leave-clause-surely
+returns-in_err-leave-clause-surely g c = λ t kept fair.
+    let reasons = returns-in_err-leave-clause-reasons g c in
+    run_surely _ _ _ _ _ (λ is. reasons.stopped_truly t is kept fair) (λ other. reasons.truly t kept fair other)
 
 pub returns-in_err-leave-clause-faultless : goal.returns-in_err-leave-clause-faultless
 returns-in_err-leave-clause-faultless g c = λ t kept fair why is.
     let x = c.in_err-leave.field-0.0 in
     let bad = bad_at x why
     (told_as of_session c.from_residual-in_err-leave.result x c.from_residual-in_err-leave.ensures.1 (faults.BadReply why) is) in
-    c.leave.ensures.honest t bad.0 (c.in_err-leave.was ∙ ap (λ (f : SessionFault). Err f) bad.1)
+    c.leave.ensures.talks.honest t bad.0 (c.in_err-leave.was ∙ ap (λ (f : SessionFault). Err f) bad.1)
 
 pub returns-in_err-leave-clause-why : goal.returns-in_err-leave-clause-why
 returns-in_err-leave-clause-why g c = λ t fault is.
@@ -222,28 +258,20 @@ returns-in_err-leave-clause-why g c = λ t fault is.
     stays_on_line c.args.account.now c.args.alloc c.args.store.now c.begin-player.result begun (g.W.Clocked.link c.enter.new.link) c.in_ok-ready.ready
     (c.in_ok-ready.ensures.entered t) (standing_of (g.W.Clocked.link c.play_on.new.world) c.in_ok-last.last c.play_on.new.store c.play_on.new.player)
     _ _ x fault (told_as of_session c.from_residual-in_err-leave.result x c.from_residual-in_err-leave.ensures.1 fault is)
-    (c.in_ok-last.ensures.runs t)
-    c.in_ok-last.ensures.finished (c.leave.ensures.why t x c.in_err-leave.was)
+    (c.in_ok-last.ensures.runs.runs t)
+    c.in_ok-last.ensures.runs.finished (c.leave.ensures.why t x c.in_err-leave.was)
 
-pub returns-in_err-leave-clause-left : goal.returns-in_err-leave-clause-left
-returns-in_err-leave-clause-left g c = λ t no_disk.
-    let later = c.play_on.ensures.left t (ok_no_err c.play_on.result c.in_ok-last.last _ c.in_ok-last.was) in
-    left_there mail AnyStep c.play_on.new.store (g.W.Clocked.clock c.play_on.new.world) (g.W.Clocked.clock c.leave.new.link) _ _ later
-    (c.leave.ensures.files t)
-    (g.met.W.Disk.seen_is c.leave.new.link t)
-
-pub returns-in_err-leave-clause-each_one_side : goal.returns-in_err-leave-clause-each_one_side
-returns-in_err-leave-clause-each_one_side g c = λ t.
-    let later = c.play_on.ensures.left t (ok_no_err c.play_on.result c.in_ok-last.last _ c.in_ok-last.was) in
-    let first =
-    linked_sides AnyStep _ _ (rests_left c.args.store.now (g.W.Clocked.clock c.args.world.now) _ (c.requires.left t)) (c.enter.ensures.files t) in
-    sides_then _ _ _ (sides_then _ _ _ first (c.play_on.ensures.each_one_side t))
-    (linked_sides AnyStep _ _ (rests_left c.play_on.new.store (g.W.Clocked.clock c.play_on.new.world) _ later) (c.leave.ensures.files t))
-
-pub returns-in_err-leave-clause-once : goal.returns-in_err-leave-clause-once
-returns-in_err-leave-clause-once g c = λ t.
-    goes_behind RunStep _ _ _ (goes_behind RunStep _ _ _ (enters_run _ _ (c.enter.ensures.once t)) (talks_run _ _ (c.play_on.ensures.talks t)))
-    (leave_run _ _ _ _ (c.leave.ensures.told t))
+pub returns-in_err-leave-clause-stored : goal.returns-in_err-leave-clause-stored
+returns-in_err-leave-clause-stored g c = record {
+  fold = search rules;
+  later = search rules;
+  left = λ t no_disk.
+      let later = c.play_on.ensures.stored.left t (ok_no_err c.play_on.result c.in_ok-last.last _ c.in_ok-last.was) in
+      left_there mail AnyStep c.play_on.new.store (g.W.Clocked.clock c.play_on.new.world) (g.W.Clocked.clock c.leave.new.link) _ _ later
+      (c.leave.ensures.talks.files t)
+      (g.met.W.Disk.seen_is c.leave.new.link t);
+  sound_still = search rules;
+}
 
 pub returns-in_err-leave-clause-complete : goal.returns-in_err-leave-clause-complete
 returns-in_err-leave-clause-complete g c = λ t kept fair serving renewed fault is.
@@ -251,53 +279,71 @@ returns-in_err-leave-clause-complete g c = λ t kept fair serving renewed fault 
     let x = c.in_err-leave.field-0.0 in
     let why = c.leave.ensures.why f x c.in_err-leave.was in
     comes_session x
-    (unrefused_leave _ _ (returns-in_err-leave-clause-once g c t) serving _ _ x why (g.met.W.Link.honest c.leave.new.link t))
+    (unrefused_leave _ _ ((returns-in_err-leave-clause-goes_on g c).once t) serving _ _ x why (g.met.W.Link.honest c.leave.new.link t))
     (leaving_lacks _ _ x why)
-    (λ at e. c.leave.ensures.honest t at (c.in_err-leave.was ∙ ap (λ (f : SessionFault). Err f) e)) fault
+    (λ at e. c.leave.ensures.talks.honest t at (c.in_err-leave.was ∙ ap (λ (f : SessionFault). Err f) e)) fault
     (told_as of_session c.from_residual-in_err-leave.result x c.from_residual-in_err-leave.ensures.1 fault is)
 
 -- it left
-pub returns-clause-progress : goal.returns-clause-progress
-returns-clause-progress g c = λ t.
-    let later = c.play_on.ensures.left t (ok_no_err c.play_on.result c.in_ok-last.last _ c.in_ok-last.was) in
-    progress_three c.args.store.now.book _ _ _ (firm_left c.args.store.now (g.W.Clocked.clock c.args.world.now) _ (c.requires.left t))
-    (c.enter.ensures.files t) (c.play_on.ensures.progress t)
-    c.play_on.new.store.book _ c.play_on.ensures.later (firm_left c.play_on.new.store (g.W.Clocked.clock c.play_on.new.world) _ later)
-    (c.leave.ensures.files t)
+pub returns-clause-goes_on : goal.returns-clause-goes_on
+returns-clause-goes_on g c = record {
+  progress = λ t.
+      let later = c.play_on.ensures.stored.left t (ok_no_err c.play_on.result c.in_ok-last.last _ c.in_ok-last.was) in
+      progress_three c.args.store.now.book _ _ _ (firm_left c.args.store.now (g.W.Clocked.clock c.args.world.now) _ (c.requires.left t))
+      (c.enter.ensures.files t) (c.play_on.ensures.goes_on.progress t)
+      c.play_on.new.store.book _ c.play_on.ensures.stored.later (firm_left c.play_on.new.store (g.W.Clocked.clock c.play_on.new.world) _ later)
+      (c.leave.ensures.talks.files t);
+  joined = λ t kept.
+      let f = g.W.Clocked.server_with_files t in
+      let r : HasBegun c.args.store.now.book c.begin-player.result (g.W.Clocked.clock c.args.world.now) (g.W.Clocked.clock c.enter.new.link) =
+      has_begun c.args.alloc _ _ _ c.begin-player.ensures.value c.begin-player.ensures.entered c.book-2.ensures _ _
+      (firm_left c.args.store.now (g.W.Clocked.clock c.args.world.now) _ (c.requires.left f)) (c.enter.ensures.told t)
+      (c.in_ok-ready.ensures.opened t) _ _ (c.in_ok-ready.ensures.stands t) in
+      let more = progress_grows _ _ _ (c.play_on.ensures.goes_on.progress f) in
+      let later = c.play_on.ensures.stored.left f (ok_no_err c.play_on.result c.in_ok-last.last _ c.in_ok-last.was) in
+      let before = run_grows _ _ _ _ r _ more in
+      let q = leaves_asking _ _ _ _ (c.leave.ensures.talks.told t) in
+      run_three _ _ _ before c.play_on.new.store.book (firm_left c.play_on.new.store (g.W.Clocked.clock c.play_on.new.world) _ later) q kept
+      (run_two _ _ _ _ r kept _ more (c.play_on.ensures.goes_on.joined t r.opened.made));
+  each_one_side = λ t.
+      let later = c.play_on.ensures.stored.left t (ok_no_err c.play_on.result c.in_ok-last.last _ c.in_ok-last.was) in
+      let first =
+      linked_sides AnyStep _ _ (rests_left c.args.store.now (g.W.Clocked.clock c.args.world.now) _ (c.requires.left t)) (c.enter.ensures.files t) in
+      sides_then _ _ _ (sides_then _ _ _ first (c.play_on.ensures.goes_on.each_one_side t))
+      (linked_sides AnyStep _ _ (rests_left c.play_on.new.store (g.W.Clocked.clock c.play_on.new.world) _ later) (c.leave.ensures.talks.files t));
+  once = λ t.
+      goes_behind RunStep _ _ _ (goes_behind RunStep _ _ _ (enters_run _ _ (c.enter.ensures.once t)) (talks_run _ _ (c.play_on.ensures.goes_on.talks t)))
+      (leave_run _ _ _ _ (c.leave.ensures.talks.told t));
+}
 
-pub returns-clause-joined : goal.returns-clause-joined
-returns-clause-joined g c = λ t kept.
-    let f = g.W.Clocked.server_with_files t in
-    let r : HasBegun c.args.store.now.book c.begin-player.result (g.W.Clocked.clock c.args.world.now) (g.W.Clocked.clock c.enter.new.link) =
-    has_begun c.args.alloc _ _ _ c.begin-player.ensures.value c.begin-player.ensures.entered c.book-2.ensures _ _
-    (firm_left c.args.store.now (g.W.Clocked.clock c.args.world.now) _ (c.requires.left f)) (c.enter.ensures.told t)
-    (c.in_ok-ready.ensures.opened t) _ _ (c.in_ok-ready.ensures.stands t) in
-    let more = progress_grows _ _ _ (c.play_on.ensures.progress f) in
-    let later = c.play_on.ensures.left f (ok_no_err c.play_on.result c.in_ok-last.last _ c.in_ok-last.was) in
-    let before = run_grows _ _ _ _ r _ more in
-    let q = leaves_asking _ _ _ _ (c.leave.ensures.told t) in
-    run_three _ _ _ before c.play_on.new.store.book (firm_left c.play_on.new.store (g.W.Clocked.clock c.play_on.new.world) _ later) q kept
-    (run_two _ _ _ _ r kept _ more (c.play_on.ensures.joined t r.opened.made))
+pub returns-clause-reasons : goal.returns-clause-reasons
+returns-clause-reasons g c = record {
+  truly = λ t kept fair no_disk.
+      let f = g.W.Clocked.server_with_files t in
+      let r : HasBegun c.args.store.now.book c.begin-player.result (g.W.Clocked.clock c.args.world.now) (g.W.Clocked.clock c.enter.new.link) =
+      has_begun c.args.alloc _ _ _ c.begin-player.ensures.value c.begin-player.ensures.entered c.book-2.ensures _ _
+      (firm_left c.args.store.now (g.W.Clocked.clock c.args.world.now) _ (c.requires.left f)) (c.enter.ensures.told t)
+      (c.in_ok-ready.ensures.opened t) _ _ (c.in_ok-ready.ensures.stands t) in
+      let more = progress_grows _ _ _ (c.play_on.ensures.goes_on.progress f) in
+      let later = c.play_on.ensures.stored.left f (ok_no_err c.play_on.result c.in_ok-last.last _ c.in_ok-last.was) in
+      let before = run_grows _ _ _ _ r _ more in
+      let q = leaves_asking _ _ _ _ (c.leave.ensures.talks.told t) in
+      true_three _ _ _ before c.play_on.new.store.book
+      (firm_left c.play_on.new.store (g.W.Clocked.clock c.play_on.new.world) _ later) q c.args.store.now.book
+      (leave_run _ _ _ _ (c.leave.ensures.talks.told t))
+      (true_two _ _ _ _ r kept _ more c.play_on.new.store.book
+      (fair_run _ _ _ before c.play_on.new.store.book
+      (firm_left c.play_on.new.store (g.W.Clocked.clock c.play_on.new.world) _ later) q fair) (c.play_on.ensures.goes_on.talks t)
+      (λ here knows second entered truly. c.play_on.ensures.reasons.truly t r.opened.made c.args.store.now.book here knows second entered truly
+      (ok_no_err c.play_on.result c.in_ok-last.last _ c.in_ok-last.was)));
+  stopped = search rules;
+  stopped_truly = search rules;
+}
 
-pub returns-clause-truly : goal.returns-clause-truly
-returns-clause-truly g c = λ t kept fair no_disk.
-    let f = g.W.Clocked.server_with_files t in
-    let r : HasBegun c.args.store.now.book c.begin-player.result (g.W.Clocked.clock c.args.world.now) (g.W.Clocked.clock c.enter.new.link) =
-    has_begun c.args.alloc _ _ _ c.begin-player.ensures.value c.begin-player.ensures.entered c.book-2.ensures _ _
-    (firm_left c.args.store.now (g.W.Clocked.clock c.args.world.now) _ (c.requires.left f)) (c.enter.ensures.told t)
-    (c.in_ok-ready.ensures.opened t) _ _ (c.in_ok-ready.ensures.stands t) in
-    let more = progress_grows _ _ _ (c.play_on.ensures.progress f) in
-    let later = c.play_on.ensures.left f (ok_no_err c.play_on.result c.in_ok-last.last _ c.in_ok-last.was) in
-    let before = run_grows _ _ _ _ r _ more in
-    let q = leaves_asking _ _ _ _ (c.leave.ensures.told t) in
-    true_three _ _ _ before c.play_on.new.store.book
-    (firm_left c.play_on.new.store (g.W.Clocked.clock c.play_on.new.world) _ later) q c.args.store.now.book
-    (leave_run _ _ _ _ (c.leave.ensures.told t))
-    (true_two _ _ _ _ r kept _ more c.play_on.new.store.book
-    (fair_run _ _ _ before c.play_on.new.store.book
-    (firm_left c.play_on.new.store (g.W.Clocked.clock c.play_on.new.world) _ later) q fair) (c.play_on.ensures.talks t)
-    (λ here knows second entered truly. c.play_on.ensures.truly t r.opened.made c.args.store.now.book here knows second entered truly
-    (ok_no_err c.play_on.result c.in_ok-last.last _ c.in_ok-last.was)))
+pub returns-clause-surely : goal.returns-clause-surely
+returns-clause-surely g c = λ t kept fair.
+    let reasons = returns-clause-reasons g c in
+    run_surely _ _ _ _ _ (λ is. reasons.stopped_truly t is kept fair) (λ other. reasons.truly t kept fair other)
 
 pub returns-clause-synced : goal.returns-clause-synced
 returns-clause-synced g c = λ t kept fair.
@@ -306,40 +352,32 @@ returns-clause-synced g c = λ t kept fair.
     has_begun c.args.alloc _ _ _ c.begin-player.ensures.value c.begin-player.ensures.entered c.book-2.ensures _ _
     (firm_left c.args.store.now (g.W.Clocked.clock c.args.world.now) _ (c.requires.left f)) (c.enter.ensures.told t)
     (c.in_ok-ready.ensures.opened t) _ _ (c.in_ok-ready.ensures.stands t) in
-    let more = progress_grows _ _ _ (c.play_on.ensures.progress f) in
-    let later = c.play_on.ensures.left f (ok_no_err c.play_on.result c.in_ok-last.last _ c.in_ok-last.was) in
+    let more = progress_grows _ _ _ (c.play_on.ensures.goes_on.progress f) in
+    let later = c.play_on.ensures.stored.left f (ok_no_err c.play_on.result c.in_ok-last.last _ c.in_ok-last.was) in
     let before = run_grows _ _ _ _ r _ more in
-    let q = leaves_asking _ _ _ _ (c.leave.ensures.told t) in
+    let q = leaves_asking _ _ _ _ (c.leave.ensures.talks.told t) in
     all_synced _ _ _ c.play_on.new.player c.play_on.new.store.book
-    c.in_ok-last.ensures.finished
+    c.in_ok-last.ensures.runs.finished
     (synced_two _ _ _ _ r kept _ more c.play_on.new.player c.play_on.new.store.book
     (fair_run _ _ _ before c.play_on.new.store.book
     (firm_left c.play_on.new.store (g.W.Clocked.clock c.play_on.new.world) _ later) q fair)
-    (c.in_ok-last.ensures.synced t r.opened.made (g.W.Clocked.clock c.args.world.now))) (leaves_grow _ _ q)
+    (λ grows here knows. c.in_ok-last.ensures.synced r.opened.made knows t (g.W.Clocked.clock c.args.world.now) grows here)) (leaves_grow _ _ q)
 
 pub returns-clause-plays : goal.returns-clause-plays
 returns-clause-plays g c = λ t.
     let begun = begins_so c.args.alloc _ _ _ c.begin-player.ensures.value c.book-2.ensures in
     plays_so c.args.account.now c.args.alloc c.args.store.now c.begin-player.result begun (g.W.Clocked.link c.enter.new.link) c.in_ok-ready.ready
     (c.in_ok-ready.ensures.entered t) (standing_of (g.W.Clocked.link c.play_on.new.world) c.in_ok-last.last c.play_on.new.store c.play_on.new.player)
-    _ (c.in_ok-last.ensures.runs t) c.in_ok-last.ensures.finished (c.in_ok-leave.ensures.left t)
+    _ (c.in_ok-last.ensures.runs.runs t) c.in_ok-last.ensures.runs.finished (c.in_ok-leave.ensures.left t)
 
-pub returns-clause-left : goal.returns-clause-left
-returns-clause-left g c = λ t no_disk.
-    let later = c.play_on.ensures.left t (ok_no_err c.play_on.result c.in_ok-last.last _ c.in_ok-last.was) in
-    left_there mail AnyStep c.play_on.new.store (g.W.Clocked.clock c.play_on.new.world) (g.W.Clocked.clock c.leave.new.link) _ _ later
-    (c.leave.ensures.files t)
-    (g.met.W.Disk.seen_is c.leave.new.link t)
-
-pub returns-clause-each_one_side : goal.returns-clause-each_one_side
-returns-clause-each_one_side g c = λ t.
-    let later = c.play_on.ensures.left t (ok_no_err c.play_on.result c.in_ok-last.last _ c.in_ok-last.was) in
-    let first =
-    linked_sides AnyStep _ _ (rests_left c.args.store.now (g.W.Clocked.clock c.args.world.now) _ (c.requires.left t)) (c.enter.ensures.files t) in
-    sides_then _ _ _ (sides_then _ _ _ first (c.play_on.ensures.each_one_side t))
-    (linked_sides AnyStep _ _ (rests_left c.play_on.new.store (g.W.Clocked.clock c.play_on.new.world) _ later) (c.leave.ensures.files t))
-
-pub returns-clause-once : goal.returns-clause-once
-returns-clause-once g c = λ t.
-    goes_behind RunStep _ _ _ (goes_behind RunStep _ _ _ (enters_run _ _ (c.enter.ensures.once t)) (talks_run _ _ (c.play_on.ensures.talks t)))
-    (leave_run _ _ _ _ (c.leave.ensures.told t))
+pub returns-clause-stored : goal.returns-clause-stored
+returns-clause-stored g c = record {
+  fold = search rules;
+  later = search rules;
+  left = λ t no_disk.
+      let later = c.play_on.ensures.stored.left t (ok_no_err c.play_on.result c.in_ok-last.last _ c.in_ok-last.was) in
+      left_there mail AnyStep c.play_on.new.store (g.W.Clocked.clock c.play_on.new.world) (g.W.Clocked.clock c.leave.new.link) _ _ later
+      (c.leave.ensures.talks.files t)
+      (g.met.W.Disk.seen_is c.leave.new.link t);
+  sound_still = search rules;
+}

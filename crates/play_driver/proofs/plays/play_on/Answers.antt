@@ -22,11 +22,8 @@ use Rattle.play_driver.proofs.plays.play_on.Goals as goal
 pub loop-at-init : goal.loop-at-init
 loop-at-init g c = record {
   fold = c.requires.fold;
-  beside = c.requires.beside;
-  selected = c.requires.selected;
+  rests = c.requires.rests;
   room = c.requires.room;
-  follows = c.requires.follows;
-  stands = c.requires.stands;
   sound = c.requires.sound;
   left = c.requires.left;
   progress = λ t. progress_start c.args.store.now.book (g.W.Clocked.clock c.args.world.now);
@@ -43,154 +40,178 @@ loop-at-init g c = record {
 }
 
 -- what is needed wasn't said
-pub returns-in_err-need-clause-joined : goal.returns-in_err-need-clause-joined
-returns-in_err-need-clause-joined g c = λ t made kept known fair. (c.loop-at.invariant.gone t made kept known fair).joined
+pub returns-in_err-need-clause-goes_on : goal.returns-in_err-need-clause-goes_on
+returns-in_err-need-clause-goes_on g c = record {
+  progress = search rules;
+  joined = λ t made kept known fair. (c.loop-at.invariant.gone t made kept known fair).joined;
+  known = search rules;
+  each_one_side = search rules;
+  talks = search rules;
+}
 
-pub returns-in_err-need-clause-why : goal.returns-in_err-need-clause-why
-returns-in_err-need-clause-why g c = λ t fault is.
-    stops_wanting _ (standing_of (g.W.Clocked.link c.loop-at.world) c.loop-at.at c.loop-at.store c.loop-at.player) c.next.result
-    c.in_err-need.field-0.0 fault
-    (c.loop-at.invariant.runs t) c.in_err-need.was
-    (subst (λ (b : Meaning). NeedsNoMemory (need_of c.loop-at.player b) → c.next.result ≡ Ok (need_of c.loop-at.player b)) c.book.ensures
-    c.next.ensures.at_hand)
-    (told_as (λ (e : AllocError). faults.Memory) c.from_residual.result c.in_err-need.field-0.0 c.from_residual.ensures.1 fault is)
+pub returns-in_err-need-clause-runs : goal.returns-in_err-need-clause-runs
+returns-in_err-need-clause-runs g c = record {
+  runs = search rules;
+  finished = search rules;
+  counted = search rules;
+  why = λ t fault is.
+      stops_wanting _ (standing_of (g.W.Clocked.link c.loop-at.world) c.loop-at.at c.loop-at.store c.loop-at.player) c.next.result
+      c.in_err-need.field-0.0 fault
+      (c.loop-at.invariant.runs t) c.in_err-need.was
+      (subst (λ (b : Meaning). NeedsNoMemory (need_of c.loop-at.player b) → c.next.result ≡ Ok (need_of c.loop-at.player b)) c.book.ensures
+      c.next.ensures.at_hand)
+      (told_as (λ (e : AllocError). faults.Memory) c.from_residual.result c.in_err-need.field-0.0 c.from_residual.ensures.1 fault is);
+}
 
-pub returns-in_err-need-clause-faultless : goal.returns-in_err-need-clause-faultless
-returns-in_err-need-clause-faultless g c = λ t made kept known fair fault is at_reply.
-    subst IsReplyFault
-    (told_as (λ (e : AllocError). faults.Memory) c.from_residual.result c.in_err-need.field-0.0 c.from_residual.ensures.1 fault is) at_reply
-
-pub returns-in_err-need-clause-valid : goal.returns-in_err-need-clause-valid
-returns-in_err-need-clause-valid g c = λ t made kept known fair none box was now is.
-    memory_valid box was now
-    (told_as (λ (e : AllocError). faults.Memory) c.from_residual.result c.in_err-need.field-0.0 c.from_residual.ensures.1
-    (faults.Validity box was now) is)
+pub returns-in_err-need-clause-excuses : goal.returns-in_err-need-clause-excuses
+returns-in_err-need-clause-excuses g c = record {
+  faultless = λ t made kept known fair fault is at_reply.
+      subst IsReplyFault
+      (told_as (λ (e : AllocError). faults.Memory) c.from_residual.result c.in_err-need.field-0.0 c.from_residual.ensures.1 fault is) at_reply;
+  valid = λ t made kept known fair none box was now is.
+      memory_valid box was now
+      (told_as (λ (e : AllocError). faults.Memory) c.from_residual.result c.in_err-need.field-0.0 c.from_residual.ensures.1
+      (faults.Validity box was now) is);
+}
 
 -- nothing is needed
-pub returns-then-is_finished-clause-joined : goal.returns-then-is_finished-clause-joined
-returns-then-is_finished-clause-joined g c = λ t made kept known fair. (c.loop-at.invariant.gone t made kept known fair).joined
+pub returns-then-is_finished-clause-goes_on : goal.returns-then-is_finished-clause-goes_on
+returns-then-is_finished-clause-goes_on g c = record {
+  progress = search rules;
+  joined = λ t made kept known fair. (c.loop-at.invariant.gone t made kept known fair).joined;
+  known = λ t made kept known fair. (c.loop-at.invariant.gone t made kept known fair).known;
+  each_one_side = search rules;
+  talks = search rules;
+}
 
-pub returns-then-is_finished-clause-sound_still : goal.returns-then-is_finished-clause-sound_still
-returns-then-is_finished-clause-sound_still g c = λ no_disk. is_sound c.loop-at.store.journal.failed c.loop-at.invariant.sound
+pub returns-then-is_finished-clause-synced : goal.returns-then-is_finished-clause-synced
+returns-then-is_finished-clause-synced g c = λ made known t start grows kept. c.loop-at.invariant.synced t made start grows kept known
+
+pub returns-then-is_finished-clause-stored : goal.returns-then-is_finished-clause-stored
+returns-then-is_finished-clause-stored g c = record {
+  fold = search rules;
+  later = search rules;
+  left = search rules;
+  sound_still = λ no_disk. is_sound c.loop-at.store.journal.failed c.loop-at.invariant.sound;
+}
 
 -- a turn failed
-pub returns-in_err-at-clause-progress : goal.returns-in_err-at-clause-progress
-returns-in_err-at-clause-progress g c = λ t.
-    progress_then c.args.store.now.book c.loop-at.store.book c.loop-at.invariant.later _ _ _ (c.loop-at.invariant.progress t)
-    (c.turn.ensures.progress t)
+pub returns-in_err-at-clause-goes_on : goal.returns-in_err-at-clause-goes_on
+returns-in_err-at-clause-goes_on g c = record {
+  progress = λ t.
+      progress_then c.args.store.now.book c.loop-at.store.book c.loop-at.invariant.later _ _ _ (c.loop-at.invariant.progress t)
+      (c.turn.ensures.goes_on.progress t);
+  joined = λ t made kept known.
+      let f = g.W.Clocked.server_with_files t in
+      joined_on made (g.W.Clocked.clock c.args.world.now) (g.W.Clocked.clock c.loop-at.world) (permits_in c.loop-at.at) c.loop-at.player
+      c.loop-at.store.book
+      kept (progress_grows _ _ _ (c.loop-at.invariant.progress f)) (c.loop-at.invariant.gone t made kept known) (g.W.Clocked.clock c.turn.new.world)
+      (progress_grows _ _ _ (c.turn.ensures.goes_on.progress f)) (c.turn.ensures.goes_on.joined t made);
+  known = search rules;
+  each_one_side = λ t. sides_then _ _ _ (c.loop-at.invariant.each_one_side t) (c.turn.ensures.goes_on.each_one_side t);
+  talks = λ t. talks_then _ _ _ (c.loop-at.invariant.talks t) (c.turn.ensures.goes_on.talks t);
+}
 
-pub returns-in_err-at-clause-joined : goal.returns-in_err-at-clause-joined
-returns-in_err-at-clause-joined g c = λ t made kept known.
-    let f = g.W.Clocked.server_with_files t in
-    joined_on made (g.W.Clocked.clock c.args.world.now) (g.W.Clocked.clock c.loop-at.world) (permits_in c.loop-at.at) c.loop-at.player
-    c.loop-at.store.book
-    kept (progress_grows _ _ _ (c.loop-at.invariant.progress f)) (c.loop-at.invariant.gone t made kept known) (g.W.Clocked.clock c.turn.new.world)
-    (progress_grows _ _ _ (c.turn.ensures.progress f)) (c.turn.ensures.joined t made)
+pub returns-in_err-at-clause-reasons : goal.returns-in_err-at-clause-reasons
+returns-in_err-at-clause-reasons g c = record {
+  truly = λ t made entry kept known fair e truly no_disk.
+      let f = g.W.Clocked.server_with_files t in
+      so_on made (g.W.Clocked.clock c.args.world.now) (g.W.Clocked.clock c.loop-at.world) (permits_in c.loop-at.at) c.loop-at.player
+      c.loop-at.store.book
+      kept (progress_grows _ _ _ (c.loop-at.invariant.progress f)) (c.loop-at.invariant.gone t made kept known) (g.W.Clocked.clock c.turn.new.world)
+      (progress_grows _ _ _ (c.turn.ensures.goes_on.progress f)) (IsTrueSince entry made (g.W.Clocked.clock c.turn.new.world) c.turn.new.store.book) fair
+      (λ first here knows second. c.turn.ensures.reasons.truly t made entry here knows tt (c.loop-at.invariant.entered entry e)
+      (c.loop-at.invariant.truly t made entry kept known first e truly) (λ disk. no_disk (search rules)));
+  stopped = λ t is.
+      let s = c.turn.ensures.reasons.stopped t (search rules) in (
+        s.0,
+        s.1,
+        s.2,
+        λ u made entry kept known fair e truly.
+            let grows = progress_grows c.loop-at.store.book (g.W.Clocked.clock c.loop-at.world) (g.W.Clocked.clock c.turn.new.world)
+            (c.turn.ensures.goes_on.progress t) in
+            so_on made (g.W.Clocked.clock c.args.world.now) (g.W.Clocked.clock c.loop-at.world) (permits_in c.loop-at.at) c.loop-at.player
+            c.loop-at.store.book kept (progress_grows _ _ _ (c.loop-at.invariant.progress t)) (c.loop-at.invariant.gone u made kept known)
+            (g.W.Clocked.clock c.turn.new.world) grows (IsTrueBefore s.0 entry c.turn.new.store.book made (g.W.Clocked.clock c.turn.new.world)) fair
+            (λ first here knows second. s.3 u made entry here knows tt (c.loop-at.invariant.entered entry e)
+            (c.loop-at.invariant.truly u made entry kept known first e truly)),
+      );
+}
 
-pub returns-in_err-at-clause-truly : goal.returns-in_err-at-clause-truly
-returns-in_err-at-clause-truly g c = λ t made entry kept known fair e truly no_disk.
-    let f = g.W.Clocked.server_with_files t in
-    so_on made (g.W.Clocked.clock c.args.world.now) (g.W.Clocked.clock c.loop-at.world) (permits_in c.loop-at.at) c.loop-at.player
-    c.loop-at.store.book
-    kept (progress_grows _ _ _ (c.loop-at.invariant.progress f)) (c.loop-at.invariant.gone t made kept known) (g.W.Clocked.clock c.turn.new.world)
-    (progress_grows _ _ _ (c.turn.ensures.progress f)) (IsTrueSince entry made (g.W.Clocked.clock c.turn.new.world) c.turn.new.store.book) fair
-    (λ first here knows second. c.turn.ensures.truly t made entry here knows (c.loop-at.invariant.entered entry e)
-    (c.loop-at.invariant.truly t made entry kept known first e truly) (λ disk. no_disk (search rules)))
+pub returns-in_err-at-clause-excuses : goal.returns-in_err-at-clause-excuses
+returns-in_err-at-clause-excuses g c = record {
+  faultless = λ t made kept known fair fault is at_reply.
+      let f = g.W.Clocked.server_with_files t in
+      so_on made (g.W.Clocked.clock c.args.world.now) (g.W.Clocked.clock c.loop-at.world) (permits_in c.loop-at.at) c.loop-at.player
+      c.loop-at.store.book
+      kept (progress_grows _ _ _ (c.loop-at.invariant.progress f)) (c.loop-at.invariant.gone t made kept known) (g.W.Clocked.clock c.turn.new.world)
+      (progress_grows _ _ _ (c.turn.ensures.goes_on.progress f)) ⊥ fair
+      (λ first here knows second. c.turn.ensures.excuses.faultless t made here knows second fault (search rules) at_reply);
+  valid = λ t made kept known fair none box was now is.
+      let f = g.W.Clocked.server_with_files t in
+      so_on made (g.W.Clocked.clock c.args.world.now) (g.W.Clocked.clock c.loop-at.world) (permits_in c.loop-at.at) c.loop-at.player
+      c.loop-at.store.book
+      kept (progress_grows _ _ _ (c.loop-at.invariant.progress f)) (c.loop-at.invariant.gone t made kept known) (g.W.Clocked.clock c.turn.new.world)
+      (progress_grows _ _ _ (c.turn.ensures.goes_on.progress f)) ⊥ fair
+      (λ first here knows second. c.turn.ensures.excuses.valid t made here knows second
+      (renewed_on c.args.store.now.book c.loop-at.store.book (g.W.Clocked.clock c.args.world.now) (g.W.Clocked.clock c.loop-at.world)
+      (c.loop-at.invariant.talks t) c.loop-at.invariant.later none)
+      box was now (search rules));
+}
 
-pub returns-in_err-at-clause-faultless : goal.returns-in_err-at-clause-faultless
-returns-in_err-at-clause-faultless g c = λ t made kept known fair fault is at_reply.
-    let f = g.W.Clocked.server_with_files t in
-    so_on made (g.W.Clocked.clock c.args.world.now) (g.W.Clocked.clock c.loop-at.world) (permits_in c.loop-at.at) c.loop-at.player
-    c.loop-at.store.book
-    kept (progress_grows _ _ _ (c.loop-at.invariant.progress f)) (c.loop-at.invariant.gone t made kept known) (g.W.Clocked.clock c.turn.new.world)
-    (progress_grows _ _ _ (c.turn.ensures.progress f)) ⊥ fair
-    (λ first here knows second. c.turn.ensures.faultless t made here knows second fault (search rules) at_reply)
-
-pub returns-in_err-at-clause-valid : goal.returns-in_err-at-clause-valid
-returns-in_err-at-clause-valid g c = λ t made kept known fair none box was now is.
-    let f = g.W.Clocked.server_with_files t in
-    so_on made (g.W.Clocked.clock c.args.world.now) (g.W.Clocked.clock c.loop-at.world) (permits_in c.loop-at.at) c.loop-at.player
-    c.loop-at.store.book
-    kept (progress_grows _ _ _ (c.loop-at.invariant.progress f)) (c.loop-at.invariant.gone t made kept known) (g.W.Clocked.clock c.turn.new.world)
-    (progress_grows _ _ _ (c.turn.ensures.progress f)) ⊥ fair
-    (λ first here knows second. c.turn.ensures.valid t made here knows second
-    (renewed_on c.args.store.now.book c.loop-at.store.book (g.W.Clocked.clock c.args.world.now) (g.W.Clocked.clock c.loop-at.world)
-    (c.loop-at.invariant.talks t) c.loop-at.invariant.later none)
-    box was now (search rules))
-
-pub returns-in_err-at-clause-each_one_side : goal.returns-in_err-at-clause-each_one_side
-returns-in_err-at-clause-each_one_side g c = λ t. sides_then _ _ _ (c.loop-at.invariant.each_one_side t) (c.turn.ensures.each_one_side t)
-
-pub returns-in_err-at-clause-talks : goal.returns-in_err-at-clause-talks
-returns-in_err-at-clause-talks g c = λ t. talks_then _ _ _ (c.loop-at.invariant.talks t) (c.turn.ensures.talks t)
-
-pub returns-in_err-at-clause-why : goal.returns-in_err-at-clause-why
-returns-in_err-at-clause-why g c = λ t fault is.
-    stops_behind _ (standing_of (g.W.Clocked.link c.loop-at.world) c.loop-at.at c.loop-at.store c.loop-at.player) c.turn.new.store _ c.turn.result
-    fault
-    (search rules) (c.loop-at.invariant.runs t) (c.turn.ensures.why t fault (search rules)) (c.turn.ensures.stays (search rules))
-    (c.turn.ensures.kept (search rules))
-
-pub returns-in_err-at-clause-stopped : goal.returns-in_err-at-clause-stopped
-returns-in_err-at-clause-stopped g c = λ t is.
-    let s = c.turn.ensures.stopped t (search rules) in (
-      s.0,
-      s.1,
-      s.2,
-      λ u made entry kept known fair e truly.
-          let grows = progress_grows c.loop-at.store.book (g.W.Clocked.clock c.loop-at.world) (g.W.Clocked.clock c.turn.new.world)
-          (c.turn.ensures.progress t) in
-          so_on made (g.W.Clocked.clock c.args.world.now) (g.W.Clocked.clock c.loop-at.world) (permits_in c.loop-at.at) c.loop-at.player
-          c.loop-at.store.book kept (progress_grows _ _ _ (c.loop-at.invariant.progress t)) (c.loop-at.invariant.gone u made kept known)
-          (g.W.Clocked.clock c.turn.new.world) grows (IsTrueBefore s.0 entry c.turn.new.store.book made (g.W.Clocked.clock c.turn.new.world)) fair
-          (λ first here knows second. s.3 u made entry here knows (c.loop-at.invariant.entered entry e)
-          (c.loop-at.invariant.truly u made entry kept known first e truly)),
-    )
+pub returns-in_err-at-clause-runs : goal.returns-in_err-at-clause-runs
+returns-in_err-at-clause-runs g c = record {
+  runs = search rules;
+  finished = search rules;
+  counted = search rules;
+  why = λ t fault is.
+      stops_behind _ (standing_of (g.W.Clocked.link c.loop-at.world) c.loop-at.at c.loop-at.store c.loop-at.player) c.turn.new.store _ c.turn.result
+      fault
+      (search rules) (c.loop-at.invariant.runs t) (c.turn.ensures.takes.why t fault (search rules)) (c.turn.ensures.takes.stays (search rules))
+      (c.turn.ensures.takes.kept (search rules));
+}
 
 -- another turn
 pub loop-at-preserved : goal.loop-at-preserved
 loop-at-preserved g c = record {
-  fold = c.turn.ensures.fold;
-  beside = c.in_ok-at.ensures.beside;
-  selected = c.in_ok-at.ensures.selected;
-  room = omega (arith, c.loop-at.invariant.room, c.in_ok-at.ensures.counted, c.in_ok-at.ensures.falls);
-  follows = c.in_ok-at.ensures.still;
-  stands = c.in_ok-at.ensures.stands;
+  fold = c.turn.ensures.stored.fold;
+  rests = c.in_ok-at.ensures.rests;
+  room = omega (arith, c.loop-at.invariant.room, c.in_ok-at.ensures.takes.counted, c.in_ok-at.ensures.takes.falls);
   sound = search rules;
   left = search rules;
   progress = λ t.
       progress_then c.args.store.now.book c.loop-at.store.book c.loop-at.invariant.later _ _ _ (c.loop-at.invariant.progress t)
-      (c.turn.ensures.progress t);
-  later = later_then c.args.store.now.book c.loop-at.store.book c.turn.new.store.book c.loop-at.invariant.later c.turn.ensures.later;
+      (c.turn.ensures.goes_on.progress t);
+  later = later_then c.args.store.now.book c.loop-at.store.book c.turn.new.store.book c.loop-at.invariant.later c.turn.ensures.stored.later;
   gone = λ t made kept known.
       let f = g.W.Clocked.server_with_files t in
       gone_on made (g.W.Clocked.clock c.args.world.now) (g.W.Clocked.clock c.loop-at.world) (permits_in c.loop-at.at) c.loop-at.player
       c.loop-at.store.book
       kept (progress_grows _ _ _ (c.loop-at.invariant.progress f)) (c.loop-at.invariant.gone t made kept known) (g.W.Clocked.clock c.turn.new.world)
-      (progress_grows _ _ _ (c.turn.ensures.progress f)) _ c.turn.new.player c.turn.new.store.book (c.turn.ensures.joined t made)
-      (c.in_ok-at.ensures.known t made);
-  entered = λ entry e. c.in_ok-at.ensures.entered entry (c.loop-at.invariant.entered entry e);
+      (progress_grows _ _ _ (c.turn.ensures.goes_on.progress f)) _ c.turn.new.player c.turn.new.store.book (c.turn.ensures.goes_on.joined t made)
+      (c.in_ok-at.ensures.goes_on.known t made);
+  entered = λ entry e. c.in_ok-at.ensures.takes.entered entry (c.loop-at.invariant.entered entry e);
   truly = λ t made entry kept known fair e truly.
       let f = g.W.Clocked.server_with_files t in
       so_on made (g.W.Clocked.clock c.args.world.now) (g.W.Clocked.clock c.loop-at.world) (permits_in c.loop-at.at) c.loop-at.player
       c.loop-at.store.book
       kept (progress_grows _ _ _ (c.loop-at.invariant.progress f)) (c.loop-at.invariant.gone t made kept known) (g.W.Clocked.clock c.turn.new.world)
-      (progress_grows _ _ _ (c.turn.ensures.progress f)) (IsTrueSince entry made (g.W.Clocked.clock c.turn.new.world) c.turn.new.store.book) fair
-      (λ first here knows second. c.turn.ensures.truly t made entry here knows (c.loop-at.invariant.entered entry e)
+      (progress_grows _ _ _ (c.turn.ensures.goes_on.progress f)) (IsTrueSince entry made (g.W.Clocked.clock c.turn.new.world) c.turn.new.store.book) fair
+      (λ first here knows second. c.turn.ensures.reasons.truly t made entry here knows tt (c.loop-at.invariant.entered entry e)
       (c.loop-at.invariant.truly t made entry kept known first e truly) (λ disk. ok_no_err c.turn.result c.in_ok-at.at _ c.in_ok-at.was disk));
   synced = λ t made start grows kept known fair so.
       let f = g.W.Clocked.server_with_files t in
       so_on made (g.W.Clocked.clock c.args.world.now) (g.W.Clocked.clock c.loop-at.world) (permits_in c.loop-at.at) c.loop-at.player
       c.loop-at.store.book
       kept (progress_grows _ _ _ (c.loop-at.invariant.progress f)) (c.loop-at.invariant.gone t made kept known) (g.W.Clocked.clock c.turn.new.world)
-      (progress_grows _ _ _ (c.turn.ensures.progress f))
+      (progress_grows _ _ _ (c.turn.ensures.goes_on.progress f))
       (IsSyncedSoFar start (g.W.Clocked.clock c.turn.new.world) c.turn.new.player c.turn.new.store.book) fair
       (λ first here knows second. c.in_ok-at.ensures.synced t start (grows_then _ _ _ grows (progress_grows _ _ _ (c.loop-at.invariant.progress f)))
       here second
       (c.loop-at.invariant.synced t made start grows kept known first so));
-  runs = λ t. runs_on _ _ _ (c.loop-at.invariant.runs t) (c.in_ok-at.ensures.turns t) c.in_ok-at.ensures.falls;
-  each_one_side = λ t. sides_then _ _ _ (c.loop-at.invariant.each_one_side t) (c.turn.ensures.each_one_side t);
-  talks = λ t. talks_then _ _ _ (c.loop-at.invariant.talks t) (c.turn.ensures.talks t);
-  disk_count = omega (arith, c.loop-at.invariant.disk_count, c.turn.ensures.disk_count);
-  link_count = omega (arith, c.loop-at.invariant.link_count, c.turn.ensures.link_count);
+  runs = λ t. runs_on _ _ _ (c.loop-at.invariant.runs t) (c.in_ok-at.ensures.takes.turns t) c.in_ok-at.ensures.takes.falls;
+  each_one_side = λ t. sides_then _ _ _ (c.loop-at.invariant.each_one_side t) (c.turn.ensures.goes_on.each_one_side t);
+  talks = λ t. talks_then _ _ _ (c.loop-at.invariant.talks t) (c.turn.ensures.goes_on.talks t);
+  disk_count = omega (arith, c.loop-at.invariant.disk_count, c.turn.ensures.accuses.disk_count);
+  link_count = omega (arith, c.loop-at.invariant.link_count, c.turn.ensures.accuses.link_count);
 }

@@ -1,13 +1,10 @@
 -- What is so of the turns from the first one to the last one so far.
 use Rattle.std.proofs.Common.{◌≡◌, ◌≤◌, ◌<◌, ◌+◌, ◌*◌, IsTrue}
 use Rattle.action_queue.specs.Book.{Meaning}
-use Rattle.imap_session.specs.Session.{Follows, Stands}
 use Rattle.journal_core.specs.OneSide.{EachOneSide}
 use Rattle.playback.specs.Choosing.{IsEntered}
 use Rattle.playback.specs.Kept.{Kept}
 use Rattle.playback.specs.Left.{left}
-use Rattle.playback.specs.Needs.{IsBeside}
-use Rattle.playback.specs.Worlds.{name_of}
 use Rattle.store_core.specs.Fold.{IsFold}
 use Rattle.store_core.specs.Holding.{IsAsLeft}
 use Rattle.store_core.specs.Mail.{mail}
@@ -18,8 +15,9 @@ use Rattle.play_driver.specs.KnownAt.{KnownAt}
 use Rattle.play_driver.specs.Played.{played}
 use Rattle.play_driver.specs.Progress.{IsLater, Progresses}
 use Rattle.play_driver.specs.Questioning.{TalkStep}
+use Rattle.play_driver.specs.Rests.{Rests}
 use Rattle.play_driver.specs.Running.{RunsBetween}
-use Rattle.play_driver.specs.Sessions.{count_of, feed_of, permits_in, selected_in}
+use Rattle.play_driver.specs.Sessions.{count_of, permits_in}
 use Rattle.play_driver.specs.Settled.{IsSyncedSoFar}
 use Rattle.play_driver.specs.TrueRecords.{IsTrueSince}
 use Rattle.play_driver.specs.Turning.{standing_of}
@@ -29,12 +27,8 @@ use Rattle.play_driver.proofs.plays.play_on.Given as goal
 abbrev pub invariant-loop-at : goal.invariant-loop-at
 invariant-loop-at g l = record {
   fold : IsFold l.store.book;
-  beside : IsBeside l.player l.store.book;
-  selected : name_of l.player.selected ≡ selected_in l.at;
+  rests : Rests g.W.Clocked l.world l.player l.store.book l.at;
   room : count_of l.at + 2 * left l.player l.store.book + 3 < 4294967295;
-  follows : g.W.Clocked.tells_files → Follows (g.W.Clocked.link l.world).connection (feed_of l.at);
-  stands : g.W.Clocked.tells_server →
-      Stands (selected_in l.at) (g.W.Clocked.clock l.world) (g.W.Clocked.link l.world).connection (feed_of l.at);
   sound : IsTrue l.store.journal.failed → ⊥;
   left : g.W.Clocked.tells_files → IsAsLeft mail l.store (g.W.Clocked.clock l.world).now (g.W.Disk.seen l.world);
   progress : g.W.Clocked.tells_files → Progresses l.fn.store.book (g.W.Clocked.clock l.fn.world) (g.W.Clocked.clock l.world);

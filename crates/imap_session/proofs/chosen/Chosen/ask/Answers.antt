@@ -1,4 +1,4 @@
-use Rattle.std.proofs.Common.{Some, rules}
+use Rattle.std.proofs.Common.{Some}
 use Rattle.imap_session.proofs.Counting.{has_tag}
 use Rattle.imap_session.proofs.Sending.{asked_keeps, stands_kept}
 use Rattle.imap_session.proofs.chosen.Chosen.ask.Goals as goal
@@ -9,16 +9,10 @@ exchange-requires-clause-writable g c = record { tagged = has_tag _ _ _ c.requir
 pub exchange-requires-clause-keeps : goal.exchange-requires-clause-keeps
 exchange-requires-clause-keeps g c = λ parts. asked_keeps c.args.command.now c.requires.asked
 
-pub returns-in_err-answer-clause-why : goal.returns-in_err-answer-clause-why
-returns-in_err-answer-clause-why g c = λ t heard h fault is. c.exchange.ensures.why t heard h fault (search rules)
-
-pub returns-in_err-answer-clause-honest : goal.returns-in_err-answer-clause-honest
-returns-in_err-answer-clause-honest g c = λ t at is. c.exchange.ensures.honest t at (search rules)
-
 pub returns-clause-stands : goal.returns-clause-stands
-returns-clause-stands g c = λ t. stands_kept _ _ _ _ _ _ (c.in_ok-answer.ensures.answered t (Some _) (c.requires.stands t)) c.requires.asked
+returns-clause-stands g c = λ t. stands_kept _ _ _ _ _ _ (c.in_ok-answer.ensures.replied.answered t (Some _) (c.requires.stands t)) c.requires.asked
 
 pub returns-clause-still : goal.returns-clause-still
 returns-clause-still g c = λ t.
     let f = c.requires.follows t in
-    (_, (c.in_ok-answer.ensures.came t f.0 f.1).hears)
+    (_, (c.in_ok-answer.ensures.replied.came t f.0 f.1).hears)

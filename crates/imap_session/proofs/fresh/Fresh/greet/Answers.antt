@@ -35,11 +35,20 @@ pub returns-in_err-greeting-clause-honest : goal.returns-in_err-greeting-clause-
 returns-in_err-greeting-clause-honest g c = λ t at is.
     let h = fresh_reads _ _ 268435456 (c.requires.fresh (g.L.Clocked.server_with_files t)) in
     let r = c.in_ok-line.ensures.reads (g.L.Clocked.server_with_files t) [] _ _ h in
-    greeting_fit _ _ _ _ c.in_ok-line.line.response (c.requires.greeted t) (c.next.ensures.told t) r.reads.hears
+    greeting_fit _ _ _ _ c.in_ok-line.line.response (c.requires.greeted t) (c.next.ensures.receives.told t) r.reads.hears
     (g.met.L.Link.honest c.next.new.link t) c.in_ok-line.line.frame at (c.hello.ensures.why (faults.BadReply at) (search rules))
 
-pub returns-in_err-greeting-clause-cause : goal.returns-in_err-greeting-clause-cause
-returns-in_err-greeting-clause-cause g c = λ is. absurd (c.hello.ensures.why faults.Link (search rules))
+pub returns-in_err-greeting-clause-receives : goal.returns-in_err-greeting-clause-receives
+returns-in_err-greeting-clause-receives g c = record {
+  files = search rules;
+  told = search rules;
+  sent = search rules;
+  blames = record {
+    disk = search rules;
+    count = search rules;
+    cause = λ is. absurd (c.hello.ensures.why faults.Link (search rules));
+  };
+}
 
 pub returns-clause-greeting : goal.returns-clause-greeting
 returns-clause-greeting g c = λ t.
@@ -52,7 +61,7 @@ pub returns-clause-stands : goal.returns-clause-stands
 returns-clause-stands g c = λ t.
     let h = fresh_reads _ _ 268435456 (c.requires.fresh (g.L.Clocked.server_with_files t)) in
     let r = c.in_ok-line.ensures.reads (g.L.Clocked.server_with_files t) [] _ _ h in
-    greeted_stands _ _ _ _ c.in_ok-line.line.response (c.requires.greeted t) (c.next.ensures.told t) r.reads.hears
+    greeted_stands _ _ _ _ c.in_ok-line.line.response (c.requires.greeted t) (c.next.ensures.receives.told t) r.reads.hears
     (g.met.L.Link.honest c.next.new.link t)
 
 pub returns-clause-still : goal.returns-clause-still
@@ -65,7 +74,7 @@ returns-clause-begun g c = λ t.
     let h = fresh_reads _ _ 268435456 (c.requires.fresh (g.L.Clocked.server_with_files t)) in
     let r = c.in_ok-line.ensures.reads (g.L.Clocked.server_with_files t) [] _ _ h in
     begun_so _ c.in_ok-line.line.response c.in_ok-greeting.greeting _ c.in_ok-greeting.ensures.value c.in_ok-greeting.ensures.greets
-    (greeting_told _ _ _ _ c.in_ok-line.line.response (c.requires.greeted t) (c.next.ensures.told t) r.reads.hears
+    (greeting_told _ _ _ _ c.in_ok-line.line.response (c.requires.greeted t) (c.next.ensures.receives.told t) r.reads.hears
     (g.met.L.Link.honest c.next.new.link t))
     c.is_preauth.ensures
 

@@ -1,0 +1,45 @@
+-- What a call says that asks for what a server has of a mailbox (RFC 7162, section 3.2.5).
+use Rattle.std.specs.Prelude.{◌≡◌, ℕ, List, Option, Result, IfSome, IsErrOf, is_some}
+use Rattle.imap_model.specs.declared.response.Response.{Response}
+use Rattle.imap_session.specs.Blame.{Blames}
+use Rattle.imap_session.specs.Dialogue.{BrokeOff, Dialogue, SentIn}
+use Rattle.imap_session.specs.Enquiring.{Enquiring}
+use Rattle.imap_session.specs.Hearing.{Hears}
+use Rattle.imap_session.specs.Replying.{AreSmall}
+use Rattle.imap_session.specs.declared.fault.SessionFault.{SessionFault}
+use Rattle.imap_session.specs.declared.fault.SessionFault.TheVariants as faults
+use Rattle.literal_feed.specs.Stream.{Stream}
+use Rattle.mailbox_cache.specs.declared.cache.Cache.{Cache}
+use Rattle.world_traits.specs.Links.{AnyStep, Linked}
+use Rattle.world_traits.specs.declared.clocked.Clocked.{Ghosts}
+use Rattle.play_driver.specs.Exchanges.{AnsweredAll, CameAll}
+use Rattle.play_driver.specs.Questioning.{Questioning}
+use Rattle.play_driver.specs.Resynchronising.{exchanged, fetches, resync}
+use Rattle.play_driver.specs.Sessions.{count_of, feed_of, selected_in}
+use Rattle.play_driver.specs.declared.gathering.Gathered.{Gathered}
+use Rattle.play_driver.specs.declared.session.Session.{Session}
+
+-- However the call ends: the files stay as they were, and only the questions of a resynchronisation were asked, with whatever is asked
+-- behind them; no honest server's reply is called bad. Each fault's cause stands in the bytes received.
+pub record Gathers {Self T : Type 0} (L : Ghosts Self) (name : List ℕ) (kept : Option Cache) (old new : Self) (session : Session)
+    (result : Result T SessionFault) : Type 0 where
+  pub files : L.tells_files → Linked AnyStep (L.clock old) (L.clock new)
+  pub told : L.tells_server → Linked Enquiring (L.clock old) (L.clock new)
+  pub asks : L.tells_server → Linked Questioning (L.clock old) (L.clock new)
+  pub sent : L.tells_files → (next : Dialogue) → SentIn (resync name kept next) (count_of session) (L.link old).sent (L.link new).sent
+  pub why : L.tells_files → (next : Dialogue) (heard : List Response) → (h : Hears heard (L.link old).connection (feed_of session))
+      → (fault : SessionFault) → IsErrOf result fault
+      → BrokeOff (resync name kept next) (count_of session) (L.link old).sent h.connection.received heard (L.link new) fault
+  pub honest : L.tells_server → (at : ℕ) → IsErrOf result (faults.BadReply at) → ⊥
+  pub blames : Blames L old new result
+
+-- These are the replies: the server's answers, each at one moment of the call, and all that came. All rows were fetched exactly where they
+-- were due.
+pub record HasGathered {Self : Type 0} (L : Ghosts Self) (name : List ℕ) (kept : Option Cache) (old new : Self) (session : Session)
+    (after : Stream) (gathered : Gathered) : Type 0 where
+  pub answered : L.tells_server
+      → AnsweredAll (exchanged name kept gathered) (selected_in session) (count_of session) (L.clock old) (L.clock new)
+  pub fetched : is_some gathered.all ≡ fetches kept gathered.selected
+  pub came : L.tells_files → (heard : List Response) → (h : Hears heard (L.link old).connection (feed_of session))
+      → CameAll (exchanged name kept gathered) (count_of session) (L.link old).sent h.connection.received heard (L.link new) after
+  pub small : AreSmall gathered.selected × IfSome gathered.all AreSmall

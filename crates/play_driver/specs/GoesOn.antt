@@ -1,0 +1,44 @@
+-- How a run goes on over one turn or several.
+use Rattle.std.specs.Prelude.{Result, IfOk, OnOk}
+use Rattle.action_queue.specs.Book.{Meaning}
+use Rattle.journal_core.specs.OneSide.{EachOneSide}
+use Rattle.playback.specs.Kept.{Kept}
+use Rattle.playback.specs.declared.player.Player.{Player}
+use Rattle.store_core.specs.Mail.{mail}
+use Rattle.world_traits.specs.Links.{Any}
+use Rattle.world_traits.specs.Moments.{Clock, Since}
+use Rattle.world_traits.specs.declared.clocked.Clocked.{Ghosts}
+use Rattle.play_driver.specs.Joining.{AllFair, Grows, IsKept, StaysJoined}
+use Rattle.play_driver.specs.KnownAt.{KnownAt}
+use Rattle.play_driver.specs.Played.{played}
+use Rattle.play_driver.specs.Progress.{Progresses}
+use Rattle.play_driver.specs.Questioning.{ConnectsFirst, RunStep, TalkStep}
+use Rattle.play_driver.specs.Sessions.{permits_in}
+use Rattle.play_driver.specs.Settled.{IsSyncedSoFar}
+use Rattle.play_driver.specs.declared.fault.PlayFault.{PlayFault}
+use Rattle.play_driver.specs.declared.session.Session.{Session}
+
+-- At every moment a stop leaves the book that was, or one further on. Where the book is kept, and the player knows the connection, which was
+-- made at some clock, each moment is kept and joined to the one before it; and where others are fair the player knows it still.
+pub record GoesOn {Self : Type 0} (W : Ghosts Self) (old new : Self) (session : Session) (p q : Player) (b c : Meaning)
+    (result : Result Session PlayFault) : Type 0 where
+  pub progress : W.tells_files → Progresses b (W.clock old) (W.clock new)
+  pub joined : W.tells_server → (made : Clock) → IsKept mail Kept (W.clock old).now → KnownAt made (W.clock old) (permits_in session) p b
+      → StaysJoined mail Kept played (W.clock old) (W.clock new)
+  pub known : W.tells_server → (made : Clock) → IsKept mail Kept (W.clock old).now → KnownAt made (W.clock old) (permits_in session) p b
+      → AllFair mail played (W.clock old) (W.clock new) → IfOk result (λ next. KnownAt made (W.clock new) (permits_in next) q c)
+  pub each_one_side : W.tells_files → EachOneSide (W.clock old) (W.clock new)
+  pub talks : W.tells_server → Since Any TalkStep (W.clock old) (W.clock new)
+
+-- each mailbox that the player counts stays the server's
+abbrev pub SyncsOn : {Self T : Type 0} → Ghosts Self → Self → Self → Player → Player → Meaning → Meaning → Result T PlayFault → Type 0
+SyncsOn W old new p q b c result =
+    W.tells_server → (start : Clock) → Grows start (W.clock old) → IsKept mail Kept (W.clock old).now
+    → AllFair mail played (W.clock old) (W.clock new) → IsSyncedSoFar start (W.clock old) p b → OnOk result (IsSyncedSoFar start (W.clock new) q c)
+
+-- The same of a whole run, which connects once, before its first question.
+pub record RunGoesOn {Self : Type 0} (W : Ghosts Self) (old new : Self) (b : Meaning) : Type 0 where
+  pub progress : W.tells_files → Progresses b (W.clock old) (W.clock new)
+  pub joined : W.tells_server → IsKept mail Kept (W.clock old).now → StaysJoined mail Kept played (W.clock old) (W.clock new)
+  pub each_one_side : W.tells_files → EachOneSide (W.clock old) (W.clock new)
+  pub once : W.tells_server → ConnectsFirst RunStep (W.clock old) (W.clock new)
