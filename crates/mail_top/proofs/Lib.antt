@@ -3,6 +3,7 @@ pub mod Beginnings
 pub mod Besides
 pub mod Connections
 pub mod Endings
+pub mod FirstRuns
 pub mod Goings
 pub mod Headlines
 pub mod Inputs

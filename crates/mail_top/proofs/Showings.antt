@@ -1,5 +1,5 @@
 -- What becomes of a book that is to be shown.
-use Rattle.std.proofs.Common.{◌≡◌, ℕ, List, Option, Some, None, Result, Ok, Err, refl, sym, ◌∙◌, ap, subst}
+use Rattle.std.proofs.Common.{◌≡◌, ℕ, List, Option, None, Result, Ok, Err, refl, sym, ◌∙◌, ap, subst}
 use Rattle.std.specs.Result.{IsErrAnd}
 use Rattle.mail_base.specs.declared.status.Status.TheVariants as status
 use Rattle.world_traits.specs.Moments.{Clock, Within}
@@ -80,21 +80,9 @@ showing_ends shown k (Err (refusals.Reason reason)) s = absurd s
 showing_ends shown k (Err refusals.Actions) s = absurd s
 showing_ends shown k (Err (refusals.Full end)) s = absurd s
 
--- and so the rows of a mailbox
-module _ (name : List ℕ) (k : Course) where
-  pub rows_end : (r : Result (Option (List ℕ)) Refusal) → EndsShowing (ShowsRows name) k r → (refusal : Refusal) → r ≡ Err refusal →
-      EndsRows name k (status_of {T = List ℕ} (Err refusal)) (text_of {T = List ℕ} (λ text. text) (Err refusal))
-  rows_end r s (refusals.NotAJournal why) is = subst (EndsShowing (ShowsRows name) k) is s
-  rows_end r s refusals.Memory is = subst (EndsShowing (ShowsRows name) k) is s
-  rows_end r s refusals.Disk is = subst (EndsShowing (ShowsRows name) k) is s
-  rows_end r s refusals.Input is = absurd (subst (EndsShowing (ShowsRows name) k) is s)
-  rows_end r s refusals.Already is = absurd (subst (EndsShowing (ShowsRows name) k) is s)
-  rows_end r s (refusals.Reason reason) is = absurd (subst (EndsShowing (ShowsRows name) k) is s)
-  rows_end r s refusals.Actions is = absurd (subst (EndsShowing (ShowsRows name) k) is s)
-  rows_end r s (refusals.Full end) is = absurd (subst (EndsShowing (ShowsRows name) k) is s)
-
-  pub unlisted_ends : Shows (ShowsRows name) k None → EndsRows name k status.Reason (refused reasons.NoMailbox)
-  unlisted_ends s = record { book = s.book; stays = s.stays; unknown = s.fits; text_is = refl }
-
-  pub listed_ends : (text : List ℕ) → Shows (ShowsRows name) k (Some text) → EndsRows name k status.Done text
-  listed_ends text s = record { book = s.book; stays = s.stays; known = s.fits.0; text_is = s.fits.1 }
+-- a mailbox that isn't one of the book's
+pub unlisted_ends : (name : List ℕ) (k : Course) (shown : Option (List ℕ)) → shown ≡ None → Shows (ShowsRows name) k shown →
+    EndsRows name k status.Reason (refused reasons.NoMailbox)
+unlisted_ends name k shown none s =
+    let none_shown = subst (λ (t : Option (List ℕ)). Shows (ShowsRows name) k t) none s in
+    record { book = none_shown.book; stays = none_shown.stays; unknown = none_shown.fits; text_is = refl }

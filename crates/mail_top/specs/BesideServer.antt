@@ -16,6 +16,7 @@ use Rattle.mail_top.specs.Connecting.{ConnectsAtFirst}
 use Rattle.mail_top.specs.Headline.{NeverTwice}
 use Rattle.mail_top.specs.KeptNow.{IsKeptNow, StaysKept}
 use Rattle.mail_top.specs.Played.{AreSynced, CameThrough}
+use Rattle.mail_top.specs.SurePlay.{EndsSurely}
 use Rattle.mail_top.specs.Telling.{TellsNoPlace}
 use Rattle.mail_top.specs.TruePlay.{PlaysTruly}
 
@@ -41,6 +42,7 @@ pub record BesideServer {Self : Type 0} (W : Ghosts Self) (seen : Self → Files
   pub twice : Fairly W old new → NeverTwice (W.clock old) (W.clock new)
   pub kept : IsPlay → Fairly W old new → IsKeptNow (W.clock new).now
   pub truly : IsPlay → Fairly W old new → PlaysTruly (seen old) (W.clock old) (W.clock new)
+  pub surely : IsPlay → CameThrough s → Fairly W old new → EndsSurely (seen old) (seen new)
   pub synced : IsPlay → CameThrough s → Fairly W old new → AreSynced (seen new) (W.clock old) (W.clock new)
   pub serves : IsPlay → Fairly W old new → AllServing (W.clock old) (W.clock new) → WaitsForNone (seen old) (W.clock old).now.outside.server →
       IsTheServers s → ⊥

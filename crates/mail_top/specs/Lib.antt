@@ -8,6 +8,7 @@ pub mod Course
 pub mod Ending
 pub mod FairRuns
 pub mod Faults
+pub mod FromNothing
 pub mod Going
 pub mod Headline
 pub mod KeptNow
@@ -22,6 +23,7 @@ pub mod Resting
 pub mod Runs
 pub mod Saying
 pub mod Showing
+pub mod SurePlay
 pub mod Telling
 pub mod Texts
 pub mod TruePlay

@@ -1,7 +1,9 @@
 //! How a command ends: its status and what it prints.
 
-ghost use Rattle.std.specs.Prelude.{◌≡◌};
+ghost use Rattle.std.specs.Prelude.{◌≡◌, ◌≢◌};
 ghost use Rattle.mail_base.specs.Lines.{accepted, error_words, ready};
+ghost use Rattle.mail_top.specs.Causing.{HasOutputCause};
+ghost use Rattle.mail_top.specs.Printing.{IsSaid, Prints};
 ghost use Rattle.mail_top.specs.Telling.{line_of, printed, status_of, text_of, status_of_refusal, text_of_refusal};
 ghost use Rattle.mail_top.specs.Telling.{status_of_play, text_of_play, status_of_conflicts, status_of_fault, text_of_fault, text_of_why};
 
@@ -12,6 +14,7 @@ use imap_model::Limit;
 use journal_core::Place9;
 use mail_base::{Bytes, Line, Status};
 use play_driver::{PlayFault, Played, Why};
+use world_traits::{Sink, WriteFailed};
 
 /// How a command ends, before its text is printed.
 #[derive(Drop)]
@@ -80,6 +83,23 @@ pub fn ending_of_play(played: Result<Played, Unfinished>) -> Ending
         Err(Unfinished::Stopped(fault)) => Ending {
             status: status_of_fault(&fault),
             text: text_of_fault(&fault),
+        },
+    }
+}
+
+/// Prints the text of an ending. A write that fails changes the status of a command that is done, and no other.
+pub fn say<S: Sink>(out: &mut S, ending: &Ending) -> Status
+    requires { ending.now.status ≢ Status.Output }
+    ensures status { IsSaid ending.now.status result }
+    ensures prints { S.tells → Prints result (printed ending.now.text) (S.written out.old) (S.written out.new)
+        (S.sink_faults out.old) (S.sink_faults out.new) }
+    ensures sink { HasOutputCause S.Sink out.old out.new result }
+{
+    match out.write(ending.text.as_bytes()) {
+        Ok(()) => ending.status,
+        Err(WriteFailed) => match ending.status {
+            Status::Done | Status::Conflicts => Status::Output,
+            status => status,
         },
     }
 }

@@ -30,7 +30,7 @@ pub use refusal::Refusal;
 pub use request::{Asked, AskedAction, AskedAppend, AskedFlags, AskedMove};
 pub use running::run;
 pub use runs::{
-    admitted_actions_have_records, one_action_is_asked_for, reports_tell_the_effect,
+    admitted_actions_have_records, from_nothing, one_action_is_asked_for, reports_tell_the_effect,
     runs_one_behind_another, words_ask_one_thing,
 };
 pub use showing::{Show, show_book};

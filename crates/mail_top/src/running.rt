@@ -13,10 +13,11 @@ ghost use Rattle.mail_top.specs.Headline.{AlwaysOwned, Finishes, NeverTwice, Onc
 ghost use Rattle.mail_top.specs.KeptNow.{StaysKept};
 ghost use Rattle.mail_top.specs.Leaving.{LosesNone};
 ghost use Rattle.mail_top.specs.Played.{AreSynced, CameThrough};
-ghost use Rattle.mail_top.specs.Printing.{IsSaid, Prints};
+ghost use Rattle.mail_top.specs.Printing.{Prints};
 ghost use Rattle.mail_top.specs.Reading.{AsksAppend, AwaitsAsked, AwaitsInput, IsAppend, IsInput};
 ghost use Rattle.mail_top.specs.ReadsInput.{ReadsInput};
 ghost use Rattle.mail_top.specs.Resting.{KeepsOneSide};
+ghost use Rattle.mail_top.specs.SurePlay.{EndsSurely};
 ghost use Rattle.mail_top.specs.Telling.{printed, TellsNoPlace};
 ghost use Rattle.mail_top.specs.TruePlay.{PlaysTruly};
 ghost use Rattle.mail_top.specs.Words.{AsksNothing, IsLawful, IsPlay, WritesPlay, request_of};
@@ -24,7 +25,7 @@ ghost use Rattle.mail_top.specs.Words.{AsksNothing, IsLawful, IsPlay, WritesPlay
 use crate::accepting::accept;
 use crate::creating::init;
 use crate::ending::{
-    Ending, ending_of_action, ending_of_init, ending_of_play, ending_of_text, ending_of_words,
+    Ending, ending_of_action, ending_of_init, ending_of_play, ending_of_text, ending_of_words, say,
 };
 use crate::listing::list;
 use crate::playing::play;
@@ -32,7 +33,7 @@ use crate::shows::{Queue, Report};
 use crate::{Asked, asked, show_book};
 use mail_base::{Account, Status};
 use std::alloc::Global;
-use world_traits::{Clocked, Disk, Link, Sink, Source, World, WriteFailed};
+use world_traits::{Clocked, Disk, Link, Sink, Source, World};
 
 // Carries out what the words ask for, up to the printing.
 fn carry_out<W: World, I: Source>(
@@ -93,23 +94,6 @@ fn answer<W: World, I: Source>(
     }
 }
 
-// Prints the text of an ending. A write that fails changes the status of a command that is done, and no other.
-fn say<S: Sink>(out: &mut S, ending: &Ending) -> Status
-    requires { ending.now.status ≢ Status.Output }
-    ensures status { IsSaid ending.now.status result }
-    ensures prints { S.tells → Prints result (printed ending.now.text) (S.written out.old) (S.written out.new)
-        (S.sink_faults out.old) (S.sink_faults out.new) }
-    ensures sink { HasOutputCause S.Sink out.old out.new result }
-{
-    match out.write(ending.text.as_bytes()) {
-        Ok(()) => ending.status,
-        Err(WriteFailed) => match ending.status {
-            Status::Done | Status::Conflicts => Status::Output,
-            status => status,
-        },
-    }
-}
-
 /// Carries out what the user's words ask for, and prints what it came to.
 ///
 /// The words are one of these:
@@ -167,7 +151,7 @@ pub fn run<W: World, I: Source, S: Sink>(
     ensures held { W.tells_files → LosesNone (W.clock world.old).now (W.clock world.new).now }
     ensures sides { W.tells_files → KeepsOneSide (W.clock world.old) (W.clock world.new) }
 
-    // Each moment is kept, and joined to the one before it by one step of the book beside the server; no action takes effect twice;
+    // Each moment is kept, and joined to the one before it by one step of the book beside the server; no action has two changes there;
     // and no change is this client's that no action wants of the book that a stop leaves.
     ensures joined { EntersKept W.Clocked world.old → StaysKept (W.clock world.old) (W.clock world.new) }
     ensures twice { Fairly W.Clocked world.old world.new
@@ -175,12 +159,16 @@ pub fn run<W: World, I: Source, S: Sink>(
     ensures owned { EntersKept W.Clocked world.old → Fairly W.Clocked world.old world.new
         → AlwaysOwned (W.clock world.old) (W.clock world.new) }
 
-    // A `play` that came to its end has settled every action, and each took effect once or is reported.
+    // A `play` that came to its end has settled every action, and each took effect once or is reported; none ended as unsure but the one
+    // whose intent was pending.
     ensures finishes { W.tells_files → WritesPlay (map string_bytes words.now) → CameThrough result
         → Finishes (W.seen world.old) (W.seen world.new) (W.clock world.new).now }
     ensures once_or_reported { WritesPlay (map string_bytes words.now) → CameThrough result
         → Fairly W.Clocked world.old world.new
         → OnceOrReported (W.seen world.old) (W.seen world.new) (W.clock world.new).now }
+
+    ensures surely { WritesPlay (map string_bytes words.now) → CameThrough result
+        → Fairly W.Clocked world.old world.new → EndsSurely (W.seen world.old) (W.seen world.new) }
 
     // Each intent and each conflict that a `play` recorded had its reason at that moment. One that came to its end leaves each mailbox
     // with a cache that is the server's as it answered in this run, behind the last outcome. No reply is found at fault.

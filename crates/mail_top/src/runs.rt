@@ -18,6 +18,7 @@ ghost use Rattle.play_driver.specs.Joining.{Grows};
 ghost use Rattle.mail_top.specs.Actions.{Becomes, accepts};
 ghost use Rattle.mail_top.specs.Course.{Course};
 ghost use Rattle.mail_top.specs.FairRuns.{FollowsFairly};
+ghost use Rattle.mail_top.specs.FromNothing.{FromNothing};
 ghost use Rattle.mail_top.specs.Going.{Goes};
 ghost use Rattle.mail_top.specs.Headline.{IsOwnedNow};
 ghost use Rattle.mail_top.specs.KeptNow.{IsKeptNow};
@@ -68,6 +69,17 @@ pub fn runs_one_behind_another()
 
     // And each change that is this client's is one that an action wants of the book that a stop leaves.
     ensures owned { (first last : Moment) → IsReady AnyBook first → IsKeptNow first → FollowsFairly first last → IsOwnedNow last }
+{}
+
+/// From new files, at a server in whose history no change is this client's, every run is entered with a book that is kept, and with one
+/// side at rest: so what `run` promises of those rests on the disk, the server and other clients alone. And over all runs no action takes
+/// effect twice, and nothing is changed that no action wants.
+pub fn from_nothing()
+    ensures begins { (first : Moment) → FromNothing first → IsKeptNow first × IsReady AnyBook first }
+    ensures kept { (first last : Moment) → FromNothing first → FollowsFairly first last → IsKeptNow last × IsReady AnyBook last }
+    ensures twice { (first last : Moment) → FromNothing first → FollowsFairly first last → (n : ℕ) →
+        length (ours n last.outside.server.history) ≤ 1 }
+    ensures owned { (first last : Moment) → FromNothing first → FollowsFairly first last → IsOwnedNow last }
 {}
 
 /// Words and an input ask for one thing at most.

@@ -37,6 +37,7 @@ returns-in_err-store-clause-server g c = record {
       opened_kept (g.W.Clocked.clock c.args.world.now) (g.W.Clocked.clock c.open.new.disk) f.kept
       (narrowed _ _ (c.open.ensures.told (g.W.Clocked.server_with_files f.tells)));
   truly = λ play f. unread (only_opens _ _ (c.open.ensures.held (g.W.Clocked.server_with_files f.tells)));
+  surely = λ play came f. absurd (stopped_early _ _ c.from_residual.ensures.1 came);
   synced = λ play came f. absurd (stopped_early _ _ c.from_residual.ensures.1 came);
   serves = λ play f serving none bad. opening_serves _ _ c.from_residual.ensures.1 bad;
   faultless = λ f is. opening_reply _ _ _ c.in_err-store.was c.from_residual.ensures.1 is;
@@ -58,46 +59,47 @@ returns-in_err-played-clause-ends g c tells =
       link_after = g.W.Clocked.link c.play.new.world;
     })
     _ _ _ _ _ c.in_err-played.was c.from_residual-in_err-played.ensures.1
-    (is_opened _ _ _ _ (narrowed _ _ (c.open.ensures.told tells)) left same) c.play.ensures.later _ c.open.ensures.link (c.play.ensures.why tells)
-    (playing_now _ _ _ (playing_start _ _ _ left) (c.play.ensures.progress tells)) (c.play.ensures.left tells) (c.play.ensures.stopped tells)
+    (is_opened _ _ _ _ (narrowed _ _ (c.open.ensures.told tells)) left same) c.play.ensures.stored.later _ c.open.ensures.link (c.play.ensures.why tells)
+    (playing_now _ _ _ (playing_start _ _ _ left) (c.play.ensures.goes_on.progress tells)) (c.play.ensures.stored.left tells) (c.play.ensures.reasons.stopped tells)
 
 pub returns-in_err-played-clause-goes : goal.returns-in_err-played-clause-goes
 returns-in_err-played-clause-goes g c tells =
     let left = c.in_ok-store.ensures.still tells in
     let same = c.in_ok-store.ensures.seen tells (never_err _ _) in record {
-      keeps = play_keeps _ _ (opened_book _ _ _ _ left same) _ _ _ _ (c.open.ensures.held tells) (c.play.ensures.progress tells);
-      books = λ one books have. play_steps _ _ _ _ (c.open.ensures.chooses tells one books have) (c.play.ensures.progress tells);
+      keeps = play_keeps _ _ (opened_book _ _ _ _ left same) _ _ _ _ (c.open.ensures.held tells) (c.play.ensures.goes_on.progress tells);
+      books = λ one books have. play_steps _ _ _ _ (c.open.ensures.chooses tells one books have) (c.play.ensures.goes_on.progress tells);
     }
 
 pub returns-in_err-played-clause-sides : goal.returns-in_err-played-clause-sides
 returns-in_err-played-clause-sides g c tells = record {
-  one_side = λ one. one_last _ _ (c.open.ensures.one_side tells one) (c.play.ensures.each_one_side tells);
-  each_one_side = λ one. each_then _ _ _ (c.open.ensures.each_one_side tells one) (c.play.ensures.each_one_side tells);
+  one_side = λ one. one_last _ _ (c.open.ensures.one_side tells one) (c.play.ensures.goes_on.each_one_side tells);
+  each_one_side = λ one. each_then _ _ _ (c.open.ensures.each_one_side tells one) (c.play.ensures.goes_on.each_one_side tells);
 }
 
 pub returns-in_err-played-clause-server : goal.returns-in_err-played-clause-server
 returns-in_err-played-clause-server g c = record {
   joined = λ e.
       let files = g.W.Clocked.server_with_files e.tells in
-      play_joined _ _ _ _ e.kept (c.open.ensures.chooses files e.one_side e.books e.have) (c.play.ensures.progress files) (c.play.ensures.joined e.tells);
+      play_joined _ _ _ _ e.kept (c.open.ensures.chooses files e.one_side e.books e.have) (c.play.ensures.goes_on.progress files) (c.play.ensures.goes_on.joined e.tells);
   twice = λ f.
       let files = g.W.Clocked.server_with_files f.tells in
       let opens = c.open.ensures.held files in
       let here = opened_kept (g.W.Clocked.clock c.args.world.now) (g.W.Clocked.clock c.open.new.disk) f.kept (narrowed _ _ (c.open.ensures.told files)) in
-      play_once _ _ _ _ f.kept (only_opens _ _ opens) (c.play.ensures.joined f.tells here)
-      (play_fair _ _ _ _ _ opens (c.play.ensures.progress files) f.fair);
+      play_once _ _ _ _ f.kept (only_opens _ _ opens) (c.play.ensures.goes_on.joined f.tells here)
+      (play_fair _ _ _ _ _ opens (c.play.ensures.goes_on.progress files) f.fair);
   kept = λ play f.
       let files = g.W.Clocked.server_with_files f.tells in
       let here = opened_kept (g.W.Clocked.clock c.args.world.now) (g.W.Clocked.clock c.open.new.disk) f.kept (narrowed _ _ (c.open.ensures.told files)) in
-      kept_last _ _ here (c.play.ensures.joined f.tells here) (play_fair _ _ _ _ _ (c.open.ensures.held files) (c.play.ensures.progress files) f.fair);
+      kept_last _ _ here (c.play.ensures.goes_on.joined f.tells here) (play_fair _ _ _ _ _ (c.open.ensures.held files) (c.play.ensures.goes_on.progress files) f.fair);
   truly = λ play f.
       let files = g.W.Clocked.server_with_files f.tells in
       let opens = c.open.ensures.held files in
       let opened = opens_store _ _ _ _ _ opens (c.in_ok-store.ensures.still files) (c.in_ok-store.ensures.seen files (never_err _ _)) in
       let here = opened_kept (g.W.Clocked.clock c.args.world.now) (g.W.Clocked.clock c.open.new.disk) f.kept (narrowed _ _ (c.open.ensures.told files)) in
-      let spared = play_fair _ _ _ _ _ opens (c.play.ensures.progress files) f.fair in
-      truly_stopped c.play.result _ _ _ _ _ _ opened (λ other. c.play.ensures.truly f.tells here spared other)
-      (λ is. c.play.ensures.stopped_truly f.tells is here spared) (λ other. only_left _ _ _ _ (c.play.ensures.left files other)) _ c.in_err-played.was;
+      let spared = play_fair _ _ _ _ _ opens (c.play.ensures.goes_on.progress files) f.fair in
+      truly_stopped c.play.result _ _ _ _ _ _ opened (λ other. c.play.ensures.reasons.truly f.tells here spared other)
+      (λ is. c.play.ensures.reasons.stopped_truly f.tells is here spared) (λ other. only_left _ _ _ _ (c.play.ensures.stored.left files other)) _ c.in_err-played.was;
+  surely = λ play came f. absurd (stopped_early _ _ c.from_residual-in_err-played.ensures.1 came);
   synced = λ play came f. absurd (stopped_early _ _ c.from_residual-in_err-played.ensures.1 came);
   serves = λ play f serving none bad.
       let files = g.W.Clocked.server_with_files f.tells in
@@ -105,18 +107,18 @@ returns-in_err-played-clause-server g c = record {
       let within = narrowed _ _ (c.open.ensures.told files) in
       let opened = opens_store _ _ _ _ _ opens (c.in_ok-store.ensures.still files) (c.in_ok-store.ensures.seen files (never_err _ _)) in
       let here = opened_kept (g.W.Clocked.clock c.args.world.now) (g.W.Clocked.clock c.open.new.disk) f.kept within in
-      let spared = play_fair _ _ _ _ _ opens (c.play.ensures.progress files) f.fair in
-      let served = serving_behind _ _ _ _ _ opens (c.play.ensures.progress files) serving in
+      let spared = play_fair _ _ _ _ _ opens (c.play.ensures.goes_on.progress files) f.fair in
+      let served = serving_behind _ _ _ _ _ opens (c.play.ensures.goes_on.progress files) serving in
       let waits = none_behind _ _ _ _ opened.holds within none in
       run_serves _ _ c.from_residual-in_err-played.ensures.1 (c.play.ensures.complete f.tells here spared served waits _ c.in_err-played.was) bad;
   faultless = λ f is.
       let files = g.W.Clocked.server_with_files f.tells in
       let here = opened_kept (g.W.Clocked.clock c.args.world.now) (g.W.Clocked.clock c.open.new.disk) f.kept (narrowed _ _ (c.open.ensures.told files)) in
-      let spared = play_fair _ _ _ _ _ (c.open.ensures.held files) (c.play.ensures.progress files) f.fair in
+      let spared = play_fair _ _ _ _ _ (c.open.ensures.held files) (c.play.ensures.goes_on.progress files) f.fair in
       run_reply _ _ _ c.in_err-played.was c.from_residual-in_err-played.ensures.1 (c.play.ensures.faultless f.tells here spared) is;
   honest = λ tells is.
-      no_place_told _ _ _ refl refl (run_honest _ _ _ c.in_err-played.was c.from_residual-in_err-played.ensures.1 (c.play.ensures.honest tells)) is;
-  connects = λ tells. opens_then _ _ _ _ (c.open.ensures.held (g.W.Clocked.server_with_files tells)) (c.play.ensures.once tells);
+      no_place_told _ _ _ refl refl (run_honest _ _ _ c.in_err-played.was c.from_residual-in_err-played.ensures.1 (c.play.ensures.accuses.honest tells)) is;
+  connects = λ tells. opens_then _ _ _ _ (c.open.ensures.held (g.W.Clocked.server_with_files tells)) (c.play.ensures.goes_on.once tells);
 }
 
 pub returns-clause-ends : goal.returns-clause-ends
@@ -124,56 +126,67 @@ returns-clause-ends g c tells =
     let left = c.in_ok-store.ensures.still tells in
     let same = c.in_ok-store.ensures.seen tells (never_err _ _) in
     played_play c.args.account.now _ _ _ _ (is_opened _ _ _ _ (narrowed _ _ (c.open.ensures.told tells)) left same)
-    (c.in_ok-played.ensures.plays tells) c.play.ensures.later c.in_ok-played.ensures.settled (c.in_ok-played.ensures.left tells (never_err _ _))
+    (c.in_ok-played.ensures.plays tells) c.play.ensures.stored.later c.in_ok-played.ensures.settled (c.in_ok-played.ensures.stored.left tells (never_err _ _))
     c.in_ok-played.ensures.played
 
 pub returns-clause-goes : goal.returns-clause-goes
 returns-clause-goes g c tells =
     let left = c.in_ok-store.ensures.still tells in
     let same = c.in_ok-store.ensures.seen tells (never_err _ _) in record {
-      keeps = play_keeps _ _ (opened_book _ _ _ _ left same) _ _ _ _ (c.open.ensures.held tells) (c.play.ensures.progress tells);
-      books = λ one books have. play_steps _ _ _ _ (c.open.ensures.chooses tells one books have) (c.play.ensures.progress tells);
+      keeps = play_keeps _ _ (opened_book _ _ _ _ left same) _ _ _ _ (c.open.ensures.held tells) (c.play.ensures.goes_on.progress tells);
+      books = λ one books have. play_steps _ _ _ _ (c.open.ensures.chooses tells one books have) (c.play.ensures.goes_on.progress tells);
     }
 
 pub returns-clause-sides : goal.returns-clause-sides
 returns-clause-sides g c tells = record {
-  one_side = λ one. one_last _ _ (c.open.ensures.one_side tells one) (c.play.ensures.each_one_side tells);
-  each_one_side = λ one. each_then _ _ _ (c.open.ensures.each_one_side tells one) (c.play.ensures.each_one_side tells);
+  one_side = λ one. one_last _ _ (c.open.ensures.one_side tells one) (c.play.ensures.goes_on.each_one_side tells);
+  each_one_side = λ one. each_then _ _ _ (c.open.ensures.each_one_side tells one) (c.play.ensures.goes_on.each_one_side tells);
 }
 
 pub returns-clause-server : goal.returns-clause-server
 returns-clause-server g c = record {
   joined = λ e.
       let files = g.W.Clocked.server_with_files e.tells in
-      play_joined _ _ _ _ e.kept (c.open.ensures.chooses files e.one_side e.books e.have) (c.play.ensures.progress files) (c.play.ensures.joined e.tells);
+      play_joined _ _ _ _ e.kept (c.open.ensures.chooses files e.one_side e.books e.have) (c.play.ensures.goes_on.progress files) (c.play.ensures.goes_on.joined e.tells);
   twice = λ f.
       let files = g.W.Clocked.server_with_files f.tells in
       let opens = c.open.ensures.held files in
       let here = opened_kept (g.W.Clocked.clock c.args.world.now) (g.W.Clocked.clock c.open.new.disk) f.kept (narrowed _ _ (c.open.ensures.told files)) in
-      play_once _ _ _ _ f.kept (only_opens _ _ opens) (c.play.ensures.joined f.tells here)
-      (play_fair _ _ _ _ _ opens (c.play.ensures.progress files) f.fair);
+      play_once _ _ _ _ f.kept (only_opens _ _ opens) (c.play.ensures.goes_on.joined f.tells here)
+      (play_fair _ _ _ _ _ opens (c.play.ensures.goes_on.progress files) f.fair);
   kept = λ play f.
       let files = g.W.Clocked.server_with_files f.tells in
       let here = opened_kept (g.W.Clocked.clock c.args.world.now) (g.W.Clocked.clock c.open.new.disk) f.kept (narrowed _ _ (c.open.ensures.told files)) in
-      kept_last _ _ here (c.play.ensures.joined f.tells here) (play_fair _ _ _ _ _ (c.open.ensures.held files) (c.play.ensures.progress files) f.fair);
+      kept_last _ _ here (c.play.ensures.goes_on.joined f.tells here) (play_fair _ _ _ _ _ (c.open.ensures.held files) (c.play.ensures.goes_on.progress files) f.fair);
   truly = λ play f.
       let files = g.W.Clocked.server_with_files f.tells in
       let opens = c.open.ensures.held files in
       let opened = opens_store _ _ _ _ _ opens (c.in_ok-store.ensures.still files) (c.in_ok-store.ensures.seen files (never_err _ _)) in
       let here = opened_kept (g.W.Clocked.clock c.args.world.now) (g.W.Clocked.clock c.open.new.disk) f.kept (narrowed _ _ (c.open.ensures.told files)) in
-      let spared = play_fair _ _ _ _ _ opens (c.play.ensures.progress files) f.fair in
-      recorded _ _ _ opened (c.in_ok-played.ensures.truly f.tells here spared (never_err _ _))
-      (only_left _ _ _ _ (c.in_ok-played.ensures.left files (never_err _ _)));
+      let spared = play_fair _ _ _ _ _ opens (c.play.ensures.goes_on.progress files) f.fair in
+      recorded _ _ _ opened (c.in_ok-played.ensures.reasons.truly f.tells here spared (never_err _ _))
+      (only_left _ _ _ _ (c.in_ok-played.ensures.stored.left files (never_err _ _)));
+  surely = λ play came f.
+      let files = g.W.Clocked.server_with_files f.tells in
+      let opens = c.open.ensures.held files in
+      let here = opened_kept (g.W.Clocked.clock c.args.world.now) (g.W.Clocked.clock c.open.new.disk) f.kept (narrowed _ _ (c.open.ensures.told files)) in
+      record {
+        entry = c.in_ok-store.store.book;
+        read = opened_book _ _ _ _ (c.in_ok-store.ensures.still files) (c.in_ok-store.ensures.seen files (never_err _ _));
+        book = c.play.new.store.book;
+        holds = opened_book _ _ _ _ (c.in_ok-played.ensures.stored.left files (never_err _ _)) refl;
+        surely = c.play.ensures.surely f.tells here (play_fair _ _ _ _ _ opens (c.play.ensures.goes_on.progress files) f.fair);
+      };
   synced = λ play came f.
       let files = g.W.Clocked.server_with_files f.tells in
       let opens = c.open.ensures.held files in
       let here = opened_kept (g.W.Clocked.clock c.args.world.now) (g.W.Clocked.clock c.open.new.disk) f.kept (narrowed _ _ (c.open.ensures.told files)) in
-      play_synced c.play.new.store _ _ _ _ _ _ opens (c.in_ok-played.ensures.left files (never_err _ _))
-      (c.in_ok-played.ensures.synced f.tells here (play_fair _ _ _ _ _ opens (c.play.ensures.progress files) f.fair));
+      play_synced c.play.new.store _ _ _ _ _ _ opens (c.in_ok-played.ensures.stored.left files (never_err _ _))
+      (c.in_ok-played.ensures.synced f.tells here (play_fair _ _ _ _ _ opens (c.play.ensures.goes_on.progress files) f.fair));
   serves = λ play f serving none bad. played_serves c.in_ok-played.played bad;
   faultless = λ f is. played_reply c.in_ok-played.played is;
   honest = λ tells is. absurd (played_reply c.in_ok-played.played is);
-  connects = λ tells. opens_then _ _ _ _ (c.open.ensures.held (g.W.Clocked.server_with_files tells)) (c.play.ensures.once tells);
+  connects = λ tells. opens_then _ _ _ _ (c.open.ensures.held (g.W.Clocked.server_with_files tells)) (c.play.ensures.goes_on.once tells);
 }
 
 pub returns-clause-causes : goal.returns-clause-causes

@@ -44,6 +44,7 @@ returns-in-None-clause-server g c = record {
   twice = λ f. nothing_twice _;
   kept = λ play. absurd (c.in-None.ensures.none refl [] Play play);
   truly = λ play. absurd (c.in-None.ensures.none refl [] Play play);
+  surely = λ play. absurd (c.in-None.ensures.none refl [] Play play);
   synced = λ play. absurd (c.in-None.ensures.none refl [] Play play);
   serves = λ play. absurd (c.in-None.ensures.none refl [] Play play);
   faultless = λ f is. words_not_reply _ c.ending_of_words.ensures.status is;

@@ -93,6 +93,10 @@ returns-clause-once_or_reported g c asks through fairly =
 pub returns-clause-truly : goal.returns-clause-truly
 returns-clause-truly g c asks fairly = c.carry_out-ending.ensures.server.truly asks fairly
 
+pub returns-clause-surely : goal.returns-clause-surely
+returns-clause-surely g c asks through fairly =
+    c.carry_out-ending.ensures.server.surely asks (said_through _ _ c.say.ensures.status through) fairly
+
 pub returns-clause-synced : goal.returns-clause-synced
 returns-clause-synced g c asks through fairly =
     c.carry_out-ending.ensures.server.synced asks (said_through _ _ c.say.ensures.status through) fairly
