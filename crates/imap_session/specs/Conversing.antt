@@ -1,5 +1,5 @@
 -- A dialogue that is held: what a call says that asks its questions.
-use Rattle.std.specs.Prelude.{ℕ, List, Option, None, Some, Result, IsErrOf}
+use Rattle.std.specs.Prelude.{ℕ, List, None, Some, Result, IsErrOf}
 use Rattle.literal_feed.specs.Stream.{Stream}
 use Rattle.imap_model.specs.declared.item.Item.{Item}
 use Rattle.imap_model.specs.declared.response.Response.{Response}

@@ -44,7 +44,6 @@ impl Greeted {
             → Follows (L.link link.old).connection self.conversation.feed }
         requires stands { L.tells_server
             → Stands None (L.clock link.old) (L.link link.old).connection self.conversation.feed }
-
         ensures converses { Converses L.Clocked (entering self.preauth account.now) self.conversation.count
             link.old link.new self.conversation.feed result }
         ensures concludes { IfOk result (λ s. Concludes L.Clocked (entering self.preauth account.now)
@@ -106,7 +105,6 @@ impl Greeted {
             → Follows (L.link link.old).connection self.conversation.feed }
         requires stands { L.tells_server
             → Stands None (L.clock link.old) (L.link link.old).connection self.conversation.feed }
-
         ensures converses { Converses L.Clocked (enabling self.rev2) self.conversation.count
             link.old link.new self.conversation.feed result }
         ensures concludes { IfOk result (λ s. Concludes L.Clocked (enabling self.rev2)

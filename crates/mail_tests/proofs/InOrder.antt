@@ -51,8 +51,3 @@ module _ (selected : Option (List ℕ)) (tag : Tag) (command : Command) (r : Rep
 pub stands_by : (name named : List ℕ) (k : Clock) (c : Option Connection) (feed : Stream) → named ≡ name → Stands (Some name) k c feed
     → Stands (Some named) k c feed
 stands_by name named k c feed same stands = subst (λ (n : List ℕ). Stands (Some n) k c feed) (sym same) stands
-
-pub answered_by : (name named : List ℕ) (tag : Tag) (command : Command) (r : Replies) (old k : Clock) (c : Option Connection) (feed : Stream)
-    → named ≡ name → Answered (waiting_of (Some named) tag command) r old k c feed → Answered (waiting_of (Some name) tag command) r old k c feed
-answered_by name named tag command r old k c feed same a =
-    subst (λ (n : List ℕ). Answered (waiting_of (Some n) tag command) r old k c feed) same a

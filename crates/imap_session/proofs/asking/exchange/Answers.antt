@@ -15,7 +15,7 @@ use Rattle.imap_session.proofs.Hearing.{as_reads, at_most}
 use Rattle.imap_session.proofs.Outcomes.{if_ok_more, if_ok_both, not_true}
 use Rattle.imap_session.proofs.Replying.{on_done, whole_done, done_came, all_sent, permitted_as, bad_memory, link_memory, small_replies, done_within}
 use Rattle.imap_session.proofs.Sent.{sent_none, sent_still}
-use Rattle.imap_session.proofs.Sending.{begun_asked, begun_answered, concluded_as, on_ok_always, some_parts, begun_fit}
+use Rattle.imap_session.proofs.Sending.{begun_asked, begun_answered, concluded_as, some_parts, begun_fit}
 use Rattle.imap_session.proofs.NoReply.{unfit_whole, fails_on, memory_fails, reading_on}
 use Rattle.imap_session.proofs.Spelled.{all_spelled}
 use Rattle.imap_session.proofs.Talking.{linked_then, answers_asking, asking_then}

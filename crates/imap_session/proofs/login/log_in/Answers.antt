@@ -1,7 +1,7 @@
 use Rattle.std.proofs.Common.{rules, Some, None}
 use Rattle.imap_session.specs.LogIn.{way_in}
 use Rattle.imap_session.specs.declared.fault.SessionFault.TheVariants as faults
-use Rattle.imap_session.proofs.Dialogues.{broke_as, came_as, idle_sent, idle_talked, out_as, sent_as_dialogue, talked_as, on_ok_then}
+use Rattle.imap_session.proofs.Dialogues.{broke_as, came_as, idle_sent, idle_talked, out_as, sent_as_dialogue, talked_as}
 use Rattle.imap_session.proofs.LoggingIn.{no_way_broke, no_way_lacks, no_way_bad, no_way_link}
 use Rattle.imap_session.proofs.Outcomes.{if_ok_more}
 use Rattle.imap_session.proofs.login.log_in.Goals as goal

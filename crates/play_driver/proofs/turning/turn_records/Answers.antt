@@ -61,7 +61,7 @@ pub returns-in_err-record-clause-takes : goal.returns-in_err-record-clause-takes
 returns-in_err-record-clause-takes g c = record {
   turns = search rules;
   why = λ t fault is.
-      not_recorded c.args.event c.requires.needed c.record.ensures.link (c.record.ensures.why fault (search rules));
+      not_recorded c.args.event c.requires.needed c.record.ensures.accuses.link (c.record.ensures.why fault (search rules));
   same = search rules;
   stays = search rules;
   kept = search rules;
@@ -100,7 +100,7 @@ pub returns-clause-takes : goal.returns-clause-takes
 returns-clause-takes g c = record {
   turns = λ t.
       records_turn c.args.store.now c.record.new.store c.args.event c.in_ok-record.ensures.value (g.W.Clocked.link c.args.world.now)
-      (g.W.Clocked.link c.record.new.disk) c.args.session c.args.player.now c.record.new.player c.record.ensures.link
+      (g.W.Clocked.link c.record.new.disk) c.args.session c.args.player.now c.record.new.player c.record.ensures.accuses.link
       c.in_ok-record.ensures.goes_on c.requires.needed;
   why = search rules;
   same = search rules;
