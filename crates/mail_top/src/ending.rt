@@ -1,8 +1,8 @@
 //! How a command ends: its status and what it prints.
 
-ghost use Rattle.std.specs.Prelude.{◌≡◌, ◌≢◌};
+ghost use Rattle.std.specs.Prelude.{◌≡◌, ◌≢◌, ◌≤◌};
+ghost use Rattle.world_traits.specs.Calls.{Rose};
 ghost use Rattle.mail_base.specs.Lines.{accepted, error_words, ready};
-ghost use Rattle.mail_top.specs.Causing.{HasOutputCause};
 ghost use Rattle.mail_top.specs.Printing.{IsSaid, Prints};
 ghost use Rattle.mail_top.specs.Telling.{line_of, printed, status_of, text_of, status_of_refusal, text_of_refusal};
 ghost use Rattle.mail_top.specs.Telling.{status_of_play, text_of_play, status_of_conflicts, status_of_fault, text_of_fault, text_of_why};
@@ -93,7 +93,8 @@ pub fn say<S: Sink>(out: &mut S, ending: &Ending) -> Status
     ensures status { IsSaid ending.now.status result }
     ensures prints { S.tells → Prints result (printed ending.now.text) (S.written out.old) (S.written out.new)
         (S.sink_faults out.old) (S.sink_faults out.new) }
-    ensures sink { HasOutputCause S.Sink out.old out.new result }
+    ensures output { result ≡ Status.Output → Rose (S.sink_faults out.old) (S.sink_faults out.new) }
+    ensures count { S.sink_faults out.old ≤ S.sink_faults out.new }
 {
     match out.write(ending.text.as_bytes()) {
         Ok(()) => ending.status,
@@ -126,8 +127,8 @@ fn done(text: Printed) -> Ending
     }
 }
 
-// The ending of a command that isn't carried out.
-fn ending_of_refusal(refusal: Refusal) -> Ending
+/// The ending of a command that isn't carried out.
+pub fn ending_of_refusal(refusal: Refusal) -> Ending
     ensures status { result.status ≡ status_of_refusal refusal }
     ensures text { printed result.text ≡ text_of_refusal refusal }
 {

@@ -21,7 +21,8 @@ mod unfinished;
 mod weighing;
 mod words;
 
-pub use arguments::{box_of, ident_of, is_addition};
+pub use arguments::{box_of, ident_of, is_addition, number_of};
+pub use ending::{Ending, ending_of_refusal, ending_of_text, ending_of_words, say};
 pub use input::{MAX_INPUT, MAX_TEXT};
 pub use names::{MAX_NAMES, are_names, names_in};
 pub use printed::Printed;

@@ -33,6 +33,9 @@ returns-clause-causes g c =
       link_count = causes.link_count;
     }
 
+pub returns-clause-sink : goal.returns-clause-sink
+returns-clause-sink g c = record { output = c.say.ensures.output; sink_count = c.say.ensures.count }
+
 pub returns-clause-reads : goal.returns-clause-reads
 returns-clause-reads g c =
     let reads = c.carry_out-ending.ensures.reads in record {
@@ -53,7 +56,7 @@ returns-clause-completes g c tells no_disk no_sink =
     let said = c.say.ensures in
     let went = begun.goes tells in
     completes _ _ _ _ _ _ _ _ _ (said_ends _ _ _ _ _ _ _ said.status went.2.ends) (said_words _ _ _ said.status begun.words).0
-    (λ is. no_disk (begun.causes.disk (said_disk _ _ said.status is))) (λ is. no_sink (said.sink.output is))
+    (λ is. no_disk (begun.causes.disk (said_disk _ _ said.status is))) (λ is. no_sink (said.output is))
     (λ no_input is. no_input (begun.reads.input_fault (said_input _ _ said.status is))) went.1
 
 pub returns-clause-complete_play : goal.returns-clause-complete_play
@@ -62,7 +65,7 @@ returns-clause-complete_play g c asks fairly serving none no_disk no_link no_sin
     let begun = c.carry_out-ending.ensures in
     let said = c.say.ensures in
     completes_play _ _ _ _ _ _ (said_ends _ _ _ _ _ _ _ said.status (begun.goes files).2.ends) (said_words _ _ _ said.status begun.words).0
-    (λ is. no_disk (begun.causes.disk (said_disk _ _ said.status is))) (λ is. no_sink (said.sink.output is)) asks none.book none.holds
+    (λ is. no_disk (begun.causes.disk (said_disk _ _ said.status is))) (λ is. no_sink (said.output is)) asks none.book none.holds
     (λ is. no_link (begun.causes.link_fault (said_link _ _ said.status is))) no_limit
     (λ bad. begun.server.serves asks fairly serving none (said_servers _ _ said.status bad))
 
