@@ -21,16 +21,16 @@ use Rattle.play_driver.specs.Played.{played}
 use Rattle.play_driver.proofs.Calls.{stop_keeps}
 use Rattle.play_driver.proofs.Links.{books_there, fair_books}
 use Rattle.play_driver.proofs.Parts.{grows, since_first, since_second}
-use Rattle.play_driver.proofs.PlayedKept.{withstood}
 use Rattle.play_driver.proofs.Questions.{connecting_steps}
 use Rattle.play_driver.proofs.Steps.{joined_keeps}
 use Rattle.mail_top.specs.Course.{Course}
-use Rattle.mail_top.specs.FairRuns.{FairRun, FairlyGoesOn, FollowsFairly}
+use Rattle.mail_top.specs.FairRuns.{FairRun, FairlyGoesOn, FollowsFairly, between}
 use Rattle.mail_top.specs.FairRuns.FollowsFairly.{at_once as no_run, by_run as fair_run, by_stop as a_stop, by_others as fair_others}
 use Rattle.mail_top.specs.Going.{Goes}
 use Rattle.mail_top.specs.KeptNow.{IsKeptNow}
 use Rattle.mail_top.specs.Leaving.{OnTheWay, WordsKeep, WordsStep}
 use Rattle.mail_top.specs.Runs.{CutOff, Follows, at_once, by_run, by_stop, by_others, IsReady, AnyBook}
+use Rattle.mail_top.proofs.Between.{between_withstood}
 use Rattle.mail_top.proofs.Repeated.{follows_any}
 
 -- A run that went as `run` promises may be cut off at any clock on its way.
@@ -75,12 +75,12 @@ kept_run words input seen old at new run ready kept =
 -- between two runs
 kept_on : (m n : Moment) → FairlyGoesOn m n → IsReady AnyBook m → IsKeptNow m → IsKeptNow n
 kept_on m n on ready kept =
-    joined_keeps mail played Kept withstood one_mail_event m n (record {
+    joined_keeps mail between Kept between_withstood one_mail_event m n (record {
       old = ready.books;
       new = ready.books;
       at_old = ready.have;
       at_new = books_there Connecting m n on.step mail ready.books ready.have;
-      step = connecting_steps mail played ready.books m.outside n.outside on.step.outside (fair_books mail played ready.books m n ready.have on.fair);
+      step = connecting_steps mail between ready.books m.outside n.outside on.step.outside (fair_books mail between ready.books m n ready.have on.fair);
     }) kept
 
 pub follows_kept : (first last : Moment) → IsReady AnyBook first → IsKeptNow first → FollowsFairly first last → IsKeptNow last

@@ -1,6 +1,7 @@
 pub mod Admitting
 pub mod Beginnings
 pub mod Besides
+pub mod Between
 pub mod Connections
 pub mod Endings
 pub mod FirstRuns

@@ -1,12 +1,18 @@
 -- Runs one behind another, at a server that others change fairly (this client's profile of RFC 4549, section 4.2).
-use Rattle.std.specs.Prelude.{ℕ, List}
-use Rattle.imap_model.specs.Talking.{Connecting}
+use Rattle.std.specs.Prelude.{◌≡◌, ℕ, List, Option, Some, None}
+use Rattle.imap_model.specs.Talking.{Connecting, Peer}
+use Rattle.imap_model.specs.declared.server.Mailbox.{Mailbox}
+use Rattle.imap_model.specs.declared.server.Server.{Server}
+use Rattle.action_queue.specs.Book.{Meaning}
+use Rattle.action_queue.specs.declared.intent.Intent.TheVariants as intents
+use Rattle.playback.specs.Polite.{Spares}
 use Rattle.world_traits.specs.Files.{Files}
 use Rattle.world_traits.specs.Links.{LinkStep}
 use Rattle.world_traits.specs.Moments.{Moment, MayLeave, Clock, OneSideAtRest, restarted}
 use Rattle.store_core.specs.Mail.{mail}
 use Rattle.store_core.specs.Steps.{Books}
 use Rattle.store_core.specs.Taking.{HasBooks}
+use Rattle.play_driver.specs.Machine.{Machine}
 use Rattle.play_driver.specs.Joining.{IsFair, AllFair}
 use Rattle.play_driver.specs.Played.{played}
 use Rattle.mail_top.specs.KeptNow.{IsKeptNow, StaysKept}
@@ -20,11 +26,24 @@ pub record FairRun (words : List (List ℕ)) (input : List ℕ) (seen : Files) (
   pub joined : OneSideAtRest old.now → (books : Books mail) → HasBooks mail books old.now → IsKeptNow old.now → StaysKept old new
   pub fair : AllFair mail played old new
 
+-- What is asked of others between two runs: while an append's intent is pending they spare that append (RFC 5322, section 3.6.4).
+abbrev pub SparesPending : Meaning → List Mailbox → List Mailbox → Type 0
+SparesPending b old new = (to : List ℕ) (validity uidnext : ℕ) → b.pending ≡ Some (intents.Put to validity uidnext) → Spares b old new
+
+-- where there is no book yet, nothing is asked
+abbrev pub SparesBetween : Option Meaning → Peer → Server → Type 0
+SparesBetween None p t = Unit {0}
+SparesBetween (Some b) p t = SparesPending b p.server.boxes t.boxes
+
+-- this client's machine, with less asked of others
+abbrev pub between : Machine mail
+between = record played { Spares = SparesBetween }
+
 -- Between two runs the files stay, and the server goes on by one step: others change something, and are fair; the command of a
 -- connection that ended is carried out, or dropped.
 pub record FairlyGoesOn (m n : Moment) : Type 0 where
   pub step : LinkStep Connecting m n
-  pub fair : IsFair mail played m n
+  pub fair : IsFair mail between m n
 
 -- The moments that may follow a moment where others are fair: that one; the last of a run that began at such a moment and read its
 -- files, or any at which the run was cut off; what is there again after a stop that left one of the images; and one at which the
