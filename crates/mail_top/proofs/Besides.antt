@@ -6,10 +6,10 @@ use Rattle.mail_base.specs.declared.status.Status.TheVariants as status
 use Rattle.world_traits.specs.Calls.{Rose}
 use Rattle.world_traits.specs.Files.{Files}
 use Rattle.world_traits.specs.LinkState.{LinkState}
-use Rattle.world_traits.specs.Moments.{Moment, Clock, Within}
+use Rattle.world_traits.specs.Moments.{Moment, Within}
 use Rattle.world_traits.specs.declared.clocked.Clocked.{Ghosts}
 use Rattle.world_traits.specs.declared.streams.Source.{Ghosts as SourceGhosts}
-use Rattle.mail_top.specs.BesideServer.{BesideServer, EntersKept, Fairly}
+use Rattle.mail_top.specs.BesideServer.{BesideServer}
 use Rattle.mail_top.specs.Causing.{HasCauses}
 use Rattle.mail_top.specs.CompletePlay.{IsTheServers}
 use Rattle.mail_top.specs.Completing.{Completes}
@@ -20,19 +20,18 @@ use Rattle.mail_top.specs.Leaving.{MayBeLeft}
 use Rattle.mail_top.specs.Played.{CameThrough}
 use Rattle.mail_top.specs.Reading.{IsInput}
 use Rattle.mail_top.specs.ReadsInput.{ReadsInput}
-use Rattle.mail_top.specs.Resting.{KeepsOneSide}
 use Rattle.mail_top.specs.Showing.{OnlyReads}
-use Rattle.mail_top.specs.Telling.{status_of, status_of_refusal, TellsNoPlace}
-use Rattle.mail_top.specs.Words.{Request, Play, AsksNothing}
+use Rattle.mail_top.specs.Telling.{status_of, TellsNoPlace}
+use Rattle.mail_top.specs.Words.{Request, Queue, Play, AsksNothing}
 use Rattle.mail_top.specs.declared.refusal.Refusal.{Refusal}
 use Rattle.mail_top.specs.declared.refusal.Refusal.TheVariants as refusals
 use Rattle.mail_top.proofs.Connections.{request_alone}
 use Rattle.mail_top.proofs.Endings.{completes_act, completes_init, completes_rows, completes_queue, completes_report}
 use Rattle.mail_top.proofs.Goings.{asks_given, nothing_taken}
 use Rattle.mail_top.proofs.Headlines.{request_once}
-use Rattle.mail_top.proofs.Joinings.{HasRecords, request_joins}
+use Rattle.mail_top.proofs.Joinings.{HasRecords, queue_records, request_joins}
 use Rattle.mail_top.proofs.Moving.{chooses_steps, keeps_steps}
-use Rattle.mail_top.proofs.Sayings.{no_link, no_reply}
+use Rattle.mail_top.proofs.Sayings.{never_queue, no_link}
 
 -- a request that only reads goes so
 pub reads_go : (request : Request) (k : Course) → ((m : Moment) → Within k.old.now m → MayBeLeft request k.old.now k.seen m) →
@@ -48,6 +47,10 @@ pub record GoesApart (k : Course) : Type 0 where
   pub never : request ≡ Play → ⊥
   pub records : HasRecords request
   pub goes : GoesBy request k
+
+-- so it is with one that only reads, whichever it is
+pub reads_apart : (k : Course) → OnlyReads k.old k.new → GoesApart k
+reads_apart k reads = record { request = Queue; never = never_queue; records = queue_records; goes = reads_go Queue k (λ m w. w) reads }
 
 -- what such a request gives of the book beside the server
 module _ {Self : Type 0} (W : Ghosts Self) (files : W.tells_server → W.tells_files) (seen : Self → Files) (old new : Self) where

@@ -2,7 +2,7 @@
 use Rattle.std.proofs.Common.{◌≡◌, ℕ, List, Option, None, Result, Ok, Err, refl, sym, ◌∙◌, ap, subst}
 use Rattle.std.specs.Result.{IsErrAnd}
 use Rattle.mail_base.specs.declared.status.Status.TheVariants as status
-use Rattle.world_traits.specs.Moments.{Clock, Within}
+use Rattle.world_traits.specs.Moments.{Within}
 use Rattle.journal_core.specs.declared.fault.Place9.{Place9}
 use Rattle.action_queue.specs.Book.{Meaning}
 use Rattle.store_core.specs.Mail.{mail}
@@ -13,7 +13,7 @@ use Rattle.mail_top.specs.Course.{Course, Keeps, Stays}
 use Rattle.mail_top.specs.Ending.{EndsRows, EndsShown}
 use Rattle.mail_top.specs.Faults.{of_store}
 use Rattle.mail_top.specs.Showing.{EndsShowing, IsOfReading, Shows, ShowsRows}
-use Rattle.mail_top.specs.Telling.{line_of, status_of, text_of}
+use Rattle.mail_top.specs.Telling.{status_of, text_of}
 use Rattle.mail_top.specs.Texts.{refused}
 use Rattle.mail_top.specs.declared.reason.Reason.TheVariants as reasons
 use Rattle.mail_top.specs.declared.refusal.Refusal.{Refusal}

@@ -45,7 +45,7 @@ fn carry_out<W: World, I: Source>(
 ) -> Ending
     ensures goes { W.tells_files → (given : List ℕ) × IsInput I.tells (I.rest input.old) given
         × Goes account.now (map string_bytes words.now) given
-            (course_of W.Clocked W.seen world.old world.new) result.status (printed result.text) }
+        (course_of W.Clocked W.seen world.old world.new) result.status (printed result.text) }
     ensures not_output { result.status ≢ Status.Output }
     ensures words { (result.status ≡ Status.Words) ↔ AsksNothing (map string_bytes words.now) }
     ensures causes { HasCauses W.Clocked world.old world.new result.status }
@@ -73,7 +73,7 @@ fn answer<W: World, I: Source>(
     requires { IsLawful asked.now }
     ensures goes { W.tells_files → (given : List ℕ) × IsInput I.tells (I.rest input.old) given
         × GoesRequest account.now (request_of asked.now given)
-            (course_of W.Clocked W.seen world.old world.new) result.status (printed result.text) }
+        (course_of W.Clocked W.seen world.old world.new) result.status (printed result.text) }
     ensures not_output { result.status ≢ Status.Output }
     ensures not_words { result.status ≢ Status.Words }
     ensures causes { HasCauses W.Clocked world.old world.new result.status }
@@ -125,7 +125,7 @@ pub fn run<W: World, I: Source, S: Sink>(
     // which is printed. An honest server's bytes go on as replies: the text isn't `error reply AT`.
     ensures goes { W.tells_files → (given : List ℕ) × IsInput I.tells (I.rest input.old) given × (text : List ℕ)
         × Goes account.now (map string_bytes words.now) given
-            (course_of W.Clocked W.seen world.old world.new) result text
+        (course_of W.Clocked W.seen world.old world.new) result text
         × (W.tells_server → result ≡ Status.Reply → TellsNoPlace text)
         × (S.tells → Prints result text (S.written out.old) (S.written out.new) (S.sink_faults out.old) (S.sink_faults out.new)) }
 
@@ -140,7 +140,7 @@ pub fn run<W: World, I: Source, S: Sink>(
     ensures completes { W.tells_files → NoDiskFault W.Clocked world.old world.new
         → NoOutputFault S.Sink out.old out.new
         → Completes (map string_bytes words.now) (I.rest input.old) I.tells
-            (NoInputFault I.Source input.old input.new) (W.seen world.old) result }
+        (NoInputFault I.Source input.old input.new) (W.seen world.old) result }
     ensures complete_play { WritesPlay (map string_bytes words.now) → Fairly W.Clocked world.old world.new
         → AllServing (W.clock world.old) (W.clock world.new)
         → WaitsForNone (W.seen world.old) (W.clock world.old).now.outside.server

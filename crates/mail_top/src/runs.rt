@@ -25,6 +25,7 @@ ghost use Rattle.mail_top.specs.KeptNow.{IsKeptNow};
 ghost use Rattle.mail_top.specs.Leaving.{LosesNone};
 ghost use Rattle.mail_top.specs.Runs.{CutOff, Follows, BeginsWith, AcceptsAt, AreUnbegunOrBook, IsReady, HasNames, AnyBook};
 ghost use Rattle.mail_top.specs.Saying.{SaysAccepted};
+ghost use Rattle.mail_top.specs.TruePlay.{PlaysTruly};
 ghost use Rattle.mail_top.specs.Weighing.{Admits};
 ghost use Rattle.mail_top.specs.Words.{Request, Wanted, Asks, AsksAction};
 
@@ -80,6 +81,12 @@ pub fn from_nothing()
     ensures twice { (first last : Moment) → FromNothing first → FollowsFairly first last → (n : ℕ) →
         length (ours n last.outside.server.history) ≤ 1 }
     ensures owned { (first last : Moment) → FromNothing first → FollowsFairly first last → IsOwnedNow last }
+{}
+
+/// What `truly` says of a `play` it says of it up to each moment on its way. So each conflict of one that was cut off there had its
+/// reason too.
+pub fn plays_are_true_so_far()
+    ensures { (seen : Files) (old at new : Clock) → PlaysTruly seen old new → Grows old at → Grows at new → PlaysTruly seen old at }
 {}
 
 /// Words and an input ask for one thing at most.

@@ -1,14 +1,14 @@
-use Rattle.std.proofs.Common.{inr, inl, ⊎_elim, [], ap, sym, refl, ◌∙◌, subst}
+use Rattle.std.proofs.Common.{inr, inl, ⊎_elim, ap, sym, refl, ◌∙◌, subst}
 use Rattle.conflict_report.specs.QueueLines.{queue_text}
 use Rattle.conflict_report.specs.ReportLines.{report_text}
 use Rattle.mail_top.specs.Reading.{AwaitsAsked, IsAppend}
 use Rattle.mail_top.specs.Telling.{status_of}
 use Rattle.mail_top.specs.Words.{Init, Act, Rows, Queue, Report, IsLawful, IsPlay, request_of, wanted_of}
 use Rattle.mail_top.specs.declared.request.Asked.{Asked}
-use Rattle.mail_top.proofs.Besides.{apart, causes_as, handed, input_unread, reads_go, refused_causes}
+use Rattle.mail_top.proofs.Besides.{apart, causes_as, handed, input_unread, reads_apart, reads_go, refused_causes}
 use Rattle.mail_top.proofs.Goings.{went_so, went_init, went_act, went_rows, went_queue, went_report, went_play, few_with, action_done, input_failed}
-use Rattle.mail_top.proofs.Joinings.{init_records, action_records, rows_records, queue_records, report_records}
-use Rattle.mail_top.proofs.Sayings.{never_init, never_act, never_rows, never_queue, never_report}
+use Rattle.mail_top.proofs.Joinings.{init_records, action_records}
+use Rattle.mail_top.proofs.Sayings.{never_init, never_act}
 use Rattle.mail_top.proofs.Sayings.{no_reply, play_prints, play_asked, play_reads}
 use Rattle.mail_top.proofs.Showings.{showing_ends}
 use Rattle.mail_top.proofs.running.answer.Goals as goal
@@ -119,13 +119,7 @@ returns-in-Rows-clause-reads g c =
 pub returns-in-Rows-clause-server : goal.returns-in-Rows-clause-server
 returns-in-Rows-clause-server g c =
     apart g.W.Clocked (λ told. g.W.Clocked.server_with_files told) g.W.Disk.seen _ _ _ _ _
-    (λ tells. record {
-      request = Rows _;
-      never = never_rows _;
-      records = rows_records _;
-      goes = reads_go (Rows _) _ (λ m w. w) (c.list.ensures.reads tells);
-    })
-    (λ play. subst IsPlay c.in-Rows.is play) (λ is. no_reply _ _ c.ending_of_text.ensures.status is)
+    (λ tells. reads_apart _ (c.list.ensures.reads tells)) (λ play. subst IsPlay c.in-Rows.is play) (λ is. no_reply _ _ c.ending_of_text.ensures.status is)
 
 pub returns-in-Rows-clause-sides : goal.returns-in-Rows-clause-sides
 returns-in-Rows-clause-sides g c tells = record {
@@ -155,13 +149,7 @@ returns-in-Queue-clause-reads g c =
 pub returns-in-Queue-clause-server : goal.returns-in-Queue-clause-server
 returns-in-Queue-clause-server g c =
     apart g.W.Clocked (λ told. g.W.Clocked.server_with_files told) g.W.Disk.seen _ _ _ _ _
-    (λ tells. record {
-      request = Queue;
-      never = never_queue;
-      records = queue_records;
-      goes = reads_go Queue _ (λ m w. w) (c.show_book.ensures.reads tells);
-    })
-    (λ play. subst IsPlay c.in-Queue.is play) (λ is. no_reply _ _ c.ending_of_text-in-Queue.ensures.status is)
+    (λ tells. reads_apart _ (c.show_book.ensures.reads tells)) (λ play. subst IsPlay c.in-Queue.is play) (λ is. no_reply _ _ c.ending_of_text-in-Queue.ensures.status is)
 
 pub returns-in-Queue-clause-sides : goal.returns-in-Queue-clause-sides
 returns-in-Queue-clause-sides g c tells = record {
@@ -191,13 +179,7 @@ returns-in-Report-clause-reads g c =
 pub returns-in-Report-clause-server : goal.returns-in-Report-clause-server
 returns-in-Report-clause-server g c =
     apart g.W.Clocked (λ told. g.W.Clocked.server_with_files told) g.W.Disk.seen _ _ _ _ _
-    (λ tells. record {
-      request = Report;
-      never = never_report;
-      records = report_records;
-      goes = reads_go Report _ (λ m w. w) (c.show_book-in-Report.ensures.reads tells);
-    })
-    (λ play. subst IsPlay c.in-Report.is play) (λ is. no_reply _ _ c.ending_of_text-in-Report.ensures.status is)
+    (λ tells. reads_apart _ (c.show_book-in-Report.ensures.reads tells)) (λ play. subst IsPlay c.in-Report.is play) (λ is. no_reply _ _ c.ending_of_text-in-Report.ensures.status is)
 
 pub returns-in-Report-clause-sides : goal.returns-in-Report-clause-sides
 returns-in-Report-clause-sides g c tells = record {
