@@ -19,6 +19,7 @@ pub mod Recording
 pub mod Repeated
 pub mod Sayings
 pub mod Showings
+pub mod TrueOutcomes
 pub mod TrueRuns
 pub mod Wording
 pub mod PlayServed

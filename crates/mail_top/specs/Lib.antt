@@ -27,5 +27,6 @@ pub mod SurePlay
 pub mod Telling
 pub mod Texts
 pub mod TruePlay
+pub mod TrueRuns
 pub mod Weighing
 pub mod Words

@@ -31,8 +31,9 @@ pub use refusal::Refusal;
 pub use request::{Asked, AskedAction, AskedAppend, AskedFlags, AskedMove};
 pub use running::run;
 pub use runs::{
-    admitted_actions_have_records, from_nothing, one_action_is_asked_for, plays_are_true_so_far,
-    reports_tell_the_effect, runs_one_behind_another, words_ask_one_thing,
+    admitted_actions_have_records, from_nothing, one_action_is_asked_for,
+    outcomes_have_their_reasons, reports_tell_the_effect, runs_one_behind_another,
+    words_ask_one_thing,
 };
 pub use showing::{Show, show_book};
 pub use unfinished::Unfinished;

@@ -1,6 +1,6 @@
 //! What holds of many runs, one behind another.
 
-ghost use Rattle.std.specs.Prelude.{◌≡◌, ◌<◌, ◌≤◌, ℕ, List, None, codes, if◌then◌else◌, length};
+ghost use Rattle.std.specs.Prelude.{◌≡◌, ◌⊎◌, ◌<◌, ◌≤◌, ℕ, List, None, codes, if◌then◌else◌, length};
 ghost use Rattle.mail_base.specs.Account.{Credentials};
 ghost use Rattle.mail_base.specs.declared.status.Status.{Status};
 ghost use Rattle.imap_model.specs.Ours.{ours};
@@ -12,6 +12,7 @@ ghost use Rattle.action_queue.specs.Book.{Meaning};
 ghost use Rattle.action_queue.specs.Writable.{IsWritable};
 ghost use Rattle.action_queue.specs.declared.action.Action.{Action};
 ghost use Rattle.action_queue.specs.declared.outcome.Kind.{Kind};
+ghost use Rattle.action_queue.specs.declared.outcome.Outcome.{Outcome};
 ghost use Rattle.conflict_report.specs.ReportLines.{effect_text};
 ghost use Rattle.playback.specs.Once.{is_unsure};
 ghost use Rattle.play_driver.specs.Joining.{Grows};
@@ -26,6 +27,7 @@ ghost use Rattle.mail_top.specs.Leaving.{LosesNone};
 ghost use Rattle.mail_top.specs.Runs.{CutOff, Follows, BeginsWith, AcceptsAt, AreUnbegunOrBook, IsReady, HasNames, AnyBook};
 ghost use Rattle.mail_top.specs.Saying.{SaysAccepted};
 ghost use Rattle.mail_top.specs.TruePlay.{PlaysTruly};
+ghost use Rattle.mail_top.specs.TrueRuns.{AllTrue, EndsInOne, MayHaveEnded};
 ghost use Rattle.mail_top.specs.Weighing.{Admits};
 ghost use Rattle.mail_top.specs.Words.{Request, Wanted, Asks, AsksAction};
 
@@ -83,10 +85,13 @@ pub fn from_nothing()
     ensures owned { (first last : Moment) → FromNothing first → FollowsFairly first last → IsOwnedNow last }
 {}
 
-/// What `truly` says of a `play` it says of it up to each moment on its way. So each conflict of one that was cut off there had its
-/// reason too.
-pub fn plays_are_true_so_far()
-    ensures { (seen : Files) (old at new : Clock) → PlaysTruly seen old new → Grows old at → Grows at new → PlaysTruly seen old at }
+/// What `truly` says of a `play` it says of it up to each moment on its way. So over all runs each outcome that a stop may leave, and
+/// could not have left at first, was recorded in one of them with its reason: in one that was cut off, too.
+pub fn outcomes_have_their_reasons()
+    ensures so_far { (seen : Files) (old at new : Clock) → PlaysTruly seen old new → Grows old at → Grows at new →
+        PlaysTruly seen old at }
+    ensures truly { (place : ℕ) (outcome : Outcome) (first last : Moment) (runs : FollowsFairly first last) → AllTrue first last runs →
+        MayHaveEnded place outcome last → MayHaveEnded place outcome first ⊎ EndsInOne place outcome first last runs }
 {}
 
 /// Words and an input ask for one thing at most.
