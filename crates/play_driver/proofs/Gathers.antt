@@ -43,7 +43,7 @@ abbrev behind : Bool → Dialogue → Dialogue
 behind due next = if due then Asks commands.FetchAll (λ all. next) else next
 
 -- a question and its answer
-answered_by : (selected : Option (List ℕ)) (count : ℕ) (kept since : Option Mark) (name : List ℕ) (r : Replies) (old at : Clock)
+pub answered_by : (selected : Option (List ℕ)) (count : ℕ) (kept since : Option Mark) (name : List ℕ) (r : Replies) (old at : Clock)
     (c : Option Connection) (feed : Stream) → since ≡ kept → r.ending ≡ endings.Ok →
     Answered (waiting_of selected (next_tag count) (commands.Select name since)) r old at c feed →
     IsAnswered selected (next_tag count) (record { asked = commands.Select name kept; replies = r }) old at

@@ -20,7 +20,7 @@ use Rattle.playback.specs.Why.{WhyEvent, WhyKind, WhyOutcome, is_open}
 use Rattle.std.proofs.Common.{Bool, Err, IsErrOf, List, None, Ok, Option, Result, Some, ap, inl, inr, refl, subst, suc, sym, true, zero, ℕ, ◌∙◌, ◌∷◌, [], ◌≡◌, ◌⊎◌}
 use Rattle.std.proofs.lemmas.Bool.{and_parts, eqb-true}
 use Rattle.std.proofs.lemmas.Option.{same_Some}
-use Rattle.std.specs.Prelude.{is_some, slice_get}
+use Rattle.std.specs.Prelude.{is_some, slice_get, ◌==◌}
 use Rattle.world_traits.specs.Moments.{Clock}
 
 -- an element of a queue in which the first unsettled one was changed: it was there, or it is the changed one
@@ -30,12 +30,12 @@ module _ (f : Queued → Queued) where
 
   stood_behind : (q : Queued) (qs : List Queued) (i : ℕ) (x : Queued) → Stood (due qs) qs i x → Stood (suc (due qs)) (q ∷ qs) (suc i) x
   stood_behind q qs i x (inl there) = inl there
-  stood_behind q qs i x (inr (at, old, is)) = inr (ap suc at, old, is)
+  stood_behind q qs i x (inr (at, (old, is))) = inr (ap suc at, (old, is))
 
   changed_then : (q : Queued) (qs changed : List Queued) →
       ((i : ℕ) (x : Queued) → slice_get changed i ≡ Some x → Stood (due qs) qs i x) → (o : Option Outcome) (i : ℕ) (x : Queued) →
       slice_get (change_queued f q qs changed o) i ≡ Some x → Stood (settled_then o (due qs)) (q ∷ qs) i x
-  changed_then q qs changed stood None zero x there = inr (refl, q, same_Some (f q) x there)
+  changed_then q qs changed stood None zero x there = inr (refl, (q, same_Some (f q) x there))
   changed_then q qs changed stood None (suc i) x there = inl there
   changed_then q qs changed stood (Some old) zero x there = inl there
   changed_then q qs changed stood (Some old) (suc i) x there = stood_behind q qs i x (stood i x there)
@@ -70,7 +70,7 @@ module _ (entry b : Meaning) (c : Course) (n : ℕ) (outcome : Outcome) (sure : 
   settled_surely : Stood (settled outcome) (due b.queue) b.queue i q → (slice_get entry.queue i ≡ Some q) ⊎ ((i ≡ due entry.queue)
       × (is_some entry.pending ≡ true))
   settled_surely (inl there) = sure i q kind there is unsure
-  settled_surely (inr (at, old, changed)) =
+  settled_surely (inr (at, (old, changed))) =
       let same : outcome ≡ outcomes.Conflict kind =
       same_Some outcome (outcomes.Conflict kind) (ap (λ (x : Queued). x.outcome) changed ∙ is) in
       let opens =

@@ -76,6 +76,10 @@ heard_valid p b permitted r box (unheards.Rows count) fault why is name kept tol
 pub memory_valid : (name : List ℕ) (kept told : ℕ) → faults.Validity name kept told ≡ faults.Memory → ⊥
 memory_valid name kept told is = absurd cc
 
+-- nor does the disk's fault
+pub memory_no_disk : faults.Disk ≡ faults.Memory → ⊥
+memory_no_disk is = absurd cc
+
 -- whether the need is a mailbox
 abbrev pub is_select : Need → Bool
 is_select (needs.Select name) = true

@@ -6,7 +6,7 @@ use Rattle.play_driver.proofs.Parts.{grows_then}
 use Rattle.play_driver.proofs.Progressing.{later_start, later_then, progress_grows, progress_start, progress_then, sides_start, sides_then}
 use Rattle.play_driver.proofs.Renewing.{renewed_on}
 use Rattle.play_driver.proofs.Shortness.{runs_on, runs_start}
-use Rattle.play_driver.proofs.ValidFaults.{memory_valid}
+use Rattle.play_driver.proofs.ValidFaults.{memory_no_disk, memory_valid}
 use Rattle.play_driver.specs.Faults.{IsReplyFault}
 use Rattle.play_driver.specs.Sessions.{permits_in}
 use Rattle.play_driver.specs.Settled.{IsSyncedSoFar}
@@ -47,6 +47,14 @@ returns-in_err-need-clause-goes_on g c = record {
   known = search rules;
   each_one_side = search rules;
   talks = search rules;
+}
+
+pub returns-in_err-need-clause-reasons : goal.returns-in_err-need-clause-reasons
+returns-in_err-need-clause-reasons g c = record {
+  truly = λ t made entry kept known fair e truly no_disk. c.loop-at.invariant.truly t made entry kept known fair e truly;
+  stopped = λ t is.
+      absurd (memory_no_disk
+      (told_as (λ (e : AllocError). faults.Memory) c.from_residual.result c.in_err-need.field-0.0 c.from_residual.ensures.1 faults.Disk is));
 }
 
 pub returns-in_err-need-clause-runs : goal.returns-in_err-need-clause-runs
@@ -91,8 +99,31 @@ pub returns-then-is_finished-clause-stored : goal.returns-then-is_finished-claus
 returns-then-is_finished-clause-stored g c = record {
   fold = search rules;
   later = search rules;
-  left = search rules;
+  left = λ t no_disk. c.loop-at.invariant.left t;
   sound_still = λ no_disk. is_sound c.loop-at.store.journal.failed c.loop-at.invariant.sound;
+}
+
+pub returns-then-is_finished-clause-reasons : goal.returns-then-is_finished-clause-reasons
+returns-then-is_finished-clause-reasons g c = record {
+  truly = λ t made entry kept known fair e truly no_disk. c.loop-at.invariant.truly t made entry kept known fair e truly;
+  stopped = λ t is. absurd cc;
+}
+
+pub returns-then-is_finished-clause-runs : goal.returns-then-is_finished-clause-runs
+returns-then-is_finished-clause-runs g c = record {
+  runs = c.loop-at.invariant.runs;
+  finished = search rules;
+  counted = omega (arith, c.loop-at.invariant.room);
+  why = λ t fault is. absurd cc;
+}
+
+pub returns-then-is_finished-clause-accuses : goal.returns-then-is_finished-clause-accuses
+returns-then-is_finished-clause-accuses g c = record {
+  disk_count = c.loop-at.invariant.disk_count;
+  link_count = c.loop-at.invariant.link_count;
+  disk_cause = λ is. absurd cc;
+  link_cause = λ is. absurd cc;
+  honest = λ t at is. absurd cc;
 }
 
 -- a turn failed
