@@ -1,5 +1,5 @@
 -- Over many runs each outcome that a stop may leave was left at first, or had its reason in the run that recorded it.
-use Rattle.std.proofs.Common.{◌≡◌, ◌⊎◌, inl, inr, ⊎_elim, ℕ, zero, suc, List, [], ◌∷◌, ◌++◌, Option, Some, None, refl, sym, ◌∙◌, ap, subst}
+use Rattle.std.proofs.Common.{◌≡◌, ◌⊎◌, inl, inr, ⊎_elim, ℕ, zero, suc, List, [], ◌∷◌, ◌++◌, Some, None, refl, ◌∙◌, ap, subst}
 use Rattle.std.proofs.lemmas.Option.{same_Some}
 use Rattle.std.specs.Prelude.{slice_get}
 use Rattle.imap_model.specs.Talking.{Connecting}
@@ -7,11 +7,11 @@ use Rattle.journal_core.specs.Creating.{IsUnbegun}
 use Rattle.journal_core.proofs.Choice.{open_head}
 use Rattle.world_traits.specs.Files.{Files, MayHold, Stored, file_of}
 use Rattle.world_traits.specs.Links.{Any, LinkStep}
-use Rattle.world_traits.specs.Moments.{Moment, MayLeave, Clock, Since, Within, Images, GoesOn, restarted}
+use Rattle.world_traits.specs.Moments.{Moment, MayLeave, Clock, Within, Images, GoesOn}
 use Rattle.world_traits.proofs.Keeping.{since_now}
 use Rattle.world_traits.proofs.Narrowing.{within_self}
 use Rattle.action_queue.specs.Book.{Meaning, after, begun}
-use Rattle.action_queue.specs.Queues.{accepted, change_first, change_queued, due, settled, settled_then}
+use Rattle.action_queue.specs.Queues.{accepted, due, settled}
 use Rattle.action_queue.specs.declared.action.Action.{Action}
 use Rattle.action_queue.specs.declared.event.Event.{Event}
 use Rattle.action_queue.specs.declared.event.Event.TheVariants as events
@@ -20,46 +20,26 @@ use Rattle.action_queue.specs.declared.queued.Queued.{Queued}
 use Rattle.store_core.specs.Mail.{mail}
 use Rattle.store_core.specs.Books.{HasBook, HoldsBook}
 use Rattle.store_core.specs.Steps.{Firm}
-use Rattle.store_core.specs.Taking.{HasBooks, IsCreating, IsTaking}
+use Rattle.store_core.specs.Taking.{HasBooks}
 use Rattle.store_core.proofs.Folding.{one_held}
 use Rattle.store_core.proofs.MailBook.{one_mail_event}
 use Rattle.play_driver.specs.Joining.{AnyTwo, Grows}
 use Rattle.play_driver.specs.Progress.{IsPlayEvent}
-use Rattle.play_driver.specs.TrueRecords.{BookRests, IsTrueSince, TrueEvent}
+use Rattle.play_driver.specs.TrueRecords.{IsTrueSince, TrueEvent}
 use Rattle.play_driver.specs.TrueRecords.IsTrueSince.{enters, records, rests}
-use Rattle.play_driver.proofs.Parts.{grows, grows_start, grows_then}
+use Rattle.play_driver.proofs.Surely.{changed_at}
+use Rattle.play_driver.proofs.Parts.{grows, grows_then}
 use Rattle.mail_top.specs.Actions.{accepts}
 use Rattle.mail_top.specs.Connecting.{SameOutside}
 use Rattle.mail_top.specs.FairRuns.{FairRun, FollowsFairly}
 use Rattle.mail_top.specs.FairRuns.FollowsFairly.{at_once as no_run, by_run as fair_run, by_stop as a_stop, by_others as fair_others}
-use Rattle.mail_top.specs.Leaving.{IsAdding, MayBeLeft, OnTheWay, WordsKeep}
-use Rattle.mail_top.specs.TruePlay.{OpensBook, PlaysTruly}
+use Rattle.mail_top.specs.Leaving.{MayBeLeft, OnTheWay, WordsKeep}
+use Rattle.mail_top.specs.TruePlay.{PlaysTruly}
 use Rattle.mail_top.specs.TruePlay.PlaysTruly.{unread, recorded, cut}
 use Rattle.mail_top.specs.TrueRuns.{AllTrue, EndsInOne, EndsTruly, HasEnded, MayHaveEnded}
-use Rattle.mail_top.specs.Words.{Request, Init, Act, Rows, Queue, Report, Play, Asks, Wanted, WritesPlay}
+use Rattle.mail_top.specs.Words.{Request, Init, Act, Rows, Queue, Report, Play, Asks, WritesPlay}
 use Rattle.mail_top.proofs.Repeated.{restart_begins}
 use Rattle.mail_top.proofs.TrueRuns.{true_so_far}
-
--- the change of the first unsettled action, seen at each place: what was there, or at the place of the one that is due the changed one
-module _ (f : Queued → Queued) where
-  abbrev Stood : ℕ → List Queued → ℕ → Queued → Type 0
-  Stood place qs i x = (slice_get qs i ≡ Some x) ⊎ ((i ≡ place) × ((old : Queued) × (f old ≡ x)))
-
-  stood_behind : (q : Queued) (qs : List Queued) (i : ℕ) (x : Queued) → Stood (due qs) qs i x → Stood (suc (due qs)) (q ∷ qs) (suc i) x
-  stood_behind q qs i x (inl there) = inl there
-  stood_behind q qs i x (inr (at, (old, is))) = inr (ap suc at, (old, is))
-
-  changed_then : (q : Queued) (qs changed : List Queued) →
-      ((i : ℕ) (x : Queued) → slice_get changed i ≡ Some x → Stood (due qs) qs i x) → (o : Option Outcome) (i : ℕ) (x : Queued) →
-      slice_get (change_queued f q qs changed o) i ≡ Some x → Stood (settled_then o (due qs)) (q ∷ qs) i x
-  changed_then q qs changed stood None zero x there = inr (refl, (q, same_Some (f q) x there))
-  changed_then q qs changed stood None (suc i) x there = inl there
-  changed_then q qs changed stood (Some old) zero x there = inl there
-  changed_then q qs changed stood (Some old) (suc i) x there = stood_behind q qs i x (stood i x there)
-
-  changed_at : (qs : List Queued) (i : ℕ) (x : Queued) → slice_get (change_first f qs) i ≡ Some x → Stood (due qs) qs i x
-  changed_at [] i x there = inl there
-  changed_at (q ∷ qs) i x there = changed_then q qs (change_first f qs) (changed_at qs) q.outcome i x there
 
 -- behind the others an action without an outcome was added
 added_open : (qs : List Queued) (action : Action) (i : ℕ) (x : Queued) (o : Outcome) → slice_get (qs ++ accepted action ∷ []) i ≡ Some x →
