@@ -7,12 +7,12 @@ use Rattle.journal_core.specs.OneSide.{EachOneSide}
 use Rattle.store_core.specs.Mail.{mail}
 use Rattle.store_core.specs.Steps.{Books}
 use Rattle.store_core.specs.Taking.{HasBooks}
-use Rattle.world_traits.specs.Moments.{OneSideAtRest}
+use Rattle.world_traits.specs.Moments.{Clock, OneSideAtRest}
 use Rattle.world_traits.specs.Printed.{Printed}
 use Rattle.world_traits.proofs.Keeping.{since_now}
 use Rattle.play_driver.specs.Joining.{AllFair, Grows, Joined}
 use Rattle.play_driver.specs.Played.{played}
-use Rattle.play_driver.proofs.Parts.{grows}
+use Rattle.play_driver.proofs.Parts.{grows, grows_start}
 use Rattle.mail_top.specs.Going.{Goes}
 use Rattle.mail_top.specs.Headline.{AlwaysOwned, Finishes, OnceOrReported}
 use Rattle.mail_top.specs.KeptNow.{IsKeptNow, StaysKept}
@@ -56,7 +56,7 @@ module _ (account : Credentials) (words : List (List ℕ)) (given : List ℕ) (o
         (joined : Unit {0} → OneSideAtRest (now_of old) → (books : Books mail) → HasBooks mail books (now_of old) → IsKeptNow (now_of old) →
         StaysKept (clock_of old) (clock_of new))
         (owned : Unit {0} → OneSideAtRest (now_of old) → (books : Books mail) → HasBooks mail books (now_of old) → IsKeptNow (now_of old) →
-        AllFair mail played (clock_of old) (clock_of new) → AlwaysOwned (clock_of old) (clock_of new))
+        (at : Clock) → Grows (clock_of old) at → Grows at (clock_of new) → AllFair mail played (clock_of old) at → AlwaysOwned (clock_of old) at)
         (synced : Unit {0} → WritesPlay words → CameThrough s → IsKeptNow (now_of old) → AllFair mail played (clock_of old) (clock_of new) →
         AreSynced (seen_of new) (clock_of old) (clock_of new))
         (finishes : Unit {0} → WritesPlay words → CameThrough s → Finishes (seen_of old) (seen_of new) (now_of new))
@@ -70,9 +70,8 @@ module _ (account : Credentials) (words : List (List ℕ)) (given : List ℕ) (o
         goes = same_input goes;
         one_side = one_side tt;
         each_one_side = each_one_side tt;
-        fair = all_fair;
-        joined = joined tt;
-        owned = λ one books have is. owned tt one books have is all_fair;
+        joined = λ one books have is. joined tt one books have is (clock_of new) time_grows (grows_start (clock_of new)) all_fair;
+        owned = λ one books have is. owned tt one books have is (clock_of new) time_grows (grows_start (clock_of new)) all_fair;
         synced = λ writes came is. synced tt writes came is all_fair;
         finishes = finishes tt;
         once_or_reported = λ writes came is. once_or_reported tt writes came is all_fair;
@@ -83,7 +82,7 @@ pub kept_behind : (account : Credentials) (words : List (List ℕ)) (input : Lis
     OneSideAtRest (now_of old) → (books : Books mail) → HasBooks mail books (now_of old) → IsKeptNow (now_of old) → IsKeptNow (now_of new)
 kept_behind account words input old new s ran one books have kept =
     since_now IsKeptNow IsKeptNow (Joined mail played) (λ m n here step was. here) (clock_of old) kept (clock_of new)
-    (ran.joined one books have kept ran.fair)
+    (ran.joined one books have kept)
 
 -- what a sink that didn't fail has is the text
 written_all : (text printed : List ℕ) (faults : ℕ) → faults ≡ 0 → Writes text [] printed 0 faults → printed ≡ text

@@ -42,7 +42,7 @@ module _ (account : Credentials) (words : List (List ℕ)) (input : List ℕ) (n
     leaves = set_up_said.says.leaves;
     reads = set_up_said.says.leaves.each.each (seen_of new) (seen_sound (course_of new.world));
     kept = since_now IsKeptNow IsKeptNow (Joined mail played) (λ m n here step before. here) (clock_of old) kept (clock_of new)
-        (ran.joined side (Firm None) books kept ran.fair);
+        (ran.joined side (Firm None) books kept);
     sufficed = ran.sufficed;
   }
 

@@ -84,7 +84,7 @@ module _ (account : Credentials) (words : List (List ℕ)) (input : List ℕ) (w
       ran.goes.every
 
   joined_since : Since IsKeptNow (Joined mail played) (clock_of old) (clock_of new)
-  joined_since = ran.joined one.one_side (Firm (Some b)) one.leaves one.kept ran.fair
+  joined_since = ran.joined one.one_side (Firm (Some b)) one.leaves one.kept
 
   -- the server is as it was at each clock on the way
   module _ (empty : b.queue ≡ []) where

@@ -171,7 +171,7 @@ module _ (account : Credentials) (words : List (List ℕ)) (input : List ℕ) (o
   kept_now : IsKeptNow (now_of new)
   kept_now =
       since_now (IsKept mail Kept) (IsKept mail Kept) (Joined mail played) (λ m n p s q. p) (clock_of old) has.kept (clock_of new)
-      (ran.joined has.one_side (Firm (Some b)) has.leaves has.kept ran.fair)
+      (ran.joined has.one_side (Firm (Some b)) has.leaves has.kept)
 
   -- the book that each stop leaves is the world's one
   leaves_one : (c : Meaning) → HasBooks mail (Firm (Some c)) (now_of new) → HasOne c new

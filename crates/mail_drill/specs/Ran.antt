@@ -7,14 +7,14 @@ use Rattle.journal_core.specs.OneSide.{EachOneSide}
 use Rattle.store_core.specs.Mail.{mail}
 use Rattle.store_core.specs.Steps.{Books}
 use Rattle.store_core.specs.Taking.{HasBooks}
-use Rattle.play_driver.specs.Joining.{AllFair}
+use Rattle.play_driver.specs.Joining.{AllFair, Joined}
 use Rattle.play_driver.specs.Played.{played}
-use Rattle.world_traits.specs.Moments.{OneSideAtRest}
+use Rattle.world_traits.specs.Moments.{OneSideAtRest, Since}
 use Rattle.world_mem.specs.Worlds.{link_of}
 use Rattle.mail_top.specs.Course.{Course}
 use Rattle.mail_top.specs.Going.{Goes}
 use Rattle.mail_top.specs.Headline.{AlwaysOwned, Finishes, OnceOrReported}
-use Rattle.mail_top.specs.KeptNow.{IsKeptNow, StaysKept}
+use Rattle.mail_top.specs.KeptNow.{IsKeptNow}
 use Rattle.mail_top.specs.Played.{AreSynced, CameThrough}
 use Rattle.mail_top.specs.Words.{WritesPlay}
 use Rattle.mail_drill.specs.Standing.{clock_of, now_of, seen_of}
@@ -37,9 +37,8 @@ pub record Ran (account : Credentials) (words : List (List ℕ)) (input : List �
   pub goes : Goes account words input (course_from old new) s text
   pub one_side : OneSideAtRest (now_of old) → OneSideAtRest (now_of new)
   pub each_one_side : OneSideAtRest (now_of old) → EachOneSide (clock_of old) (clock_of new)
-  pub fair : AllFair mail played (clock_of old) (clock_of new)
   pub joined : OneSideAtRest (now_of old) → (books : Books mail) → HasBooks mail books (now_of old) → IsKeptNow (now_of old) →
-      StaysKept (clock_of old) (clock_of new)
+      Since IsKeptNow (Joined mail played) (clock_of old) (clock_of new)
   pub owned : OneSideAtRest (now_of old) → (books : Books mail) → HasBooks mail books (now_of old) → IsKeptNow (now_of old) →
       AlwaysOwned (clock_of old) (clock_of new)
   pub synced : WritesPlay words → CameThrough s → IsKeptNow (now_of old) → AreSynced (seen_of new) (clock_of old) (clock_of new)

@@ -60,9 +60,9 @@ module _ {Self : Type 0} (W : Ghosts Self) (files : W.tells_server → W.tells_f
     joined = λ e.
         let went = goes (files e.tells) in
         request_joins went.request went.never went.records (W.clock old) (W.clock new) e.kept (went.goes.books e.one_side e.books e.have);
-    twice = λ f.
-        let went = goes (files f.tells) in
-        request_once went.request went.never (MayBeLeft went.request (W.clock old).now (seen old)) (W.clock old) (W.clock new) f.kept went.goes.keeps;
+    twice = λ tells kept.
+        let went = goes (files tells) in
+        request_once went.request went.never (MayBeLeft went.request (W.clock old).now (seen old)) (W.clock old) (W.clock new) kept went.goes.keeps;
     kept = λ play f. absurd (other play);
     truly = λ play f. absurd (other play);
     surely = λ play came f. absurd (other play);

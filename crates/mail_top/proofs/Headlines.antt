@@ -2,6 +2,7 @@
 use Rattle.std.proofs.Common.{◌≡◌, ⊎_elim, ℕ, zero, suc, ◌≤◌, List, [], ◌∷◌, length, slice_get, Option, Some, None, refl, sym, subst, arith, rules}
 use Rattle.std.specs.Prelude.{IsSome}
 use Rattle.world_traits.specs.Files.{Files, Range, furthest}
+use Rattle.world_traits.specs.Links.{Any}
 use Rattle.world_traits.specs.Moments.{Moment, MayLeave, Clock, Since}
 use Rattle.world_traits.proofs.Images.{image_self}
 use Rattle.world_traits.proofs.Keeping.{since_now}
@@ -24,13 +25,16 @@ use Rattle.playback.proofs.Twice.{never_twice}
 use Rattle.store_core.specs.Mail.{mail}
 use Rattle.store_core.specs.Steps.{Firm}
 use Rattle.store_core.proofs.MailBook.{one_mail_event}
-use Rattle.play_driver.specs.Joining.{AllFair, AnyTwo, Joined}
+use Rattle.play_driver.specs.Joining.{AllFair, AnyTwo, Grows, IsFair, Joined}
 use Rattle.play_driver.specs.Played.{played}
+use Rattle.play_driver.specs.Progress.{IsPlaying, PlayStep, Progresses}
 use Rattle.play_driver.proofs.Kept.{kept_books, same_held}
+use Rattle.play_driver.proofs.Longer.{in_order}
+use Rattle.play_driver.proofs.Parts.{grows, grows_start, since_first, since_second}
 use Rattle.mail_top.specs.Connecting.{SameOutside}
 use Rattle.mail_top.specs.Course.{Course}
 use Rattle.mail_top.specs.Ending.{Ends, EndsPlay}
-use Rattle.mail_top.specs.Headline.{AlwaysOwned, Finishes, IsOnceOrReported, IsOwnedNow, NeverTwice, NoneTwice, OnceOrReported, Owns}
+use Rattle.mail_top.specs.Headline.{AlwaysOwned, Finishes, IsOnceOrReported, IsOwnedNow, NeverTwice, NoneTwice, OnceOrReported, Owns, StaysOnce}
 use Rattle.mail_top.specs.KeptNow.{IsKeptNow, StaysKept}
 use Rattle.mail_top.specs.Leaving.{KeepsStep}
 use Rattle.mail_top.specs.Played.{CameThrough, SaysPlayed}
@@ -58,28 +62,46 @@ kept_once : (m : Moment) → IsKeptNow m → NoneTwice m
 kept_once m kept = let held = kept.each (record { left = m.left.synced; right = m.right.synced }) (synced_left m) in
     book_once held.book m.outside.server m.outside.waiting held.related
 
+-- what is so of a whole time is so up to each of its moments
+up_to_each : (k l : Clock) → NeverTwice k l → StaysOnce k l
+up_to_each k l never at before after fair = since_first NoneTwice AnyTwo k at l before after never
+
 -- nor does one while what isn't on the disk stays
-pub still_once : (P : Moment → Type 0) (k l : Clock) → IsKeptNow k.now → Since P SameOutside k l → NeverTwice k l
-still_once P k l kept stays =
+outside_once : (P : Moment → Type 0) (k l : Clock) → IsKeptNow k.now → Since P SameOutside k l → NeverTwice k l
+outside_once P k l kept stays =
     since_weaker (λ m. P m × NoneTwice m) NoneTwice (λ m n. NoneTwice m × SameOutside m n) AnyTwo (λ m p. p.1) (λ m n p. tt) k l
     (since_carry P NoneTwice SameOutside
     (λ m n p same once i. subst (λ (o : Peer). length (ours i o.server.history) ≤ 1) (sym same) (once i)) k (kept_once k.now kept) l stays)
 
-pub nothing_twice : (k : Clock) → NeverTwice k k
-nothing_twice k = since_start NoneTwice AnyTwo k
+pub still_once : (P : Moment → Type 0) (k l : Clock) → IsKeptNow k.now → Since P SameOutside k l → StaysOnce k l
+still_once P k l kept stays = up_to_each k l (outside_once P k l kept stays)
+
+pub nothing_twice : (k : Clock) → StaysOnce k k
+nothing_twice k = up_to_each k k (since_start NoneTwice AnyTwo k)
 
 pub request_once : (request : Request) → (request ≡ Play → ⊥) → (P : Moment → Type 0) (k l : Clock) → IsKeptNow k.now →
-    Since P (KeepsStep request) k l → NeverTwice k l
+    Since P (KeepsStep request) k l → StaysOnce k l
 request_once request never P k l kept keeps =
     still_once P k l kept
     (since_weaker P P (KeepsStep request) SameOutside (λ m p. p) (λ m n step. outside_same request m n never step.outside) k l keeps)
 
 -- an opening, and what is played behind it
-pub play_once : (P : Moment → Type 0) (k l n : Clock) → IsKeptNow k.now → Since P SameOutside k l → StaysKept l n →
-    AllFair mail played l n → NeverTwice k n
-play_once P k l n kept opens stays fair =
-    since_then NoneTwice AnyTwo k l n (still_once P k l kept opens)
-    (since_weaker IsKeptNow NoneTwice (Joined mail played) AnyTwo kept_once (λ m p s. tt) l n (stays fair))
+module _ (b : Meaning) (P : Moment → Type 0) (k l n : Clock) (kept : IsKeptNow k.now) (opens : Since P SameOutside k l)
+    (goes : Progresses b l n) (stays : StaysKept l n) where
+  opened : Grows k l
+  opened = grows P SameOutside k l opens
+
+  played_once : (at : Clock) → Grows l at → Grows at n → AllFair mail played k at → NeverTwice k at
+  played_once at past left fair =
+      since_then NoneTwice AnyTwo k l at (outside_once P k l kept opens)
+      (since_weaker IsKeptNow NoneTwice (Joined mail played) AnyTwo kept_once (λ m p s. tt) l at
+      (stays at past left (since_second Any (IsFair mail played) k l at opened past fair)))
+
+  pub play_once : StaysOnce k n
+  play_once at reach left fair =
+      ⊎_elim (λ (past : Grows l at). played_once at past left fair)
+      (λ (early : Grows at l). up_to_each k l (outside_once P k l kept opens) at reach early fair)
+      (in_order k l at n opened (grows (IsPlaying b) PlayStep l n goes) reach left)
 
 book_owned : (b : Option Meaning) (s : Server) (w : Option Waiting) → Kept b s w → Owns b s.history
 book_owned None s w kept = kept.none
@@ -94,8 +116,9 @@ kept_owned m kept = record {
       book_owned b m.outside.server m.outside.waiting (subst (λ (o : Option Meaning). Kept o m.outside.server m.outside.waiting) same held.related);
 }
 
-pub stays_owned : (k l : Clock) → StaysKept k l → AllFair mail played k l → AlwaysOwned k l
-stays_owned k l stays fair = since_weaker IsKeptNow IsOwnedNow (Joined mail played) AnyTwo kept_owned (λ m n step. tt) k l (stays fair)
+pub stays_owned : (k l : Clock) → StaysKept k l → (at : Clock) → Grows k at → Grows at l → AllFair mail played k at → AlwaysOwned k at
+stays_owned k l stays at before after fair =
+    since_weaker IsKeptNow IsOwnedNow (Joined mail played) AnyTwo kept_owned (λ m n step. tt) k at (stays at before after fair)
 
 -- a play that came to its end
 play_finished : (account : Credentials) (k : Course) (s : Status) (text : List ℕ) → SaysPlayed account k s text →
@@ -160,4 +183,6 @@ module _ (seen seen_after : Files) (m : Moment) (finished : Finishes seen seen_a
 
 -- a run that began with a kept book ends with one
 pub kept_last : (k l : Clock) → IsKeptNow k.now → StaysKept k l → AllFair mail played k l → IsKeptNow l.now
-kept_last k l kept stays fair = since_now IsKeptNow IsKeptNow (Joined mail played) (λ m n here step was. here) k kept l (stays fair)
+kept_last k l kept stays fair =
+    since_now IsKeptNow IsKeptNow (Joined mail played) (λ m n here step was. here) k kept l
+    (stays l (grows Any (IsFair mail played) k l fair) (grows_start l) fair)

@@ -23,6 +23,7 @@ use Rattle.play_driver.specs.States.{state_of}
 use Rattle.play_driver.specs.Played.{played}
 use Rattle.play_driver.proofs.Kept.{kept_books}
 use Rattle.play_driver.proofs.Steps.{joined_keeps}
+use Rattle.play_driver.proofs.Parts.{since_first}
 use Rattle.play_driver.proofs.PlayedKept.{withstood}
 use Rattle.mail_top.specs.Actions.{next_id, accepts}
 use Rattle.mail_top.specs.KeptNow.{IsKeptNow, StaysKept}
@@ -94,8 +95,9 @@ module _ (request : Request) (never : request ≡ Play → ⊥) (writable : HasR
   }
 
   pub request_joins : (k l : Clock) → IsKeptNow k.now → Since Any (RequestStep request) k l → StaysKept k l
-  request_joins k l kept s fair =
-      since_weaker (λ m. Any m × IsKeptNow m) IsKeptNow (λ m n. IsKeptNow m × RequestStep request m n) (Joined mail played) (λ m p. p.1)
+  request_joins k l kept s at before after fair =
+      since_first IsKeptNow (Joined mail played) k at l before after
+      (since_weaker (λ m. Any m × IsKeptNow m) IsKeptNow (λ m n. IsKeptNow m × RequestStep request m n) (Joined mail played) (λ m p. p.1)
       (λ m n p. request_joined m n p.0 p.1) k l
       (since_carry Any IsKeptNow (RequestStep request)
-      (λ m n any step here. joined_keeps mail played Kept withstood one_mail_event m n (request_joined m n here step) here) k kept l s)
+      (λ m n any step here. joined_keeps mail played Kept withstood one_mail_event m n (request_joined m n here step) here) k kept l s))

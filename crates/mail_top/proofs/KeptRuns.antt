@@ -67,10 +67,9 @@ kept_run : (words : List (List ℕ)) (input : List ℕ) (seen : Files) (old at n
     IsReady AnyBook old.now → IsKeptNow old.now → IsKeptNow at.now
 kept_run words input seen old at new run ready kept =
     since_now IsKeptNow IsKeptNow (Joined mail played) (λ m n here step so_far. here) old kept at
-    (since_first IsKeptNow (Joined mail played) old at new
+    (run.joined ready.one_side ready.books ready.have kept at
     (grows (OnTheWay words input old.now seen) (WordsKeep words input) old at run.cut.before.keeps)
-    (grows (OnTheWay words input old.now seen) (WordsKeep words input) at new run.cut.after.keeps)
-    (run.joined ready.one_side ready.books ready.have kept run.fair))
+    (grows (OnTheWay words input old.now seen) (WordsKeep words input) at new run.cut.after.keeps) run.fair)
 
 -- between two runs
 kept_on : (m n : Moment) → FairlyGoesOn m n → IsReady AnyBook m → IsKeptNow m → IsKeptNow n

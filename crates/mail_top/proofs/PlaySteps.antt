@@ -25,7 +25,7 @@ use Rattle.play_driver.specs.Settled.{AreSyncedBehind}
 use Rattle.play_driver.specs.TrueRecords.{RecordsTruly, StopsTruly}
 use Rattle.play_driver.specs.declared.fault.PlayFault.{PlayFault}
 use Rattle.play_driver.specs.declared.fault.PlayFault.TheVariants as faults
-use Rattle.play_driver.proofs.Calls.{chooses_stays, stays_on}
+use Rattle.play_driver.proofs.Calls.{chooses_stays, stays_then}
 use Rattle.play_driver.proofs.Parts.{grows, grows_then, since_second}
 use Rattle.play_driver.proofs.PlayedKept.{withstood}
 use Rattle.mail_top.specs.Connecting.{SameOutside}
@@ -94,8 +94,8 @@ opened_kept k l kept within = within_keeps (Relates mail Kept) k.now l.now kept 
 pub play_joined : (b : Meaning) (k l n : Clock) → IsKeptNow k.now → Since Any (ChoosesStep mail) k l → Progresses b l n →
     (IsKeptNow l.now → StaysKept l n) → StaysKept k n
 play_joined b k l n kept opens goes run =
-    stays_on mail Kept played k l n kept (grows Any (ChoosesStep mail) k l opens) (grows (IsPlaying b) PlayStep l n goes) (Unit {0}) (Unit {0})
-    (λ fair. (opening_joined k l kept opens fair, tt)) (λ here known. run here)
+    stays_then mail Kept played k l n kept (grows Any (ChoosesStep mail) k l opens) (grows (IsPlaying b) PlayStep l n goes)
+    (opening_joined k l kept opens) run
 
 -- the fairness of others in the run behind an opening
 pub play_fair : (b : Meaning) (entry : Moment) (k l n : Clock) → Since (Within entry) KeepsActions k l → Progresses b l n → AllFair mail played k n →

@@ -13,7 +13,7 @@ use Rattle.play_driver.specs.Played.{played}
 use Rattle.play_driver.specs.Serving.{AllServing}
 use Rattle.mail_top.specs.CompletePlay.{IsTheServers, WaitsForNone}
 use Rattle.mail_top.specs.Connecting.{ConnectsAtFirst}
-use Rattle.mail_top.specs.Headline.{NeverTwice}
+use Rattle.mail_top.specs.Headline.{StaysOnce}
 use Rattle.mail_top.specs.KeptNow.{IsKeptNow, StaysKept}
 use Rattle.mail_top.specs.Played.{AreSynced, CameThrough}
 use Rattle.mail_top.specs.SurePlay.{EndsSurely}
@@ -39,7 +39,7 @@ pub record EntersKept {Self : Type 0} (W : Ghosts Self) (old : Self) : Type 0 wh
 pub record BesideServer {Self : Type 0} (W : Ghosts Self) (seen : Self → Files) (IsPlay : Type 0) (old new : Self) (s : Status) (text : List ℕ)
     : Type 0 where
   pub joined : EntersKept W old → StaysKept (W.clock old) (W.clock new)
-  pub twice : Fairly W old new → NeverTwice (W.clock old) (W.clock new)
+  pub twice : W.tells_server → IsKeptNow (W.clock old).now → StaysOnce (W.clock old) (W.clock new)
   pub kept : IsPlay → Fairly W old new → IsKeptNow (W.clock new).now
   pub truly : IsPlay → Fairly W old new → PlaysTruly (seen old) (W.clock old) (W.clock new)
   pub surely : IsPlay → CameThrough s → Fairly W old new → EndsSurely (seen old) (seen new)

@@ -14,7 +14,8 @@ use Rattle.store_core.specs.Mail.{mail}
 use Rattle.store_core.specs.Books.{HasBook, HoldsBook}
 use Rattle.store_core.specs.Steps.{Firm}
 use Rattle.store_core.specs.Taking.{HasBooks}
-use Rattle.play_driver.specs.Joining.{AnyTwo}
+use Rattle.play_driver.specs.Joining.{AllFair, AnyTwo, Grows}
+use Rattle.play_driver.specs.Played.{played}
 use Rattle.play_driver.specs.Progress.{IsLater}
 
 -- no action has taken effect twice: the server's history has at most one change of each
@@ -24,6 +25,10 @@ NoneTwice m = (n : ℕ) → length (ours n m.outside.server.history) ≤ 1
 -- so it is at each moment that was added
 abbrev pub NeverTwice : Clock → Clock → Type 0
 NeverTwice old new = Since NoneTwice AnyTwo old new
+
+-- so it is up to each moment to which others were fair
+abbrev pub StaysOnce : Clock → Clock → Type 0
+StaysOnce old new = (at : Clock) → Grows old at → Grows at new → AllFair mail played old at → NeverTwice old at
 
 -- each change that is this client's is one that an action of the book wants; without a book none is this client's
 abbrev pub Owns : Option Meaning → List Deed → Type 0
@@ -37,6 +42,10 @@ IsOwnedNow m = Keeps (λ files p. (b : Option Meaning) → HoldsBook mail b file
 -- so it is at each moment that was added
 abbrev pub AlwaysOwned : Clock → Clock → Type 0
 AlwaysOwned old new = Since IsOwnedNow AnyTwo old new
+
+-- so it is up to each moment to which others were fair
+abbrev pub StaysOwned : Clock → Clock → Type 0
+StaysOwned old new = (at : Clock) → Grows old at → Grows at new → AllFair mail played old at → AlwaysOwned old at
 
 -- The files held a book at entry. Now they hold this one, and so does each image: its actions are those from before, and each of them
 -- has an outcome.

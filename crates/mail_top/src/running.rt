@@ -9,8 +9,8 @@ ghost use Rattle.mail_top.specs.Completing.{Completes};
 ghost use Rattle.mail_top.specs.Connecting.{ConnectsAtFirst, SparesServer};
 ghost use Rattle.mail_top.specs.Course.{course_of};
 ghost use Rattle.mail_top.specs.Going.{Goes, GoesRequest};
-ghost use Rattle.mail_top.specs.Headline.{AlwaysOwned, Finishes, NeverTwice, OnceOrReported};
-ghost use Rattle.mail_top.specs.KeptNow.{StaysKept};
+ghost use Rattle.mail_top.specs.Headline.{Finishes, OnceOrReported, StaysOnce, StaysOwned};
+ghost use Rattle.mail_top.specs.KeptNow.{IsKeptNow, StaysKept};
 ghost use Rattle.mail_top.specs.Leaving.{LosesNone};
 ghost use Rattle.mail_top.specs.Played.{AreSynced, CameThrough};
 ghost use Rattle.mail_top.specs.Printing.{Prints};
@@ -151,13 +151,12 @@ pub fn run<W: World, I: Source, S: Sink>(
     ensures held { W.tells_files → LosesNone (W.clock world.old).now (W.clock world.new).now }
     ensures sides { W.tells_files → KeepsOneSide (W.clock world.old) (W.clock world.new) }
 
-    // Each moment is kept, and joined to the one before it by one step of the book beside the server; no action has two changes there;
-    // and no change is this client's that no action wants of the book that a stop leaves.
+    // Up to each moment to which others were fair: each moment is kept, and joined to the one before it by one step of the book beside
+    // the server; no action has two changes there; and none is this client's that no action wants of the book that a stop leaves.
     ensures joined { EntersKept W.Clocked world.old → StaysKept (W.clock world.old) (W.clock world.new) }
-    ensures twice { Fairly W.Clocked world.old world.new
-        → NeverTwice (W.clock world.old) (W.clock world.new) }
-    ensures owned { EntersKept W.Clocked world.old → Fairly W.Clocked world.old world.new
-        → AlwaysOwned (W.clock world.old) (W.clock world.new) }
+    ensures twice { W.tells_server → IsKeptNow (W.clock world.old).now
+        → StaysOnce (W.clock world.old) (W.clock world.new) }
+    ensures owned { EntersKept W.Clocked world.old → StaysOwned (W.clock world.old) (W.clock world.new) }
 
     // A `play` that came to its end has settled every action, and each took effect once or is reported; none ended as unsure but the one
     // whose intent was pending.

@@ -1,5 +1,5 @@
 -- What each kind of call keeps, and calls one behind another.
-use Rattle.std.proofs.Common.{List, Some}
+use Rattle.std.proofs.Common.{⊎_elim, List, Some}
 use Rattle.mail_base.specs.declared.tag.Tag.{Tag}
 use Rattle.imap_model.specs.Talking.{Peer}
 use Rattle.imap_model.specs.declared.command.Command.{Command}
@@ -28,7 +28,8 @@ use Rattle.play_driver.proofs.Files.{takes_keeps, takes_joins}
 use Rattle.play_driver.proofs.Beginnings.{chooses_joins, begins_joins}
 use Rattle.play_driver.proofs.Links.{linked_keeps, linked_joins, linked_now}
 use Rattle.play_driver.proofs.Questions.{enquiring_steps}
-use Rattle.play_driver.proofs.Parts.{since_first, since_second}
+use Rattle.play_driver.proofs.Longer.{in_order}
+use Rattle.play_driver.proofs.Parts.{grows_start, since_first, since_second}
 
 -- any relation, without a machine
 module _ (K : Keeping) (R : Relation K) where
@@ -49,40 +50,44 @@ module _ (K : Keeping) (R : Relation K) where
   link_keeps S stands old new kept linked = anyhow (LinkStep S) old new (linked_keeps K R S stands old new kept linked)
 
 module _ (K : Keeping) (one : OneEvent K) (R : Relation K) (M : Machine K) (stands : Withstands K M R) where
+  -- what is joined whatever others do
+  joined_stays : (old new : Clock) → IsKept K R old.now → Since Any (Joined K M) old new → StaysJoined K R M old new
+  joined_stays old new kept joined at before after fair =
+      run_keeps K M R stands one old at kept (since_first Any (Joined K M) old at new before after joined)
+
   -- the recording of an event that is permitted
   pub takes_stays : RecordingJoins K R M
-  takes_stays version b e old new may permits kept takes fair =
-      run_keeps K M R stands one old new kept (takes_joins K M version b e may old permits new takes)
+  takes_stays version b e old new may permits kept takes =
+      joined_stays old new kept (takes_joins K M version b e may old permits new takes)
 
   -- an opening
   pub settles_stays : OpeningJoins K R M
-  settles_stays x old new seen has leaves kept settles narrows fair =
-      run_keeps K M R stands one old new kept (settles_joins K M x old seen has leaves new settles narrows)
+  settles_stays x old new seen has leaves kept settles narrows =
+      joined_stays old new kept (settles_joins K M x old seen has leaves new settles narrows)
 
   -- a store is opened, or a book begun
   pub chooses_stays : ChoosingJoins K R M
-  chooses_stays old new kept s fair = run_keeps K M R stands one old new kept (chooses_joins K M old new s)
+  chooses_stays old new kept s = joined_stays old new kept (chooses_joins K M old new s)
 
   pub begins_stays : BeginningJoins K R M
-  begins_stays version e old new may permits kept b fair = run_keeps K M R stands one old new kept (begins_joins K M version e may old new permits b)
+  begins_stays version e old new may permits kept b = joined_stays old new kept (begins_joins K M version e may old new permits b)
 
   -- calls of the link, by what is known of server and connection
   pub linked_stays : (S : Peer → Peer → Type 0) (Known : Peer → Type 0) → LinkJoins K R M S Known
-  linked_stays S Known x go old new has known kept linked fair =
-      run_keeps K M R stands one old new kept (linked_joins K M S x Known go old has known new linked fair)
+  linked_stays S Known x go old new has known kept linked at before after fair =
+      run_keeps K M R stands one old at kept
+      (linked_joins K M S x Known go old has known at (since_first Any (LinkStep S) old at new before after linked) fair)
 
   -- calls of a session that ask questions alone, beside any books
   pub enquires_stays : EnquiryJoins K R M
-  enquires_stays x old new has kept linked fair =
-      run_keeps K M R stands one old new kept
-      (linked_joins K M Enquiring x (λ p. Unit {0}) (λ p q s spares u. (tt, enquiring_steps K M x p q s spares)) old has tt new linked fair)
+  enquires_stays x old new has kept linked =
+      linked_stays Enquiring (λ p. Unit {0}) x (λ p q s spares u. (tt, enquiring_steps K M x p q s spares)) old new has tt kept linked
 
   -- and a command of the book
   pub sends_stays : SendingJoins K R M
-  sends_stays b told tag command old new has asks kept linked fair =
-      run_keeps K M R stands one old new kept
-      (linked_joins K M (Asking told tag command) (Firm (Some b)) (AsksOnce K M b told tag command) (asks_once K M stands.sendable b told tag command)
-      old has asks new linked fair)
+  sends_stays b told tag command old new has asks kept linked =
+      linked_stays (Asking told tag command) (AsksOnce K M b told tag command) (Firm (Some b))
+      (asks_once K M stands.sendable b told tag command) old new has asks kept linked
 
   pub sends_now : (b : K.Book) (told : List Response) (tag : Tag) (command : Command) (old new : Clock) → HasBooks K (Firm (Some b)) old.now →
       AsksOnce K M b told tag command old.now.outside → Linked (Asking told tag command) old new → AllFair K M old new →
@@ -93,34 +98,31 @@ module _ (K : Keeping) (one : OneEvent K) (R : Relation K) (M : Machine K) (stan
 
 module _ (K : Keeping) (R : Relation K) (M : Machine K) where
   pub stays_start : (k : Clock) → StaysJoined K R M k k
-  stays_start k fair = since_start (IsKept K R) (Joined K M) k
+  stays_start k at before after fair = since_first (IsKept K R) (Joined K M) k at k before after (since_start (IsKept K R) (Joined K M) k)
 
-  kept_last : (k l : Clock) → IsKept K R k.now → Since (IsKept K R) (Joined K M) k l → IsKept K R l.now
+  pub kept_last : (k l : Clock) → IsKept K R k.now → Since (IsKept K R) (Joined K M) k l → IsKept K R l.now
   kept_last k l kept s = carried_now (IsKept K R) (IsKept K R) (Joined K M) (λ m n here j h. here) k kept l s
 
-  -- a run so far, and a call behind it
-  module _ (e k l : Clock) (kept : IsKept K R e.now) (before : Grows e k) (more : Grows k l) (Known Later : Type 0)
-      (so_far : AllFair K M e k → Since (IsKept K R) (Joined K M) e k × Known) where
-    first : AllFair K M e l → AllFair K M e k
-    first fair = since_first Any (IsFair K M) e k l before more fair
+  -- A run so far, and a call behind it, which rests on what is known where others were fair so far: a moment of both is one of the
+  -- run, or one of the call.
+  module _ (e k l : Clock) (kept : IsKept K R e.now) (before : Grows e k) (more : Grows k l) (Known : Type 0)
+      (so_far : StaysJoined K R M e k) (known : AllFair K M e k → Known) (call : IsKept K R k.now → Known → StaysJoined K R M k l) where
+    past_it : (at : Clock) → Grows k at → Grows at l → AllFair K M e at → Since (IsKept K R) (Joined K M) e at
+    past_it at past left fair =
+        let first = since_first Any (IsFair K M) e k at before past fair in
+        let so = so_far k before (grows_start k) first in
+        since_then (IsKept K R) (Joined K M) e k at so
+        (call (kept_last e k kept so) (known first) at past left (since_second Any (IsFair K M) e k at before past fair))
 
-    second : AllFair K M e l → AllFair K M k l
-    second fair = since_second Any (IsFair K M) e k l before more fair
-
-    pub stays_on : (IsKept K R k.now → Known → StaysJoined K R M k l) → StaysJoined K R M e l
-    stays_on call fair =
-        let so = so_far (first fair) in
-        since_then (IsKept K R) (Joined K M) e k l so.0 (call (kept_last e k kept so.0) so.1 (second fair))
-
-    pub known_on : (IsKept K R k.now → Known → AllFair K M k l → Later) → AllFair K M e l → Later
-    known_on call fair =
-        let so = so_far (first fair) in
-        call (kept_last e k kept so.0) so.1 (second fair)
+    pub stays_on : StaysJoined K R M e l
+    stays_on at reach left fair =
+        ⊎_elim (λ (past : Grows k at). past_it at past left fair) (λ (early : Grows at k). so_far at reach early fair)
+        (in_order e k at l before more reach left)
 
   -- two calls
   pub stays_then : (e k l : Clock) → IsKept K R e.now → Grows e k → Grows k l → StaysJoined K R M e k → (IsKept K R k.now → StaysJoined K R M k l) →
       StaysJoined K R M e l
-  stays_then e k l kept before more a b = stays_on e k l kept before more (Unit {0}) (Unit {0}) (λ fair. (a fair, tt)) (λ then known. b then)
+  stays_then e k l kept before more a b = stays_on e k l kept before more (Unit {0}) a (λ fair. tt) (λ then known. b then)
 
   -- the books of the last moment
   pub books_now : (k l : Clock) → (x : Books K) → HasBooks K x k.now → Since (IsKept K R) (Joined K M) k l → (y : Books K) × HasBooks K y l.now

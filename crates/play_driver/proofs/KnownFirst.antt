@@ -12,7 +12,7 @@ use Rattle.play_driver.proofs.Calls.{enquires_stays}
 use Rattle.play_driver.proofs.KnownWalk.{AreServers, Beside, GoesTo, Reaches, beside_book, grown_same, kept_here, tells_of}
 use Rattle.play_driver.proofs.KnownWalk.{was_now, world_walked}
 use Rattle.play_driver.proofs.KnownPermits.{unselected_permits}
-use Rattle.play_driver.proofs.Parts.{grows_start}
+use Rattle.play_driver.proofs.Parts.{grows, grows_start}
 use Rattle.play_driver.proofs.PlayedKept.{withstood}
 use Rattle.play_driver.proofs.QuestionsStay.{question_stays}
 use Rattle.play_driver.specs.Joining.{AllFair}
@@ -38,7 +38,7 @@ use Rattle.store_core.proofs.MailBook.{one_mail_event}
 use Rattle.store_core.specs.Mail.{mail}
 use Rattle.store_core.specs.Steps.{Firm}
 use Rattle.world_traits.specs.Asking.Asking.{answers, arrives}
-use Rattle.world_traits.specs.Links.{Linked}
+use Rattle.world_traits.specs.Links.{Any, LinkStep, Linked}
 use Rattle.world_traits.specs.Moments.{Clock}
 
 -- Questions alone wait at the server, and of these the player knows nothing: to it nothing waits, nothing is selected, and nothing was said.
@@ -153,7 +153,8 @@ module _ (alloc : Global) (b : Meaning) (made now : Clock) (stands : StandsKept 
   beside_first : Linked (Beside Enquiring b) made now
   beside_first =
       beside_book Enquiring b made now (stands.books, stands.kept) linked fair
-      (enquires_stays mail one_mail_event Kept played withstood (Firm (Some b)) made now stands.books stands.kept linked fair)
+      (enquires_stays mail one_mail_event Kept played withstood (Firm (Some b)) made now stands.books stands.kept linked now
+      (grows Any (LinkStep Enquiring) made now linked) (grows_start now) fair)
 
   reached_first : Reaches (IsFirst P b) W made now
   reached_first =

@@ -1,9 +1,10 @@
 -- Turns, one behind the other: what is so behind some is so behind one more.
 use Rattle.action_queue.specs.Book.{Meaning}
 use Rattle.imap_session.specs.declared.permits.Permits.{Permits}
+use Rattle.play_driver.proofs.Calls.{kept_last, stays_on, stays_start}
 use Rattle.play_driver.proofs.Faulting.{same_err}
-use Rattle.play_driver.proofs.Parts.{since_first, since_second}
-use Rattle.play_driver.specs.Joining.{AllFair, Grows, IsFair, IsKept, Joined, StaysJoined}
+use Rattle.play_driver.proofs.Parts.{grows_start, since_first, since_second}
+use Rattle.play_driver.specs.Joining.{AllFair, Grows, IsFair, IsKept, StaysJoined}
 use Rattle.play_driver.specs.KnownAt.{KnownAt}
 use Rattle.play_driver.specs.Played.{played}
 use Rattle.play_driver.specs.Questioning.{TalkStep}
@@ -19,8 +20,7 @@ use Rattle.std.specs.Prelude.{IsTrue}
 use Rattle.std.specs.declared.alloc.AllocError.{AllocError}
 use Rattle.store_core.specs.Holding.{Holding}
 use Rattle.store_core.specs.Mail.{mail}
-use Rattle.world_traits.proofs.Passing.{since_start, since_then}
-use Rattle.world_traits.proofs.Traces.{carried_now}
+use Rattle.world_traits.proofs.Passing.{since_start}
 use Rattle.world_traits.specs.LinkState.{LinkState}
 use Rattle.world_traits.specs.Links.{Any}
 use Rattle.world_traits.specs.Moments.{Clock, Since}
@@ -31,14 +31,14 @@ use Rattle.play_driver.specs.declared.fault.PlayFault.TheVariants as faults
 pub talks_start : (k : Clock) → Since Any TalkStep k k
 talks_start k = since_start Any TalkStep k
 
--- What is so at a clock of a run: each moment was kept and joined, and the player knows the connection.
+-- What is so at a clock of a run: its moments are kept and joined, and where others were fair the player knows the connection.
 pub record GoneOn (made old now : Clock) (permits : Option Permits) (p : Player) (b : Meaning) : Type 0 where
-  pub joined : Since (IsKept mail Kept) (Joined mail played) old now
-  pub known : KnownAt made now permits p b
+  pub joined : StaysJoined mail Kept played old now
+  pub known : AllFair mail played old now → KnownAt made now permits p b
 
--- behind what was so far, which needs others to be fair, a turn
+-- behind what was so far, a turn
 module _ (made old mid : Clock) (permits : Option Permits) (p : Player) (b : Meaning) (kept : IsKept mail Kept old.now) (before : Grows old mid)
-    (so_far : AllFair mail played old mid → GoneOn made old mid permits p b) (new : Clock) (more : Grows mid new) where
+    (so_far : GoneOn made old mid permits p b) (new : Clock) (more : Grows mid new) where
   fair_first : AllFair mail played old new → AllFair mail played old mid
   fair_first fair = since_first Any (IsFair mail played) old mid new before more fair
 
@@ -46,33 +46,30 @@ module _ (made old mid : Clock) (permits : Option Permits) (p : Player) (b : Mea
   fair_second fair = since_second Any (IsFair mail played) old mid new before more fair
 
   kept_there : AllFair mail played old mid → IsKept mail Kept mid.now
-  kept_there fair =
-      carried_now (IsKept mail Kept) (IsKept mail Kept) (Joined mail played) (λ m n here j h. here) old kept mid (so_far fair).joined
+  kept_there fair = kept_last mail Kept played old mid kept (so_far.joined mid before (grows_start mid) fair)
 
   pub joined_on : (IsKept mail Kept mid.now → KnownAt made mid permits p b → StaysJoined mail Kept played mid new) → StaysJoined mail Kept played
       old new
-  joined_on turn fair =
-      let first = fair_first fair in
-      let so = so_far first in
-      since_then (IsKept mail Kept) (Joined mail played) old mid new so.joined (turn (kept_there first) so.known (fair_second fair))
+  joined_on turn = stays_on mail Kept played old mid new kept before more (KnownAt made mid permits p b) so_far.joined so_far.known turn
 
   pub gone_on : (later : Option Permits) (q : Player) (c : Meaning) →
       (IsKept mail Kept mid.now → KnownAt made mid permits p b → StaysJoined mail Kept played mid new) →
       (IsKept mail Kept mid.now → KnownAt made mid permits p b → AllFair mail played mid new → KnownAt made new later q c) →
-      AllFair mail played old new → GoneOn made old new later q c
-  gone_on later q c turn knows fair =
-      let first = fair_first fair in
-      record { joined = joined_on turn fair; known = knows (kept_there first) (so_far first).known (fair_second fair) }
+      GoneOn made old new later q c
+  gone_on later q c turn knows = record {
+    joined = joined_on turn;
+    known = λ fair. let first = fair_first fair in knows (kept_there first) (so_far.known first) (fair_second fair);
+  }
 
   pub so_on : (R : Type 0) → AllFair mail played old new → (AllFair mail played old mid → IsKept mail Kept mid.now → KnownAt made mid permits p b →
       AllFair mail played mid new → R) → R
   so_on R fair turn =
       let first = fair_first fair in
-      turn first (kept_there first) (so_far first).known (fair_second fair)
+      turn first (kept_there first) (so_far.known first) (fair_second fair)
 
 -- the first turns, before the first one
 pub gone_start : (made k : Clock) (permits : Option Permits) (p : Player) (b : Meaning) → KnownAt made k permits p b → GoneOn made k k permits p b
-gone_start made k permits p b known = record { joined = since_start (IsKept mail Kept) (Joined mail played) k; known = known }
+gone_start made k permits p b known = record { joined = stays_start mail Kept played k; known = λ fair. known }
 
 -- why a run stops behind some turns: memory is wanting to say what is needed next
 pub stops_wanting : (p q : Standing) (r : Result Need AllocError) (e : AllocError) (fault : PlayFault) → RunsBetween p q → r ≡ Err e →

@@ -153,7 +153,8 @@ module _ (b : Meaning) (p : Player) (old k : Clock) (r : HasBegun b p old k) whe
     stands_made fair = record {
       books = firm_made;
       kept = kept_now old r.opened.made kept
-          (questions_stay b old r.opened.made r.firm (connects_enquires old r.opened.made r.opened.connects) kept fair);
+          (questions_stay b old r.opened.made r.firm (connects_enquires old r.opened.made r.opened.connects) kept r.opened.made made_first
+          (grows_start r.opened.made) fair);
       none_waits = r.opened.greeted.quiet;
       none_arrives = ap (λ (t : Talk). t.arriving) r.opened.greeted.talk;
     }
@@ -165,8 +166,8 @@ module _ (b : Meaning) (p : Player) (old k : Clock) (r : HasBegun b p old k) whe
         (opens_enquiring r.opened.made k r.opened.asks)
         (since_second Any (IsFair mail played) old r.opened.made k made_first made_then fair) r.waits r.selects None)
 
-    gone_entered : AllFair mail played old k → GoneOn r.opened.made old k None p b
-    gone_entered fair = record { joined = questions_stay b old k r.firm r.asked kept fair; known = known_entered fair }
+    gone_entered : GoneOn r.opened.made old k None p b
+    gone_entered = record { joined = questions_stay b old k r.firm r.asked kept; known = known_entered }
 
     -- so far every action was settled, and no mailbox resynchronised
     synced_entered : IsSyncedSoFar old k p b

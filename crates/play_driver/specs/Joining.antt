@@ -44,10 +44,6 @@ SparesAt K M x p q = Batch p.server.boxes p.server q.server → EachBook K (λ b
 abbrev pub AllFair : (K : Keeping) → Machine K → Clock → Clock → Type 0
 AllFair K M old new = Since Any (IsFair K M) old new
 
--- The moments of a call: where others are fair, each one added is kept, and joined to the one before it.
-abbrev pub StaysJoined : (K : Keeping) → Relation K → Machine K → Clock → Clock → Type 0
-StaysJoined K R M old new = AllFair K M old new → Since (IsKept K R) (Joined K M) old new
-
 -- any two moments
 abbrev pub AnyTwo : Moment → Moment → Type 0
 AnyTwo m n = Unit {0}
@@ -55,3 +51,8 @@ AnyTwo m n = Unit {0}
 -- time goes on
 abbrev pub Grows : Clock → Clock → Type 0
 Grows old new = Since Any AnyTwo old new
+
+-- The moments of a call: up to each to which others were fair, each one added is kept, and joined to the one before it. An unfair
+-- moment takes nothing away from those before it.
+abbrev pub StaysJoined : (K : Keeping) → Relation K → Machine K → Clock → Clock → Type 0
+StaysJoined K R M old new = (at : Clock) → Grows old at → Grows at new → AllFair K M old at → Since (IsKept K R) (Joined K M) old at

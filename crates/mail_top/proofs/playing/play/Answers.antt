@@ -32,7 +32,7 @@ returns-in_err-store-clause-sides g c tells = record { one_side = c.open.ensures
 pub returns-in_err-store-clause-server : goal.returns-in_err-store-clause-server
 returns-in_err-store-clause-server g c = record {
   joined = λ e. opening_joined _ _ e.kept (c.open.ensures.chooses (g.W.Clocked.server_with_files e.tells) e.one_side e.books e.have);
-  twice = λ f. still_once _ _ _ f.kept (only_opens _ _ (c.open.ensures.held (g.W.Clocked.server_with_files f.tells)));
+  twice = λ tells kept. still_once _ _ _ kept (only_opens _ _ (c.open.ensures.held (g.W.Clocked.server_with_files tells)));
   kept = λ play f.
       opened_kept (g.W.Clocked.clock c.args.world.now) (g.W.Clocked.clock c.open.new.disk) f.kept
       (narrowed _ _ (c.open.ensures.told (g.W.Clocked.server_with_files f.tells)));
@@ -81,12 +81,11 @@ returns-in_err-played-clause-server g c = record {
   joined = λ e.
       let files = g.W.Clocked.server_with_files e.tells in
       play_joined _ _ _ _ e.kept (c.open.ensures.chooses files e.one_side e.books e.have) (c.play.ensures.goes_on.progress files) (c.play.ensures.goes_on.joined e.tells);
-  twice = λ f.
-      let files = g.W.Clocked.server_with_files f.tells in
+  twice = λ tells kept.
+      let files = g.W.Clocked.server_with_files tells in
       let opens = c.open.ensures.held files in
-      let here = opened_kept (g.W.Clocked.clock c.args.world.now) (g.W.Clocked.clock c.open.new.disk) f.kept (narrowed _ _ (c.open.ensures.told files)) in
-      play_once _ _ _ _ f.kept (only_opens _ _ opens) (c.play.ensures.goes_on.joined f.tells here)
-      (play_fair _ _ _ _ _ opens (c.play.ensures.goes_on.progress files) f.fair);
+      let here = opened_kept (g.W.Clocked.clock c.args.world.now) (g.W.Clocked.clock c.open.new.disk) kept (narrowed _ _ (c.open.ensures.told files)) in
+      play_once _ _ _ _ _ kept (only_opens _ _ opens) (c.play.ensures.goes_on.progress files) (c.play.ensures.goes_on.joined tells here);
   kept = λ play f.
       let files = g.W.Clocked.server_with_files f.tells in
       let here = opened_kept (g.W.Clocked.clock c.args.world.now) (g.W.Clocked.clock c.open.new.disk) f.kept (narrowed _ _ (c.open.ensures.told files)) in
@@ -148,12 +147,11 @@ returns-clause-server g c = record {
   joined = λ e.
       let files = g.W.Clocked.server_with_files e.tells in
       play_joined _ _ _ _ e.kept (c.open.ensures.chooses files e.one_side e.books e.have) (c.play.ensures.goes_on.progress files) (c.play.ensures.goes_on.joined e.tells);
-  twice = λ f.
-      let files = g.W.Clocked.server_with_files f.tells in
+  twice = λ tells kept.
+      let files = g.W.Clocked.server_with_files tells in
       let opens = c.open.ensures.held files in
-      let here = opened_kept (g.W.Clocked.clock c.args.world.now) (g.W.Clocked.clock c.open.new.disk) f.kept (narrowed _ _ (c.open.ensures.told files)) in
-      play_once _ _ _ _ f.kept (only_opens _ _ opens) (c.play.ensures.goes_on.joined f.tells here)
-      (play_fair _ _ _ _ _ opens (c.play.ensures.goes_on.progress files) f.fair);
+      let here = opened_kept (g.W.Clocked.clock c.args.world.now) (g.W.Clocked.clock c.open.new.disk) kept (narrowed _ _ (c.open.ensures.told files)) in
+      play_once _ _ _ _ _ kept (only_opens _ _ opens) (c.play.ensures.goes_on.progress files) (c.play.ensures.goes_on.joined tells here);
   kept = λ play f.
       let files = g.W.Clocked.server_with_files f.tells in
       let here = opened_kept (g.W.Clocked.clock c.args.world.now) (g.W.Clocked.clock c.open.new.disk) f.kept (narrowed _ _ (c.open.ensures.told files)) in

@@ -41,7 +41,7 @@ returns-in-None-clause-reads g c =
 pub returns-in-None-clause-server : goal.returns-in-None-clause-server
 returns-in-None-clause-server g c = record {
   joined = λ e. stays_start mail Kept played _;
-  twice = λ f. nothing_twice _;
+  twice = λ tells kept. nothing_twice _;
   kept = λ play. absurd (c.in-None.ensures.none refl [] Play play);
   truly = λ play. absurd (c.in-None.ensures.none refl [] Play play);
   surely = λ play. absurd (c.in-None.ensures.none refl [] Play play);

@@ -28,7 +28,7 @@ loop-at-init g c = record {
   left = c.requires.left;
   progress = λ t. progress_start c.args.store.now.book (g.W.Clocked.clock c.args.world.now);
   later = later_start c.args.store.now.book;
-  gone = λ t made kept known fair. gone_start made _ _ _ _ known;
+  gone = λ t made kept known. gone_start made _ _ _ _ known;
   entered = λ entry e. e;
   truly = λ t made entry kept known fair e truly. truly;
   synced = λ t made start grows kept known fair so. so;
@@ -43,7 +43,7 @@ loop-at-init g c = record {
 pub returns-in_err-need-clause-goes_on : goal.returns-in_err-need-clause-goes_on
 returns-in_err-need-clause-goes_on g c = record {
   progress = search rules;
-  joined = λ t made kept known fair. (c.loop-at.invariant.gone t made kept known fair).joined;
+  joined = λ t made kept known. (c.loop-at.invariant.gone t made kept known).joined;
   known = search rules;
   each_one_side = search rules;
   talks = search rules;
@@ -86,8 +86,8 @@ returns-in_err-need-clause-excuses g c = record {
 pub returns-then-is_finished-clause-goes_on : goal.returns-then-is_finished-clause-goes_on
 returns-then-is_finished-clause-goes_on g c = record {
   progress = search rules;
-  joined = λ t made kept known fair. (c.loop-at.invariant.gone t made kept known fair).joined;
-  known = λ t made kept known fair. (c.loop-at.invariant.gone t made kept known fair).known;
+  joined = λ t made kept known. (c.loop-at.invariant.gone t made kept known).joined;
+  known = λ t made kept known fair. (c.loop-at.invariant.gone t made kept known).known fair;
   each_one_side = search rules;
   talks = search rules;
 }

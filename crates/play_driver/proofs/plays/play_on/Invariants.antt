@@ -35,7 +35,6 @@ invariant-loop-at g l = record {
   later : IsLater l.fn.store.book l.store.book;
   gone : g.W.Clocked.tells_server → (made : Clock) → IsKept mail Kept (g.W.Clocked.clock l.fn.world).now →
       KnownAt made (g.W.Clocked.clock l.fn.world) (permits_in l.fn.session) l.fn.player l.fn.store.book →
-      AllFair mail played (g.W.Clocked.clock l.fn.world) (g.W.Clocked.clock l.world) →
       GoneOn made (g.W.Clocked.clock l.fn.world) (g.W.Clocked.clock l.world) (permits_in l.at) l.player l.store.book;
   entered : (entry : Meaning) → IsEntered entry l.fn.player l.fn.store.book → IsEntered entry l.player l.store.book;
   truly : g.W.Clocked.tells_server → (made : Clock) (entry : Meaning) → IsKept mail Kept (g.W.Clocked.clock l.fn.world).now →
