@@ -3,12 +3,12 @@ use Rattle.std.specs.Prelude.{◌≡◌, ℕ, List}
 use Rattle.mail_base.specs.declared.status.Status.{Status}
 use Rattle.mail_base.specs.declared.status.Status.TheVariants as status
 use Rattle.world_traits.specs.Files.{Files}
-use Rattle.world_traits.specs.Moments.{OneSideAtRest}
+use Rattle.world_traits.specs.Moments.{Clock, OneSideAtRest}
 use Rattle.world_traits.specs.declared.clocked.Clocked.{Ghosts}
 use Rattle.store_core.specs.Mail.{mail}
 use Rattle.store_core.specs.Steps.{Books}
 use Rattle.store_core.specs.Taking.{HasBooks}
-use Rattle.play_driver.specs.Joining.{AllFair}
+use Rattle.play_driver.specs.Joining.{AllFair, Grows}
 use Rattle.play_driver.specs.Played.{played}
 use Rattle.play_driver.specs.Serving.{AllServing}
 use Rattle.mail_top.specs.CompletePlay.{IsTheServers, WaitsForNone}
@@ -25,6 +25,14 @@ pub record Fairly {Self : Type 0} (W : Ghosts Self) (old new : Self) : Type 0 wh
   pub tells : W.tells_server
   pub kept : IsKeptNow (W.clock old).now
   pub fair : AllFair mail played (W.clock old) (W.clock new)
+
+-- the same, and others are fair up to a clock on its way
+pub record FairUpTo {Self : Type 0} (W : Ghosts Self) (old new : Self) (at : Clock) : Type 0 where
+  pub tells : W.tells_server
+  pub kept : IsKeptNow (W.clock old).now
+  pub reach : Grows (W.clock old) at
+  pub left : Grows at (W.clock new)
+  pub fair : AllFair mail played (W.clock old) at
 
 -- the link tells its server, and as the run begins the book is kept, one side is at rest, and the books that a stop may leave are known
 pub record EntersKept {Self : Type 0} (W : Ghosts Self) (old : Self) : Type 0 where

@@ -43,10 +43,6 @@ IsOwnedNow m = Keeps (λ files p. (b : Option Meaning) → HoldsBook mail b file
 abbrev pub AlwaysOwned : Clock → Clock → Type 0
 AlwaysOwned old new = Since IsOwnedNow AnyTwo old new
 
--- so it is up to each moment to which others were fair
-abbrev pub StaysOwned : Clock → Clock → Type 0
-StaysOwned old new = (at : Clock) → Grows old at → Grows at new → AllFair mail played old at → AlwaysOwned old at
-
 -- The files held a book at entry. Now they hold this one, and so does each image: its actions are those from before, and each of them
 -- has an outcome.
 pub record Finishes (seen seen_after : Files) (m : Moment) : Type 0 where

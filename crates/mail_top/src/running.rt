@@ -1,16 +1,17 @@
 //! The top call.
 
 ghost use Rattle.std.specs.Prelude.{◌≡◌, ◌≢◌, ◌↔◌, ℕ, List, map, string_bytes};
+ghost use Rattle.world_traits.specs.Moments.{Clock};
 ghost use Rattle.play_driver.specs.Serving.{AllServing};
-ghost use Rattle.mail_top.specs.BesideServer.{BesideServer, EntersKept, Fairly};
+ghost use Rattle.mail_top.specs.BesideServer.{BesideServer, EntersKept, FairUpTo, Fairly};
 ghost use Rattle.mail_top.specs.Causing.{HasCauses, HasOutputCause, NoDiskFault, NoInputFault, NoLinkFault, NoOutputFault};
 ghost use Rattle.mail_top.specs.CompletePlay.{IsPlayed, WaitsForNone};
 ghost use Rattle.mail_top.specs.Completing.{Completes};
 ghost use Rattle.mail_top.specs.Connecting.{ConnectsAtFirst, SparesServer};
 ghost use Rattle.mail_top.specs.Course.{course_of};
 ghost use Rattle.mail_top.specs.Going.{Goes, GoesRequest};
-ghost use Rattle.mail_top.specs.Headline.{Finishes, OnceOrReported, StaysOnce, StaysOwned};
-ghost use Rattle.mail_top.specs.KeptNow.{IsKeptNow, StaysKept};
+ghost use Rattle.mail_top.specs.Headline.{AlwaysOwned, Finishes, NeverTwice, OnceOrReported};
+ghost use Rattle.mail_top.specs.KeptNow.{StaysKept};
 ghost use Rattle.mail_top.specs.Leaving.{LosesNone};
 ghost use Rattle.mail_top.specs.Played.{AreSynced, CameThrough};
 ghost use Rattle.mail_top.specs.Printing.{Prints};
@@ -154,9 +155,10 @@ pub fn run<W: World, I: Source, S: Sink>(
     // Up to each moment to which others were fair: each moment is kept, and joined to the one before it by one step of the book beside
     // the server; no action has two changes there; and none is this client's that no action wants of the book that a stop leaves.
     ensures joined { EntersKept W.Clocked world.old → StaysKept (W.clock world.old) (W.clock world.new) }
-    ensures twice { W.tells_server → IsKeptNow (W.clock world.old).now
-        → StaysOnce (W.clock world.old) (W.clock world.new) }
-    ensures owned { EntersKept W.Clocked world.old → StaysOwned (W.clock world.old) (W.clock world.new) }
+    ensures twice { (at : Clock) → FairUpTo W.Clocked world.old world.new at
+        → NeverTwice (W.clock world.old) at }
+    ensures owned { EntersKept W.Clocked world.old → (at : Clock) → FairUpTo W.Clocked world.old world.new at
+        → AlwaysOwned (W.clock world.old) at }
 
     // A `play` that came to its end has settled every action, and each took effect once or is reported; none ended as unsure but the one
     // whose intent was pending.
@@ -165,7 +167,6 @@ pub fn run<W: World, I: Source, S: Sink>(
     ensures once_or_reported { WritesPlay (map string_bytes words.now) → CameThrough result
         → Fairly W.Clocked world.old world.new
         → OnceOrReported (W.seen world.old) (W.seen world.new) (W.clock world.new).now }
-
     ensures surely { WritesPlay (map string_bytes words.now) → CameThrough result
         → Fairly W.Clocked world.old world.new → EndsSurely (W.seen world.old) (W.seen world.new) }
 

@@ -16,8 +16,9 @@ returns c = record {
       (λ told. (c.run-status.ensures.sides told).one_side) (λ told. (c.run-status.ensures.sides told).each_one_side)
       (λ told one books have kept.
       c.run-status.ensures.joined (record { tells = told; one_side = one; books = books; have = have; kept = kept }))
-      (λ told one books have kept.
-      c.run-status.ensures.owned (record { tells = told; one_side = one; books = books; have = have; kept = kept }))
+      (λ told one books have kept at reach left fair.
+      c.run-status.ensures.owned (record { tells = told; one_side = one; books = books; have = have; kept = kept }) at
+      (record { tells = told; kept = kept; reach = reach; left = left; fair = fair }))
       (λ told writes came kept fair. c.run-status.ensures.synced writes came (record { tells = told; kept = kept; fair = fair }))
       c.run-status.ensures.finishes
       (λ told writes came kept fair. c.run-status.ensures.once_or_reported writes came (record { tells = told; kept = kept; fair = fair }));

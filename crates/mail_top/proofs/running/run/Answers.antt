@@ -76,10 +76,10 @@ pub returns-clause-joined : goal.returns-clause-joined
 returns-clause-joined g c enters = c.carry_out-ending.ensures.server.joined enters
 
 pub returns-clause-twice : goal.returns-clause-twice
-returns-clause-twice g c tells kept = c.carry_out-ending.ensures.server.twice tells kept
+returns-clause-twice g c at f = c.carry_out-ending.ensures.server.twice f.tells f.kept at f.reach f.left f.fair
 
 pub returns-clause-owned : goal.returns-clause-owned
-returns-clause-owned g c enters = stays_owned _ _ (c.carry_out-ending.ensures.server.joined enters)
+returns-clause-owned g c enters at f = stays_owned _ _ (c.carry_out-ending.ensures.server.joined enters) at f.reach f.left f.fair
 
 pub returns-clause-finishes : goal.returns-clause-finishes
 returns-clause-finishes g c tells asks through =
