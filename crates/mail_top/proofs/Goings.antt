@@ -18,7 +18,7 @@ use Rattle.mail_top.specs.Played.{CameThrough}
 use Rattle.mail_top.specs.Reading.{AsksAppend, Awaits, AwaitsAsked, AwaitsInput, AwaitsOn, IsAppend, IsInput, NeedsInput, TakesFront}
 use Rattle.mail_top.specs.Telling.{status_of}
 use Rattle.mail_top.specs.Words.{Wanted, Flag, Move, Append, Request, Init, Act, Rows, Queue, Report, Play, Asks, AsksAction, HasFewFlags, addition_of}
-use Rattle.mail_top.specs.Words.{request_of, wanted_of}
+use Rattle.mail_top.specs.Words.{IsPlay, WritesPlay, request_of, wanted_of}
 use Rattle.mail_top.specs.declared.refusal.Refusal.{Refusal}
 use Rattle.mail_top.specs.declared.refusal.Refusal.TheVariants as refusals
 use Rattle.mail_top.specs.declared.request.Asked.{Asked}
@@ -145,6 +145,26 @@ module _ (words : List (List ℕ)) where
   pub asks_append : (a : Asked) → ((input : List ℕ) → Asks words input (request_of a input)) → AsksAppend words → IsAppend a
   asks_append a asks x =
       as_append a (Append x.addition []) (one_request words [] (request_of a []) (Act (Append x.addition [])) (asks []) (x.asks, refl)) x refl
+
+  -- and so it is with `play`
+  pub play_asks : (a : Asked) → ((input : List ℕ) → Asks words input (request_of a input)) → IsPlay a → WritesPlay words
+  play_asks (asked.Init texts) asks play = absurd play
+  play_asks (asked.Act action) asks play = absurd play
+  play_asks (asked.Rows name) asks play = absurd play
+  play_asks asked.Queue asks play = absurd play
+  play_asks asked.Report asks play = absurd play
+  play_asks asked.Play asks play = asks []
+
+  as_play : (a : Asked) → request_of a [] ≡ Play → IsPlay a
+  as_play (asked.Init texts) is = absurd cc
+  as_play (asked.Act action) is = absurd cc
+  as_play (asked.Rows name) is = absurd cc
+  as_play asked.Queue is = absurd cc
+  as_play asked.Report is = absurd cc
+  as_play asked.Play is = tt
+
+  pub asks_play : (a : Asked) → ((input : List ℕ) → Asks words input (request_of a input)) → WritesPlay words → IsPlay a
+  asks_play a asks writes = as_play a (one_request words [] (request_of a []) Play (asks []) writes)
 
   pub awaits_asked : (a : Asked) (seen : Files) → ((input : List ℕ) → Asks words input (request_of a input)) → AwaitsAsked a seen → AwaitsInput words seen
   awaits_asked (asked.Init texts) seen asks awaits = absurd awaits

@@ -41,14 +41,8 @@ HasRecords request = (wanted : Wanted) (b : Meaning) (action : Action) → reque
 pub init_records : (names : List (List ℕ)) → HasRecords (Init names)
 init_records names wanted b action is admits = absurd cc
 
-pub rows_records : (name : List ℕ) → HasRecords (Rows name)
-rows_records name wanted b action is admits = absurd cc
-
 pub queue_records : HasRecords Queue
 queue_records wanted b action is admits = absurd cc
-
-pub report_records : HasRecords Report
-report_records wanted b action is admits = absurd cc
 
 pub action_records : (wanted : Wanted) → HasFewFlags wanted → HasRecords (Act wanted)
 action_records wanted few other b action is admits =

@@ -1,8 +1,10 @@
 pub mod Admitting
 pub mod Beginnings
+pub mod Besides
 pub mod Between
 pub mod Connections
 pub mod Endings
+pub mod FirstRuns
 pub mod Goings
 pub mod Headlines
 pub mod Inputs
@@ -16,6 +18,9 @@ pub mod PlaySteps
 pub mod Recording
 pub mod Repeated
 pub mod Sayings
+pub mod Showings
+pub mod TrueOutcomes
+pub mod TrueRuns
 pub mod Wording
 pub mod PlayServed
 pub mod Effects

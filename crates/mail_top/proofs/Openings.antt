@@ -34,15 +34,14 @@ use Rattle.store_core.specs.declared.fault.CommitFault.{CommitFault}
 use Rattle.store_core.specs.declared.fault.CommitFault.TheVariants as commits
 use Rattle.store_core.proofs.Choosing.{only_left}
 use Rattle.journal_core.proofs.UpTo.{up_to_here}
-use Rattle.mail_top.specs.Ending.{EndsAct, EndsRows, EndsShown}
+use Rattle.mail_top.specs.Ending.{EndsAct}
 use Rattle.mail_top.specs.Saying.{SaysMemory, SaysBroken, SaysAccepted}
-use Rattle.mail_top.specs.Texts.{refused}
 use Rattle.mail_top.specs.Telling.{line_of, status_of, text_of, status_of_refusal, text_of_refusal}
 use Rattle.mail_top.specs.Actions.{accepts}
 use Rattle.mail_top.specs.Course.{Course, Stays, end_behind}
 use Rattle.mail_top.specs.Faults.{of_store, of_commit}
 use Rattle.mail_top.specs.Leaving.{MayBeLeft}
-use Rattle.mail_top.specs.Weighing.{Admits, Weighed, Shown}
+use Rattle.mail_top.specs.Weighing.{Admits, Weighed}
 use Rattle.mail_top.specs.Words.{Wanted, Act}
 use Rattle.mail_top.specs.declared.refusal.Refusal.{Refusal}
 use Rattle.mail_top.specs.declared.refusal.Refusal.TheVariants as refusals
@@ -124,19 +123,6 @@ module _ (wanted : Wanted) (k : Course) (b : Meaning) (within : Within k.old.now
   weighed_ends (refusals.NotAJournal why) w = absurd w
   weighed_ends (refusals.Full end) w = absurd w
 
--- what the opened book says of a mailbox
-pub shown_ends : (name : List ℕ) (k : Course) (b : Meaning) → Within k.old.now k.new.now → Stays k b → (r : Result (List ℕ) Refusal) → Shown name b r →
-    EndsRows name k (status_of r) (text_of (λ text. text) r)
-shown_ends name k b within stays (Ok text) s = record { book = b; stays = stays; known = s.0; text_is = s.1 }
-shown_ends name k b within stays (Err (refusals.Reason reason)) s = record { book = b; stays = stays; unknown = s.0; text_is = ap refused s.1 }
-shown_ends name k b within stays (Err refusals.Memory) s = record { keeps = record { leaves = within; reads = stays.reads }; text_is = refl }
-shown_ends name k b within stays (Err refusals.Input) s = absurd s
-shown_ends name k b within stays (Err refusals.Actions) s = absurd s
-shown_ends name k b within stays (Err refusals.Disk) s = absurd s
-shown_ends name k b within stays (Err refusals.Already) s = absurd s
-shown_ends name k b within stays (Err (refusals.NotAJournal why)) s = absurd s
-shown_ends name k b within stays (Err (refusals.Full end)) s = absurd s
-
 -- the action was recorded
 pub recorded : (wanted : Wanted) (k : Course) (b : Meaning) (id : ℕ) (action : Action) (holds : HasBook mail b k.seen) → Admits wanted b id action →
     end_behind holds (accepts b action) ≤ max_accepted → HasBooks mail (Firm (Some (after b (accepts b action)))) k.new.now →
@@ -172,29 +158,6 @@ module _ {S T : Type 0} (o : Result S StoreFault) (r : Result T Refusal) (x : St
       (unopened (EndsAct wanted k) k (λ s. s) (λ w. record { leaves = inl w; text_is = refl }) (λ why s. s) x within
       (λ other. reads (λ is. other (back is))) (λ is. only.0 (at stores.Already is)) (λ end wanted is. only.1 end wanted (at (stores.Full end wanted) is))
       (λ why is. broken why (at (stores.NotAJournal why) is)))
-
-  pub unopened_rows : (name : List ℕ) → EndsRows name k (status_of r) (text_of told r)
-  unopened_rows name = subst (λ (q : Result T Refusal). EndsRows name k (status_of q) (text_of told q)) (sym (raised r (of_store x) given))
-      (unopened (EndsRows name k) k (λ s. s) (λ w. record { leaves = w; text_is = refl }) (λ why s. s) x within
-      (λ other. reads (λ is. other (back is))) (λ is. only.0 (at stores.Already is)) (λ end wanted is. only.1 end wanted (at (stores.Full end wanted) is))
-      (λ why is. broken why (at (stores.NotAJournal why) is)))
-
-  pub unopened_shown : (shown : Meaning → List ℕ) → EndsShown shown k (status_of r) (text_of told r)
-  unopened_shown shown = subst (λ (q : Result T Refusal). EndsShown shown k (status_of q) (text_of told q)) (sym (raised r (of_store x) given))
-      (unopened (EndsShown shown k) k (λ s. s) (λ w. record { leaves = w; text_is = refl }) (λ why s. s) x within
-      (λ other. reads (λ is. other (back is))) (λ is. only.0 (at stores.Already is)) (λ end wanted is. only.1 end wanted (at (stores.Full end wanted) is))
-      (λ why is. broken why (at (stores.NotAJournal why) is)))
-
--- the text that shows a book, or want of memory
-pub listed_shown : (shown : Meaning → List ℕ) (k : Course) (b : Meaning) (stays : Stays k b) (text : List ℕ) → text ≡ shown b →
-    EndsShown shown k status.Done text
-listed_shown shown k b stays text is = record { book = b; stays = stays; text_is = is }
-
-pub unlisted_shown : {T : Type 0} (shown : Meaning → List ℕ) (told : T → List ℕ) (k : Course) (r : Result T Refusal) → Within k.old.now k.new.now → k.seen_after ≡ k.seen →
-    IsErrAnd r (λ refusal. refusal ≡ refusals.Memory) → EndsShown shown k (status_of r) (text_of told r)
-unlisted_shown shown told k r within same given =
-    subst (λ (q : Result _ Refusal). EndsShown shown k (status_of q) (text_of told q)) (sym (raised r refusals.Memory given))
-    (record { keeps = record { leaves = within; reads = same }; text_is = refl })
 
 -- At a result that handed on what the book says of an action.
 pub weighed_act : {T : Type 0} (wanted : Wanted) (k : Course) (b : Meaning) (within : Within k.old.now k.new.now) (stays : Stays k b) (told : T → List ℕ)
@@ -310,13 +273,3 @@ module _ {T : Type 0} (wanted : Wanted) (b : Meaning) (w : Result (ℕ × Action
 pub weighed_input : {S T : Type 0} (w : Result S Refusal) (r : Result T Refusal) (x : Refusal) → w ≡ Err x → IsErrAnd r (λ refusal. refusal ≡ x) →
     r ≡ Err refusals.Input → w ≡ Err refusals.Input
 weighed_input w r x was given is = let same : x ≡ refusals.Input = cc (raised r x given, is) in was ∙ ap (λ (y : Refusal). Err y) same
-
--- nor is what it says of a mailbox a fault of the disk
-pub shown_disk : (name : List ℕ) (b : Meaning) (r : Result (List ℕ) Refusal) → Shown name b r → r ≡ Err refusals.Disk → ⊥
-shown_disk name b r s is = subst (Shown name b) is s
-
-pub shown_already : (name : List ℕ) (b : Meaning) (r : Result (List ℕ) Refusal) → Shown name b r → r ≡ Err refusals.Already → ⊥
-shown_already name b r s is = subst (Shown name b) is s
-
-pub shown_input : (name : List ℕ) (b : Meaning) (r : Result (List ℕ) Refusal) → Shown name b r → r ≡ Err refusals.Input → ⊥
-shown_input name b r s is = subst (Shown name b) is s

@@ -387,3 +387,16 @@ through_ok (Err (ends.Stopped x)) P is came = absurd (through_fault x is)
 
 pub came_through : (r : Result Played Unfinished) (s : Status) (P : Type 0) → s ≡ status_of_play r → CameThrough s → OnOk r P → P
 came_through r s P status_is is came = through_ok r P (subst CameThrough status_is is) came
+
+-- one that ended early didn't
+pub stopped_early : (r : Result Played Unfinished) (x : Unfinished) → IsErrAnd r (λ end. end ≡ x) → CameThrough (status_of_play r) → ⊥
+stopped_early (Ok p) x given came = absurd given
+stopped_early (Err end) x given came = through_ok (Err end) ⊥ came tt
+
+-- an honest run prints no place of a reply
+pub run_honest : {S : Type 0} (o : Result S PlayFault) (r : Result Played Unfinished) (fault : PlayFault) → o ≡ Err fault →
+    IsErrAnd r (λ end. end ≡ ends.Stopped fault) → ((at : ℕ) → o ≡ Err (faults.BadReply (whys.At at)) → ⊥) →
+    (at : ℕ) → r ≡ Err (ends.Stopped (faults.BadReply (whys.At at))) → ⊥
+run_honest o (Ok p) fault was given honest at is = absurd given
+run_honest o (Err end) fault was given honest at is =
+    let same : fault ≡ faults.BadReply (whys.At at) = cc (given, is) in honest at (was ∙ ap (λ (f : PlayFault). Err f) same)

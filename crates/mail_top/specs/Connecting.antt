@@ -2,6 +2,7 @@
 use Rattle.std.specs.Prelude.{◌≡◌}
 use Rattle.world_traits.specs.Links.{Any}
 use Rattle.world_traits.specs.Moments.{Moment, Clock, Since}
+use Rattle.world_traits.specs.declared.clocked.Clocked.{Ghosts}
 use Rattle.play_driver.specs.Questioning.{ConnectsFirst, RunStep}
 
 -- what isn't on the disk stays
@@ -14,3 +15,8 @@ pub record ConnectsAtFirst (old new : Clock) : Type 0 where
   pub first : Clock
   pub opens : Since Any SameOutside old first
   pub run : ConnectsFirst RunStep first new
+
+-- the link is as it was, and so is all that isn't on the disk
+pub record SparesServer {Self : Type 0} (W : Ghosts Self) (old new : Self) : Type 0 where
+  pub link : W.link new ≡ W.link old
+  pub outside : W.tells_files → (W.clock new).now.outside ≡ (W.clock old).now.outside

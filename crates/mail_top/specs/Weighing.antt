@@ -8,12 +8,10 @@ use Rattle.action_queue.specs.Rules.{is_unknown}
 use Rattle.action_queue.specs.declared.action.Action.{Action}
 use Rattle.action_queue.specs.declared.queued.Queued.{Queued}
 use Rattle.action_queue.specs.declared.target.Target.{Target}
-use Rattle.local_view.specs.Listing.{view}
 use Rattle.local_view.specs.declared.seen.Ident.{Ident}
 use Rattle.mail_top.specs.Actions.{Becomes, keys_of, next_id, target_of}
 use Rattle.mail_top.specs.Reading.{Awaits}
 use Rattle.mail_top.specs.Reasons.{IsFirst, IsFree, NoneStops, at_once, is_absent, is_bad_flag}
-use Rattle.mail_top.specs.Texts.{rows_text}
 use Rattle.mail_top.specs.Words.{Addition, Wanted, Append}
 use Rattle.mail_top.specs.declared.reason.Reason.TheVariants as reasons
 use Rattle.mail_top.specs.declared.refusal.Refusal.{Refusal}
@@ -96,15 +94,3 @@ Received addition input b (Err refusals.Disk) = ⊥
 Received addition input b (Err refusals.Already) = ⊥
 Received addition input b (Err (refusals.NotAJournal why)) = ⊥
 Received addition input b (Err (refusals.Full end)) = ⊥
-
--- The text of the rows of the mailbox's view; or the mailbox isn't one of the book's; or memory is wanting.
-abbrev pub Shown : List ℕ → Meaning → Result (List ℕ) Refusal → Type 0
-Shown name b (Ok text) = (is_unknown b.boxes name ≡ false) × (text ≡ rows_text (view b name))
-Shown name b (Err (refusals.Reason reason)) = (is_unknown b.boxes name ≡ true) × (reason ≡ reasons.NoMailbox)
-Shown name b (Err refusals.Memory) = ⊤
-Shown name b (Err refusals.Input) = ⊥
-Shown name b (Err refusals.Actions) = ⊥
-Shown name b (Err refusals.Disk) = ⊥
-Shown name b (Err refusals.Already) = ⊥
-Shown name b (Err (refusals.NotAJournal why)) = ⊥
-Shown name b (Err (refusals.Full end)) = ⊥

@@ -176,3 +176,12 @@ IsLawful (asked.Rows name) = ⊤
 IsLawful asked.Queue = ⊤
 IsLawful asked.Report = ⊤
 IsLawful asked.Play = ⊤
+
+-- what a program takes words for is `play`
+abbrev pub IsPlay : Asked → Type 0
+IsPlay (asked.Init texts) = ⊥
+IsPlay (asked.Act action) = ⊥
+IsPlay (asked.Rows name) = ⊥
+IsPlay asked.Queue = ⊥
+IsPlay asked.Report = ⊥
+IsPlay asked.Play = ⊤

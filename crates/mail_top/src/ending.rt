@@ -1,7 +1,9 @@
 //! How a command ends: its status and what it prints.
 
-ghost use Rattle.std.specs.Prelude.{◌≡◌};
+ghost use Rattle.std.specs.Prelude.{◌≡◌, ◌≢◌, ◌≤◌};
+ghost use Rattle.world_traits.specs.Calls.{Rose};
 ghost use Rattle.mail_base.specs.Lines.{accepted, error_words, ready};
+ghost use Rattle.mail_top.specs.Printing.{IsSaid, Prints};
 ghost use Rattle.mail_top.specs.Telling.{line_of, printed, status_of, text_of, status_of_refusal, text_of_refusal};
 ghost use Rattle.mail_top.specs.Telling.{status_of_play, text_of_play, status_of_conflicts, status_of_fault, text_of_fault, text_of_why};
 
@@ -12,6 +14,7 @@ use imap_model::Limit;
 use journal_core::Place9;
 use mail_base::{Bytes, Line, Status};
 use play_driver::{PlayFault, Played, Why};
+use world_traits::{Sink, WriteFailed};
 
 /// How a command ends, before its text is printed.
 #[derive(Drop)]
@@ -84,6 +87,24 @@ pub fn ending_of_play(played: Result<Played, Unfinished>) -> Ending
     }
 }
 
+/// Prints the text of an ending. A write that fails changes the status of a command that is done, and no other.
+pub fn say<S: Sink>(out: &mut S, ending: &Ending) -> Status
+    requires { ending.now.status ≢ Status.Output }
+    ensures status { IsSaid ending.now.status result }
+    ensures prints { S.tells → Prints result (printed ending.now.text) (S.written out.old) (S.written out.new)
+        (S.sink_faults out.old) (S.sink_faults out.new) }
+    ensures output { result ≡ Status.Output → Rose (S.sink_faults out.old) (S.sink_faults out.new) }
+    ensures count { S.sink_faults out.old ≤ S.sink_faults out.new }
+{
+    match out.write(ending.text.as_bytes()) {
+        Ok(()) => ending.status,
+        Err(WriteFailed) => match ending.status {
+            Status::Done | Status::Conflicts => Status::Output,
+            status => status,
+        },
+    }
+}
+
 // The status of a run that came to its end.
 fn status_of_conflicts(conflicts: u32) -> Status
     ensures { result ≡ status_of_conflicts conflicts }
@@ -106,8 +127,8 @@ fn done(text: Printed) -> Ending
     }
 }
 
-// The ending of a command that isn't carried out.
-fn ending_of_refusal(refusal: Refusal) -> Ending
+/// The ending of a command that isn't carried out.
+pub fn ending_of_refusal(refusal: Refusal) -> Ending
     ensures status { result.status ≡ status_of_refusal refusal }
     ensures text { printed result.text ≡ text_of_refusal refusal }
 {

@@ -10,18 +10,19 @@ mod listing;
 mod names;
 mod playing;
 mod printed;
-mod queue_listing;
 mod reason;
 mod refusal;
-mod reporting;
 mod request;
 mod running;
 mod runs;
+mod showing;
+mod shows;
 mod unfinished;
 mod weighing;
 mod words;
 
-pub use arguments::{box_of, ident_of, is_addition};
+pub use arguments::{box_of, ident_of, is_addition, number_of};
+pub use ending::{Ending, ending_of_refusal, ending_of_text, ending_of_words, say};
 pub use input::{MAX_INPUT, MAX_TEXT};
 pub use names::{MAX_NAMES, are_names, names_in};
 pub use printed::Printed;
@@ -30,9 +31,11 @@ pub use refusal::Refusal;
 pub use request::{Asked, AskedAction, AskedAppend, AskedFlags, AskedMove};
 pub use running::run;
 pub use runs::{
-    admitted_actions_have_records, one_action_is_asked_for, reports_tell_the_effect,
-    runs_one_behind_another, words_ask_one_thing,
+    admitted_actions_have_records, from_nothing, one_action_is_asked_for,
+    outcomes_have_their_reasons, reports_tell_the_effect, runs_one_behind_another,
+    words_ask_one_thing,
 };
+pub use showing::{Show, show_book};
 pub use unfinished::Unfinished;
 pub use weighing::{MAX_ASKED, MAX_OPEN};
 pub use words::asked;

@@ -1,6 +1,6 @@
 //! What holds of many runs, one behind another.
 
-ghost use Rattle.std.specs.Prelude.{◌≡◌, ◌<◌, ◌≤◌, ℕ, List, None, codes, if◌then◌else◌, length};
+ghost use Rattle.std.specs.Prelude.{◌≡◌, ◌⊎◌, ◌<◌, ◌≤◌, ℕ, List, None, codes, if◌then◌else◌, length};
 ghost use Rattle.mail_base.specs.Account.{Credentials};
 ghost use Rattle.mail_base.specs.declared.status.Status.{Status};
 ghost use Rattle.imap_model.specs.Ours.{ours};
@@ -12,18 +12,22 @@ ghost use Rattle.action_queue.specs.Book.{Meaning};
 ghost use Rattle.action_queue.specs.Writable.{IsWritable};
 ghost use Rattle.action_queue.specs.declared.action.Action.{Action};
 ghost use Rattle.action_queue.specs.declared.outcome.Kind.{Kind};
+ghost use Rattle.action_queue.specs.declared.outcome.Outcome.{Outcome};
 ghost use Rattle.conflict_report.specs.ReportLines.{effect_text};
 ghost use Rattle.playback.specs.Once.{is_unsure};
 ghost use Rattle.play_driver.specs.Joining.{Grows};
 ghost use Rattle.mail_top.specs.Actions.{Becomes, accepts};
 ghost use Rattle.mail_top.specs.Course.{Course};
 ghost use Rattle.mail_top.specs.FairRuns.{FollowsFairly};
+ghost use Rattle.mail_top.specs.FromNothing.{FromNothing};
 ghost use Rattle.mail_top.specs.Going.{Goes};
 ghost use Rattle.mail_top.specs.Headline.{IsOwnedNow};
 ghost use Rattle.mail_top.specs.KeptNow.{IsKeptNow};
 ghost use Rattle.mail_top.specs.Leaving.{LosesNone};
 ghost use Rattle.mail_top.specs.Runs.{CutOff, Follows, BeginsWith, AcceptsAt, AreUnbegunOrBook, IsReady, HasNames, AnyBook};
 ghost use Rattle.mail_top.specs.Saying.{SaysAccepted};
+ghost use Rattle.mail_top.specs.TruePlay.{PlaysTruly};
+ghost use Rattle.mail_top.specs.TrueRuns.{AllTrue, EndsInOne, MayHaveEnded};
 ghost use Rattle.mail_top.specs.Weighing.{Admits};
 ghost use Rattle.mail_top.specs.Words.{Request, Wanted, Asks, AsksAction};
 
@@ -68,6 +72,26 @@ pub fn runs_one_behind_another()
 
     // And each change that is this client's is one that an action wants of the book that a stop leaves.
     ensures owned { (first last : Moment) → IsReady AnyBook first → IsKeptNow first → FollowsFairly first last → IsOwnedNow last }
+{}
+
+/// From new files, at a server in whose history no change is this client's, every run is entered with a book that is kept, and with one
+/// side at rest: so what `run` promises of those rests on the disk, the server and other clients alone. And over all runs no action takes
+/// effect twice, and nothing is changed that no action wants.
+pub fn from_nothing()
+    ensures begins { (first : Moment) → FromNothing first → IsKeptNow first × IsReady AnyBook first }
+    ensures kept { (first last : Moment) → FromNothing first → FollowsFairly first last → IsKeptNow last × IsReady AnyBook last }
+    ensures twice { (first last : Moment) → FromNothing first → FollowsFairly first last → (n : ℕ) →
+        length (ours n last.outside.server.history) ≤ 1 }
+    ensures owned { (first last : Moment) → FromNothing first → FollowsFairly first last → IsOwnedNow last }
+{}
+
+/// What `truly` says of a `play` it says of it up to each moment on its way. So over all runs each outcome that a stop may leave, and
+/// could not have left at first, was recorded in one of them with its reason: in one that was cut off, too.
+pub fn outcomes_have_their_reasons()
+    ensures so_far { (seen : Files) (old at new : Clock) → PlaysTruly seen old new → Grows old at → Grows at new →
+        PlaysTruly seen old at }
+    ensures truly { (place : ℕ) (outcome : Outcome) (first last : Moment) (runs : FollowsFairly first last) → AllTrue first last runs →
+        MayHaveEnded place outcome last → MayHaveEnded place outcome first ⊎ EndsInOne place outcome first last runs }
 {}
 
 /// Words and an input ask for one thing at most.

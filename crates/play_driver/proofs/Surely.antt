@@ -25,7 +25,7 @@ use Rattle.world_traits.specs.Moments.{Clock}
 
 -- an element of a queue in which the first unsettled one was changed: it was there, or it is the changed one
 module _ (f : Queued → Queued) where
-  abbrev Stood : ℕ → List Queued → ℕ → Queued → Type 0
+  abbrev pub Stood : ℕ → List Queued → ℕ → Queued → Type 0
   Stood place qs i x = (slice_get qs i ≡ Some x) ⊎ ((i ≡ place) × ((old : Queued) × (f old ≡ x)))
 
   stood_behind : (q : Queued) (qs : List Queued) (i : ℕ) (x : Queued) → Stood (due qs) qs i x → Stood (suc (due qs)) (q ∷ qs) (suc i) x
@@ -40,7 +40,7 @@ module _ (f : Queued → Queued) where
   changed_then q qs changed stood (Some old) zero x there = inl there
   changed_then q qs changed stood (Some old) (suc i) x there = stood_behind q qs i x (stood i x there)
 
-  changed_at : (qs : List Queued) (i : ℕ) (x : Queued) → slice_get (change_first f qs) i ≡ Some x → Stood (due qs) qs i x
+  pub changed_at : (qs : List Queued) (i : ℕ) (x : Queued) → slice_get (change_first f qs) i ≡ Some x → Stood (due qs) qs i x
   changed_at [] i x there = inl there
   changed_at (q ∷ qs) i x there = changed_then q qs (change_first f qs) (changed_at qs) q.outcome i x there
 
