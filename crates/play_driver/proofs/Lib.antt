@@ -49,6 +49,7 @@ pub mod WholeRun
 pub mod Remaining
 pub mod ToldRefusals
 pub mod Served
+pub mod MayServe
 pub mod Longer
 pub mod Fitness
 pub mod EntersServed

@@ -21,6 +21,7 @@ pub mod Running
 pub mod Playing
 pub mod Refusals
 pub mod Serving
+pub mod MayServe
 pub mod Renewed
 pub mod Counted
 pub mod Settled

@@ -15,6 +15,7 @@ ghost use Rattle.play_driver.specs.Laws.{RecordingGoesOn, OpeningGoesOn, StopGoe
 ghost use Rattle.play_driver.specs.Laws.{ChoosingJoins, BeginningJoins, ChoosingGoesOn, BeginningGoesOn};
 ghost use Rattle.play_driver.specs.Levelling.{LinkFaultless, LinkLevels, ResyncsFaultless, ResyncsLevel};
 ghost use Rattle.play_driver.specs.Machine.{Machine, Relation, Withstands};
+ghost use Rattle.play_driver.specs.MayServe.{MayServe};
 
 /// A ledger on a journal, a relation of its book, or of none, with a server and the command that waits there, and how a server
 /// with its connection goes on in a call. An impl fixes them, and the laws hold for each; a caller whose call has what was told
@@ -113,4 +114,10 @@ pub fn resyncs_level()
 pub fn known_goes_on()
     ensures knows { KnownGoesOn }
     ensures withstands { Withstands mail played Kept }
+{}
+
+/// What `complete` of `play` asks of server and others can be met, from any moment on and whatever the book: moments may follow in
+/// which a lawful server answers the commands of a whole connection, others are fair, and the server serves.
+pub fn a_server_may_serve()
+    ensures { MayServe }
 {}

@@ -19,8 +19,8 @@ mod turning;
 pub use fault::{PlayFault, Why};
 pub use gathering::Gathered;
 pub use laws::{
-    Related, Steady, books_go_on, calls_keep_relations, calls_stay_joined, known_goes_on,
-    resyncs_level,
+    Related, Steady, a_server_may_serve, books_go_on, calls_keep_relations, calls_stay_joined,
+    known_goes_on, resyncs_level,
 };
 pub use played::Played;
 pub use plays::play;
