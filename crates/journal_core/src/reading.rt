@@ -82,7 +82,7 @@ impl Journal {
                 why: Place9::Record { at: self.place },
             }),
             Ok(Front::Whole { size }) => {
-                let body = read_up_to(alloc, disk, self.side, self.place + 5, size)?;
+                let body = read_there(alloc, disk, self.side, self.place + 5, size)?;
                 self.place += size as u64 + 5;
                 Ok(Some(body))
             }
@@ -150,4 +150,27 @@ pub fn read_up_to<D: Disk>(
     let count = disk.read(side, at, &mut body)?;
     body.truncate(count);
     Ok(Bytes::of(body))
+}
+
+/// Reads so many bytes from a place on, of which the file has as many. What a record claims is read by this alone: so
+/// memory is taken for a claim only after it was compared with the file's length.
+pub fn read_there<D: Disk>(
+    alloc: Global,
+    disk: &mut D,
+    side: Side,
+    at: u64,
+    size: u32,
+) -> Result<Bytes, OpenFault>
+    requires there { D.tells_files → size ≤ length (file_of side (D.seen disk.old)) - at }
+    ensures value { D.tells_files →
+        IfOk result (λ body. body ≡ take size (drop at (file_of side (D.seen disk.old)))) }
+    ensures only { (why : Place9) → IsErrOf result (faults.NotAJournal why) → ⊥ }
+    ensures told { D.tells_files → OnlyLooks (D.clock disk.old) (D.clock disk.new)
+        (D.seen disk.old) (D.seen disk.new) }
+    ensures link { D.link disk.new ≡ D.link disk.old }
+    ensures count { D.disk_faults disk.old ≤ D.disk_faults disk.new }
+    ensures cause { IsErrOf result faults.Disk →
+        Rose (D.disk_faults disk.old) (D.disk_faults disk.new) }
+{
+    read_up_to(alloc, disk, side, at, size)
 }

@@ -1,6 +1,6 @@
 //! Several records of an open journal are read by one call of the disk.
 
-ghost use Rattle.std.specs.Prelude.{◌≡◌, ◌≤◌, ◌+◌, ◌<◌, ◌++◌, [], List, ℕ, drop, length, unwrap_or};
+ghost use Rattle.std.specs.Prelude.{◌≡◌, ◌≤◌, ◌+◌, ◌-◌, ◌<◌, ◌++◌, [], List, ℕ, drop, length, unwrap_or};
 ghost use Rattle.std.specs.Prelude.{IfNone, IfOk, IfSome, IsErrOf, IsTrue, OnErr};
 ghost use Rattle.world_traits.specs.Calls.{Rose};
 ghost use Rattle.world_traits.specs.Files.{file_of};
@@ -12,11 +12,11 @@ ghost use Rattle.journal_core.specs.declared.fault.Place9.{Place9};
 ghost use Rattle.journal_core.specs.declared.fault.OpenFault.TheVariants as faults;
 
 use crate::bodies::{is_shut, missing_in};
-use crate::reading::read_up_to;
+use crate::reading::{read_there, read_up_to};
 use crate::{Bodies, Journal, OpenFault};
 use mail_base::Bytes;
 use std::alloc::Global;
-use world_traits::{Clocked, Disk, Side};
+use world_traits::{Clocked, Disk, DiskFailed, Side};
 
 // The bytes that are read by one call.
 const PIECE: u32 = 65_536;
@@ -147,14 +147,42 @@ fn read_piece<D: Disk>(
         (D.disk_faults disk.old) (D.disk_faults disk.new) result }
 {
     let mut piece = read_up_to(alloc, disk, side, at, size)?;
-    let missing = missing_in(piece.as_slice());
     let Some(next) = at.checked_add(size as u64) else {
         return Ok(piece);
     };
+    let missing = missing_there(disk, side, next, piece.as_slice())?;
     if missing == 0 {
         return Ok(piece);
     }
-    let more = read_up_to(alloc, disk, side, next, missing)?;
+    let more = read_there(alloc, disk, side, next, missing)?;
     piece.extend(more.as_slice())?;
     Ok(piece)
+}
+
+// How many bytes from a place on are missing of the record that a piece cuts off. None are where the file has fewer of
+// them: such a record is torn, and it takes no memory for what it claims. The length is asked for once a piece, and only
+// where a record is cut off, so it costs nothing beside the read.
+fn missing_there<D: Disk>(
+    disk: &mut D,
+    side: Side,
+    next: u64,
+    piece: &[u8],
+) -> Result<u32, DiskFailed>
+    ensures there { D.tells_files → IfOk result (λ missing.
+        missing ≤ length (file_of side (D.seen disk.old)) - next) }
+    ensures told { D.tells_files → OnlyLooks (D.clock disk.old) (D.clock disk.new)
+        (D.seen disk.old) (D.seen disk.new) }
+    ensures link { D.link disk.new ≡ D.link disk.old }
+    ensures count { D.disk_faults disk.old ≤ D.disk_faults disk.new }
+    ensures cause { OnErr result (Rose (D.disk_faults disk.old) (D.disk_faults disk.new)) }
+{
+    let missing = missing_in(piece);
+    if missing == 0 {
+        return Ok(0);
+    }
+    let total = disk.length(side)?;
+    if total.saturating_sub(next) < missing as u64 {
+        return Ok(0);
+    }
+    Ok(missing)
 }

@@ -5,7 +5,7 @@ use Rattle.journal_core.proofs.Looking.{looks_then}
 use Rattle.journal_core.proofs.journal.Journal.next.Goals as goal
 
 pub returns-in_err-body-in-Ok-Whole-clause-told : goal.returns-in_err-body-in-Ok-Whole-clause-told
-returns-in_err-body-in-Ok-Whole-clause-told g c tells = looks_then _ _ _ _ _ _ (c.read_front.ensures.told tells) (c.read_up_to.ensures.told tells)
+returns-in_err-body-in-Ok-Whole-clause-told g c tells = looks_then _ _ _ _ _ _ (c.read_front.ensures.told tells) (c.read_there.ensures.told tells)
 
 pub returns-in_err-body-in-Ok-Whole-clause-memory : goal.returns-in_err-body-in-Ok-Whole-clause-memory
 returns-in_err-body-in-Ok-Whole-clause-memory g c tells is =
