@@ -24,9 +24,10 @@ pub(crate) fn enter<L: Link>(
     account: &Account,
 ) -> Result<Ready, SessionFault>
     ensures enters { Enters L.Clocked account.now link.old link.new result }
-    ensures opened { L.tells_server → OnOk result (OpensFrom (L.clock link.old) (L.clock link.new)) }
-    ensures entered { L.tells_files
-        → IfOk result (λ s. HasEntered account.now (stage_of (L.link link.new) (sessions.Ready s))) }
+    ensures opened { L.tells_server
+        → OnOk result (OpensFrom (L.clock link.old) (L.clock link.new)) }
+    ensures entered { L.tells_files → IfOk result (λ s. HasEntered account.now
+        (stage_of (L.link link.new) (sessions.Ready s))) }
     ensures stands { L.tells_server → IfOk result (λ s. Stands None
         (L.clock link.new) (L.link link.new).connection s.conversation.feed) }
     ensures still { L.tells_files

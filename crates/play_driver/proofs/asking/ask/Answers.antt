@@ -1,5 +1,5 @@
 use Rattle.std.proofs.Common.{Bool, Err, Option, Some, ap, refl, rules, subst, sym, ◌<◌, ◌≡◌, ◌∙◌}
-use Rattle.action_queue.specs.Book.{Meaning, meaning}
+use Rattle.action_queue.specs.Book.{Meaning}
 use Rattle.action_queue.specs.Queues.{due_action}
 use Rattle.imap_session.specs.declared.permits.Permits.{Permits}
 use Rattle.playback.specs.Allowed.{IsFair, IsReply}
@@ -11,9 +11,7 @@ use Rattle.playback.specs.Replying.{IsHeard, IsHeardFault}
 use Rattle.playback.specs.Sound.{IsSound}
 use Rattle.playback.specs.Worlds.{World, given, name_of}
 use Rattle.playback.specs.declared.need.Unheard.{Unheard}
-use Rattle.playback.specs.declared.need.Unheard.TheVariants as unheards
 use Rattle.playback.specs.declared.player.Player.{Player}
-use Rattle.imap_model.specs.declared.item.Item.{Item}
 use Rattle.play_driver.specs.Faults.{of_session}
 use Rattle.play_driver.specs.KnownAt.{KnownAt}
 use Rattle.play_driver.specs.Rests.{Rests}
@@ -351,9 +349,8 @@ returns-in-Err-clause-excuses g c =
           (subst (λ (x : Meaning). IsHeardFault c.args.player.now x c.permits_due-permits.result c.in_ok-answer.answer.1 c.in-Err.unheard)
           c.book-book.ensures c.in-Err.ensures.fault)
           (λ w item kept reply knows lacks.
-          subst (λ (x : Meaning). (v : World) (i : Item) → KeptBook x v.course.now v.waiting → IsReply c.in_ok-answer.answer.1 v →
-          Knows c.args.player.now x v → Err c.in-Err.unheard ≡ Err (unheards.Lacks i) → ⊥) c.book-book.ensures c.in-Err.ensures.honest
-          w item kept reply knows (ap (λ (u : Unheard). Err u) lacks))
+          c.in-Err.ensures.honest w item (subst (λ (x : Meaning). KeptBook x w.course.now w.waiting) (sym c.book-book.ensures) kept) reply
+          (subst (λ (x : Meaning). Knows c.args.player.now x w) (sym c.book-book.ensures) knows) (ap (λ (u : Unheard). Err u) lacks))
           (unheard_told {T = Session} c.unheard_of.result fault c.name.result.now c.chosen_in-chosen.result.name c.in-Err.unheard is_err
           c.unheard_of.ensures (c.name.ensures ∙ c.in_ok-answer.ensures.name));
       valid = λ t made kept known fair none box was now is_err.
