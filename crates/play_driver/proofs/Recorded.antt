@@ -2,19 +2,17 @@
 use Rattle.action_queue.specs.Book.{Meaning}
 use Rattle.action_queue.specs.declared.event.Event.{Event}
 use Rattle.imap_session.specs.Session.{Stands}
-use Rattle.imap_session.specs.declared.permits.Permits.{Permits}
 use Rattle.journal_core.specs.OneSide.{EachOneSide}
 use Rattle.literal_feed.specs.Stream.{Stream}
 use Rattle.play_driver.proofs.OneTurn.{stands_kept}
 use Rattle.play_driver.proofs.OverOne.{record_talks}
-use Rattle.play_driver.proofs.Progressing.{outside_taken, takes_progress}
+use Rattle.play_driver.proofs.Progressing.{takes_progress}
 use Rattle.play_driver.proofs.Reasons.{may_come, of_playback, ready, takes_joined, true_event}
 use Rattle.play_driver.specs.GoesOn.{GoesOn}
-use Rattle.play_driver.specs.Joining.{AllFair, IsKept}
+use Rattle.play_driver.specs.Joining.{IsKept}
 use Rattle.play_driver.specs.KnownAt.{KnownAt, StandsKept}
-use Rattle.play_driver.specs.Played.{played}
 use Rattle.play_driver.specs.Rests.{Rests}
-use Rattle.play_driver.specs.Sessions.{feed_of, permits_in, selected_in}
+use Rattle.play_driver.specs.Sessions.{permits_in}
 use Rattle.play_driver.specs.TrueRecords.{TrueEvent}
 use Rattle.play_driver.specs.declared.fault.PlayFault.{PlayFault}
 use Rattle.play_driver.specs.declared.session.Session.{Session}

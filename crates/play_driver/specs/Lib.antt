@@ -35,3 +35,4 @@ pub mod Surely
 pub mod Rests
 pub mod TakesTurn
 pub mod Gathering
+pub mod Enters

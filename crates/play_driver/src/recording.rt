@@ -48,7 +48,8 @@ pub(crate) fn record<W: World>(
     requires rests { Rests W.Clocked world.old player.old store.old.book session }
     requires room { count_of session + 2 < 4294967295 }
     requires sound { IsTrue store.old.journal.failed → ⊥ }
-    requires left { W.tells_files → IsAsLeft mail store.old (W.clock world.old).now (W.seen world.old) }
+    requires left { W.tells_files
+        → IsAsLeft mail store.old (W.clock world.old).now (W.seen world.old) }
     ensures goes_on { GoesOn W.Clocked world.old world.new session player.old player.new
         store.old.book store.new.book result }
     ensures synced { SyncsOn W.Clocked world.old world.new player.old player.new
@@ -57,7 +58,8 @@ pub(crate) fn record<W: World>(
         store.old.book store.new.book result }
     ensures takes { TakesTurn W.Clocked world.old world.new session player.old player.new
         store.old store.new result }
-    ensures excuses { Excuses W.Clocked world.old world.new session player.old store.old.book result }
+    ensures excuses { Excuses W.Clocked world.old world.new session player.old
+        store.old.book result }
     ensures accuses { Accuses W.Clocked world.old world.new result }
     ensures rests { IfOk result (Rests W.Clocked world.new player.new store.new.book) }
     ensures stored { Stored W.Clocked world.new (W.seen world.new) store.old.book store.new result }
@@ -77,14 +79,19 @@ fn enter_event<D: Disk>(
     requires lawful { MayCome store.old.journal.version (Some store.old.book) event }
     requires writable { IsWritable event }
     requires sound { IsTrue store.old.journal.failed → ⊥ }
-    requires left { D.tells_files → IsAsLeft mail store.old (D.clock disk.old).now (D.seen disk.old) }
-    ensures takes { D.tells_files → Takes mail (Some store.old.book) event (D.clock disk.old) (D.clock disk.new) }
+    requires left { D.tells_files
+        → IsAsLeft mail store.old (D.clock disk.old).now (D.seen disk.old) }
+    ensures takes { D.tells_files
+        → Takes mail (Some store.old.book) event (D.clock disk.old) (D.clock disk.new) }
     ensures value { OnOk result (store.new ≡ recorded store.old event) }
-    ensures left { D.tells_files → OnOk result (IsAsLeft mail store.new (D.clock disk.new).now (D.seen disk.new)) }
+    ensures left { D.tells_files
+        → OnOk result (IsAsLeft mail store.new (D.clock disk.new).now (D.seen disk.new)) }
     ensures sound_still { OnOk result (store.new.journal.failed ≡ false) }
-    ensures why { (fault : CommitFault) → IsErrOf result fault → NotRecorded event store.old (of_commit fault) }
+    ensures why { (fault : CommitFault) → IsErrOf result fault
+        → NotRecorded event store.old (of_commit fault) }
     ensures stays { IsErr result → store.new.book ≡ store.old.book }
-    ensures kept { IsErr result → (IsErrOf result commits.Disk → ⊥) → (store.new ≡ store.old) × (disk.new ≡ disk.old) }
+    ensures kept { IsErr result → (IsErrOf result commits.Disk → ⊥)
+        → (store.new ≡ store.old) × (disk.new ≡ disk.old) }
     ensures each_one_side { D.tells_files → EachOneSide (D.clock disk.old) (D.clock disk.new) }
     ensures accuses { AccusesDisk D.Clocked disk.old disk.new (IsErrOf result commits.Disk) }
 {

@@ -43,7 +43,8 @@ pub(crate) fn select<W: World>(
     requires fold { IsFold store.now.book }
     requires rests { Rests W.Clocked world.old player.old store.now.book session }
     requires room { count_of session + 2 < 4294967295 }
-    requires left { W.tells_files → IsAsLeft mail store.now (W.clock world.old).now (W.seen world.old) }
+    requires left { W.tells_files
+        → IsAsLeft mail store.now (W.clock world.old).now (W.seen world.old) }
     ensures goes_on { GoesOn W.Clocked world.old world.new session player.old player.new
         store.now.book store.now.book result }
     ensures synced { SyncsOn W.Clocked world.old world.new player.old player.new
@@ -52,10 +53,12 @@ pub(crate) fn select<W: World>(
         store.now.book store.now.book result }
     ensures takes { TakesTurn W.Clocked world.old world.new session player.old player.new
         store.now store.now result }
-    ensures excuses { Excuses W.Clocked world.old world.new session player.old store.now.book result }
+    ensures excuses { Excuses W.Clocked world.old world.new session player.old
+        store.now.book result }
     ensures accuses { AccusesLink W.Clocked world.old world.new result }
     ensures rests { IfOk result (Rests W.Clocked world.new player.new store.now.book) }
-    ensures left { W.tells_files → IsAsLeft mail store.now (W.clock world.new).now (W.seen world.new) }
+    ensures left { W.tells_files
+        → IsAsLeft mail store.now (W.clock world.new).now (W.seen world.new) }
 {
     let book = store.book();
     let kept = cache_in(book, name);

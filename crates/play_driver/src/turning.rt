@@ -48,7 +48,8 @@ pub(crate) fn turn<W: World>(
     requires rests { Rests W.Clocked world.old player.old store.old.book session }
     requires room { count_of session + 2 < 4294967295 }
     requires sound { IsTrue store.old.journal.failed → ⊥ }
-    requires left { W.tells_files → IsAsLeft mail store.old (W.clock world.old).now (W.seen world.old) }
+    requires left { W.tells_files
+        → IsAsLeft mail store.old (W.clock world.old).now (W.seen world.old) }
 
     // At every moment a stop leaves the book that was, or one further on; and what is recorded has its reason.
     ensures goes_on { GoesOn W.Clocked world.old world.new session player.old player.new
@@ -61,7 +62,8 @@ pub(crate) fn turn<W: World>(
     // What was done, or why not, on the bytes sent and received.
     ensures takes { TakesTurn W.Clocked world.old world.new session player.old player.new
         store.old store.new result }
-    ensures excuses { Excuses W.Clocked world.old world.new session player.old store.old.book result }
+    ensures excuses { Excuses W.Clocked world.old world.new session player.old
+        store.old.book result }
     ensures accuses { Accuses W.Clocked world.old world.new result }
 
     // How store and connection stand then.

@@ -1,5 +1,5 @@
 use Rattle.std.proofs.Common.{Bool, Err, Option, Some, ap, refl, rules, subst, sym, ◌<◌, ◌≡◌, ◌∙◌}
-use Rattle.action_queue.specs.Book.{Meaning, meaning}
+use Rattle.action_queue.specs.Book.{Meaning}
 use Rattle.action_queue.specs.Queues.{due_action}
 use Rattle.imap_session.specs.declared.permits.Permits.{Permits}
 use Rattle.playback.specs.Allowed.{IsFair, IsReply}
@@ -87,7 +87,7 @@ pub returns-in_err-answer-clause-reasons : goal.returns-in_err-answer-clause-rea
 returns-in_err-answer-clause-reasons g c = record {
   truly = λ t made entry kept known others entered truly not.
       true_over g.W.Clocked c.args.world.now c.ask.new.link c.args.session c.args.player.now c.args.store.now _
-    c.requires.rests c.requires.left c.ask.ensures.talks.files t made entry truly;
+      c.requires.rests c.requires.left c.ask.ensures.talks.files t made entry truly;
   stopped = search rules;
 }
 
@@ -183,7 +183,7 @@ pub returns-in-Ok-clause-reasons : goal.returns-in-Ok-clause-reasons
 returns-in-Ok-clause-reasons g c = record {
   truly = λ t made entry kept known others entered truly not.
       true_over g.W.Clocked c.args.world.now c.ask.new.link c.args.session c.args.player.now c.args.store.now _
-    c.requires.rests c.requires.left c.ask.ensures.talks.files t made entry truly;
+      c.requires.rests c.requires.left c.ask.ensures.talks.files t made entry truly;
   stopped = search rules;
 }
 
@@ -282,7 +282,7 @@ pub returns-in-Err-clause-reasons : goal.returns-in-Err-clause-reasons
 returns-in-Err-clause-reasons g c = record {
   truly = λ t made entry kept known others entered truly not.
       true_over g.W.Clocked c.args.world.now c.ask.new.link c.args.session c.args.player.now c.args.store.now _
-    c.requires.rests c.requires.left c.ask.ensures.talks.files t made entry truly;
+      c.requires.rests c.requires.left c.ask.ensures.talks.files t made entry truly;
   stopped = search rules;
 }
 
@@ -341,9 +341,9 @@ returns-in-Err-clause-excuses g c =
           let stands = stands_over g.W.Clocked c.args.world.now c.ask.new.link c.args.session c.args.player.now c.args.store.now _
           c.requires.rests c.requires.left c.ask.ensures.talks.files t here in
           let heard = asked_heard c.args.player.now b c.chosen_in-chosen.result.permits made _ c.chosen_in-chosen.result.conversation.count c.args.tag
-    c.args.command.now c.chosen_in-chosen.result.name stands (known_in c.args.session c.chosen_in-chosen.result is made _ _ _ known)
-    rests.selected (rests.stands t).selects needed lawful _ (c.ask.ensures.talks.told t) fair c.in_ok-answer.answer.1 _ _
-    (c.in_ok-answer.ensures.replied.answered t _ (rests.stands t)) c.in_ok-answer.ensures.replied.accepted in
+          c.args.command.now c.chosen_in-chosen.result.name stands (known_in c.args.session c.chosen_in-chosen.result is made _ _ _ known)
+          rests.selected (rests.stands t).selects needed lawful _ (c.ask.ensures.talks.told t) fair c.in_ok-answer.answer.1 _ _
+          (c.in_ok-answer.ensures.replied.answered t _ (rests.stands t)) c.in_ok-answer.ensures.replied.accepted in
           heard_faultless c.args.player.now b c.chosen_in-chosen.result.permits c.permits_due-permits.result made _ c.in_ok-answer.answer.1
           c.chosen_in-chosen.result.name heard c.in-Err.unheard fault
           (subst (λ (x : Meaning). IsHeardFault c.args.player.now x c.permits_due-permits.result c.in_ok-answer.answer.1 c.in-Err.unheard)

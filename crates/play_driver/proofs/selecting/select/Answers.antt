@@ -43,7 +43,7 @@ pub returns-in_err-answer-clause-reasons : goal.returns-in_err-answer-clause-rea
 returns-in_err-answer-clause-reasons g c = record {
   truly = λ t made entry kept known others entered truly not.
       true_over g.W.Clocked c.args.world.now c.resynchronise.new.link c.args.session c.args.player.now c.args.store.now _
-    c.requires.rests c.requires.left c.resynchronise.ensures.gathers.files t made entry truly;
+      c.requires.rests c.requires.left c.resynchronise.ensures.gathers.files t made entry truly;
   stopped = search rules;
 }
 
@@ -119,7 +119,7 @@ pub returns-in-Ok-clause-reasons : goal.returns-in-Ok-clause-reasons
 returns-in-Ok-clause-reasons g c = record {
   truly = λ t made entry kept known others entered truly not.
       true_over g.W.Clocked c.args.world.now c.resynchronise.new.link c.args.session c.args.player.now c.args.store.now _
-    c.requires.rests c.requires.left c.resynchronise.ensures.gathers.files t made entry truly;
+      c.requires.rests c.requires.left c.resynchronise.ensures.gathers.files t made entry truly;
   stopped = search rules;
 }
 
@@ -202,7 +202,7 @@ pub returns-in-Err-clause-reasons : goal.returns-in-Err-clause-reasons
 returns-in-Err-clause-reasons g c = record {
   truly = λ t made entry kept known others entered truly not.
       true_over g.W.Clocked c.args.world.now c.resynchronise.new.link c.args.session c.args.player.now c.args.store.now _
-    c.requires.rests c.requires.left c.resynchronise.ensures.gathers.files t made entry truly;
+      c.requires.rests c.requires.left c.resynchronise.ensures.gathers.files t made entry truly;
   stopped = search rules;
 }
 
