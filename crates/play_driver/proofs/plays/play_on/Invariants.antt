@@ -1,5 +1,5 @@
 -- What is so of the turns from the first one to the last one so far.
-use Rattle.std.proofs.Common.{◌≡◌, ◌≤◌, ◌<◌, ◌+◌, ◌*◌, IsTrue}
+use Rattle.std.proofs.Common.{◌≤◌, ◌<◌, ◌+◌, ◌*◌, IsTrue}
 use Rattle.action_queue.specs.Book.{Meaning}
 use Rattle.journal_core.specs.OneSide.{EachOneSide}
 use Rattle.playback.specs.Choosing.{IsEntered}
