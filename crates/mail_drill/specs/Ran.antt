@@ -7,7 +7,7 @@ use Rattle.journal_core.specs.OneSide.{EachOneSide}
 use Rattle.store_core.specs.Mail.{mail}
 use Rattle.store_core.specs.Steps.{Books}
 use Rattle.store_core.specs.Taking.{HasBooks}
-use Rattle.play_driver.specs.Joining.{AllFair, Joined}
+use Rattle.play_driver.specs.Joining.{Joined}
 use Rattle.play_driver.specs.Played.{played}
 use Rattle.world_traits.specs.Moments.{OneSideAtRest, Since}
 use Rattle.world_mem.specs.Worlds.{link_of}

@@ -16,7 +16,6 @@ use Rattle.imap_model.specs.declared.code.Code.TheVariants as codings
 use Rattle.imap_model.specs.declared.command.Command.{Command}
 use Rattle.imap_model.specs.declared.command.Command.TheVariants as commands
 use Rattle.imap_model.specs.declared.ending.Ending.{Ending}
-use Rattle.imap_model.specs.declared.ending.Ending.TheVariants as endings
 use Rattle.imap_model.specs.declared.code.Code.{Code}
 use Rattle.imap_model.specs.declared.replies.Replies.{Replies}
 use Rattle.imap_model.specs.declared.response.Response.{Response}
@@ -35,7 +34,7 @@ use Rattle.world_traits.proofs.Passing.{since_start, since_then}
 use Rattle.play_driver.specs.Joining.{IsFair}
 use Rattle.play_driver.specs.MayServe.{MayBeServed, MayServe, bye, enabled, of_empty, offer, says}
 use Rattle.play_driver.specs.Played.{played}
-use Rattle.play_driver.specs.Questioning.{Conversing, RunStep}
+use Rattle.play_driver.specs.Questioning.{RunStep}
 use Rattle.play_driver.specs.Questioning.Conversing.{answering, sending}
 use Rattle.play_driver.specs.Serving.{IsServing, Serves, ServesOn, begins_preauth}
 

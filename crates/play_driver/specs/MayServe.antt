@@ -1,7 +1,6 @@
 -- That a server may serve a run, so that what `complete` asks of server and others can be met (RFC 9051, sections 6.1.1, 6.1.3, 6.3.1, 6.3.2,
 -- 6.4.5 and 7.1.4).
-use Rattle.std.specs.Prelude.{◌≡◌, ℕ, List, [], ◌∷◌, ◌++◌, Option, Some, None, codes}
-use Rattle.mail_base.specs.declared.tag.Tag.{Tag}
+use Rattle.std.specs.Prelude.{◌≡◌, ℕ, List, [], ◌∷◌, ◌++◌, Some, None, codes}
 use Rattle.mail_base.specs.declared.tag.Tag.TheVariants.{Count}
 use Rattle.imap_model.specs.CarriedOut.{told_in}
 use Rattle.imap_model.specs.Lookups.{box_at}
