@@ -59,3 +59,5 @@ pub mod ValidFaults
 pub mod RenewedEntered
 pub mod CompleteRun
 pub mod Surely
+pub mod Recorded
+pub mod OverLink

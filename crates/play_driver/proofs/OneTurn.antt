@@ -1,5 +1,5 @@
 -- One turn, by what its call tells: a record, a resynchronisation, or a question.
-use Rattle.action_queue.specs.Book.{Meaning, after, cache_at, learned}
+use Rattle.action_queue.specs.Book.{Meaning, cache_at, learned}
 use Rattle.action_queue.specs.Queues.{due_action}
 use Rattle.action_queue.specs.declared.event.Event.{Event}
 use Rattle.imap_model.specs.declared.command.Command.{Command}
@@ -7,20 +7,17 @@ use Rattle.imap_model.specs.declared.replies.Replies.{Replies}
 use Rattle.imap_session.specs.Dialogue.{next_tag}
 use Rattle.imap_session.specs.Session.{Stands}
 use Rattle.imap_session.specs.declared.chosen.Chosen.{Chosen}
-use Rattle.imap_session.specs.declared.permits.Permits.{Permits}
 use Rattle.literal_feed.specs.Stream.{Stream}
 use Rattle.mail_base.specs.declared.tag.Tag.{Tag}
 use Rattle.mailbox_cache.specs.declared.delta.Delta.{Delta}
 use Rattle.play_driver.proofs.Asked.{lawful_fold}
-use Rattle.play_driver.proofs.OverOne.{record_talks}
 use Rattle.play_driver.proofs.Parts.{became_earlier, became_later, grows_then}
 use Rattle.play_driver.proofs.Progressing.{firm_left}
 use Rattle.play_driver.specs.Faults.{IsReplyFault}
-use Rattle.play_driver.specs.Joining.{AllFair, AnyTwo, Grows, IsKept, StaysJoined}
+use Rattle.play_driver.specs.Joining.{AllFair, AnyTwo, Grows, IsKept}
 use Rattle.play_driver.specs.KnownAt.{KnownAt, StandsKept}
 use Rattle.play_driver.specs.Played.{played}
-use Rattle.play_driver.specs.Questioning.{TalkStep}
-use Rattle.play_driver.specs.Recording.{IsRecordedIn, NotRecorded, recorded}
+use Rattle.play_driver.specs.Recording.{NotRecorded, recorded}
 use Rattle.play_driver.specs.Recording.NotRecorded.{disk, full, wanting}
 use Rattle.play_driver.specs.Sessions.{count_of, permits_in, selected_in}
 use Rattle.play_driver.specs.Settled.{IsSyncedSoFar, SyncedSince}
@@ -42,18 +39,16 @@ use Rattle.playback.specs.declared.finding.Resynced.{Resynced}
 use Rattle.playback.specs.declared.finding.Selected.{Selected}
 use Rattle.playback.specs.declared.need.Need.{Need}
 use Rattle.playback.specs.declared.player.Player.{Player}
-use Rattle.std.proofs.Common.{inl, inr, IsErrOf, List, None, Ok, Option, Result, Some, ap, refl, subst, sym, true, ℕ, ⊎_elim, ◌<◌, ◌∙◌, ◌≡◌, ◌⊎◌}
+use Rattle.std.proofs.Common.{inl, inr, List, None, Ok, Option, Some, ap, refl, subst, sym, true, ℕ, ⊎_elim, ◌<◌, ◌∙◌, ◌≡◌, ◌⊎◌}
 use Rattle.std.specs.Prelude.{is_some}
-use Rattle.store_core.specs.Books.{HoldsBook}
 use Rattle.store_core.specs.Fold.{IsFold}
 use Rattle.store_core.specs.Holding.{Holding, IsAsLeft}
 use Rattle.store_core.specs.Mail.{mail}
-use Rattle.store_core.specs.Taking.{IsTaking, Takes}
-use Rattle.world_traits.proofs.Passing.{since_start}
+use Rattle.store_core.specs.Taking.{Takes}
 use Rattle.world_traits.specs.Files.{Files}
 use Rattle.world_traits.specs.LinkState.{Connection, LinkState}
 use Rattle.world_traits.specs.Links.{Any}
-use Rattle.world_traits.specs.Moments.{Became, Clock, GoesOn, Since}
+use Rattle.world_traits.specs.Moments.{Became, Clock}
 use Rattle.playback.specs.declared.need.Need.TheVariants as needs
 use Rattle.play_driver.specs.declared.session.Session.TheVariants as sessions
 
@@ -62,21 +57,6 @@ pub stands_kept : (store : Holding mail) (k : Clock) (seen : Files) (selected : 
     IsAsLeft mail store k.now seen → Stands selected k c feed → IsKept mail Kept k.now → StandsKept store.book k
 stands_kept store k seen selected c feed left stands kept =
     record { books = firm_left store k seen left; kept = kept; none_waits = stands.nothing; none_arrives = stands.no_part }
-
--- The disk is as it was, or an event was recorded.
-module _ {X : Type 0} (clock : X → Clock) (store : Holding mail) (event : Event) (x y : X) where
-  abbrev Took : X → Type 0
-  Took z = Takes mail (Some store.book) event (clock x) (clock z)
-
-  pub record_takes : (y ≡ x) ⊎ IsRecordedIn store event (clock x) (clock y) → Took y
-  record_takes (inl same) =
-      subst Took (sym same)
-      (since_start (IsTaking mail (Some store.book) event)
-      (GoesOn (HoldsBook mail (Some store.book)) (HoldsBook mail (Some (after store.book event)))) (clock x))
-  record_takes (inr told) = told.takes
-
-  pub record_goes : (y ≡ x) ⊎ IsRecordedIn store event (clock x) (clock y) → Since Any TalkStep (clock x) (clock y)
-  record_goes told = record_talks store event (clock x) (clock y) (record_takes told)
 
 -- nothing was done
 pub left_kept : {X : Type 0} (clock : X → Clock) (seen : X → Files) (store now : Holding mail) (x y : X) → now ≡ store → y ≡ x →
@@ -110,33 +90,6 @@ pub no_reply_fault : (event : Event) (s : Holding mail) (fault : PlayFault) → 
 no_reply_fault event s fault (wanting takes is) = λ told. subst IsReplyFault is told
 no_reply_fault event s fault (disk is) = λ told. subst IsReplyFault is told
 no_reply_fault event s fault (full more is) = λ told. subst IsReplyFault is told
-
--- What a call of the link told of its book is so of the store's.
-module _ (b c : Meaning) (same : b ≡ c) (old : Clock) where
-  pub stands_back : StandsKept c old → StandsKept b old
-  stands_back stands = subst (λ (x : Meaning). StandsKept x old) (sym same) stands
-
-  module _ (new : Clock) (p : Player) (permits : Option Permits) where
-    pub joined_of : ((made : Clock) → StandsKept b old → KnownAt made old permits p b → StaysJoined mail Kept played old new) →
-        (made : Clock) → StandsKept c old → KnownAt made old permits p c → StaysJoined mail Kept played old new
-    joined_of joined =
-        subst (λ (x : Meaning). (made : Clock) → StandsKept x old → KnownAt made old permits p x → StaysJoined mail Kept played old new) same joined
-
-    pub faultless_of : {T : Type 0} (r : Result T PlayFault) →
-        ((made : Clock) → StandsKept b old → KnownAt made old permits p b → AllFair mail played old new →
-        (fault : PlayFault) → IsErrOf r fault → IsReplyFault fault → ⊥) →
-        (made : Clock) → StandsKept c old → KnownAt made old permits p c → AllFair mail played old new →
-        (fault : PlayFault) → IsErrOf r fault → IsReplyFault fault → ⊥
-    faultless_of r faultless =
-        subst (λ (x : Meaning). (made : Clock) → StandsKept x old → KnownAt made old permits p x → AllFair mail played old new →
-        (fault : PlayFault) → IsErrOf r fault → IsReplyFault fault → ⊥) same faultless
-
-    pub known_of : (q : Player) (then : Option Permits) →
-        ((made : Clock) → StandsKept b old → KnownAt made old permits p b → AllFair mail played old new → KnownAt made new then q b) →
-        (made : Clock) → StandsKept c old → KnownAt made old permits p c → AllFair mail played old new → KnownAt made new then q c
-    known_of q then known =
-        subst (λ (x : Meaning). (made : Clock) → StandsKept x old → KnownAt made old permits p x → AllFair mail played old new →
-        KnownAt made new then q x) same known
 
 -- The first mailboxes stay resynchronised over a call of the link, which records nothing.
 module _ (c : Meaning) (old new : Clock) (p q : Player) (start : Clock) (more : Grows old new) (resynced : q.resynced ≡ p.resynced) where

@@ -65,10 +65,6 @@ module _ (b c : Meaning) (later : IsLater b c) where
   renewed_later : (s : Server) → NoneRenewed b s → NoneRenewed c s
   renewed_later s none = record { targets = λ i q there open_still. action_stood s none i q there open_still }
 
--- the same book
-pub renewed_back : (b c : Meaning) (same : b ≡ c) (s : Server) → NoneRenewed c s → NoneRenewed b s
-renewed_back b c same s none = subst (λ (x : Meaning). NoneRenewed x s) (sym same) none
-
 -- over a time
 pub renewed_on : (b c : Meaning) (k l : Clock) → Since Any TalkStep k l → IsLater b c → NoneRenewed b k.now.outside.server →
     NoneRenewed c l.now.outside.server

@@ -34,3 +34,4 @@ pub mod Surely
 pub mod Rests
 pub mod TakesTurn
 pub mod Gathering
+pub mod Enters

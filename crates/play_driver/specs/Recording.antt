@@ -1,24 +1,17 @@
 -- How an event of playback is recorded, and why it isn't (this client's profile of RFC 4549, section 4.2).
-use Rattle.std.specs.Prelude.{◌≡◌, ◌<◌, ◌+◌, length, Some}
+use Rattle.std.specs.Prelude.{◌≡◌, ◌<◌, ◌+◌, length}
 use Rattle.mail_base.specs.Bodies.{frame_of}
 use Rattle.imap_model.specs.declared.limit.Limit.TheVariants as limits
 use Rattle.action_queue.specs.Book.{after}
 use Rattle.action_queue.specs.declared.event.Event.{Event}
 use Rattle.action_queue.specs.declared.event.Event.TheVariants as events
 use Rattle.record_codec.specs.Bodies.{body_of}
-use Rattle.world_traits.specs.Moments.{Clock}
 use Rattle.journal_core.specs.Appending.{told_end}
 use Rattle.store_core.specs.Holding.{Holding}
-use Rattle.store_core.specs.Mail.{mail, MayCome}
+use Rattle.store_core.specs.Mail.{mail}
 use Rattle.store_core.specs.Room.{end_after, limit_of}
-use Rattle.store_core.specs.Taking.{Takes}
 use Rattle.play_driver.specs.declared.fault.PlayFault.{PlayFault}
 use Rattle.play_driver.specs.declared.fault.PlayFault.TheVariants as faults
-
--- an event that may come next is recorded
-pub record IsRecordedIn (store : Holding mail) (event : Event) (old new : Clock) : Type 0 where
-  pub may : MayCome store.journal.version (Some store.book) event
-  pub takes : Takes mail (Some store.book) event old new
 
 -- a store with one record more: its journal stands behind that of this event, and its book has it
 abbrev pub recorded : Holding mail → Event → Holding mail

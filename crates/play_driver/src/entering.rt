@@ -2,17 +2,14 @@
 
 ghost use Rattle.std.specs.Prelude.{◌≤◌, ℕ, List, None, IfOk, IsErrOf, OnOk};
 ghost use Rattle.imap_model.specs.declared.item.Item.{Item};
-ghost use Rattle.world_traits.specs.Links.{Linked, LinkStep, AnyStep};
-ghost use Rattle.imap_session.specs.Enquiring.{Enquiring};
 ghost use Rattle.imap_session.specs.Session.{Follows, Stands};
 ghost use Rattle.imap_session.specs.declared.fault.SessionFault.{SessionFault};
 ghost use Rattle.imap_session.specs.declared.fault.SessionFault.TheVariants as faults;
-ghost use Rattle.play_driver.specs.Entering.{HasEntered, NotEntered, OpensFrom};
-ghost use Rattle.play_driver.specs.Questioning.{ConnectsFirst, Questioning};
+ghost use Rattle.play_driver.specs.Entering.{HasEntered, OpensFrom};
 ghost use Rattle.play_driver.specs.Serving.{AllServing};
 ghost use Rattle.play_driver.specs.Stages.{stage_of};
 ghost use Rattle.play_driver.specs.declared.session.Session.TheVariants as sessions;
-ghost use Rattle.imap_session.specs.Blame.{Blames};
+ghost use Rattle.play_driver.specs.Enters.{Enters};
 
 use imap_session::{Fresh, Ready, SessionFault};
 use mail_base::Account;
@@ -26,23 +23,21 @@ pub(crate) fn enter<L: Link>(
     link: &mut L,
     account: &Account,
 ) -> Result<Ready, SessionFault>
-    ensures files { L.tells_files → Linked AnyStep (L.clock link.old) (L.clock link.new) }
-    ensures told { L.tells_server → Linked Enquiring (L.clock link.old) (L.clock link.new) }
-    ensures once { L.tells_server → ConnectsFirst (LinkStep Questioning) (L.clock link.old) (L.clock link.new) }
-    ensures opened { L.tells_server → OnOk result (OpensFrom (L.clock link.old) (L.clock link.new)) }
-    ensures entered { L.tells_files → IfOk result (λ s. HasEntered account.now (stage_of (L.link link.new) (sessions.Ready s))) }
-    ensures stands { L.tells_server
-        → IfOk result (λ s. Stands None (L.clock link.new) (L.link link.new).connection s.conversation.feed) }
-    ensures still { L.tells_files → IfOk result (λ s. Follows (L.link link.new).connection s.conversation.feed) }
+    ensures enters { Enters L.Clocked account.now link.old link.new result }
+    ensures opened { L.tells_server
+        → OnOk result (OpensFrom (L.clock link.old) (L.clock link.new)) }
+    ensures entered { L.tells_files → IfOk result (λ s. HasEntered account.now
+        (stage_of (L.link link.new) (sessions.Ready s))) }
+    ensures stands { L.tells_server → IfOk result (λ s. Stands None
+        (L.clock link.new) (L.link link.new).connection s.conversation.feed) }
+    ensures still { L.tells_files
+        → IfOk result (λ s. Follows (L.link link.new).connection s.conversation.feed) }
     ensures counted { IfOk result (λ s. s.conversation.count ≤ 4) }
-    ensures why { L.tells_files → (fault : SessionFault) → IsErrOf result fault
-        → NotEntered account.now (L.link link.old) (L.link link.new) fault }
-    ensures honest { L.tells_server → (at : ℕ) → IsErrOf result (faults.BadReply at) → ⊥ }
 
     // Where the server serves, it neither refuses nor lacks a thing.
     ensures serves { L.tells_server → AllServing (L.clock link.old) (L.clock link.new)
-        → ((line : List ℕ) → IsErrOf result (faults.Refused line) → ⊥) × ((item : Item) → IsErrOf result (faults.Lacking item) → ⊥) }
-    ensures blames { Blames L.Clocked link.old link.new result }
+        → ((line : List ℕ) → IsErrOf result (faults.Refused line) → ⊥)
+        × ((item : Item) → IsErrOf result (faults.Lacking item) → ⊥) }
 {
     let fresh = Fresh::connect(alloc, link)?;
     let greeted = fresh.greet(link)?;

@@ -57,15 +57,18 @@ pub fn play<W: World>(
 ) -> Result<Played, PlayFault>
     requires fold { IsFold store.old.book }
     requires sound { IsTrue store.old.journal.failed → ⊥ }
-    requires left { W.tells_files → IsAsLeft mail store.old (W.clock world.old).now (W.seen world.old) }
+    requires left { W.tells_files
+        → IsAsLeft mail store.old (W.clock world.old).now (W.seen world.old) }
 
     // At every moment a stop leaves the book that was, or one further on: no action is forgotten, nor how one ended. Where the book is
     // kept at entry and others are fair, each moment is kept and joined to the one before it by one step, so that no action takes effect
     // twice; and each intent and each conflict that is recorded has its reason.
     ensures goes_on { RunGoesOn W.Clocked world.old world.new store.old.book }
-    ensures reasons { RunReasons W.Clocked world.old world.new store.old.book store.new.book result }
+    ensures reasons { RunReasons W.Clocked world.old world.new
+        store.old.book store.new.book result }
     ensures surely { W.tells_server → IsKept mail Kept (W.clock world.old).now
-        → AllFair mail played (W.clock world.old) (W.clock world.new) → EndSurely store.old.book store.new.book }
+        → AllFair mail played (W.clock world.old) (W.clock world.new)
+        → EndSurely store.old.book store.new.book }
     ensures stored { Stored W.Clocked world.new (W.seen world.new) store.old.book store.new result }
 
     // After Ok each action has an outcome, and each mailbox of the book has a cache that is the server's as it answered for its rows in
@@ -77,7 +80,8 @@ pub fn play<W: World>(
     ensures played { IfOk result (λ p. p ≡ played_since store.old.book store.new.book) }
 
     // What was sent and received, over one connection, and what was recorded of it, by few enough SELECTs; or why it ended early.
-    ensures plays { W.tells_files → OnOk result (Plays account.now store.old store.new (W.link world.new)) }
+    ensures plays { W.tells_files
+        → OnOk result (Plays account.now store.old store.new (W.link world.new)) }
     ensures why { W.tells_files → (fault : PlayFault) → IsErrOf result fault
         → EndsEarly account.now store.old store.new (W.link world.old) (W.link world.new) fault }
     ensures accuses { Accuses W.Clocked world.old world.new result }
@@ -113,16 +117,21 @@ fn play_on<W: World>(
     requires rests { Rests W.Clocked world.old player.old store.old.book session }
     requires room { count_of session + 2 * left player.old store.old.book + 3 < 4294967295 }
     requires sound { IsTrue store.old.journal.failed → ⊥ }
-    requires left { W.tells_files → IsAsLeft mail store.old (W.clock world.old).now (W.seen world.old) }
+    requires left { W.tells_files
+        → IsAsLeft mail store.old (W.clock world.old).now (W.seen world.old) }
     ensures goes_on { GoesOn W.Clocked world.old world.new session player.old player.new
         store.old.book store.new.book result }
-    ensures synced { (made : Clock) → KnownAt made (W.clock world.old) (permits_in session) player.old store.old.book
-        → SyncsOn W.Clocked world.old world.new player.old player.new store.old.book store.new.book result }
-    ensures reasons { Reasons W.Clocked (AllFair mail played (W.clock world.old) (W.clock world.new))
+    ensures synced { (made : Clock)
+        → KnownAt made (W.clock world.old) (permits_in session) player.old store.old.book
+        → SyncsOn W.Clocked world.old world.new player.old player.new
+        store.old.book store.new.book result }
+    ensures reasons { Reasons W.Clocked
+        (AllFair mail played (W.clock world.old) (W.clock world.new))
         world.old world.new session player.old store.old.book store.new.book result }
     ensures runs { RunsOn W.Clocked world.old world.new session player.old player.new
         store.old store.new result }
-    ensures excuses { Excuses W.Clocked world.old world.new session player.old store.old.book result }
+    ensures excuses { Excuses W.Clocked world.old world.new session player.old
+        store.old.book result }
     ensures accuses { Accuses W.Clocked world.old world.new result }
     ensures rests { IfOk result (Rests W.Clocked world.new player.new store.new.book) }
     ensures stored { Stored W.Clocked world.new (W.seen world.new) store.old.book store.new result }

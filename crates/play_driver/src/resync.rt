@@ -49,7 +49,8 @@ pub fn resynchronise<L: Link>(
         → (h : Hears heard (L.link link.old).connection (feed_of session))
         → IfOk result (λ p. DeltaCame (count_of session) p.0.conversation.count
         name.now (option_copied kept.entry) p.1 p.0.permits
-        (L.link link.old).sent h.connection.received heard (L.link link.new) p.0.conversation.feed) }
+        (L.link link.old).sent h.connection.received heard
+        (L.link link.new) p.0.conversation.feed) }
     ensures learnable { IfOk result (λ p. IfOk p.1 (IsLearnable (option_copied kept.entry))) }
 
     // How the connection stands then.

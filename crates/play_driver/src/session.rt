@@ -38,9 +38,10 @@ impl Session {
         ensures talks { Talks L.Clocked (next_tag (count_of self)) (commands.Select name.now since)
             link.old link.new result }
         ensures replied { IfOk result (λ p. HasReply L.Clocked (next_tag (count_of self))
-            (commands.Select name.now since) link.old link.new (feed_of self) p.0.conversation.feed p.1) }
-        ensures fails { FailsFor L.Clocked (next_tag (count_of self)) (commands.Select name.now since)
-            link.old link.new (feed_of self) result }
+            (commands.Select name.now since) link.old link.new
+            (feed_of self) p.0.conversation.feed p.1) }
+        ensures fails { FailsFor L.Clocked (next_tag (count_of self))
+            (commands.Select name.now since) link.old link.new (feed_of self) result }
         ensures stands { L.tells_server → IfOk result (λ p. Stands (Some name.now)
             (L.clock link.new) (L.link link.new).connection p.0.conversation.feed) }
         ensures still { L.tells_files

@@ -3,7 +3,6 @@
 ghost use Rattle.std.specs.Prelude.{◌≡◌, ◌≢◌, ◌<◌, ◌+◌, IfOk, IsTrue, is_some, true};
 ghost use Rattle.action_queue.specs.declared.event.Event.{Event};
 ghost use Rattle.imap_session.specs.Dialogue.{next_tag};
-ghost use Rattle.playback.specs.Allowed.{Records};
 ghost use Rattle.playback.specs.Left.{left};
 ghost use Rattle.playback.specs.Needs.{need_of};
 ghost use Rattle.playback.specs.declared.need.Need.TheVariants as needs;
@@ -11,10 +10,8 @@ ghost use Rattle.store_core.specs.Fold.{IsFold};
 ghost use Rattle.store_core.specs.Holding.{IsAsLeft};
 ghost use Rattle.store_core.specs.Mail.{mail};
 ghost use Rattle.play_driver.specs.Sessions.{count_of, selected_in};
-ghost use Rattle.play_driver.specs.Turning.{IsAskedFor};
 ghost use Rattle.play_driver.specs.declared.fault.PlayFault.{PlayFault};
-ghost use Rattle.play_driver.specs.declared.session.Session.TheVariants as sessions;
-ghost use Rattle.play_driver.specs.Accuses.{Accuses, AccusesLink};
+ghost use Rattle.play_driver.specs.Accuses.{Accuses};
 ghost use Rattle.play_driver.specs.GoesOn.{GoesOn, SyncsOn};
 ghost use Rattle.play_driver.specs.Reasons.{Reasons};
 ghost use Rattle.play_driver.specs.Rests.{Rests, Stored};
@@ -51,7 +48,8 @@ pub(crate) fn turn<W: World>(
     requires rests { Rests W.Clocked world.old player.old store.old.book session }
     requires room { count_of session + 2 < 4294967295 }
     requires sound { IsTrue store.old.journal.failed → ⊥ }
-    requires left { W.tells_files → IsAsLeft mail store.old (W.clock world.old).now (W.seen world.old) }
+    requires left { W.tells_files
+        → IsAsLeft mail store.old (W.clock world.old).now (W.seen world.old) }
 
     // At every moment a stop leaves the book that was, or one further on; and what is recorded has its reason.
     ensures goes_on { GoesOn W.Clocked world.old world.new session player.old player.new
@@ -64,7 +62,8 @@ pub(crate) fn turn<W: World>(
     // What was done, or why not, on the bytes sent and received.
     ensures takes { TakesTurn W.Clocked world.old world.new session player.old player.new
         store.old store.new result }
-    ensures excuses { Excuses W.Clocked world.old world.new session player.old store.old.book result }
+    ensures excuses { Excuses W.Clocked world.old world.new session player.old
+        store.old.book result }
     ensures accuses { Accuses W.Clocked world.old world.new result }
 
     // How store and connection stand then.
@@ -72,21 +71,17 @@ pub(crate) fn turn<W: World>(
     ensures stored { Stored W.Clocked world.new (W.seen world.new) store.old.book store.new result }
 {
     match need {
-        Need::Select(name) => turn_selects(alloc, session, store, player, world, &name),
+        Need::Select(name) => select(alloc, session, store, player, world, &name),
         Need::Ask(command) => {
             let tag = next_tag_in(&session);
-            turn_asks(session, store, player, world, tag, &command)
+            ask(session, store, player, world, tag, &command)
         }
-        Need::Commit(event) => turn_records(alloc, session, store, player, world, event),
-        Need::Settle(id, outcome) => turn_records(
-            alloc,
-            session,
-            store,
-            player,
-            world,
-            Event::Settle { id, outcome },
-        ),
-        Need::Send(id, command) => turn_asks(
+        Need::Commit(event) => record(alloc, session, store, player, world, event),
+        Need::Settle(id, outcome) => {
+            let event = Event::Settle { id, outcome };
+            record(alloc, session, store, player, world, event)
+        }
+        Need::Send(id, command) => ask(
             session,
             store,
             player,
@@ -98,101 +93,6 @@ pub(crate) fn turn<W: World>(
     }
 }
 
-// A mailbox is resynchronised. Its clauses are those of `turn`.
-fn turn_selects<W: World>(
-    alloc: Global,
-    session: Session,
-    store: &Store,
-    player: &mut Player,
-    world: &mut W,
-    name: &BoxName,
-) -> Result<Session, PlayFault>
-    requires needed { need_of player.old store.now.book ≡ needs.Select name.now }
-    requires fold { IsFold store.now.book }
-    requires rests { Rests W.Clocked world.old player.old store.now.book session }
-    requires room { count_of session + 2 < 4294967295 }
-    requires left { W.tells_files → IsAsLeft mail store.now (W.clock world.old).now (W.seen world.old) }
-    ensures goes_on { GoesOn W.Clocked world.old world.new session player.old player.new
-        store.now.book store.now.book result }
-    ensures synced { SyncsOn W.Clocked world.old world.new player.old player.new
-        store.now.book store.now.book result }
-    ensures reasons { Reasons W.Clocked (Unit {0}) world.old world.new session player.old
-        store.now.book store.now.book result }
-    ensures takes { TakesTurn W.Clocked world.old world.new session player.old player.new
-        store.now store.now result }
-    ensures excuses { Excuses W.Clocked world.old world.new session player.old store.now.book result }
-    ensures accuses { AccusesLink W.Clocked world.old world.new result }
-    ensures rests { IfOk result (Rests W.Clocked world.new player.new store.now.book) }
-    ensures left { W.tells_files → IsAsLeft mail store.now (W.clock world.new).now (W.seen world.new) }
-{
-    let chosen = select(alloc, session, player, store.book(), world, name)?;
-    Ok(Session::Chosen(chosen))
-}
-
-// A question, or the command of an action, is asked. Its clauses are those of `turn`.
-fn turn_asks<W: World>(
-    session: Session,
-    store: &Store,
-    player: &mut Player,
-    world: &mut W,
-    tag: Tag,
-    command: &Command,
-) -> Result<Session, PlayFault>
-    requires needed { IsAskedFor (need_of player.old store.now.book) (count_of session) tag command.now }
-    requires fold { IsFold store.now.book }
-    requires rests { Rests W.Clocked world.old player.old store.now.book session }
-    requires room { count_of session + 2 < 4294967295 }
-    requires left { W.tells_files → IsAsLeft mail store.now (W.clock world.old).now (W.seen world.old) }
-    ensures goes_on { GoesOn W.Clocked world.old world.new session player.old player.new
-        store.now.book store.now.book result }
-    ensures synced { SyncsOn W.Clocked world.old world.new player.old player.new
-        store.now.book store.now.book result }
-    ensures reasons { Reasons W.Clocked (Unit {0}) world.old world.new session player.old
-        store.now.book store.now.book result }
-    ensures takes { TakesTurn W.Clocked world.old world.new session player.old player.new
-        store.now store.now result }
-    ensures excuses { Excuses W.Clocked world.old world.new session player.old store.now.book result }
-    ensures accuses { AccusesLink W.Clocked world.old world.new result }
-    ensures rests { IfOk result (Rests W.Clocked world.new player.new store.now.book) }
-    ensures left { W.tells_files → IsAsLeft mail store.now (W.clock world.new).now (W.seen world.new) }
-{
-    let chosen = chosen_in(session);
-    let chosen = ask(player, store.book(), chosen, world, tag, command)?;
-    Ok(Session::Chosen(chosen))
-}
-
-// An event is recorded. Its clauses are those of `turn`.
-fn turn_records<W: World>(
-    alloc: Global,
-    session: Session,
-    store: &mut Store,
-    player: &mut Player,
-    world: &mut W,
-    event: Event,
-) -> Result<Session, PlayFault>
-    requires needed { Records (need_of player.old store.old.book) event }
-    requires fold { IsFold store.old.book }
-    requires rests { Rests W.Clocked world.old player.old store.old.book session }
-    requires room { count_of session + 2 < 4294967295 }
-    requires sound { IsTrue store.old.journal.failed → ⊥ }
-    requires left { W.tells_files → IsAsLeft mail store.old (W.clock world.old).now (W.seen world.old) }
-    ensures goes_on { GoesOn W.Clocked world.old world.new session player.old player.new
-        store.old.book store.new.book result }
-    ensures synced { SyncsOn W.Clocked world.old world.new player.old player.new
-        store.old.book store.new.book result }
-    ensures reasons { Reasons W.Clocked (Unit {0}) world.old world.new session player.old
-        store.old.book store.new.book result }
-    ensures takes { TakesTurn W.Clocked world.old world.new session player.old player.new
-        store.old store.new result }
-    ensures excuses { Excuses W.Clocked world.old world.new session player.old store.old.book result }
-    ensures accuses { Accuses W.Clocked world.old world.new result }
-    ensures rests { IfOk result (Rests W.Clocked world.new player.new store.new.book) }
-    ensures stored { Stored W.Clocked world.new (W.seen world.new) store.old.book store.new result }
-{
-    record(alloc, store, player, world, event)?;
-    Ok(session)
-}
-
 // The tag of the session's next question.
 fn next_tag_in(session: &Session) -> Tag
     requires { is_some (selected_in session.now) ≡ true }
@@ -201,16 +101,5 @@ fn next_tag_in(session: &Session) -> Tag
     match session {
         Session::Ready(_) => unreachable!(),
         Session::Chosen(chosen) => chosen.next_tag(),
-    }
-}
-
-// The session in which a mailbox is selected.
-fn chosen_in(session: Session) -> Chosen
-    requires { is_some (selected_in session) ≡ true }
-    ensures { session ≡ sessions.Chosen result }
-{
-    match session {
-        Session::Ready(_) => unreachable!(),
-        Session::Chosen(chosen) => chosen,
     }
 }

@@ -23,15 +23,16 @@ use Rattle.play_driver.proofs.Faulting.{at_err}
 use Rattle.play_driver.proofs.Opened.{in_any, opens_from}
 use Rattle.play_driver.proofs.entering.enter.Goals as goal
 
-pub returns-in_err-fresh-clause-told : goal.returns-in_err-fresh-clause-told
-returns-in_err-fresh-clause-told g c = λ t. connects_enquires _ _ (c.connect.ensures.told t)
-
-pub returns-in_err-fresh-clause-once : goal.returns-in_err-fresh-clause-once
-returns-in_err-fresh-clause-once g c = λ t. connects_first (LinkStep Questioning) _ _ (c.connect.ensures.told t)
-
-pub returns-in_err-fresh-clause-why : goal.returns-in_err-fresh-clause-why
-returns-in_err-fresh-clause-why g c = λ t fault is.
-    unconnected (c.connect.ensures.only fault (search rules)) (at_err c.connect.result fault _ (search rules) (c.connect.ensures.unsent t))
+pub returns-in_err-fresh-clause-enters : goal.returns-in_err-fresh-clause-enters
+returns-in_err-fresh-clause-enters g c = record {
+  files = search rules;
+  told = λ t. connects_enquires _ _ (c.connect.ensures.told t);
+  once = λ t. connects_first (LinkStep Questioning) _ _ (c.connect.ensures.told t);
+  why = λ t fault is.
+      unconnected (c.connect.ensures.only fault (search rules)) (at_err c.connect.result fault _ (search rules) (c.connect.ensures.unsent t));
+  honest = search rules;
+  blames = search rules;
+}
 
 pub returns-in_err-fresh-clause-serves : goal.returns-in_err-fresh-clause-serves
 returns-in_err-fresh-clause-serves g c = λ t serving. (
@@ -39,60 +40,56 @@ returns-in_err-fresh-clause-serves g c = λ t serving. (
   λ item is. link_lacks item (c.connect.ensures.only (faults.Lacking item) (search rules)),
 )
 
-pub returns-in_err-greeted-clause-files : goal.returns-in_err-greeted-clause-files
-returns-in_err-greeted-clause-files g c = λ t. linked_then AnyStep _ _ _ (c.connect.ensures.files t) (c.greet.ensures.receives.files t)
-
-pub returns-in_err-greeted-clause-told : goal.returns-in_err-greeted-clause-told
-returns-in_err-greeted-clause-told g c = λ t.
-    linked_then Enquiring _ _ _ (connects_enquires _ _ (c.connect.ensures.told t)) (answers_enquires _ _ (c.greet.ensures.receives.told t))
-
-pub returns-in_err-greeted-clause-once : goal.returns-in_err-greeted-clause-once
-returns-in_err-greeted-clause-once g c = λ t.
-    goes_behind (LinkStep Questioning) _ _ _ (connects_first (LinkStep Questioning) _ _ (c.connect.ensures.told t))
-    (answers_over _ _ (c.greet.ensures.receives.told t))
-
-pub returns-in_err-greeted-clause-why : goal.returns-in_err-greeted-clause-why
-returns-in_err-greeted-clause-why g c = λ t fault is.
-    ungreeted (c.greet.ensures.why t fault (search rules)) (c.greet.ensures.receives.sent t ∙ c.in_ok-fresh.ensures.sent t)
+pub returns-in_err-greeted-clause-enters : goal.returns-in_err-greeted-clause-enters
+returns-in_err-greeted-clause-enters g c = record {
+  files = λ t. linked_then AnyStep _ _ _ (c.connect.ensures.files t) (c.greet.ensures.receives.files t);
+  told = λ t.
+      linked_then Enquiring _ _ _ (connects_enquires _ _ (c.connect.ensures.told t)) (answers_enquires _ _ (c.greet.ensures.receives.told t));
+  once = λ t.
+      goes_behind (LinkStep Questioning) _ _ _ (connects_first (LinkStep Questioning) _ _ (c.connect.ensures.told t))
+      (answers_over _ _ (c.greet.ensures.receives.told t));
+  why = λ t fault is.
+      ungreeted (c.greet.ensures.why t fault (search rules)) (c.greet.ensures.receives.sent t ∙ c.in_ok-fresh.ensures.sent t);
+  honest = search rules;
+  blames = search rules;
+}
 
 pub returns-in_err-greeted-clause-serves : goal.returns-in_err-greeted-clause-serves
 returns-in_err-greeted-clause-serves g c = λ t serving.
     let f = g.L.Clocked.server_with_files t in
-    let served = served_end _ _ (enters_talking _ _ (returns-in_err-greeted-clause-once g c t)) serving in (
+    let served = served_end _ _ (enters_talking _ _ ((returns-in_err-greeted-clause-enters g c).once t)) serving in (
       λ line is.
-          let why = returns-in_err-greeted-clause-why g c f (faults.Refused line) is in
+          let why = (returns-in_err-greeted-clause-enters g c).why f (faults.Refused line) is in
           never_told RefusesRun _ served.told (entry_told _ _ _ line _ why (g.met.L.Link.honest c.greet.new.link t)),
       λ item is. greeting_lacks _ item (c.greet.ensures.why f (faults.Lacking item) (search rules)),
     )
 
-pub returns-in_err-known-clause-files : goal.returns-in_err-known-clause-files
-returns-in_err-known-clause-files g c = λ t.
-    linked_then AnyStep _ _ _ (linked_then AnyStep _ _ _ (c.connect.ensures.files t) (c.greet.ensures.receives.files t)) (c.authenticate.ensures.converses.files t)
-
-pub returns-in_err-known-clause-told : goal.returns-in_err-known-clause-told
-returns-in_err-known-clause-told g c = λ t.
-    let first = linked_then Enquiring _ _ _ (connects_enquires _ _ (c.connect.ensures.told t)) (answers_enquires _ _ (c.greet.ensures.receives.told t)) in
-    entering_told _ _ _ first (g.L.Clocked.link c.greet.new.link) (g.L.Clocked.link c.authenticate.new.link) c.in_ok-greeted.greeted.conversation.count
-    c.in_ok-greeted.greeted.preauth c.args.account.now (c.authenticate.ensures.converses.told t)
-
-pub returns-in_err-known-clause-once : goal.returns-in_err-known-clause-once
-returns-in_err-known-clause-once g c = λ t.
-    let first =
-    goes_behind (LinkStep Questioning) _ _ _ (connects_first (LinkStep Questioning) _ _ (c.connect.ensures.told t))
-    (answers_over _ _ (c.greet.ensures.receives.told t)) in
-    entering_over _ _ _ first (g.L.Clocked.link c.greet.new.link) (g.L.Clocked.link c.authenticate.new.link) c.in_ok-greeted.greeted.conversation.count
-    c.in_ok-greeted.greeted.preauth c.args.account.now (c.authenticate.ensures.converses.told t)
-
-pub returns-in_err-known-clause-why : goal.returns-in_err-known-clause-why
-returns-in_err-known-clause-why g c = λ t fault is.
-    let greeted = c.in_ok-greeted.greeted in
-    let p : Stage = record { link = g.L.Clocked.link c.greet.new.link; feed = greeted.conversation.feed; count = greeted.conversation.count } in
-    unknown_so c.args.account.now (g.L.Clocked.link c.args.link.now) greeted.preauth p
-    (record {
-      unasked = c.in_ok-greeted.ensures.counted ∙ c.in_ok-fresh.ensures.counted;
-      unsent = c.greet.ensures.receives.sent t ∙ c.in_ok-fresh.ensures.sent t;
-      greets = c.in_ok-greeted.ensures.greeting t;
-    }) (c.in_ok-greeted.ensures.still t) c.authenticate.result (g.L.Clocked.link c.authenticate.new.link) (c.authenticate.ensures.converses.why t) fault (search rules)
+pub returns-in_err-known-clause-enters : goal.returns-in_err-known-clause-enters
+returns-in_err-known-clause-enters g c = record {
+  files = λ t.
+      linked_then AnyStep _ _ _ (linked_then AnyStep _ _ _ (c.connect.ensures.files t) (c.greet.ensures.receives.files t)) (c.authenticate.ensures.converses.files t);
+  told = λ t.
+      let first = linked_then Enquiring _ _ _ (connects_enquires _ _ (c.connect.ensures.told t)) (answers_enquires _ _ (c.greet.ensures.receives.told t)) in
+      entering_told _ _ _ first (g.L.Clocked.link c.greet.new.link) (g.L.Clocked.link c.authenticate.new.link) c.in_ok-greeted.greeted.conversation.count
+      c.in_ok-greeted.greeted.preauth c.args.account.now (c.authenticate.ensures.converses.told t);
+  once = λ t.
+      let first =
+      goes_behind (LinkStep Questioning) _ _ _ (connects_first (LinkStep Questioning) _ _ (c.connect.ensures.told t))
+      (answers_over _ _ (c.greet.ensures.receives.told t)) in
+      entering_over _ _ _ first (g.L.Clocked.link c.greet.new.link) (g.L.Clocked.link c.authenticate.new.link) c.in_ok-greeted.greeted.conversation.count
+      c.in_ok-greeted.greeted.preauth c.args.account.now (c.authenticate.ensures.converses.told t);
+  why = λ t fault is.
+      let greeted = c.in_ok-greeted.greeted in
+      let p : Stage = record { link = g.L.Clocked.link c.greet.new.link; feed = greeted.conversation.feed; count = greeted.conversation.count } in
+      unknown_so c.args.account.now (g.L.Clocked.link c.args.link.now) greeted.preauth p
+      (record {
+        unasked = c.in_ok-greeted.ensures.counted ∙ c.in_ok-fresh.ensures.counted;
+        unsent = c.greet.ensures.receives.sent t ∙ c.in_ok-fresh.ensures.sent t;
+        greets = c.in_ok-greeted.ensures.greeting t;
+      }) (c.in_ok-greeted.ensures.still t) c.authenticate.result (g.L.Clocked.link c.authenticate.new.link) (c.authenticate.ensures.converses.why t) fault (search rules);
+  honest = search rules;
+  blames = search rules;
+}
 
 pub returns-in_err-known-clause-serves : goal.returns-in_err-known-clause-serves
 returns-in_err-known-clause-serves g c = λ t serving.
@@ -101,9 +98,9 @@ returns-in_err-known-clause-serves g c = λ t serving.
     let d = entering greeted.preauth c.args.account.now in
     let at = so_far (g.L.Clocked.clock c.greet.new.link) (g.L.Clocked.link c.greet.new.link) in
     let new = so_far (g.L.Clocked.clock c.authenticate.new.link) (g.L.Clocked.link c.authenticate.new.link) in
-    let served = served_end _ _ (enters_talking _ _ (returns-in_err-known-clause-once g c t)) serving in (
+    let served = served_end _ _ (enters_talking _ _ ((returns-in_err-known-clause-enters g c).once t)) serving in (
       λ line is.
-          let why = returns-in_err-known-clause-why g c f (faults.Refused line) is in
+          let why = (returns-in_err-known-clause-enters g c).why f (faults.Refused line) is in
           never_told RefusesRun _ served.told (entry_told _ _ _ line _ why (g.met.L.Link.honest c.authenticate.new.link t)),
       λ item is. lacks_behind _ _ (c.connect.ensures.told t) (c.in_ok-fresh.ensures.greeted t) at new greeted.preauth d
           (entering_asks greeted.preauth c.args.account.now) (entering_remains greeted.preauth c.args.account.now) greeted.conversation.count item
@@ -116,30 +113,42 @@ returns-in_err-known-clause-serves g c = λ t serving.
 pub enable-requires-clause-room : goal.enable-requires-clause-room
 enable-requires-clause-room g c = omega (arith, c.in_ok-known.ensures.counted, c.in_ok-greeted.ensures.counted, c.in_ok-fresh.ensures.counted)
 
-pub returns-clause-files : goal.returns-clause-files
-returns-clause-files g c = λ t.
-    let first = linked_then AnyStep _ _ _ (c.connect.ensures.files t) (c.greet.ensures.receives.files t) in
-    linked_then AnyStep _ _ _ (linked_then AnyStep _ _ _ first (c.authenticate.ensures.converses.files t)) (c.enable.ensures.converses.files t)
-
-pub returns-clause-told : goal.returns-clause-told
-returns-clause-told g c = λ t.
-    let first = linked_then Enquiring _ _ _ (connects_enquires _ _ (c.connect.ensures.told t)) (answers_enquires _ _ (c.greet.ensures.receives.told t)) in
-    let second =
-    entering_told _ _ _ first (g.L.Clocked.link c.greet.new.link) (g.L.Clocked.link c.authenticate.new.link) c.in_ok-greeted.greeted.conversation.count
-    c.in_ok-greeted.greeted.preauth c.args.account.now (c.authenticate.ensures.converses.told t) in
-    enabling_told _ _ _ second (g.L.Clocked.link c.authenticate.new.link) (g.L.Clocked.link c.enable.new.link) c.in_ok-known.known.conversation.count
-    c.in_ok-known.known.rev2 (c.enable.ensures.converses.told t)
-
-pub returns-clause-once : goal.returns-clause-once
-returns-clause-once g c = λ t.
-    let first =
-    goes_behind (LinkStep Questioning) _ _ _ (connects_first (LinkStep Questioning) _ _ (c.connect.ensures.told t))
-    (answers_over _ _ (c.greet.ensures.receives.told t)) in
-    let second =
-    entering_over _ _ _ first (g.L.Clocked.link c.greet.new.link) (g.L.Clocked.link c.authenticate.new.link) c.in_ok-greeted.greeted.conversation.count
-    c.in_ok-greeted.greeted.preauth c.args.account.now (c.authenticate.ensures.converses.told t) in
-    enabling_over _ _ _ second (g.L.Clocked.link c.authenticate.new.link) (g.L.Clocked.link c.enable.new.link) c.in_ok-known.known.conversation.count
-    c.in_ok-known.known.rev2 (c.enable.ensures.converses.told t)
+pub returns-clause-enters : goal.returns-clause-enters
+returns-clause-enters g c = record {
+  files = λ t.
+      let first = linked_then AnyStep _ _ _ (c.connect.ensures.files t) (c.greet.ensures.receives.files t) in
+      linked_then AnyStep _ _ _ (linked_then AnyStep _ _ _ first (c.authenticate.ensures.converses.files t)) (c.enable.ensures.converses.files t);
+  told = λ t.
+      let first = linked_then Enquiring _ _ _ (connects_enquires _ _ (c.connect.ensures.told t)) (answers_enquires _ _ (c.greet.ensures.receives.told t)) in
+      let second =
+      entering_told _ _ _ first (g.L.Clocked.link c.greet.new.link) (g.L.Clocked.link c.authenticate.new.link) c.in_ok-greeted.greeted.conversation.count
+      c.in_ok-greeted.greeted.preauth c.args.account.now (c.authenticate.ensures.converses.told t) in
+      enabling_told _ _ _ second (g.L.Clocked.link c.authenticate.new.link) (g.L.Clocked.link c.enable.new.link) c.in_ok-known.known.conversation.count
+      c.in_ok-known.known.rev2 (c.enable.ensures.converses.told t);
+  once = λ t.
+      let first =
+      goes_behind (LinkStep Questioning) _ _ _ (connects_first (LinkStep Questioning) _ _ (c.connect.ensures.told t))
+      (answers_over _ _ (c.greet.ensures.receives.told t)) in
+      let second =
+      entering_over _ _ _ first (g.L.Clocked.link c.greet.new.link) (g.L.Clocked.link c.authenticate.new.link) c.in_ok-greeted.greeted.conversation.count
+      c.in_ok-greeted.greeted.preauth c.args.account.now (c.authenticate.ensures.converses.told t) in
+      enabling_over _ _ _ second (g.L.Clocked.link c.authenticate.new.link) (g.L.Clocked.link c.enable.new.link) c.in_ok-known.known.conversation.count
+      c.in_ok-known.known.rev2 (c.enable.ensures.converses.told t);
+  why = λ t fault is.
+      let greeted = c.in_ok-greeted.greeted in
+      let known = c.in_ok-known.known in
+      let p : Stage = record { link = g.L.Clocked.link c.greet.new.link; feed = greeted.conversation.feed; count = greeted.conversation.count } in
+      let k : Stage = record { link = g.L.Clocked.link c.authenticate.new.link; feed = known.conversation.feed; count = known.conversation.count } in
+      unfit_so c.args.account.now (g.L.Clocked.link c.args.link.now) greeted.preauth p
+      (record {
+        unasked = c.in_ok-greeted.ensures.counted ∙ c.in_ok-fresh.ensures.counted;
+        unsent = c.greet.ensures.receives.sent t ∙ c.in_ok-fresh.ensures.sent t;
+        greets = c.in_ok-greeted.ensures.greeting t;
+      }) (c.in_ok-greeted.ensures.still t) known.rev2 k (c.in_ok-known.ensures.concludes.came t) (c.in_ok-known.ensures.still t) (g.L.Clocked.link c.enable.new.link)
+      c.enable.result (c.enable.ensures.converses.why t) fault is;
+  honest = search rules;
+  blames = search rules;
+}
 
 pub returns-clause-entered : goal.returns-clause-entered
 returns-clause-entered g c = λ t.
@@ -159,20 +168,6 @@ returns-clause-entered g c = λ t.
 
 pub returns-clause-stands : goal.returns-clause-stands
 returns-clause-stands g c = λ t. if_ok_more c.enable.result _ _ (λ s ends. ends.stands t) c.enable.ensures.concludes
-
-pub returns-clause-why : goal.returns-clause-why
-returns-clause-why g c = λ t fault is.
-    let greeted = c.in_ok-greeted.greeted in
-    let known = c.in_ok-known.known in
-    let p : Stage = record { link = g.L.Clocked.link c.greet.new.link; feed = greeted.conversation.feed; count = greeted.conversation.count } in
-    let k : Stage = record { link = g.L.Clocked.link c.authenticate.new.link; feed = known.conversation.feed; count = known.conversation.count } in
-    unfit_so c.args.account.now (g.L.Clocked.link c.args.link.now) greeted.preauth p
-    (record {
-      unasked = c.in_ok-greeted.ensures.counted ∙ c.in_ok-fresh.ensures.counted;
-      unsent = c.greet.ensures.receives.sent t ∙ c.in_ok-fresh.ensures.sent t;
-      greets = c.in_ok-greeted.ensures.greeting t;
-    }) (c.in_ok-greeted.ensures.still t) known.rev2 k (c.in_ok-known.ensures.concludes.came t) (c.in_ok-known.ensures.still t) (g.L.Clocked.link c.enable.new.link)
-    c.enable.result (c.enable.ensures.converses.why t) fault is
 
 pub returns-clause-opened : goal.returns-clause-opened
 returns-clause-opened g c = λ t.
@@ -195,9 +190,9 @@ returns-clause-serves g c = λ t serving.
     (entering_asks greeted.preauth c.args.account.now)
     (entering_remains greeted.preauth c.args.account.now) greeted.conversation.count (answers_over _ _ (c.greet.ensures.receives.told t))
     (c.authenticate.ensures.converses.told t) in
-    let served = served_end _ _ (enters_talking _ _ (returns-clause-once g c t)) serving in (
+    let served = served_end _ _ (enters_talking _ _ ((returns-clause-enters g c).once t)) serving in (
       λ line is.
-          let why = returns-clause-why g c f (faults.Refused line) is in
+          let why = (returns-clause-enters g c).why f (faults.Refused line) is in
           never_told RefusesRun _ served.told (entry_told _ _ _ line _ why (g.met.L.Link.honest c.enable.new.link t)),
       λ item is. lacks_behind _ _ (c.connect.ensures.told t) (c.in_ok-fresh.ensures.greeted t) mid new
           (begins_preauth (g.L.Clocked.clock c.authenticate.new.link).now.outside.talk.told) (enabling known.rev2) (enabling_asks known.rev2)

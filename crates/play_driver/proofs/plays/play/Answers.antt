@@ -27,14 +27,14 @@ use Rattle.play_driver.proofs.plays.play.Goals as goal
 pub returns-in_err-ready-clause-goes_on : goal.returns-in_err-ready-clause-goes_on
 returns-in_err-ready-clause-goes_on g c = record {
   progress = λ t. linked_progress c.args.store.now.book AnyStep _ _
-      (firm_left c.args.store.now (g.W.Clocked.clock c.args.world.now) _ (c.requires.left t)) (c.enter.ensures.files t);
+      (firm_left c.args.store.now (g.W.Clocked.clock c.args.world.now) _ (c.requires.left t)) (c.enter.ensures.enters.files t);
   joined = λ t kept.
       let f = g.W.Clocked.server_with_files t in
       questions_stay c.args.store.now.book _ _ (firm_left c.args.store.now (g.W.Clocked.clock c.args.world.now) _ (c.requires.left f))
-      (c.enter.ensures.told t) kept;
+      (c.enter.ensures.enters.told t) kept;
   each_one_side = λ t.
-      linked_sides AnyStep _ _ (rests_left c.args.store.now (g.W.Clocked.clock c.args.world.now) _ (c.requires.left t)) (c.enter.ensures.files t);
-  once = λ t. enters_run _ _ (c.enter.ensures.once t);
+      linked_sides AnyStep _ _ (rests_left c.args.store.now (g.W.Clocked.clock c.args.world.now) _ (c.requires.left t)) (c.enter.ensures.enters.files t);
+  once = λ t. enters_run _ _ (c.enter.ensures.enters.once t);
 }
 
 pub returns-in_err-ready-clause-reasons : goal.returns-in_err-ready-clause-reasons
@@ -42,7 +42,7 @@ returns-in_err-ready-clause-reasons g c = record {
   truly = λ t kept fair no_disk.
       let f = g.W.Clocked.server_with_files t in
       true_one c.args.store.now.book _ _ (firm_left c.args.store.now (g.W.Clocked.clock c.args.world.now) _ (c.requires.left f))
-      (c.enter.ensures.once t);
+      (c.enter.ensures.enters.once t);
   stopped = search rules;
   stopped_truly = search rules;
 }
@@ -56,7 +56,7 @@ pub returns-in_err-ready-clause-faultless : goal.returns-in_err-ready-clause-fau
 returns-in_err-ready-clause-faultless g c = λ t kept fair why is.
     let x = c.in_err-ready.field-0.0 in
     let bad = bad_at x why (told_as of_session c.from_residual.result x c.from_residual.ensures.1 (faults.BadReply why) is) in
-    c.enter.ensures.honest t bad.0 (c.in_err-ready.was ∙ ap (λ (f : SessionFault). Err f) bad.1)
+    c.enter.ensures.enters.honest t bad.0 (c.in_err-ready.was ∙ ap (λ (f : SessionFault). Err f) bad.1)
 
 pub returns-in_err-ready-clause-stored : goal.returns-in_err-ready-clause-stored
 returns-in_err-ready-clause-stored g c = record {
@@ -64,14 +64,14 @@ returns-in_err-ready-clause-stored g c = record {
   later = search rules;
   left = λ t no_disk.
       left_there mail AnyStep c.args.store.now (g.W.Clocked.clock c.args.world.now) (g.W.Clocked.clock c.enter.new.link) _ _ (c.requires.left t)
-      (c.enter.ensures.files t) (g.met.W.Disk.seen_is c.enter.new.link t);
+      (c.enter.ensures.enters.files t) (g.met.W.Disk.seen_is c.enter.new.link t);
   sound_still = search rules;
 }
 
 pub returns-in_err-ready-clause-why : goal.returns-in_err-ready-clause-why
 returns-in_err-ready-clause-why g c = λ t fault is.
     let x = c.in_err-ready.field-0.0 in
-    not_entered x (told_as of_session c.from_residual.result x c.from_residual.ensures.1 fault is) (c.enter.ensures.why t x c.in_err-ready.was) refl
+    not_entered x (told_as of_session c.from_residual.result x c.from_residual.ensures.1 fault is) (c.enter.ensures.enters.why t x c.in_err-ready.was) refl
 
 pub returns-in_err-ready-clause-complete : goal.returns-in_err-ready-clause-complete
 returns-in_err-ready-clause-complete g c = λ t kept fair serving renewed fault is.
@@ -79,7 +79,7 @@ returns-in_err-ready-clause-complete g c = λ t kept fair serving renewed fault 
     let serves = c.enter.ensures.serves t serving in
     comes_session x (λ line e. serves.0 line (c.in_err-ready.was ∙ ap (λ (f : SessionFault). Err f) e))
     (λ item e. serves.1 item (c.in_err-ready.was ∙ ap (λ (f : SessionFault). Err f) e))
-    (λ at e. c.enter.ensures.honest t at (c.in_err-ready.was ∙ ap (λ (f : SessionFault). Err f) e)) fault
+    (λ at e. c.enter.ensures.enters.honest t at (c.in_err-ready.was ∙ ap (λ (f : SessionFault). Err f) e)) fault
     (told_as of_session c.from_residual.result x c.from_residual.ensures.1 fault is)
 
 -- it takes its turns
@@ -91,26 +91,26 @@ play_on-requires-clause-room g c =
 pub play_on-requires-clause-left : goal.play_on-requires-clause-left
 play_on-requires-clause-left g c = λ t.
     left_there mail AnyStep c.args.store.now (g.W.Clocked.clock c.args.world.now) (g.W.Clocked.clock c.enter.new.link) _ _ (c.requires.left t)
-    (c.enter.ensures.files t) (g.met.W.Disk.seen_is c.enter.new.link t)
+    (c.enter.ensures.enters.files t) (g.met.W.Disk.seen_is c.enter.new.link t)
 
 -- a turn failed
 pub returns-in_err-last-clause-goes_on : goal.returns-in_err-last-clause-goes_on
 returns-in_err-last-clause-goes_on g c = record {
   progress = λ t.
       progress_two c.args.store.now.book _ _ _ (firm_left c.args.store.now (g.W.Clocked.clock c.args.world.now) _ (c.requires.left t))
-      (c.enter.ensures.files t) (c.play_on.ensures.goes_on.progress t);
+      (c.enter.ensures.enters.files t) (c.play_on.ensures.goes_on.progress t);
   joined = λ t kept.
       let f = g.W.Clocked.server_with_files t in
       let r : HasBegun c.args.store.now.book c.begin-player.result (g.W.Clocked.clock c.args.world.now) (g.W.Clocked.clock c.enter.new.link) =
       has_begun c.args.alloc _ _ _ c.begin-player.ensures.value c.begin-player.ensures.entered c.book-2.ensures _ _
-      (firm_left c.args.store.now (g.W.Clocked.clock c.args.world.now) _ (c.requires.left f)) (c.enter.ensures.told t)
+      (firm_left c.args.store.now (g.W.Clocked.clock c.args.world.now) _ (c.requires.left f)) (c.enter.ensures.enters.told t)
       (c.in_ok-ready.ensures.opened t) _ _ (c.in_ok-ready.ensures.stands t) in
       run_two _ _ _ _ r kept _ (progress_grows _ _ _ (c.play_on.ensures.goes_on.progress f)) (c.play_on.ensures.goes_on.joined t r.opened.made);
   each_one_side = λ t.
       sides_then _ _ _
-      (linked_sides AnyStep _ _ (rests_left c.args.store.now (g.W.Clocked.clock c.args.world.now) _ (c.requires.left t)) (c.enter.ensures.files t))
+      (linked_sides AnyStep _ _ (rests_left c.args.store.now (g.W.Clocked.clock c.args.world.now) _ (c.requires.left t)) (c.enter.ensures.enters.files t))
       (c.play_on.ensures.goes_on.each_one_side t);
-  once = λ t. goes_behind RunStep _ _ _ (enters_run _ _ (c.enter.ensures.once t)) (talks_run _ _ (c.play_on.ensures.goes_on.talks t));
+  once = λ t. goes_behind RunStep _ _ _ (enters_run _ _ (c.enter.ensures.enters.once t)) (talks_run _ _ (c.play_on.ensures.goes_on.talks t));
 }
 
 pub returns-in_err-last-clause-reasons : goal.returns-in_err-last-clause-reasons
@@ -119,7 +119,7 @@ returns-in_err-last-clause-reasons g c = record {
       let f = g.W.Clocked.server_with_files t in
       let r : HasBegun c.args.store.now.book c.begin-player.result (g.W.Clocked.clock c.args.world.now) (g.W.Clocked.clock c.enter.new.link) =
       has_begun c.args.alloc _ _ _ c.begin-player.ensures.value c.begin-player.ensures.entered c.book-2.ensures _ _
-      (firm_left c.args.store.now (g.W.Clocked.clock c.args.world.now) _ (c.requires.left f)) (c.enter.ensures.told t)
+      (firm_left c.args.store.now (g.W.Clocked.clock c.args.world.now) _ (c.requires.left f)) (c.enter.ensures.enters.told t)
       (c.in_ok-ready.ensures.opened t) _ _ (c.in_ok-ready.ensures.stands t) in
       true_two _ _ _ _ r kept _ (progress_grows _ _ _ (c.play_on.ensures.goes_on.progress f)) c.play_on.new.store.book fair (c.play_on.ensures.goes_on.talks t)
       (λ here knows second entered truly. c.play_on.ensures.reasons.truly t r.opened.made c.args.store.now.book here knows second entered truly
@@ -129,7 +129,7 @@ returns-in_err-last-clause-reasons g c = record {
       let f = g.W.Clocked.server_with_files t in
       let r : HasBegun c.args.store.now.book c.begin-player.result (g.W.Clocked.clock c.args.world.now) (g.W.Clocked.clock c.enter.new.link) =
       has_begun c.args.alloc _ _ _ c.begin-player.ensures.value c.begin-player.ensures.entered c.book-2.ensures _ _
-      (firm_left c.args.store.now (g.W.Clocked.clock c.args.world.now) _ (c.requires.left f)) (c.enter.ensures.told t)
+      (firm_left c.args.store.now (g.W.Clocked.clock c.args.world.now) _ (c.requires.left f)) (c.enter.ensures.enters.told t)
       (c.in_ok-ready.ensures.opened t) _ _ (c.in_ok-ready.ensures.stands t) in
       let s = c.play_on.ensures.reasons.stopped f (search rules) in
       stopped_two _ _ _ _ r kept _ (progress_grows _ _ _ (c.play_on.ensures.goes_on.progress f)) c.play_on.new.store.book s.0 fair (c.play_on.ensures.goes_on.talks t)
@@ -146,7 +146,7 @@ returns-in_err-last-clause-faultless g c = λ t kept fair why is.
     let f = g.W.Clocked.server_with_files t in
     let r : HasBegun c.args.store.now.book c.begin-player.result (g.W.Clocked.clock c.args.world.now) (g.W.Clocked.clock c.enter.new.link) =
     has_begun c.args.alloc _ _ _ c.begin-player.ensures.value c.begin-player.ensures.entered c.book-2.ensures _ _
-    (firm_left c.args.store.now (g.W.Clocked.clock c.args.world.now) _ (c.requires.left f)) (c.enter.ensures.told t)
+    (firm_left c.args.store.now (g.W.Clocked.clock c.args.world.now) _ (c.requires.left f)) (c.enter.ensures.enters.told t)
     (c.in_ok-ready.ensures.opened t) _ _ (c.in_ok-ready.ensures.stands t) in
     faultless_two _ _ _ _ r kept _ (progress_grows _ _ _ (c.play_on.ensures.goes_on.progress f)) fair
     (λ here knows second. c.play_on.ensures.excuses.faultless t r.opened.made here knows second (faults.BadReply why) (search rules) tt)
@@ -170,18 +170,18 @@ returns-in_err-last-clause-complete g c = λ t kept fair serving renewed fault i
     let f = g.W.Clocked.server_with_files t in
     let r : HasBegun c.args.store.now.book c.begin-player.result (g.W.Clocked.clock c.args.world.now) (g.W.Clocked.clock c.enter.new.link) =
     has_begun c.args.alloc _ _ _ c.begin-player.ensures.value c.begin-player.ensures.entered c.book-2.ensures _ _
-    (firm_left c.args.store.now (g.W.Clocked.clock c.args.world.now) _ (c.requires.left f)) (c.enter.ensures.told t)
+    (firm_left c.args.store.now (g.W.Clocked.clock c.args.world.now) _ (c.requires.left f)) (c.enter.ensures.enters.told t)
     (c.in_ok-ready.ensures.opened t) _ _ (c.in_ok-ready.ensures.stands t) in
     let more = progress_grows _ _ _ (c.play_on.ensures.goes_on.progress f) in
     let is_on : c.play_on.result ≡ Err fault = search rules in
     comes_turn fault
-    (unrefused_turn _ _ (goes_behind TalkStep _ _ _ (enters_talking _ _ (c.enter.ensures.once t)) (c.play_on.ensures.goes_on.talks t)) serving _ _ _ fault
+    (unrefused_turn _ _ (goes_behind TalkStep _ _ _ (enters_talking _ _ (c.enter.ensures.enters.once t)) (c.play_on.ensures.goes_on.talks t)) serving _ _ _ fault
     (c.play_on.ensures.runs.why f fault is_on) (g.met.W.Link.honest c.play_on.new.world t))
     (λ reply. faultless_two _ _ _ _ r kept _ more fair
     (λ here knows second. c.play_on.ensures.excuses.faultless t r.opened.made here knows second fault is_on reply))
     (λ name before told e. faultless_two _ _ _ _ r kept _ more fair
     (λ here knows second. c.play_on.ensures.excuses.valid t r.opened.made here knows second
-    (renewed_entered c.args.store.now.book _ _ (c.enter.ensures.told t) renewed) name before told (is_on ∙ ap (λ (x : PlayFault). Err x) e)))
+    (renewed_entered c.args.store.now.book _ _ (c.enter.ensures.enters.told t) renewed) name before told (is_on ∙ ap (λ (x : PlayFault). Err x) e)))
 
 -- it didn't leave
 pub returns-in_err-leave-clause-goes_on : goal.returns-in_err-leave-clause-goes_on
@@ -189,14 +189,14 @@ returns-in_err-leave-clause-goes_on g c = record {
   progress = λ t.
       let later = c.play_on.ensures.stored.left t (ok_no_err c.play_on.result c.in_ok-last.last _ c.in_ok-last.was) in
       progress_three c.args.store.now.book _ _ _ (firm_left c.args.store.now (g.W.Clocked.clock c.args.world.now) _ (c.requires.left t))
-      (c.enter.ensures.files t) (c.play_on.ensures.goes_on.progress t)
+      (c.enter.ensures.enters.files t) (c.play_on.ensures.goes_on.progress t)
       c.play_on.new.store.book _ c.play_on.ensures.stored.later (firm_left c.play_on.new.store (g.W.Clocked.clock c.play_on.new.world) _ later)
       (c.leave.ensures.talks.files t);
   joined = λ t kept.
       let f = g.W.Clocked.server_with_files t in
       let r : HasBegun c.args.store.now.book c.begin-player.result (g.W.Clocked.clock c.args.world.now) (g.W.Clocked.clock c.enter.new.link) =
       has_begun c.args.alloc _ _ _ c.begin-player.ensures.value c.begin-player.ensures.entered c.book-2.ensures _ _
-      (firm_left c.args.store.now (g.W.Clocked.clock c.args.world.now) _ (c.requires.left f)) (c.enter.ensures.told t)
+      (firm_left c.args.store.now (g.W.Clocked.clock c.args.world.now) _ (c.requires.left f)) (c.enter.ensures.enters.told t)
       (c.in_ok-ready.ensures.opened t) _ _ (c.in_ok-ready.ensures.stands t) in
       let more = progress_grows _ _ _ (c.play_on.ensures.goes_on.progress f) in
       let later = c.play_on.ensures.stored.left f (ok_no_err c.play_on.result c.in_ok-last.last _ c.in_ok-last.was) in
@@ -207,11 +207,11 @@ returns-in_err-leave-clause-goes_on g c = record {
   each_one_side = λ t.
       let later = c.play_on.ensures.stored.left t (ok_no_err c.play_on.result c.in_ok-last.last _ c.in_ok-last.was) in
       let first =
-      linked_sides AnyStep _ _ (rests_left c.args.store.now (g.W.Clocked.clock c.args.world.now) _ (c.requires.left t)) (c.enter.ensures.files t) in
+      linked_sides AnyStep _ _ (rests_left c.args.store.now (g.W.Clocked.clock c.args.world.now) _ (c.requires.left t)) (c.enter.ensures.enters.files t) in
       sides_then _ _ _ (sides_then _ _ _ first (c.play_on.ensures.goes_on.each_one_side t))
       (linked_sides AnyStep _ _ (rests_left c.play_on.new.store (g.W.Clocked.clock c.play_on.new.world) _ later) (c.leave.ensures.talks.files t));
   once = λ t.
-      goes_behind RunStep _ _ _ (goes_behind RunStep _ _ _ (enters_run _ _ (c.enter.ensures.once t)) (talks_run _ _ (c.play_on.ensures.goes_on.talks t)))
+      goes_behind RunStep _ _ _ (goes_behind RunStep _ _ _ (enters_run _ _ (c.enter.ensures.enters.once t)) (talks_run _ _ (c.play_on.ensures.goes_on.talks t)))
       (leave_run _ _ _ _ (c.leave.ensures.talks.told t));
 }
 
@@ -221,7 +221,7 @@ returns-in_err-leave-clause-reasons g c = record {
       let f = g.W.Clocked.server_with_files t in
       let r : HasBegun c.args.store.now.book c.begin-player.result (g.W.Clocked.clock c.args.world.now) (g.W.Clocked.clock c.enter.new.link) =
       has_begun c.args.alloc _ _ _ c.begin-player.ensures.value c.begin-player.ensures.entered c.book-2.ensures _ _
-      (firm_left c.args.store.now (g.W.Clocked.clock c.args.world.now) _ (c.requires.left f)) (c.enter.ensures.told t)
+      (firm_left c.args.store.now (g.W.Clocked.clock c.args.world.now) _ (c.requires.left f)) (c.enter.ensures.enters.told t)
       (c.in_ok-ready.ensures.opened t) _ _ (c.in_ok-ready.ensures.stands t) in
       let more = progress_grows _ _ _ (c.play_on.ensures.goes_on.progress f) in
       let later = c.play_on.ensures.stored.left f (ok_no_err c.play_on.result c.in_ok-last.last _ c.in_ok-last.was) in
@@ -290,14 +290,14 @@ returns-clause-goes_on g c = record {
   progress = λ t.
       let later = c.play_on.ensures.stored.left t (ok_no_err c.play_on.result c.in_ok-last.last _ c.in_ok-last.was) in
       progress_three c.args.store.now.book _ _ _ (firm_left c.args.store.now (g.W.Clocked.clock c.args.world.now) _ (c.requires.left t))
-      (c.enter.ensures.files t) (c.play_on.ensures.goes_on.progress t)
+      (c.enter.ensures.enters.files t) (c.play_on.ensures.goes_on.progress t)
       c.play_on.new.store.book _ c.play_on.ensures.stored.later (firm_left c.play_on.new.store (g.W.Clocked.clock c.play_on.new.world) _ later)
       (c.leave.ensures.talks.files t);
   joined = λ t kept.
       let f = g.W.Clocked.server_with_files t in
       let r : HasBegun c.args.store.now.book c.begin-player.result (g.W.Clocked.clock c.args.world.now) (g.W.Clocked.clock c.enter.new.link) =
       has_begun c.args.alloc _ _ _ c.begin-player.ensures.value c.begin-player.ensures.entered c.book-2.ensures _ _
-      (firm_left c.args.store.now (g.W.Clocked.clock c.args.world.now) _ (c.requires.left f)) (c.enter.ensures.told t)
+      (firm_left c.args.store.now (g.W.Clocked.clock c.args.world.now) _ (c.requires.left f)) (c.enter.ensures.enters.told t)
       (c.in_ok-ready.ensures.opened t) _ _ (c.in_ok-ready.ensures.stands t) in
       let more = progress_grows _ _ _ (c.play_on.ensures.goes_on.progress f) in
       let later = c.play_on.ensures.stored.left f (ok_no_err c.play_on.result c.in_ok-last.last _ c.in_ok-last.was) in
@@ -308,11 +308,11 @@ returns-clause-goes_on g c = record {
   each_one_side = λ t.
       let later = c.play_on.ensures.stored.left t (ok_no_err c.play_on.result c.in_ok-last.last _ c.in_ok-last.was) in
       let first =
-      linked_sides AnyStep _ _ (rests_left c.args.store.now (g.W.Clocked.clock c.args.world.now) _ (c.requires.left t)) (c.enter.ensures.files t) in
+      linked_sides AnyStep _ _ (rests_left c.args.store.now (g.W.Clocked.clock c.args.world.now) _ (c.requires.left t)) (c.enter.ensures.enters.files t) in
       sides_then _ _ _ (sides_then _ _ _ first (c.play_on.ensures.goes_on.each_one_side t))
       (linked_sides AnyStep _ _ (rests_left c.play_on.new.store (g.W.Clocked.clock c.play_on.new.world) _ later) (c.leave.ensures.talks.files t));
   once = λ t.
-      goes_behind RunStep _ _ _ (goes_behind RunStep _ _ _ (enters_run _ _ (c.enter.ensures.once t)) (talks_run _ _ (c.play_on.ensures.goes_on.talks t)))
+      goes_behind RunStep _ _ _ (goes_behind RunStep _ _ _ (enters_run _ _ (c.enter.ensures.enters.once t)) (talks_run _ _ (c.play_on.ensures.goes_on.talks t)))
       (leave_run _ _ _ _ (c.leave.ensures.talks.told t));
 }
 
@@ -322,7 +322,7 @@ returns-clause-reasons g c = record {
       let f = g.W.Clocked.server_with_files t in
       let r : HasBegun c.args.store.now.book c.begin-player.result (g.W.Clocked.clock c.args.world.now) (g.W.Clocked.clock c.enter.new.link) =
       has_begun c.args.alloc _ _ _ c.begin-player.ensures.value c.begin-player.ensures.entered c.book-2.ensures _ _
-      (firm_left c.args.store.now (g.W.Clocked.clock c.args.world.now) _ (c.requires.left f)) (c.enter.ensures.told t)
+      (firm_left c.args.store.now (g.W.Clocked.clock c.args.world.now) _ (c.requires.left f)) (c.enter.ensures.enters.told t)
       (c.in_ok-ready.ensures.opened t) _ _ (c.in_ok-ready.ensures.stands t) in
       let more = progress_grows _ _ _ (c.play_on.ensures.goes_on.progress f) in
       let later = c.play_on.ensures.stored.left f (ok_no_err c.play_on.result c.in_ok-last.last _ c.in_ok-last.was) in
@@ -350,7 +350,7 @@ returns-clause-synced g c = λ t kept fair.
     let f = g.W.Clocked.server_with_files t in
     let r : HasBegun c.args.store.now.book c.begin-player.result (g.W.Clocked.clock c.args.world.now) (g.W.Clocked.clock c.enter.new.link) =
     has_begun c.args.alloc _ _ _ c.begin-player.ensures.value c.begin-player.ensures.entered c.book-2.ensures _ _
-    (firm_left c.args.store.now (g.W.Clocked.clock c.args.world.now) _ (c.requires.left f)) (c.enter.ensures.told t)
+    (firm_left c.args.store.now (g.W.Clocked.clock c.args.world.now) _ (c.requires.left f)) (c.enter.ensures.enters.told t)
     (c.in_ok-ready.ensures.opened t) _ _ (c.in_ok-ready.ensures.stands t) in
     let more = progress_grows _ _ _ (c.play_on.ensures.goes_on.progress f) in
     let later = c.play_on.ensures.stored.left f (ok_no_err c.play_on.result c.in_ok-last.last _ c.in_ok-last.was) in

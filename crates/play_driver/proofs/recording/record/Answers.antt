@@ -1,4 +1,4 @@
-use Rattle.std.proofs.Common.{rules, Some, inr, ap, subst, sym, ◌<◌, ◌≡◌, ◌∙◌}
+use Rattle.std.proofs.Common.{rules, Some, ap, refl, subst, sym, ◌<◌, ◌≡◌, ◌∙◌}
 use Rattle.action_queue.specs.Book.{Meaning, after, meaning}
 use Rattle.playback.specs.Choosing.{IsEntered, committed}
 use Rattle.playback.specs.Left.{left}
@@ -9,185 +9,191 @@ use Rattle.store_core.specs.Steps.{Firm}
 use Rattle.store_core.specs.Taking.{HasBooks}
 use Rattle.play_driver.proofs.Folds.{fold_sound}
 use Rattle.play_driver.proofs.KnownLaws.{known_law}
-use Rattle.play_driver.proofs.Progressing.{firm_left, later_event, outside_taken, takes_grows, takes_progress, there_or_not}
-use Rattle.play_driver.proofs.Reasons.{may_come, known_then, of_playback, ready, takes_joined, true_event}
+use Rattle.play_driver.proofs.OneTurn.{left_kept, no_reply_fault, records_turn, true_kept, true_more}
+use Rattle.play_driver.proofs.Progressing.{firm_left, later_event, outside_taken, takes_grows, there_or_not}
+use Rattle.play_driver.proofs.Reasons.{known_then, may_come, of_playback, ready}
+use Rattle.play_driver.proofs.Faulting.{told_as}
+use Rattle.play_driver.proofs.Recorded.{goes_recorded, stands_still, truly_recorded}
 use Rattle.play_driver.proofs.SyncedOn.{synced_on, synced_then}
+use Rattle.play_driver.proofs.ValidFaults.{records_other, turn_valid}
 use Rattle.play_driver.specs.Progress.{IsLater}
+use Rattle.play_driver.specs.Faults.{of_commit}
+use Rattle.play_driver.specs.Recording.{NotRecorded}
+use Rattle.world_traits.specs.LinkState.{LinkState}
+use Rattle.play_driver.specs.TrueRecords.{IsTrueBefore}
+use Rattle.play_driver.specs.Turning.TurnFails.{not_recorded}
+use Rattle.play_driver.specs.Turning.{standing_of}
+use Rattle.play_driver.specs.declared.fault.PlayFault.TheVariants as faults
 use Rattle.play_driver.proofs.recording.record.Goals as goal
 
 pub enter_event-requires-clause-lawful : goal.enter_event-requires-clause-lawful
 enter_event-requires-clause-lawful g c =
-    let p = c.args.player.now in
     let s = c.args.store.now in
-    may_come s.journal.version p s.book c.args.event c.requires.fold c.requires.beside c.requires.needed
+    may_come s.journal.version c.args.player.now s.book c.args.event c.requires.fold c.requires.rests.beside c.requires.needed
 
 pub enter_event-requires-clause-writable : goal.enter_event-requires-clause-writable
 enter_event-requires-clause-writable g c =
-    (ready c.args.player.now c.args.store.now.book c.args.event c.requires.fold c.requires.beside c.requires.needed).writable
+    (ready c.args.player.now c.args.store.now.book c.args.event c.requires.fold c.requires.rests.beside c.requires.needed).writable
 
-pub returns-in_err-enter_event-clause-progress : goal.returns-in_err-enter_event-clause-progress
-returns-in_err-enter_event-clause-progress g c = λ tells.
+-- it isn't recorded
+pub returns-in_err-enter_event-clause-goes_on : goal.returns-in_err-enter_event-clause-goes_on
+returns-in_err-enter_event-clause-goes_on g c =
+    goes_recorded g.W.Clocked c.args.world.now c.enter_event.new.disk c.args.session c.args.player.now c.args.store.now c.args.event _
+    c.requires.fold c.requires.rests c.requires.needed c.requires.left c.enter_event.ensures.takes _ _ _ (search rules)
+    c.enter_event.ensures.each_one_side
+
+pub returns-in_err-enter_event-clause-reasons : goal.returns-in_err-enter_event-clause-reasons
+returns-in_err-enter_event-clause-reasons g c = record {
+  truly = λ t made entry kept known others entered truly not.
+      let still = c.enter_event.ensures.kept (search rules) (λ is. not (search rules)) in
+      true_kept g.W.Clocked.clock c.args.store.now.book c.enter_event.new.store.book c.args.world.now c.enter_event.new.disk
+      (c.enter_event.ensures.stays (search rules)) still.1 entry made truly;
+  stopped = λ t is. (
+    c.args.event,
+    of_playback c.args.player.now c.args.store.now.book c.args.event c.requires.needed,
+    there_or_not c.args.store.now c.args.event (g.W.Clocked.clock c.args.world.now) (g.W.Clocked.clock c.enter_event.new.disk) _
+        (c.requires.left t) (c.enter_event.ensures.takes t) c.enter_event.new.store.book (c.enter_event.ensures.stays (search rules)),
+    λ t made entry kept known others entered truly.
+        subst (λ (b : Meaning). IsTrueBefore c.args.event entry b made (g.W.Clocked.clock c.enter_event.new.disk))
+        (sym (c.enter_event.ensures.stays (search rules)))
+        (record {
+          at = g.W.Clocked.clock c.args.world.now;
+          so_far = truly;
+          truly = truly_recorded g.W.Clocked c.args.world.now c.enter_event.new.disk c.args.session c.args.player.now c.args.store.now c.args.event _
+              c.requires.fold c.requires.rests c.requires.needed c.requires.left c.enter_event.ensures.takes t made entry kept known entered;
+          takes = c.enter_event.ensures.takes (g.W.Clocked.server_with_files t);
+        }),
+  );
+}
+
+pub returns-in_err-enter_event-clause-stored : goal.returns-in_err-enter_event-clause-stored
+returns-in_err-enter_event-clause-stored g c = record {
+  fold = search rules;
+  later = search rules;
+  left = λ t not.
+      let still = c.enter_event.ensures.kept (search rules) (λ is. not (search rules)) in
+      left_kept g.W.Clocked.clock g.W.Disk.seen c.args.store.now c.enter_event.new.store c.args.world.now c.enter_event.new.disk still.0 still.1
+      (c.requires.left t);
+  sound_still = search rules;
+}
+
+pub returns-in_err-enter_event-clause-takes : goal.returns-in_err-enter_event-clause-takes
+returns-in_err-enter_event-clause-takes g c = record {
+  turns = search rules;
+  why = λ t fault is.
+      let f = c.in_err-enter_event.field-0.0 in
+      not_recorded c.args.event c.requires.needed c.enter_event.ensures.accuses.link
+      (subst (NotRecorded c.args.event c.args.store.now) (sym (told_as of_commit c.from_residual.result f c.from_residual.ensures.1 fault is))
+      (c.enter_event.ensures.why f c.in_err-enter_event.was));
+  same = search rules;
+  stays = search rules;
+  kept = search rules;
+  entered = search rules;
+  falls = search rules;
+  counted = search rules;
+}
+
+pub returns-in_err-enter_event-clause-excuses : goal.returns-in_err-enter_event-clause-excuses
+returns-in_err-enter_event-clause-excuses g c = record {
+  faultless = λ t made kept known fair fault is.
+      let f = c.in_err-enter_event.field-0.0 in
+      no_reply_fault c.args.event c.args.store.now fault
+      (subst (NotRecorded c.args.event c.args.store.now) (sym (told_as of_commit c.from_residual.result f c.from_residual.ensures.1 fault is))
+      (c.enter_event.ensures.why f c.in_err-enter_event.was));
+  valid = λ t made kept known fair none box was now is.
+      turn_valid (standing_of (g.W.Clocked.link c.args.world.now) c.args.session c.args.store.now c.args.player.now) _ (faults.Validity box was now)
+      ((returns-in_err-enter_event-clause-takes g c).why (g.W.Clocked.server_with_files t) (faults.Validity box was now) is)
+      (records_other _ _ c.requires.needed) box was now refl;
+}
+
+-- it is recorded
+pub returns-clause-goes_on : goal.returns-clause-goes_on
+returns-clause-goes_on g c =
     let p = c.args.player.now in
     let s = c.args.store.now in
     let event = c.args.event in
-    let old = g.D.Clocked.clock c.args.disk.now in
-    let new = g.D.Clocked.clock c.enter_event.new.disk in
-    let may = may_come s.journal.version p s.book event c.requires.fold c.requires.beside c.requires.needed in
-    takes_progress s.book s.journal.version event (of_playback p s.book event c.requires.needed) may old new (c.enter_event.ensures.takes tells)
-
-pub returns-in_err-enter_event-clause-joined : goal.returns-in_err-enter_event-clause-joined
-returns-in_err-enter_event-clause-joined g c = λ tells made permits stands known.
-    let p = c.args.player.now in
-    let s = c.args.store.now in
-    let event = c.args.event in
-    let old = g.D.Clocked.clock c.args.disk.now in
-    let new = g.D.Clocked.clock c.enter_event.new.disk in
-    let may = may_come s.journal.version p s.book event c.requires.fold c.requires.beside c.requires.needed in
-    takes_joined p s.book event made old permits stands known c.requires.needed s.journal.version new may
-    (c.enter_event.ensures.takes (g.D.Clocked.server_with_files tells))
-
-pub returns-in_err-enter_event-clause-truly : goal.returns-in_err-enter_event-clause-truly
-returns-in_err-enter_event-clause-truly g c = λ tells made permits entry stands known entered.
-    let p = c.args.player.now in
-    let s = c.args.store.now in
-    let old = g.D.Clocked.clock c.args.disk.now in
-    let lawful = (ready p s.book c.args.event c.requires.fold c.requires.beside c.requires.needed).lawful in
-    true_event p s.book c.args.event made old permits stands known c.requires.needed entry entered lawful
-
-pub returns-in_err-enter_event-clause-of_play : goal.returns-in_err-enter_event-clause-of_play
-returns-in_err-enter_event-clause-of_play g c = of_playback c.args.player.now c.args.store.now.book c.args.event c.requires.needed
-
-pub returns-in_err-enter_event-clause-told : goal.returns-in_err-enter_event-clause-told
-returns-in_err-enter_event-clause-told g c = λ tells.
-    let p = c.args.player.now in
-    let s = c.args.store.now in
-    let event = c.args.event in
-    let may = may_come s.journal.version p s.book event c.requires.fold c.requires.beside c.requires.needed in
-    inr (record { may = may; takes = c.enter_event.ensures.takes tells })
-
-pub returns-in_err-enter_event-clause-outside : goal.returns-in_err-enter_event-clause-outside
-returns-in_err-enter_event-clause-outside g c = λ tells.
-    let old = g.D.Clocked.clock c.args.disk.now in
-    let new = g.D.Clocked.clock c.enter_event.new.disk in
-    outside_taken c.args.store.now.book c.args.event old new (c.enter_event.ensures.takes tells)
-
-pub returns-in_err-enter_event-clause-stopped : goal.returns-in_err-enter_event-clause-stopped
-returns-in_err-enter_event-clause-stopped g c = λ tells is.
-    let s = c.args.store.now in
-    let old = g.D.Clocked.clock c.args.disk.now in
-    let new = g.D.Clocked.clock c.enter_event.new.disk in
-    there_or_not s c.args.event old new _ (c.requires.left tells) (c.enter_event.ensures.takes tells) c.enter_event.new.store.book
-    (c.enter_event.ensures.stays (search rules))
-
-pub returns-clause-progress : goal.returns-clause-progress
-returns-clause-progress g c = λ tells.
-    let p = c.args.player.now in
-    let s = c.args.store.now in
-    let event = c.args.event in
-    let old = g.D.Clocked.clock c.args.disk.now in
-    let new = g.D.Clocked.clock c.enter_event.new.disk in
-    let may = may_come s.journal.version p s.book event c.requires.fold c.requires.beside c.requires.needed in
-    takes_progress s.book s.journal.version event (of_playback p s.book event c.requires.needed) may old new (c.enter_event.ensures.takes tells)
-
-pub returns-clause-joined : goal.returns-clause-joined
-returns-clause-joined g c = λ tells made permits stands known.
-    let p = c.args.player.now in
-    let s = c.args.store.now in
-    let event = c.args.event in
-    let old = g.D.Clocked.clock c.args.disk.now in
-    let new = g.D.Clocked.clock c.enter_event.new.disk in
-    let may = may_come s.journal.version p s.book event c.requires.fold c.requires.beside c.requires.needed in
-    takes_joined p s.book event made old permits stands known c.requires.needed s.journal.version new may
-    (c.enter_event.ensures.takes (g.D.Clocked.server_with_files tells))
-
-pub returns-clause-truly : goal.returns-clause-truly
-returns-clause-truly g c = λ tells made permits entry stands known entered.
-    let p = c.args.player.now in
-    let s = c.args.store.now in
-    let old = g.D.Clocked.clock c.args.disk.now in
-    let lawful = (ready p s.book c.args.event c.requires.fold c.requires.beside c.requires.needed).lawful in
-    true_event p s.book c.args.event made old permits stands known c.requires.needed entry entered lawful
-
-pub returns-clause-of_play : goal.returns-clause-of_play
-returns-clause-of_play g c = of_playback c.args.player.now c.args.store.now.book c.args.event c.requires.needed
-
-pub returns-clause-told : goal.returns-clause-told
-returns-clause-told g c = λ tells.
-    let p = c.args.player.now in
-    let s = c.args.store.now in
-    let event = c.args.event in
-    let may = may_come s.journal.version p s.book event c.requires.fold c.requires.beside c.requires.needed in
-    inr (record { may = may; takes = c.enter_event.ensures.takes tells })
-
-pub returns-clause-outside : goal.returns-clause-outside
-returns-clause-outside g c = λ tells.
-    let old = g.D.Clocked.clock c.args.disk.now in
-    let new = g.D.Clocked.clock c.enter_event.new.disk in
-    outside_taken c.args.store.now.book c.args.event old new (c.enter_event.ensures.takes tells)
-
-pub returns-clause-known : goal.returns-clause-known
-returns-clause-known g c = λ tells made permits stands known.
-    let p = c.args.player.now in
-    let s = c.args.store.now in
-    let event = c.args.event in
-    let old = g.D.Clocked.clock c.args.disk.now in
-    let new = g.D.Clocked.clock c.enter_event.new.disk in
-    let may = may_come s.journal.version p s.book event c.requires.fold c.requires.beside c.requires.needed in
     let is : c.enter_event.new.store.book ≡ after s.book event = ap (λ (t : Holding mail). t.book) c.in_ok-enter_event.ensures.value in
     let goes : c.committed.new.self ≡ committed p (meaning c.book.result.now) = c.committed.ensures.value in
-    let goes_on = goes ∙ ap (committed p) c.book.ensures in
-    known_then p c.committed.new.self s.book c.enter_event.new.store.book event is goes_on made new permits
-    (known_law.records p s.book event s.journal.version permits made old new stands known c.requires.needed may
-    (c.enter_event.ensures.takes (g.D.Clocked.server_with_files tells)))
+    goes_recorded g.W.Clocked c.args.world.now c.enter_event.new.disk c.args.session p s event _
+    c.requires.fold c.requires.rests c.requires.needed c.requires.left c.enter_event.ensures.takes c.committed.new.self c.enter_event.new.store.book _
+    (λ t made stands known. known_then p c.committed.new.self s.book c.enter_event.new.store.book event is (goes ∙ ap (committed p) c.book.ensures)
+    made _ _ (known_law.records p s.book event s.journal.version _ made _ _ stands known c.requires.needed
+    (may_come s.journal.version p s.book event c.requires.fold c.requires.rests.beside c.requires.needed)
+    (c.enter_event.ensures.takes (g.W.Clocked.server_with_files t))))
+    c.enter_event.ensures.each_one_side
 
 pub returns-clause-synced : goal.returns-clause-synced
-returns-clause-synced g c = λ tells start first so_far.
+returns-clause-synced g c = λ t start first kept fair so_far.
+    let files = g.W.Clocked.server_with_files t in
     let p = c.args.player.now in
     let s = c.args.store.now in
     let event = c.args.event in
-    let old = g.D.Clocked.clock c.args.disk.now in
-    let new = g.D.Clocked.clock c.enter_event.new.disk in
+    let old = g.W.Clocked.clock c.args.world.now in
+    let new = g.W.Clocked.clock c.enter_event.new.disk in
     let is : c.enter_event.new.store.book ≡ after s.book event = ap (λ (t : Holding mail). t.book) c.in_ok-enter_event.ensures.value in
     let goes : c.committed.new.self ≡ committed p (meaning c.book.result.now) = c.committed.ensures.value in
-    let goes_on = goes ∙ ap (committed p) c.book.ensures in
-    let lawful = (ready p s.book event c.requires.fold c.requires.beside c.requires.needed).lawful in
+    let lawful = (ready p s.book event c.requires.fold c.requires.rests.beside c.requires.needed).lawful in
     let books =
     subst (λ (b : Meaning). HasBooks mail (Firm (Some b)) new.now) is
-    (firm_left c.enter_event.new.store new _ (c.in_ok-enter_event.ensures.left tells)) in
-    synced_then p c.committed.new.self s.book c.enter_event.new.store.book event is goes_on start new
-    (synced_on start old new p s.book event c.requires.beside c.requires.needed lawful first
-    (takes_grows s.book event old new (c.enter_event.ensures.takes tells)) books so_far)
+    (firm_left c.enter_event.new.store new _ (c.in_ok-enter_event.ensures.left files)) in
+    synced_then p c.committed.new.self s.book c.enter_event.new.store.book event is (goes ∙ ap (committed p) c.book.ensures) start new
+    (synced_on start old new p s.book event c.requires.rests.beside c.requires.needed lawful first
+    (takes_grows s.book event old new (c.enter_event.ensures.takes files)) books so_far)
 
-pub returns-clause-fold : goal.returns-clause-fold
-returns-clause-fold g c =
+pub returns-clause-reasons : goal.returns-clause-reasons
+returns-clause-reasons g c = record {
+  truly = λ t made entry kept known others entered truly not.
+      true_more c.args.store.now c.enter_event.new.store c.args.event c.in_ok-enter_event.ensures.value entry made _ _ truly
+      (truly_recorded g.W.Clocked c.args.world.now c.enter_event.new.disk c.args.session c.args.player.now c.args.store.now c.args.event _
+      c.requires.fold c.requires.rests c.requires.needed c.requires.left c.enter_event.ensures.takes t made entry kept known entered)
+      (c.enter_event.ensures.takes (g.W.Clocked.server_with_files t));
+  stopped = search rules;
+}
+
+pub returns-clause-takes : goal.returns-clause-takes
+returns-clause-takes g c =
     let p = c.args.player.now in
     let s = c.args.store.now in
     let event = c.args.event in
     let is : c.enter_event.new.store.book ≡ after s.book event = ap (λ (t : Holding mail). t.book) c.in_ok-enter_event.ensures.value in
-    let next = ready p s.book event c.requires.fold c.requires.beside c.requires.needed in
-    subst IsFold (sym is) (follows s.book event c.requires.fold next.lawful next.writable)
+    let goes : c.committed.new.self ≡ committed p (meaning c.book.result.now) = c.committed.ensures.value in
+    record {
+      turns = λ t.
+          records_turn s c.enter_event.new.store event c.in_ok-enter_event.ensures.value (g.W.Clocked.link c.args.world.now)
+          (g.W.Clocked.link c.enter_event.new.disk) c.args.session p c.committed.new.self c.enter_event.ensures.accuses.link
+          (goes ∙ ap (committed p) c.book.ensures) c.requires.needed;
+      why = search rules;
+      same = search rules;
+      stays = search rules;
+      kept = search rules;
+      entered = λ entry entered.
+          subst (λ (b : Meaning). IsEntered entry c.committed.new.self b) c.book.ensures
+          (c.committed.ensures.entered entry s.book event (c.book.ensures ∙ is) c.requires.needed (fold_sound s.book c.requires.fold) entered);
+      falls = subst (λ (b : Meaning). left c.committed.new.self b < left p s.book) c.book.ensures
+          (c.committed.ensures.falls s.book event (c.book.ensures ∙ is) c.requires.needed (fold_sound s.book c.requires.fold) c.requires.rests.beside);
+      counted = search rules;
+    }
 
-pub returns-clause-later : goal.returns-clause-later
-returns-clause-later g c =
+pub returns-clause-rests : goal.returns-clause-rests
+returns-clause-rests g c = record {
+  beside = search rules;
+  selected = search rules;
+  stands = λ t. stands_still _ _ _ _ _ _
+      (outside_taken c.args.store.now.book c.args.event _ _ (c.enter_event.ensures.takes (g.W.Clocked.server_with_files t)))
+      (ap (λ (l : LinkState). l.connection) c.enter_event.ensures.accuses.link) (c.requires.rests.stands t);
+  still = search rules;
+}
+
+pub returns-clause-stored : goal.returns-clause-stored
+returns-clause-stored g c =
     let p = c.args.player.now in
     let s = c.args.store.now in
     let event = c.args.event in
     let is : c.enter_event.new.store.book ≡ after s.book event = ap (λ (t : Holding mail). t.book) c.in_ok-enter_event.ensures.value in
-    subst (IsLater s.book) (sym is) (later_event s.book event (of_playback p s.book event c.requires.needed))
-
-pub returns-clause-entered : goal.returns-clause-entered
-returns-clause-entered g c = λ entry entered.
-    let s = c.args.store.now in
-    let event = c.args.event in
-    let is : c.enter_event.new.store.book ≡ after s.book event = ap (λ (t : Holding mail). t.book) c.in_ok-enter_event.ensures.value in
-    subst (λ (b : Meaning). IsEntered entry c.committed.new.self b) c.book.ensures
-    (c.committed.ensures.entered entry s.book event (c.book.ensures ∙ is) c.requires.needed (fold_sound s.book c.requires.fold) entered)
-
-pub returns-clause-falls : goal.returns-clause-falls
-returns-clause-falls g c =
-    let p = c.args.player.now in
-    let s = c.args.store.now in
-    let event = c.args.event in
-    let is : c.enter_event.new.store.book ≡ after s.book event = ap (λ (t : Holding mail). t.book) c.in_ok-enter_event.ensures.value in
-    subst (λ (b : Meaning). left c.committed.new.self b < left p s.book) c.book.ensures
-    (c.committed.ensures.falls s.book event (c.book.ensures ∙ is) c.requires.needed (fold_sound s.book c.requires.fold) c.requires.beside)
+    let next = ready p s.book event c.requires.fold c.requires.rests.beside c.requires.needed in
+    record {
+      fold = subst IsFold (sym is) (follows s.book event c.requires.fold next.lawful next.writable);
+      later = subst (IsLater s.book) (sym is) (later_event s.book event (of_playback p s.book event c.requires.needed));
+      left = λ t not. c.in_ok-enter_event.ensures.left t;
+      sound_still = search rules;
+    }

@@ -1,0 +1,77 @@
+-- An event is recorded that the player needs, over one world.
+use Rattle.action_queue.specs.Book.{Meaning}
+use Rattle.action_queue.specs.declared.event.Event.{Event}
+use Rattle.imap_session.specs.Session.{Stands}
+use Rattle.journal_core.specs.OneSide.{EachOneSide}
+use Rattle.literal_feed.specs.Stream.{Stream}
+use Rattle.play_driver.proofs.OneTurn.{stands_kept}
+use Rattle.play_driver.proofs.OverOne.{record_talks}
+use Rattle.play_driver.proofs.Progressing.{takes_progress}
+use Rattle.play_driver.proofs.Reasons.{may_come, of_playback, ready, takes_joined, true_event}
+use Rattle.play_driver.specs.GoesOn.{GoesOn}
+use Rattle.play_driver.specs.Joining.{IsKept}
+use Rattle.play_driver.specs.KnownAt.{KnownAt, StandsKept}
+use Rattle.play_driver.specs.Rests.{Rests}
+use Rattle.play_driver.specs.Sessions.{permits_in}
+use Rattle.play_driver.specs.TrueRecords.{TrueEvent}
+use Rattle.play_driver.specs.declared.fault.PlayFault.{PlayFault}
+use Rattle.play_driver.specs.declared.session.Session.{Session}
+use Rattle.playback.specs.Allowed.{Records}
+use Rattle.playback.specs.Choosing.{IsEntered}
+use Rattle.playback.specs.Kept.{Kept}
+use Rattle.playback.specs.Needs.{need_of}
+use Rattle.playback.specs.declared.player.Player.{Player}
+use Rattle.imap_model.specs.Talking.{Peer}
+use Rattle.imap_session.specs.Hearing.{Hears}
+use Rattle.std.proofs.Common.{IfOk, ap, List, Option, Result, Some, sym, subst, ◌∙◌, ℕ, ◌≡◌}
+use Rattle.store_core.specs.Fold.{IsFold}
+use Rattle.store_core.specs.Holding.{Holding, IsAsLeft}
+use Rattle.store_core.specs.Mail.{MayCome, mail}
+use Rattle.store_core.specs.Taking.{Takes}
+use Rattle.world_traits.specs.Files.{Files}
+use Rattle.world_traits.specs.LinkState.{Connection}
+use Rattle.world_traits.specs.Moments.{Clock}
+use Rattle.world_traits.specs.declared.clocked.Clocked.{Ghosts}
+
+-- the connection stands as it stood, where the outside didn't change
+pub stands_still : (selected : Option (List ℕ)) (k m : Clock) (c d : Option Connection) (feed : Stream) →
+    m.now.outside ≡ k.now.outside → d ≡ c → Stands selected k c feed → Stands selected m d feed
+stands_still selected k m c d feed same link stands =
+    subst (λ (e : Option Connection). Stands selected m e feed) (sym link)
+    (record {
+      nothing = ap (λ (o : Peer). o.waiting) same ∙ stands.nothing;
+      no_part = ap (λ (o : Peer). o.talk.arriving) same ∙ stands.no_part;
+      selects = ap (λ (o : Peer). o.talk.selected) same ∙ stands.selects;
+      hears = subst (λ (o : Peer). Hears o.talk.told c feed) (sym same) stands.hears;
+      empty = stands.empty;
+    })
+
+module _ {Self : Type 0} (W : Ghosts Self) (old new : Self) (session : Session) (p : Player) (s : Holding mail) (event : Event) (seen : Files)
+    (fold : IsFold s.book) (rests : Rests W old p s.book session) (needed : Records (need_of p s.book) event)
+    (left : W.tells_files → IsAsLeft mail s (W.clock old).now seen)
+    (takes : W.tells_files → Takes mail (Some s.book) event (W.clock old) (W.clock new)) where
+  pub may : MayCome s.journal.version (Some s.book) event
+  may = may_come s.journal.version p s.book event fold rests.beside needed
+
+  pub stands : W.tells_server → IsKept mail Kept (W.clock old).now → StandsKept s.book (W.clock old)
+  stands t kept = stands_kept s _ _ _ _ _ (left (W.server_with_files t)) (rests.stands t) kept
+
+  pub goes_recorded : (q : Player) (c : Meaning) (r : Result Session PlayFault) →
+      (W.tells_server → (made : Clock) → StandsKept s.book (W.clock old) → KnownAt made (W.clock old) (permits_in session) p s.book →
+      IfOk r (λ next. KnownAt made (W.clock new) (permits_in next) q c)) →
+      (W.tells_files → EachOneSide (W.clock old) (W.clock new)) → GoesOn W old new session p q s.book c r
+  goes_recorded q c r knows sides = record {
+    progress = λ t. takes_progress s.book s.journal.version event (of_playback p s.book event needed) may (W.clock old) (W.clock new) (takes t);
+    joined = λ t made kept known.
+        takes_joined p s.book event made (W.clock old) (permits_in session) (stands t kept) known needed s.journal.version (W.clock new) may
+        (takes (W.server_with_files t));
+    known = λ t made kept known fair. knows t made (stands t kept) known;
+    each_one_side = sides;
+    talks = λ t. record_talks s event (W.clock old) (W.clock new) (takes (W.server_with_files t));
+  }
+
+  pub truly_recorded : W.tells_server → (made : Clock) (entry : Meaning) → IsKept mail Kept (W.clock old).now →
+      KnownAt made (W.clock old) (permits_in session) p s.book → IsEntered entry p s.book → TrueEvent event entry s.book made (W.clock old)
+  truly_recorded t made entry kept known entered =
+      true_event p s.book event made (W.clock old) (permits_in session) (stands t kept) known needed entry entered
+      (ready p s.book event fold rests.beside needed).lawful
