@@ -61,8 +61,8 @@ fn put_line(
     Ok(())
 }
 
-// An action's state.
-fn state_text(book: &Book, id: ActionId) -> &'static [u8]
+/// The state of an unsettled action: ` waiting`, or ` begun` where its command may have been sent.
+pub fn state_text(book: &Book, id: ActionId) -> &'static [u8]
     ensures { result.now ≡ state_text (is_begun (meaning book.now) id) }
 {
     if is_begun(book, id) {
@@ -79,9 +79,10 @@ fn is_begun(book: &Book, id: ActionId) -> bool
     book.pending.is_some() && id.number() as usize == book.queue.settled() + 1
 }
 
-// Adds what an action asks for.
+/// Adds what an action asks for, behind a space: ` flag BOX ID + KEY ..` (or `-`), ` move BOX ID TO` or ` append TO MESSAGE-ID`.
+/// Fails for want of memory alone.
 #[tactic(auto, unfolding(crate::specs::QueueLines::action_text))]
-fn put_action(text: &mut Vec<u8>, book: &Book, action: &Action) -> Result<(), AllocError>
+pub fn put_action(text: &mut Vec<u8>, book: &Book, action: &Action) -> Result<(), AllocError>
     ensures { OnOk result (text.new.items ≡ text.old.items ++ action_text book.now.queue.items action.now) }
 {
     match action {

@@ -53,8 +53,8 @@ fn put_conflict(text: &mut Vec<u8>, id: ActionId, kind: &Kind) -> Result<(), All
     Ok(())
 }
 
-// Whether a conflict says that its action had no effect.
-fn effect_text(kind: &Kind) -> &'static [u8]
+/// Whether a conflict says that its action had no effect: ` nothing`, or ` unsure` where it had its one effect or none.
+pub fn effect_text(kind: &Kind) -> &'static [u8]
     ensures { result.now ≡ effect_text kind.now }
 {
     match kind {
@@ -73,8 +73,8 @@ fn effect_text(kind: &Kind) -> &'static [u8]
     }
 }
 
-// A conflict's name.
-fn kind_text(kind: &Kind) -> &'static [u8]
+/// A conflict's name, behind a space.
+pub fn kind_text(kind: &Kind) -> &'static [u8]
     ensures { result.now ≡ kind_text kind.now }
 {
     match kind {
@@ -93,8 +93,8 @@ fn kind_text(kind: &Kind) -> &'static [u8]
     }
 }
 
-// Adds a conflict's numbers.
-fn put_numbers(text: &mut Vec<u8>, kind: &Kind) -> Result<(), AllocError>
+/// Adds a conflict's numbers, each behind a space. Fails for want of memory alone.
+pub fn put_numbers(text: &mut Vec<u8>, kind: &Kind) -> Result<(), AllocError>
     ensures { OnOk result (text.new.items ≡ text.old.items ++ numbers_text kind.now) }
 {
     match kind {
