@@ -15,6 +15,7 @@ pub mod PlaySteps
 pub mod Recording
 pub mod Repeated
 pub mod Sayings
+pub mod Showings
 pub mod Wording
 pub mod PlayServed
 pub mod Effects

@@ -3,6 +3,7 @@ use Rattle.std.specs.Prelude.{◌≡◌, ℕ, ◌+◌, length, Some}
 use Rattle.world_traits.specs.Files.{Files}
 use Rattle.world_traits.specs.LinkState.{LinkState}
 use Rattle.world_traits.specs.Moments.{Clock, Within}
+use Rattle.world_traits.specs.declared.clocked.Clocked.{Ghosts}
 use Rattle.mail_base.specs.Bodies.{frame_of}
 use Rattle.journal_core.specs.Records.{records}
 use Rattle.action_queue.specs.Book.{Meaning}
@@ -21,6 +22,17 @@ pub record Course : Type 0 where
   pub seen_after : Files
   pub link : LinkState
   pub link_after : LinkState
+
+-- the course of a call that takes a world from one state to another, which read as these files
+abbrev pub course_of : {Self : Type 0} → Ghosts Self → (Self → Files) → Self → Self → Course
+course_of W seen old new = record {
+  old = W.clock old;
+  new = W.clock new;
+  seen = seen old;
+  seen_after = seen new;
+  link = W.link old;
+  link_after = W.link new;
+}
 
 -- a stop leaves what one at entry could have left, and the files read as before
 pub record Keeps (k : Course) : Type 0 where

@@ -16,6 +16,7 @@ pub mod Reading
 pub mod Reasons
 pub mod Runs
 pub mod Saying
+pub mod Showing
 pub mod Telling
 pub mod Texts
 pub mod TruePlay

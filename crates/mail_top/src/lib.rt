@@ -10,13 +10,13 @@ mod listing;
 mod names;
 mod playing;
 mod printed;
-mod queue_listing;
 mod reason;
 mod refusal;
-mod reporting;
 mod request;
 mod running;
 mod runs;
+mod showing;
+mod shows;
 mod unfinished;
 mod weighing;
 mod words;
@@ -33,6 +33,7 @@ pub use runs::{
     admitted_actions_have_records, one_action_is_asked_for, reports_tell_the_effect,
     runs_one_behind_another, words_ask_one_thing,
 };
+pub use showing::{Show, show_book};
 pub use unfinished::Unfinished;
 pub use weighing::{MAX_ASKED, MAX_OPEN};
 pub use words::asked;

@@ -33,9 +33,8 @@ use crate::ending::{
 };
 use crate::listing::list;
 use crate::playing::play;
-use crate::queue_listing::queue;
-use crate::reporting::report;
-use crate::{Asked, asked};
+use crate::shows::{Queue, Report};
+use crate::{Asked, asked, show_book};
 use mail_base::{Account, Status};
 use std::alloc::Global;
 use world_traits::{Clocked, Disk, Link, Sink, Source, World, WriteFailed};
@@ -165,8 +164,8 @@ fn answer<W: World, I: Source>(
         Asked::Init(texts) => ending_of_init(init(alloc, world, texts)),
         Asked::Act(action) => ending_of_action(accept(alloc, world, input, action)),
         Asked::Rows(name) => ending_of_text(list(alloc, world, name)),
-        Asked::Queue => ending_of_text(queue(alloc, world)),
-        Asked::Report => ending_of_text(report(alloc, world)),
+        Asked::Queue => ending_of_text(show_book(alloc, world, &Queue)),
+        Asked::Report => ending_of_text(show_book(alloc, world, &Report)),
         Asked::Play => ending_of_play(play(alloc, account, world)),
     }
 }

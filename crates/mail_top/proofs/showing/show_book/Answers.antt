@@ -1,0 +1,49 @@
+use Rattle.journal_core.proofs.HeldBodies.{narrowed}
+use Rattle.mail_top.proofs.Openings.{never_err, opened_stays, store_disk}
+use Rattle.mail_top.proofs.Showings.{memory_showing, reading_refusal, shown_showing, unopened_showing}
+use Rattle.mail_top.proofs.showing.show_book.Goals as goal
+
+pub returns-in_err-store-clause-ends : goal.returns-in_err-store-clause-ends
+returns-in_err-store-clause-ends g c tells =
+    unopened_showing _ _ _ c.in_err-store.was c.from_residual.ensures.1 _ (narrowed _ _ (c.open.ensures.told tells)) (c.open.ensures.seen tells)
+    c.open.ensures.only (c.open.ensures.broken tells) _
+
+pub returns-in_err-store-clause-reads : goal.returns-in_err-store-clause-reads
+returns-in_err-store-clause-reads g c tells = record {
+  keeps = c.open.ensures.held tells;
+  books = c.open.ensures.chooses tells;
+  one_side = c.open.ensures.one_side tells;
+  each_one_side = c.open.ensures.each_one_side tells;
+}
+
+pub returns-in_err-store-clause-only : goal.returns-in_err-store-clause-only
+returns-in_err-store-clause-only g c refusal is =
+    reading_refusal _ _ _ c.in_err-store.was c.from_residual.ensures.1 c.open.ensures.only refusal is
+
+pub returns-in_err-store-clause-cause : goal.returns-in_err-store-clause-cause
+returns-in_err-store-clause-cause g c is = c.open.ensures.cause (store_disk _ _ _ c.in_err-store.was c.from_residual.ensures.1 is)
+
+pub returns-in_err-shown-clause-ends : goal.returns-in_err-shown-clause-ends
+returns-in_err-shown-clause-ends g c tells =
+    memory_showing _ _ _ (narrowed _ _ (c.open.ensures.told tells)) (c.in_ok-store.ensures.seen tells (never_err _ _)) c.from_residual-in_err-shown.ensures.1
+
+pub returns-in_err-shown-clause-reads : goal.returns-in_err-shown-clause-reads
+returns-in_err-shown-clause-reads g c tells = record {
+  keeps = c.open.ensures.held tells;
+  books = c.open.ensures.chooses tells;
+  one_side = c.open.ensures.one_side tells;
+  each_one_side = c.open.ensures.each_one_side tells;
+}
+
+pub returns-clause-ends : goal.returns-clause-ends
+returns-clause-ends g c tells =
+    shown_showing _ _ _ (opened_stays _ _ (c.in_ok-store.ensures.still tells) (c.in_ok-store.ensures.seen tells (never_err _ _))) _ _
+    c.book.ensures c.in_ok-shown.ensures
+
+pub returns-clause-reads : goal.returns-clause-reads
+returns-clause-reads g c tells = record {
+  keeps = c.open.ensures.held tells;
+  books = c.open.ensures.chooses tells;
+  one_side = c.open.ensures.one_side tells;
+  each_one_side = c.open.ensures.each_one_side tells;
+}
