@@ -15,6 +15,12 @@ _mowerbean_ids() {
     lines=$(mowerbean -q "${_mowerbean_front[@]}" list "$box" 2>/dev/null </dev/null) && cut -d ' ' -f 1 <<<"$lines"
 }
 
+# The numbers of the letters that history has.
+_mowerbean_letters() {
+    mowerbean -q "${_mowerbean_front[@]}" history 2>/dev/null </dev/null |
+        awk '{ for (i = 3; i <= NF; i++) if ($i ~ /^(flag|move|append)$/) { if ($i == "append") print $1; next } }'
+}
+
 # Offers the words that begin with what was typed. Each is quoted, since a mailbox may be named like a command of the shell.
 _mowerbean_offer() {
     local typed=$1 each quoted
@@ -68,10 +74,11 @@ _mowerbean() {
     else
         place=$((COMP_CWORD - at))
         case $place:${COMP_WORDS[at]} in
-            0:*) words=(init play list flag move append queue report help --help --version -a -q -v -w) ;;
+            0:*) words=(init play list flag move append queue report history letter help --help --version -a -q -v -w) ;;
             *:play) words=(--retry --trace) ;;
             1:report) words=(--long) ;;
-            1:help) words=(init play list flag move append queue report) ;;
+            1:help) words=(init play list flag move append queue report history letter) ;;
+            1:letter) mapfile -t words < <(_mowerbean_letters) ;;
             1:list | 1:flag | 1:move | 1:append | 3:move) mapfile -t words < <(_mowerbean_boxes) ;;
             2:flag | 2:move) mapfile -t words < <(_mowerbean_ids "${COMP_WORDS[at + 1]}") ;;
             3:flag) words=(+ -) ;;

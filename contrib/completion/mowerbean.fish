@@ -65,6 +65,15 @@ function __mowerbean_ids
     string replace -r ' ' \t -- $lines
 end
 
+# The numbers of the letters that history has.
+function __mowerbean_letters
+    set -l account (__mowerbean_account)
+    set -l front
+    test -n "$account"; and set front -a $account
+    mowerbean -q $front history 2>/dev/null </dev/null |
+        awk '{ for (i = 3; i <= NF; i++) if ($i ~ /^(flag|move|append)$/) { if ($i == "append") print $1; next } }'
+end
+
 complete -c mowerbean -f
 complete -c mowerbean -s q -d 'explain no status'
 complete -c mowerbean -s v -d 'print what is said, for play'
@@ -72,8 +81,9 @@ complete -c mowerbean -s w -x -d 'wait for a play, for flag, move and append'
 complete -c mowerbean -s a -x -a '(for file in (__mowerbean_configs)/*.conf; basename $file .conf; end)' -d account
 complete -c mowerbean -n '__mowerbean_at 0 ""' -l help -d 'print the help'
 complete -c mowerbean -n '__mowerbean_at 0 ""' -l version -d 'print the version'
-complete -c mowerbean -n '__mowerbean_at 0 ""' -a 'init play list flag move append queue report help'
-complete -c mowerbean -n '__mowerbean_at 1 help' -a 'init play list flag move append queue report'
+complete -c mowerbean -n '__mowerbean_at 0 ""' -a 'init play list flag move append queue report history letter help'
+complete -c mowerbean -n '__mowerbean_at 1 help' -a 'init play list flag move append queue report history letter'
+complete -c mowerbean -n '__mowerbean_at 1 letter' -a '(__mowerbean_letters)'
 complete -c mowerbean -n '__mowerbean_at 1 play' -l retry -d 'play again while the connection is lost'
 complete -c mowerbean -n '__mowerbean_behind 1 play' -l trace -r -d 'keep what is said in a file'
 complete -c mowerbean -n '__mowerbean_at 1 report' -l long -d 'a sentence under each line'

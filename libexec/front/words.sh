@@ -24,6 +24,10 @@ a network.
                             mowerbean queue
   report [--long]         reports the actions that could not be done, and why
                             mowerbean report --long
+  history                 shows all actions, with how each stands
+                            mowerbean history
+  letter N                prints the message of action N, an append
+                            mowerbean letter 3 > letter.eml
   help COMMAND            prints more of one command
                             mowerbean help move
   --help, --version       prints this text, or the version
@@ -122,6 +126,23 @@ action had no effect, `N unsure KIND ..` where it had its one effect or none. Wi
 a sentence stands under each. It works beside a play.
 
   mowerbean report --long
+TEXT
+        history) cat <<'TEXT' ;;
+mowerbean history
+
+Prints all actions, in their order: the number, how the action stands, and what it asks
+for. It is `waiting` or `begun`, as queue prints it; `done`, of a move or an append with
+UIDVALIDITY and UID of the message; or what report prints. It works beside a play.
+
+  mowerbean history             prints `1 done 9 7 move INBOX 42 Archive`, say
+TEXT
+        letter) cat <<'TEXT' ;;
+mowerbean letter N
+
+Prints the message of action N, an append, byte for byte as it was accepted: the line ends
+are CR and LF. It works beside a play.
+
+  mowerbean letter 3 > letter.eml
 TEXT
         *) stop 2 "no such command: $1: see mowerbean --help" ;;
     esac

@@ -222,7 +222,7 @@ module _ (k : Course) (name : List ℕ) (t : IsListable name k.seen) where
   rows_done status.Input text ends no_disk no_output = absurd ends
 
 module _ (shown : Meaning → List ℕ) (k : Course) (t : AreBook k.seen) where
-  shown_done : (r : Status) (text : List ℕ) → EndsShown shown k r text → (r ≡ status.Disk → ⊥) → (r ≡ status.Output → ⊥) → IsDone r
+  pub shown_done : (r : Status) (text : List ℕ) → EndsShown shown k r text → (r ≡ status.Disk → ⊥) → (r ≡ status.Output → ⊥) → IsDone r
   shown_done status.Done text ends no_disk no_output = inl refl
   shown_done status.Memory text ends no_disk no_output = inr refl
   shown_done status.Output text ends no_disk no_output = absurd (no_output refl)

@@ -23,7 +23,7 @@ decimal_number text n fits is =
     subst (λ (t : List ℕ). IsNumberUpTo 4294967295 t n) (sym is) (record { digits = both.0; value = both.1; fits = omega arith })
 
 -- and as no other
-one_decimal : (m n : ℕ) → m < 2 ^ 32 → n < 2 ^ 32 → decimal m ≡ decimal n → m ≡ n
+pub one_decimal : (m n : ℕ) → m < 2 ^ 32 → n < 2 ^ 32 → decimal m ≡ decimal n → m ≡ n
 one_decimal m n small less same =
     sym (decimal_is_IsNumeral m (omega (arith, small))).1 ∙ ap (λ (t : List ℕ). digits_value 10 t) same ∙ (decimal_is_IsNumeral n (omega (arith, less))).1
 

@@ -29,8 +29,8 @@ pub fn ident_of(text: &str) -> Option<Ident>
     }
 }
 
-// The number that a text writes, without leading zeros.
-fn number_of(text: &str) -> Option<u32>
+/// The number that a text writes, without leading zeros.
+pub fn number_of(text: &str) -> Option<u32>
     ensures some { IfSome result (λ number. text.now ≡ decimal number) }
     ensures none { IsNone result → (number : _) → number < 2 ^ 32 → text.now ≡ decimal number → ⊥ }
 {

@@ -106,8 +106,8 @@ fn done(text: Printed) -> Ending
     }
 }
 
-// The ending of a command that isn't carried out.
-fn ending_of_refusal(refusal: Refusal) -> Ending
+/// The ending of a command that isn't carried out.
+pub fn ending_of_refusal(refusal: Refusal) -> Ending
     ensures status { result.status ≡ status_of_refusal refusal }
     ensures text { printed result.text ≡ text_of_refusal refusal }
 {

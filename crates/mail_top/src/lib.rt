@@ -21,14 +21,15 @@ mod unfinished;
 mod weighing;
 mod words;
 
-pub use arguments::{box_of, ident_of, is_addition};
+pub use arguments::{box_of, ident_of, is_addition, number_of};
+pub use ending::{Ending, ending_of_refusal, ending_of_text, ending_of_words};
 pub use input::{MAX_INPUT, MAX_TEXT};
 pub use names::{MAX_NAMES, are_names, names_in};
 pub use printed::Printed;
 pub use reason::Reason;
 pub use refusal::Refusal;
 pub use request::{Asked, AskedAction, AskedAppend, AskedFlags, AskedMove};
-pub use running::run;
+pub use running::{run, say};
 pub use runs::{
     admitted_actions_have_records, one_action_is_asked_for, reports_tell_the_effect,
     runs_one_behind_another, words_ask_one_thing,

@@ -170,8 +170,8 @@ fn answer<W: World, I: Source>(
     }
 }
 
-// Prints the text of an ending. A write that fails changes the status of a command that is done, and no other.
-fn say<S: Sink>(out: &mut S, ending: &Ending) -> Status
+/// Prints the text of an ending. A write that fails changes the status of a command that is done, and no other.
+pub fn say<S: Sink>(out: &mut S, ending: &Ending) -> Status
     requires { ending.now.status ≢ Status.Output }
     ensures status { IsSaid ending.now.status result }
     ensures prints { S.tells → Prints result (printed ending.now.text) (S.written out.old) (S.written out.new)
