@@ -1,6 +1,6 @@
 -- How a look ends, told of its words and of what is printed.
-use Rattle.std.proofs.Common.{◌≡◌, ◌⊎◌, inl, inr, ℕ, zero, suc, ◌-◌, ◌≤◌, List, [], ◌∷◌, ◌++◌, length, Option, Some, None, Err, refl, sym, ◌∙◌, ap, subst, arith}
-use Rattle.std.specs.Prelude.{slice_get, slice_index}
+use Rattle.std.proofs.Common.{◌≡◌, ◌⊎◌, inl, inr, ℕ, ◌-◌, List, [], ◌∷◌, ◌++◌, Option, Some, None, Err, refl, sym, ◌∙◌, ap, subst, arith}
+use Rattle.std.specs.Prelude.{slice_index}
 use Rattle.mail_base.specs.declared.status.Status.{Status}
 use Rattle.mail_base.specs.declared.status.Status.TheVariants as status
 use Rattle.world_traits.specs.Moments.{MayLeave}
@@ -53,13 +53,8 @@ module _ (words : List (List ℕ)) (k : Course) (text : List ℕ) where
   said_ends r s (inr (inr conflicts, is)) ends = absurd (conflicts_ends (subst (λ (t : Status). Ends words k t text) conflicts ends))
 
   -- what became of the words, of which this is the ending
-  pub said_look : (look : Look) → Asks words look → (r s : Status) (x : List ℕ) → r ≡ s → text ≡ x → EndsLook look k s x → Ends words k r text
-  said_look look asks r s x same text_is ends = inr (record {
-    look = look;
-    asks = asks;
-    ends =
-        subst (λ (t : Status). EndsLook look k t text) (sym same) (subst (λ (y : List ℕ). EndsLook look k s y) (sym text_is) ends);
-  })
+  pub said_look : (look : Look) → Asks words look → (r : Status) → EndsLook look k r text → Ends words k r text
+  said_look look asks r ends = inr (record { look = look; asks = asks; ends = ends })
 
 -- the first byte of each command
 abbrev byte_of : Look → ℕ
@@ -98,18 +93,10 @@ ended_as words k r text look asks (inl w) cause = absurd (w.nothing look asks)
 ended_as words k r text look asks (inr s) cause =
     subst (λ (l : Look). EndsLook l k r text) (one_look words s.look look s.asks asks) s.ends
 
--- behind the end of a list nothing stands
-none_past : (qs : List Queued) (at : ℕ) → length qs ≤ at → slice_get qs at ≡ None
-none_past [] at past = refl
-none_past (q ∷ qs) zero past = absurd (omega (arith, past))
-none_past (q ∷ qs) (suc at) past = none_past qs at (omega (arith, past))
-
 -- a letter that the book has isn't lacking
 module _ (b : Meaning) (n : ℕ) (text : List ℕ) (has : HasText b n (Some text)) where
   never_lacks : (reason : LookReason) → IsLetter b n (Err reason) → ⊥
-  never_lacks reasons.NoAction fewer =
-      let past : slice_get b.queue (n - 1) ≡ None = none_past b.queue (n - 1) (omega (arith, fewer)) in
-      let bad : None ≡ Some has.queued = sym past ∙ has.there in cc bad
+  never_lacks reasons.NoAction none = let bad : None ≡ Some has.queued = sym none ∙ has.there in cc bad
   never_lacks reasons.NoLetter none =
       let same : none.queued ≡ has.queued = cc (none.there, has.there) in
       let bad : None ≡ Some text = sym none.is ∙ ap (λ (q : Queued). text_of q.action) same ∙ has.is in cc bad

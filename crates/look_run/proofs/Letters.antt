@@ -1,19 +1,23 @@
 -- What becomes of a letter, by its answer.
-use Rattle.std.proofs.Common.{◌≡◌, ℕ, List, Result, Ok, Err, refl, sym, ◌∙◌, ap}
+use Rattle.std.proofs.Common.{◌≡◌, ℕ, List, Result, Ok, Err, refl, sym, ◌∙◌, ap, subst}
 use Rattle.mail_base.specs.declared.status.Status.{Status}
 use Rattle.mail_base.specs.declared.status.Status.TheVariants as status
 use Rattle.mail_top.specs.Course.{Course}
 use Rattle.mail_top.specs.Showing.{EndsShowing, IsOfReading}
-use Rattle.mail_top.specs.Telling.{status_of, status_of_refusal}
+use Rattle.mail_top.specs.Telling.{status_of, status_of_refusal, text_of}
 use Rattle.mail_top.specs.declared.refusal.Refusal.{Refusal}
 use Rattle.mail_top.specs.declared.refusal.Refusal.TheVariants as refusals
-use Rattle.look_run.specs.Ending.{EndsLetter}
+use Rattle.mail_top.proofs.Showings.{showing_ends}
+use Rattle.look_run.specs.Ending.{EndsLetter, EndsLook}
+use Rattle.look_run.specs.HistoryText.{history_text}
 use Rattle.look_run.specs.LetterText.{IsLetter}
 use Rattle.look_run.specs.Telling.{letter_status, letter_text}
+use Rattle.look_run.specs.declared.look.Look.{Look}
+use Rattle.look_run.specs.declared.look.Look.TheVariants as looks
 use Rattle.look_run.specs.declared.look.LookReason.{LookReason}
 
 -- so a letter is shown
-pub letter_ends : (n : ℕ) (k : Course) (r : Result (Result (List ℕ) LookReason) Refusal) → EndsShowing (λ b answer. IsLetter b n answer) k r →
+letter_ends : (n : ℕ) (k : Course) (r : Result (Result (List ℕ) LookReason) Refusal) → EndsShowing (λ b answer. IsLetter b n answer) k r →
     EndsLetter n k (letter_status r) (letter_text r)
 letter_ends n k (Ok (Ok text)) s = record { book = s.book; stays = s.stays; is = s.fits }
 letter_ends n k (Ok (Err reason)) s = record { book = s.book; stays = s.stays; reason = reason; is = s.fits; text_is = refl }
@@ -25,6 +29,22 @@ letter_ends n k (Err refusals.Already) s = absurd s
 letter_ends n k (Err (refusals.Reason reason)) s = absurd s
 letter_ends n k (Err refusals.Actions) s = absurd s
 letter_ends n k (Err (refusals.Full end)) s = absurd s
+
+-- what became of a look, of which this is the ending
+module _ (look : Look) (k : Course) (s : Status) (x : List ℕ) where
+  said_so : (t : Status) (y : List ℕ) → s ≡ t → x ≡ y → EndsLook look k t y → EndsLook look k s x
+  said_so t y status_is text_is ends = subst (λ (u : Status). EndsLook look k u x) (sym status_is)
+      (subst (λ (z : List ℕ). EndsLook look k t z) (sym text_is) ends)
+
+  pub history_seen : look ≡ looks.History → (r : Result (List ℕ) Refusal) → s ≡ status_of r → x ≡ text_of (λ text. text) r →
+      EndsShowing (λ b text. text ≡ history_text b) k r → EndsLook look k s x
+  history_seen is r status_is text_is showing = said_so (status_of r) (text_of (λ text. text) r) status_is text_is
+      (subst (λ (l : Look). EndsLook l k (status_of r) (text_of (λ text. text) r)) (sym is) (showing_ends history_text k r showing))
+
+  pub letter_seen : (n : ℕ) → look ≡ looks.Letter n → (r : Result (Result (List ℕ) LookReason) Refusal) → s ≡ letter_status r → x ≡ letter_text r →
+      EndsShowing (λ b answer. IsLetter b n answer) k r → EndsLook look k s x
+  letter_seen n is r status_is text_is showing = said_so (letter_status r) (letter_text r) status_is text_is
+      (subst (λ (l : Look). EndsLook l k (letter_status r) (letter_text r)) (sym is) (letter_ends n k r showing))
 
 -- the refusals that have these statuses
 disk_back : (x : Refusal) → status_of_refusal x ≡ status.Disk → x ≡ refusals.Disk

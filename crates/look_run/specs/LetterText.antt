@@ -1,5 +1,5 @@
 -- The letter of an action: the text that an append puts into a mailbox (RFC 9051, section 6.3.12).
-use Rattle.std.specs.Prelude.{◌≡◌, ℕ, ◌<◌, List, length, Option, Some, None, Result, Ok, Err}
+use Rattle.std.specs.Prelude.{◌≡◌, ℕ, List, Option, Some, None, Result, Ok, Err}
 use Rattle.action_queue.specs.Book.{Meaning}
 use Rattle.action_queue.specs.Targets.{action_at}
 use Rattle.action_queue.specs.declared.action.Action.{Action}
@@ -20,8 +20,8 @@ pub record HasText (b : Meaning) (n : ℕ) (text : Option (List ℕ)) : Type 0 w
   pub there : action_at b.queue n ≡ Some queued
   pub is : text_of queued.action ≡ text
 
--- this is the letter of action n of the book; or the book has fewer actions; or the action has no text
+-- this is the letter of action n of the book; or the book has no such action; or the action has no text
 abbrev pub IsLetter : Meaning → ℕ → Result (List ℕ) LookReason → Type 0
 IsLetter b n (Ok text) = HasText b n (Some text)
-IsLetter b n (Err reasons.NoAction) = length b.queue < n
+IsLetter b n (Err reasons.NoAction) = action_at b.queue n ≡ None
 IsLetter b n (Err reasons.NoLetter) = HasText b n None

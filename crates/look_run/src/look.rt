@@ -1,14 +1,12 @@
 //! What is looked at, and why it can't be shown.
 
-use mail_base::ActionId;
-
 /// What the words ask to see.
 #[derive(Clone, Copy, Debug, PartialEq, Eq)]
 pub enum Look {
     /// All actions, each with how it stands.
     History,
-    /// The letter that this action puts into a mailbox.
-    Letter(ActionId),
+    /// The letter that the action of this number puts into a mailbox.
+    Letter(u32),
 }
 
 /// Why a letter can't be shown.

@@ -10,7 +10,7 @@ ghost use Rattle.mail_top.specs.Ending.{IsDone};
 ghost use Rattle.mail_top.specs.Printing.{Prints};
 ghost use Rattle.mail_top.specs.Showing.{OnlyReads};
 ghost use Rattle.mail_top.specs.Telling.{printed};
-ghost use Rattle.look_run.specs.Ending.{AreSeen, Ends};
+ghost use Rattle.look_run.specs.Ending.{AreSeen, Ends, EndsLook};
 ghost use Rattle.look_run.specs.Telling.{letter_status, letter_text, refused};
 ghost use Rattle.look_run.specs.Words.{Asks, AsksNothing, WritesLetter};
 ghost use Rattle.look_run.specs.declared.look.Look.{Look as AnyLook};
@@ -63,10 +63,30 @@ fn looked<D: Disk>(alloc: Global, words: &[String], disk: &mut D) -> Ending
     ensures count { D.disk_faults disk.old ≤ D.disk_faults disk.new }
     ensures link { D.link disk.new ≡ D.link disk.old }
 {
-    match look_of(words) {
-        None => ending_of_words(),
-        Some(Look::History) => ending_of_text(show_book(alloc, disk, &History)),
-        Some(Look::Letter(id)) => ending_of_letter(show_book(alloc, disk, &Letter { id })),
+    let Some(look) = look_of(words) else {
+        return ending_of_words();
+    };
+    look_at(alloc, disk, &look)
+}
+
+// Looks at this, up to the printing.
+fn look_at<D: Disk>(alloc: Global, disk: &mut D, look: &Look) -> Ending
+    ensures ends { D.tells_files →
+        EndsLook look.now (course_of D.Clocked D.seen disk.old disk.new) result.status (printed result.text) }
+    ensures reads { D.tells_files → OnlyReads (D.clock disk.old) (D.clock disk.new) }
+    ensures not_output { result.status ≢ Status.Output }
+    ensures not_words { result.status ≢ Status.Words }
+    ensures reason { result.status ≡ Status.Reason → (n : ℕ) × (look.now ≡ Look.Letter n) }
+    ensures cause { result.status ≡ Status.Disk → Rose (D.disk_faults disk.old) (D.disk_faults disk.new) }
+    ensures count { D.disk_faults disk.old ≤ D.disk_faults disk.new }
+    ensures link { D.link disk.new ≡ D.link disk.old }
+{
+    match look {
+        Look::History => ending_of_text(show_book(alloc, disk, &History)),
+        Look::Letter(number) => {
+            let letter = Letter { number: *number };
+            ending_of_letter(show_book(alloc, disk, &letter))
+        }
     }
 }
 

@@ -4,7 +4,6 @@ ghost use Rattle.std.specs.Prelude.{◌≡◌, ℕ, ◌∷◌, IsNone, IfSome, c
 ghost use Rattle.look_run.specs.Words.{Asks, AsksNothing, WritesHistory, WritesLetter, WritesNumber};
 
 use crate::Look;
-use mail_base::ActionId;
 use mail_top::number_of;
 
 /// What the words ask to see. `None` exactly where they ask for neither.
@@ -42,17 +41,18 @@ fn letter_asked(arguments: &[String]) -> Option<Look>
 {
     match arguments {
         [number] => {
-            let id = action_of(number.as_str())?;
-            Some(Look::Letter(id))
+            let number = action_of(number.as_str())?;
+            Some(Look::Letter(number))
         }
         _ => None,
     }
 }
 
-// The action whose number a word writes.
-fn action_of(text: &str) -> Option<ActionId>
+// The action's number that a word writes.
+fn action_of(text: &str) -> Option<u32>
     ensures some { IfSome result (WritesNumber text.now) }
     ensures none { IsNone result → (n : ℕ) → WritesNumber text.now n → ⊥ }
 {
-    ActionId::new(number_of(text)?)
+    let number = number_of(text)?;
+    if number == 0 { None } else { Some(number) }
 }

@@ -10,7 +10,7 @@ ghost use Rattle.look_run.specs.Words.{AsksNothing as SeesNothing};
 pub enum TopCall {
     /// `mail_top::run`.
     Run,
-    /// `look_run::look_run`.
+    /// `look_run`.
     Look,
 }
 
