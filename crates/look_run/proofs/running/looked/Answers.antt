@@ -1,4 +1,5 @@
-use Rattle.std.proofs.Common.{inl, inr, refl, sym, subst, absurd, rules}
+use Rattle.std.proofs.Common.{inl, map, refl, subst, rules}
+use Rattle.std.specs.Prelude.{string_bytes}
 use Rattle.world_traits.specs.Links.{Any}
 use Rattle.world_traits.specs.Moments.{Within}
 use Rattle.world_traits.proofs.Passing.{since_start}
@@ -7,12 +8,11 @@ use Rattle.store_core.specs.HeldActions.{KeepsActions}
 use Rattle.store_core.specs.Mail.{mail}
 use Rattle.store_core.specs.Taking.{ChoosesStep}
 use Rattle.look_run.specs.Words.{Asks}
-use Rattle.look_run.specs.declared.look.Look.{Look}
 use Rattle.look_run.proofs.Endings.{said_look}
 use Rattle.look_run.proofs.running.looked.Goals as goal
 
-pub returns-else-clause-ends : goal.returns-else-clause-ends
-returns-else-clause-ends g c tells = inl (record {
+pub returns-in_default-clause-ends : goal.returns-in_default-clause-ends
+returns-in_default-clause-ends g c tells = inl (record {
   nothing = search rules;
   stays = refl;
   reads = refl;
@@ -20,8 +20,8 @@ returns-else-clause-ends g c tells = inl (record {
   text_is = c.ending_of_words.ensures.text;
 })
 
-pub returns-else-clause-reads : goal.returns-else-clause-reads
-returns-else-clause-reads g c tells = record {
+pub returns-in_default-clause-reads : goal.returns-in_default-clause-reads
+returns-in_default-clause-reads g c tells = record {
   keeps = since_start (Within (g.D.Clocked.clock c.args.disk.now).now) KeepsActions (g.D.Clocked.clock c.args.disk.now);
   books = λ one books have. since_start Any (ChoosesStep mail) (g.D.Clocked.clock c.args.disk.now);
   one_side = λ one. one;
@@ -40,4 +40,4 @@ returns-clause-words g c = (
 pub returns-clause-reason : goal.returns-clause-reason
 returns-clause-reason g c is =
     let letter = c.look_at.ensures.reason is in
-    (letter.0, subst (λ (look : Look). Asks _ look) letter.1 c.in-Some.ensures.some)
+    (letter.0, subst (Asks (map string_bytes c.args.words.now)) letter.1 c.in-Some.ensures.some)
