@@ -43,7 +43,7 @@ turns_beside_a_play() {
     ask play
     same '  and a play' "$status, $said" '75, '
     has '  which waits for none' "$notice" 'a play is under way in'
-    for word in list queue report; do
+    for word in list queue report history letter; do
         ask "$word"
         same "  and $word works beside it" "$status" 0
     done

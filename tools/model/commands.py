@@ -1,8 +1,8 @@
 """What each command but `play` does with the journal, call by call (docs/JOURNAL.md, "Counted"), and what it prints."""
-from typing import Iterable, List
+from typing import Iterable, List, Tuple
 
 from .journal import Book, begin, body_of, event_of, journal, record
-from .words import Ident, crlf_of, keys, may_be_asked, message_id
+from .words import Ident, crlf_of, keys, looked_at, may_be_asked, message_id
 from .world import Fault, World
 
 MAGIC = b'ODMAILJ1'
@@ -164,3 +164,16 @@ def queue(world: World) -> List[str]:
 
 def report(world: World) -> List[str]:
     return Store(world).book.report_lines()
+
+
+def looked(book: Book, command: Iterable[str]) -> Tuple[bytes, int]:
+    """What `history` or `letter N` prints of a book, and its status."""
+    asked = looked_at(command)
+    if asked is None:
+        return b'error words\n', 2
+    if asked[0] == 'history':
+        return ''.join(line + '\n' for line in book.history_lines()).encode(), 0
+    try:
+        return book.letter(asked[1]), 0
+    except LookupError as reason:
+        return b'refused %s\n' % str(reason).encode(), 10

@@ -282,7 +282,7 @@ class Book:
                 rows[rest[1], ('dummy', number)] = (None, flags)
         return rows
 
-    # The lines of `list`, `queue` and `report`.
+    # The lines of `list`, `queue`, `report` and `history`, and the letter of `letter N`.
 
     def list(self, box: str) -> List[str]:
         lines = []
@@ -309,18 +309,35 @@ class Book:
         to, _, text = rest
         return 'append %s %s' % (to, message_id(text).decode())
 
+    def stands(self, number: int) -> List[str]:
+        """The words that say how an action stands."""
+        outcome = self.outcomes[number - 1]
+        if outcome is None:
+            return ['begun' if self.pending and number == self.unsettled()[0] else 'waiting']
+        if outcome[0] == 'done':
+            return [str(word) for word in outcome]
+        _, kind, numbers = outcome
+        return ['nothing' if kind <= 7 else 'unsure', KIND_NAMES[kind - 1]] + [str(n) for n in numbers]
+
+    def history_line(self, number: int) -> str:
+        return ' '.join([str(number), *self.stands(number), self.action_text(self.queue[number - 1])])
+
     def queue_lines(self) -> List[str]:
-        lines, due = [], self.unsettled()
-        for number in due:
-            state = 'begun' if self.pending and number == due[0] else 'waiting'
-            lines.append('%d %s %s' % (number, state, self.action_text(self.queue[number - 1])))
-        return lines
+        return [self.history_line(number) for number in self.unsettled()]
 
     def report_lines(self) -> List[str]:
-        lines = []
-        for number, outcome in enumerate(self.outcomes, 1):
-            if outcome and outcome[0] == 'conflict':
-                _, kind, numbers = outcome
-                effect = 'nothing' if kind <= 7 else 'unsure'
-                lines.append(' '.join([str(number), effect, KIND_NAMES[kind - 1]] + [str(n) for n in numbers]))
-        return lines
+        return [' '.join([str(number), *self.stands(number)])
+                for number, outcome in enumerate(self.outcomes, 1) if outcome and outcome[0] == 'conflict']
+
+    def history_lines(self) -> List[str]:
+        return [self.history_line(number) for number in range(1, len(self.queue) + 1)]
+
+    def letter(self, number: int) -> bytes:
+        """The text of an append as it was accepted."""
+        if number > len(self.queue):
+            raise LookupError('no-action')
+        verb, *rest = self.queue[number - 1]
+        if verb != 'append':
+            raise LookupError('no-letter')
+        text: bytes = rest[2]
+        return text

@@ -69,6 +69,16 @@ def asked(command: Iterable[str]) -> Optional[tuple]:
     return None
 
 
+def looked_at(command: Iterable[str]) -> Optional[tuple]:
+    """What the words ask to see of all actions, or None where they are neither `history` nor `letter N`."""
+    verb, *rest = list(command) or [None]
+    if verb == 'history' and not rest:
+        return (verb,)
+    if verb == 'letter' and len(rest) == 1 and number_of(rest[0]):
+        return (verb, number_of(rest[0]))
+    return None
+
+
 # Flags.
 
 SPELLED = {'\\answered': '\\Answered', '\\flagged': '\\Flagged', '\\deleted': '\\Deleted', '\\seen': '\\Seen', '\\draft': '\\Draft'}

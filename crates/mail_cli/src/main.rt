@@ -12,6 +12,7 @@ mod top_calls;
 ghost use Rattle.std.specs.Prelude.{◌≡◌, ◌⊎◌, option_map, string_bytes};
 ghost use Rattle.mail_base.specs.declared.status.Status.TheVariants as statuses;
 
+use look_run::look_run;
 use mail_base::{Line, Status};
 use mail_top::run;
 use notices::{IN_USE, NO_NULL, SEE_HELP, notice_for};
@@ -98,6 +99,7 @@ where
     let mut out = OutputSink::new(io::writer(rt));
     let status = match call {
         TopCall::Run => run(alloc, words, &account, &mut input, &mut world, &mut out),
+        TopCall::Look => look_run(alloc, words, &mut world, &mut out),
     };
     world.close();
     if world.is_in_use() {

@@ -14,6 +14,8 @@ usage: mowerbean init BOX ..            sets up a journal for 1 to 32 mailboxes
        mowerbean list BOX               shows the messages of a mailbox
        mowerbean queue                  shows the actions that wait
        mowerbean report                 tells the actions that ended as conflicts
+       mowerbean history                shows all actions, with how each stands
+       mowerbean letter N               prints the message of action N, an append
        mowerbean play                   plays the actions back, and fetches what is
                                         new of each mailbox
        mowerbean --help | --version
@@ -33,6 +35,9 @@ mowerbean queue                    prints `1 waiting flag INBOX 42 + \\seen`, an
                                    a line each for actions 2 and 3
 mowerbean play                     prints `played 3 conflicts 0`
 mowerbean report                   prints nothing: none ended as a conflict
+mowerbean history                  prints `2 done 9 7 move INBOX 42 Archive`, and
+                                   a line each for actions 1 and 3
+mowerbean letter 3                 prints a.eml, each line's end as CR and LF
 
 The journal is kept in journal.0 and journal.1 of the folder MAIL_DIR (default:
 the present one). The server is MAIL_SERVER, as HOST:PORT (default:
