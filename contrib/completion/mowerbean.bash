@@ -1,12 +1,7 @@
 # Completion of mowerbean's words in bash. Mailboxes and IDs are asked of mowerbean itself, which needs no network for that.
 
 _mowerbean_boxes() {
-    local file=${MAIL_DIR-.}/mowerbean.boxes
-    if [[ -f $file && ! -L $file && -r $file ]]; then
-        cat -- "$file"
-    else
-        echo INBOX
-    fi
+    mowerbean -q "${_mowerbean_front[@]}" --boxes 2>/dev/null </dev/null || echo INBOX
 }
 
 # The first word of each line of list. After a refusal there is none. The mailbox stands in the line with its quotes.
@@ -29,56 +24,50 @@ _mowerbean_offer() {
     done
 }
 
-_mowerbean() {
-    local word=${COMP_WORDS[COMP_CWORD]} at=1 place dir account=default
-    local -a _mowerbean_front=() words=()
-    local configs=${XDG_CONFIG_HOME:-$HOME/.config}/mowerbean
-    COMPREPLY=()
-    # The options in front of the command.
-    while ((at < COMP_CWORD)); do
-        case ${COMP_WORDS[at]} in
-            -q | -v | -A) ((at += 1)) ;;
-            -w) ((at += 2)) ;;
-            -a)
-                if ((at + 1 >= COMP_CWORD)); then
-                    break
-                fi
-                account=${COMP_WORDS[at + 1]}
-                _mowerbean_front=(-a "$account")
-                ((at += 2))
-                ;;
-            *) break ;;
-        esac
+_mowerbean_accounts() {
+    local file
+    for file in "${XDG_CONFIG_HOME:-$HOME/.config}"/mowerbean/*.conf; do
+        [[ -e $file ]] && basename "$file" .conf
     done
-    # The journal's folder, as the front takes it.
-    if [[ -r $configs/$account.conf ]]; then
-        dir=$(sed -n 's/^ *dir *= *//p' "$configs/$account.conf")
-        # shellcheck disable=SC2088  # the tilde is the file's
-        case $dir in
-            '~/'*) dir=$HOME/${dir#'~/'} ;;
-            '') dir=${XDG_DATA_HOME:-$HOME/.local/share}/mowerbean/$account ;;
-        esac
-        local MAIL_DIR=${MAIL_DIR-$dir}
+}
+
+# The words that may stand after these ones of the line, options left out.
+_mowerbean_next() {
+    case $#:${1-} in
+        0:*) words=(account init play list flag move append queue report help --help --version -a -A -q -v -w -h -V) ;;
+        *:play) words=(--retry --retry-for --then --trace --moved) ;;
+        *:report) words=(--new --long) ;;
+        1:help) words=(account init play list flag move append queue report) ;;
+        1:list | 1:flag | 1:move | 1:append | 3:move) mapfile -t words < <(_mowerbean_boxes) ;;
+        2:flag | 2:move) mapfile -t words < <(_mowerbean_ids "$2") ;;
+        3:flag) words=(+ -) ;;
+        [4-9]:flag | [2-9]:append) words=(seen flagged answered deleted draft '\Seen' '\Flagged' '\Answered' '\Deleted' '\Draft') ;;
+    esac
+}
+
+_mowerbean() {
+    local at value
+    local -a _mowerbean_front=() plain=() words=()
+    COMPREPLY=()
+    for ((at = 1; at < COMP_CWORD; at++)); do
+        if [[ ${COMP_WORDS[at]} =~ ^-[qvhVA]*([aw])(.*)$ ]]; then
+            value=${BASH_REMATCH[2]}
+            if [[ -z $value ]] && ((++at < COMP_CWORD)); then
+                value=${COMP_WORDS[at]}
+            fi
+            if [[ ${BASH_REMATCH[1]} == a ]]; then
+                _mowerbean_front=(-a "$value")
+            fi
+        elif [[ ${COMP_WORDS[at]} != -?* ]]; then
+            plain+=("${COMP_WORDS[at]}")
+        fi
+    done
+    if ((at == COMP_CWORD)); then
+        _mowerbean_next "${plain[@]}"
+    elif [[ ${_mowerbean_front[0]-} == -a && -z ${_mowerbean_front[1]-} ]]; then
+        mapfile -t words < <(_mowerbean_accounts)
     fi
-    if [[ ${COMP_WORDS[COMP_CWORD - 1]} == -a ]] && ((at == COMP_CWORD - 1)); then
-        local file
-        for file in "$configs"/*.conf; do
-            [[ -e $file ]] && words+=("$(basename "$file" .conf)")
-        done
-    else
-        place=$((COMP_CWORD - at))
-        case $place:${COMP_WORDS[at]} in
-            0:*) words=(init play list flag move append queue report help --help --version -a -A -q -v -w) ;;
-            *:play) words=(--retry --retry-for --then --trace) ;;
-            1:report) words=(--long) ;;
-            1:help) words=(init play list flag move append queue report) ;;
-            1:list | 1:flag | 1:move | 1:append | 3:move) mapfile -t words < <(_mowerbean_boxes) ;;
-            2:flag | 2:move) mapfile -t words < <(_mowerbean_ids "${COMP_WORDS[at + 1]}") ;;
-            3:flag) words=(+ -) ;;
-            [4-9]:flag | [2-9]:append) words=('\Seen' '\Flagged' '\Answered' '\Deleted' '\Draft') ;;
-        esac
-    fi
-    _mowerbean_offer "$word" "${words[@]}"
+    _mowerbean_offer "${COMP_WORDS[COMP_CWORD]}" "${words[@]}"
 }
 
 complete -F _mowerbean mowerbean

@@ -38,29 +38,20 @@ function __mowerbean_configs
     set -q XDG_CONFIG_HOME; and echo $XDG_CONFIG_HOME/mowerbean; or echo $HOME/.config/mowerbean
 end
 
+# The account's option, for what is asked of mowerbean.
+function __mowerbean_front
+    set -l account (__mowerbean_account)
+    test -n "$account"; and printf '%s\n' -a $account
+end
+
 function __mowerbean_boxes
-    set -l account (__mowerbean_account); or set account default
-    set -l folder .
-    set -l file (__mowerbean_configs)/$account.conf
-    if set -q MAIL_DIR
-        set folder $MAIL_DIR
-    else if test -r $file
-        set folder (string replace -rf '^ *dir *= *' '' <$file | string replace -r '^~/' "$HOME/")
-        set -q folder[1]; or set folder $HOME/.local/share/mowerbean/$account
-    end
-    set -l boxes $folder/mowerbean.boxes
-    if test -f $boxes; and not test -L $boxes; and test -r $boxes
-        cat $boxes
-    else
-        echo INBOX
-    end
+    set -l front (__mowerbean_front)
+    mowerbean -q $front --boxes 2>/dev/null </dev/null; or echo INBOX
 end
 
 function __mowerbean_ids
     set -l words (__mowerbean_words)
-    set -l account (__mowerbean_account)
-    set -l front
-    test -n "$account"; and set front -a $account
+    set -l front (__mowerbean_front)
     set -l lines (mowerbean -q $front list $words[2] 2>/dev/null </dev/null); or return
     string replace -r ' ' \t -- $lines
 end
@@ -71,18 +62,20 @@ complete -c mowerbean -s q -d 'explain no status'
 complete -c mowerbean -s v -d 'print what is said, for play'
 complete -c mowerbean -s w -x -d 'wait for a play, for flag, move and append'
 complete -c mowerbean -s a -x -a '(for file in (__mowerbean_configs)/*.conf; basename $file .conf; end)' -d account
-complete -c mowerbean -n '__mowerbean_at 0 ""' -l help -d 'print the help'
-complete -c mowerbean -n '__mowerbean_at 0 ""' -l version -d 'print the version'
-complete -c mowerbean -n '__mowerbean_at 0 ""' -a 'init play list flag move append queue report help'
-complete -c mowerbean -n '__mowerbean_at 1 help' -a 'init play list flag move append queue report'
+complete -c mowerbean -n '__mowerbean_at 0 ""' -s h -l help -d 'print the help'
+complete -c mowerbean -n '__mowerbean_at 0 ""' -s V -l version -d 'print the version'
+complete -c mowerbean -n '__mowerbean_at 0 ""' -a 'account init play list flag move append queue report help'
+complete -c mowerbean -n '__mowerbean_at 1 help' -a 'account init play list flag move append queue report'
 complete -c mowerbean -n '__mowerbean_behind 1 play' -l retry -x -d 'play again up to so many times'
 complete -c mowerbean -n '__mowerbean_behind 1 play' -l retry-for -x -d 'play again for so long, as 20m'
 complete -c mowerbean -n '__mowerbean_behind 1 play' -l then -x -d 'run this where something came'
 complete -c mowerbean -n '__mowerbean_behind 1 play' -l trace -r -d 'keep what is said in a file'
-complete -c mowerbean -n '__mowerbean_at 1 report' -l long -d 'a sentence under each line'
+complete -c mowerbean -n '__mowerbean_behind 1 play' -l moved -d 'the account has another server or user'
+complete -c mowerbean -n '__mowerbean_behind 1 report' -l long -d 'what was asked for, and a sentence'
+complete -c mowerbean -n '__mowerbean_behind 1 report' -l new -d 'what no report has shown'
 complete -c mowerbean -n '__mowerbean_at 1 list flag move append' -a '(__mowerbean_boxes)'
 complete -c mowerbean -n '__mowerbean_at 3 move' -a '(__mowerbean_boxes)'
 complete -c mowerbean -n '__mowerbean_at 2 flag move' -a '(__mowerbean_ids)'
 complete -c mowerbean -n '__mowerbean_at 3 flag' -a '+ -'
-complete -c mowerbean -n '__mowerbean_behind 4 flag' -a "'\\Seen' '\\Flagged' '\\Answered' '\\Deleted' '\\Draft'"
-complete -c mowerbean -n '__mowerbean_behind 2 append' -a "'\\Seen' '\\Flagged' '\\Answered' '\\Deleted' '\\Draft'"
+complete -c mowerbean -n '__mowerbean_behind 4 flag' -a "seen flagged answered deleted draft '\\Seen' '\\Flagged' '\\Answered' '\\Deleted' '\\Draft'"
+complete -c mowerbean -n '__mowerbean_behind 2 append' -a "seen flagged answered deleted draft '\\Seen' '\\Flagged' '\\Answered' '\\Deleted' '\\Draft'"

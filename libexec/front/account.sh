@@ -4,12 +4,9 @@
 # The most seconds of a pause.
 LONGEST_PAUSE=3600
 
-# Whether others may do this to a file: g+w or o+w, and so on.
-others_may() {
-    [ -n "$(find -H "$1" -prune \( -perm -"g+$2" -o -perm -"o+$2" \))" ]
-}
-
+# What is wrong with a line counts only where nobody else may have written it.
 bad_account() {
+    look_at_owners
     stop "$BAD_ACCOUNT" "$file, line $number: $1. Nothing was done"
 }
 
@@ -20,6 +17,67 @@ bad_setting() {
 trim() {
     trimmed=${1#"${1%%[![:space:]]*}"}
     trimmed=${trimmed%"${trimmed##*[![:space:]]}"}
+}
+
+# --- whose the files are
+
+# Looks at the account's file, at its folder, and at the folder that is named: at their owners, and at who else may write there. One
+# `ls` for all, which shows each under its own ending.
+look_at_owners() {
+    is_open='' seen_file='' seen_folder=''
+    set -- ${file:+"$file" "${file%/*}/."} ${1:+"$1/./"}
+    [ $# -gt 0 ] || return 0
+    while read -r mode _ owner line; do
+        case $line in
+            *.conf) look_at_file "$mode" "$owner" ;;
+            */./) look_at_journal "$mode" ;;
+            */.) look_at_configs "$mode" "$owner" ;;
+        esac
+    done <<LIST
+$(LC_ALL=C ls -dnL -- "$@" 2>/dev/null)
+LIST
+    if [ -n "$file" ] && [ "$seen_file$seen_folder" != yesyes ]; then
+        stop "$BAD_ACCOUNT" "it can't be seen who may change $file. Nothing was done"
+    fi
+}
+
+# Whether others may write what has this mode.
+others_may_write() {
+    case $1 in
+        ?????w* | ????????w*) return 0 ;;
+    esac
+    return 1
+}
+
+# Whether a file of this owner is this user's, or root's.
+is_own() {
+    # shellcheck disable=SC3067  # dash, bash and busybox have it
+    [ "$2" = 0 ] || [ -O "$1" ]
+}
+
+look_at_file() {
+    seen_file=yes
+    is_own "$file" "$2" || stop "$BAD_ACCOUNT" "$file belongs to another user. Nothing was done"
+    if others_may_write "$1"; then
+        stop "$BAD_ACCOUNT" "others may change $file. Nothing was done: chmod 600 it"
+    fi
+    case $1 in
+        ????r* | ???????r*) is_open=yes ;;
+    esac
+}
+
+look_at_configs() {
+    seen_folder=yes
+    is_own "${file%/*}" "$2" || stop "$BAD_ACCOUNT" "${file%/*} belongs to another user. Nothing was done"
+    if others_may_write "$1"; then
+        stop "$BAD_ACCOUNT" "others may write in ${file%/*}, where $file is. Nothing was done: chmod go-w it"
+    fi
+}
+
+look_at_journal() {
+    if others_may_write "$1"; then
+        say "others may write in $folder: chmod 700 it"
+    fi
 }
 
 # --- what a value says
@@ -132,6 +190,7 @@ take_line() {
             esac
             ;;
         password)
+            look_at_owners
             if [ -n "$is_open" ]; then
                 say "others can read $file, and a password stands in it: chmod 600 it, and change the password"
             fi
@@ -141,15 +200,22 @@ take_line() {
     esac
 }
 
+# Says in $wrong what would be taken as a part of a value, where it is meant as something else.
+wrong_value() {
+    wrong=''
+    case $1:$2 in
+        password_command:*) ;;
+        *:\"*\" | *:\'*\') wrong="no quotes stand around a value: $2" ;;
+        *:*[[:blank:]]#*) wrong="a comment has a line of its own, which begins with #: $2" ;;
+    esac
+    [ -n "$wrong" ]
+}
+
 # Reads a file of lines NAME=value. Nothing of it is executed but password_command, by play.
 read_account() {
     file=$1
-    if others_may "$file" r 2>/dev/null; then is_open=yes; else is_open=''; fi
     if [ ! -f "$file" ] || [ ! -r "$file" ]; then
         stop "$BAD_ACCOUNT" "the account's file $file is not there, or can't be read. Nothing was done"
-    fi
-    if others_may "$file" w; then
-        stop "$BAD_ACCOUNT" "others may change $file. Nothing was done: chmod 600 it"
     fi
     number=0
     while IFS= read -r line || [ -n "$line" ]; do
@@ -164,8 +230,21 @@ read_account() {
         trim "${trimmed%%=*}"
         name=$trimmed
         trim "$value"
+        wrong_value "$name" "$trimmed" && bad_account "$wrong"
         take_line "$name" "$trimmed"
     done <"$file"
+}
+
+# With an account on the line that account alone counts.
+forget_environment() {
+    not_counted=$has_password
+    unset MAIL_DIR MAIL_SERVER MAIL_USER MAIL_PAUSE MAIL_TIME
+    password='' has_password=''
+}
+
+forget_account() {
+    account_dir='' account_way='' account_server='' account_cafile='' account_user='' account_command='' account_link=''
+    file='' is_open='' not_counted='' pause=2 session_time=''
 }
 
 # The folder of the accounts' files; none where no home is known.
@@ -174,17 +253,23 @@ find_configs() {
     configs=${configs:+$configs/mowerbean}
 }
 
-# Reads the account's file, where there is one, and fills what the environment leaves open.
-take_account() {
-    account_dir='' account_way='' account_server='' account_cafile='' account_user='' account_command='' account_link=''
-    file='' is_open='' pause=2 session_time=''
+# Looks at the account's name, and where its file is to be.
+look_at_name() {
     find_configs
     case $account in
-        '') ;;
+        '') return ;;
         .* | -* | *[!A-Za-z0-9._@+-]*) stop "$BAD_ACCOUNT" "an account's name has letters, digits and ._@+- alone: $account" ;;
     esac
+    [ -n "$configs" ] || stop "$BAD_ACCOUNT" 'neither XDG_CONFIG_HOME nor HOME is set, so no account is found'
+}
+
+# Reads the account's file, where there is one, and fills what the environment leaves open. For a command that writes, which says so by
+# a word, the journal's folder is looked at, too.
+take_account() {
+    forget_account
+    look_at_name
     if [ -n "$account" ]; then
-        [ -n "$configs" ] || stop "$BAD_ACCOUNT" 'neither XDG_CONFIG_HOME nor HOME is set, so no account is found'
+        forget_environment
         read_account "$configs/$account.conf"
     elif [ -n "$configs" ] && [ -e "$configs/default.conf" ]; then
         read_account "$configs/default.conf"
@@ -192,11 +277,9 @@ take_account() {
     if [ -n "$file" ] && [ -z "${MAIL_DIR+x}" ]; then
         MAIL_DIR=${account_dir:-${XDG_DATA_HOME:-${HOME:-}/.local/share}/mowerbean/${account:-default}}
     fi
-    if [ -n "$account_user" ]; then
-        MAIL_USER=${MAIL_USER-$account_user}
-        export MAIL_USER
-    fi
     take_folder
+    look_at_owners ${1:+"$folder"}
+    take_source
 }
 
 # The journal's folder. An empty name would be the root of the file system.
@@ -213,8 +296,34 @@ take_folder() {
     is_utf8 "$folder" || bad_setting 'MAIL_DIR is not UTF-8'
 }
 
+# Server, user and password come from one source, as one server must not be given what is for another. The environment is it where it
+# has any of the three.
+take_source() {
+    mixed=''
+    if [ -z "${MAIL_SERVER+x}${MAIL_USER+x}$has_password" ]; then
+        if [ -n "$account_user" ]; then
+            export MAIL_USER="$account_user"
+        fi
+        return
+    fi
+    if [ -n "$account_way" ] && [ -z "${MAIL_SERVER+x}" ]; then
+        mixed="$account_way= and no MAIL_SERVER"
+    elif [ -n "$account_user" ] && [ -z "${MAIL_USER+x}" ]; then
+        mixed='user= and no MAIL_USER'
+    elif [ -n "$account_command" ] && [ -z "$has_password" ]; then
+        mixed='password_command= and no MAIL_PASSWORD'
+    fi
+    account_way='' account_server='' account_cafile='' account_command=''
+}
+
 # What play takes of the environment in place of the file.
 take_play_settings() {
+    if [ -n "$mixed" ]; then
+        bad_setting "a part of server, user and password would be the environment's, and a part ${file}'s ($mixed). Set all three variables, or name the account by -a"
+    fi
+    if [ -n "$not_counted" ] && [ -z "$account_command" ]; then
+        say "MAIL_PASSWORD does not count with -a, and $file has no password_command"
+    fi
     way=${account_way:-server} address=${account_server:-localhost:143}
     if [ -n "${MAIL_SERVER+x}" ]; then
         as_address "$MAIL_SERVER" 143 || bad_setting "MAIL_SERVER=$MAIL_SERVER names no server: $wrong"

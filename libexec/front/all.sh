@@ -12,10 +12,10 @@ signalled_all() {
 }
 
 look_at_all() {
-    [ -z "$account" ] || stop 2 '-A is for all accounts, and -a for one: see mowerbean --help'
+    [ -z "$account" ] || stop_words '-A is for all accounts, and -a for one: see mowerbean --help'
     case ${1-} in
         play | list | queue | report) ;;
-        *) stop 2 '-A is for play, list, queue and report: see mowerbean --help' ;;
+        *) stop_words '-A is for play, list, queue and report: see mowerbean --help' ;;
     esac
     find_configs
     set -- "$configs"/*.conf

@@ -22,9 +22,10 @@ writes() {
 
 # Puts a line into a file: beside it first, so that a stop or a full disk leaves it as it was.
 put_line() {
-    if rm -f -- "$1.new" 2>/dev/null &&
-        printf '%s\n' "$2" | (umask 077 && set -C && cat >"$1.new") 2>/dev/null &&
-        mv -f -- "$1.new" "$1" 2>/dev/null; then
+    if [ -e "$1.new" ] || [ -L "$1.new" ]; then
+        rm -f -- "$1.new" 2>/dev/null || return 1
+    fi
+    if (umask 077 && set -C && printf '%s\n' "$2" >"$1.new") 2>/dev/null && mv -f -- "$1.new" "$1" 2>/dev/null; then
         return 0
     fi
     rm -f -- "$1.new" 2>/dev/null
@@ -33,14 +34,11 @@ put_line() {
 
 # Refuses what isn't a plain file: a link would be followed, and a FIFO would hang.
 look_at_files() {
-    for name in lock play boxes sent line 'then'; do
+    for name in lock play boxes sent line server shown 'then'; do
         if [ -L "$folder/mowerbean.$name" ] || { [ -e "$folder/mowerbean.$name" ] && [ ! -f "$folder/mowerbean.$name" ]; }; then
             stop "$BAD_ACCOUNT" "$folder/mowerbean.$name is no plain file. Nothing was done: look who put it there, and remove it"
         fi
     done
-    if others_may "$folder" w; then
-        say "others may write in $folder: chmod 700 it"
-    fi
 }
 
 # --- one run at a time
@@ -162,6 +160,15 @@ is_in_the_way() {
     esac
 }
 
+# What was kept of an earlier journal in this folder isn't so of a new one.
+forget_journal() {
+    for name in server shown; do
+        if [ -e "$folder/mowerbean.$name" ]; then
+            rm -f -- "$folder/mowerbean.$name"
+        fi
+    done
+}
+
 init() {
     make_folder
     take_lock "$PATIENCE"
@@ -177,5 +184,6 @@ init() {
     status=$?
     if [ "$status" -eq 0 ]; then
         put_line "$folder/mowerbean.boxes" "$(printf '%s\n' "$@")"
+        forget_journal
     fi
 }

@@ -16,8 +16,12 @@ write_mark() {
 }
 
 no_mark() {
+    no_file "$mark" 'the pause after a lost connection'
+}
+
+no_file() {
     echo 'error disk'
-    say "$mark can't be written, so the pause after a lost connection could be forgotten. Nothing was played: is the disk full?"
+    say "$1 can't be written, so $2 could be forgotten. Nothing was played: is the disk full?"
     explain 3
     exit 3
 }
@@ -257,10 +261,15 @@ play_once() {
         exec 8<"$folder"
         flock -w 5 8 2>/dev/null
     fi
+    keep_server || no_file "$folder/mowerbean.server" 'whose the journal is'
     look_before
-    write_mark begun || no_mark
+    write_mark begun || {
+        forget_server
+        no_mark
+    }
     play_to_the_end
     take_status
+    forget_server
     case $status in
         0 | 1 | 2 | 9 | "$NO_PROGRAM" | "$BAD_ACCOUNT") write_mark ended ;;
         *) write_mark "lost $(date +%s)" ;;
@@ -280,25 +289,26 @@ take_play_options() {
     while [ $# -gt 0 ]; do
         case $1:$# in
             -v:*) verbose=yes ;;
+            --moved:*) moved=yes ;;
             --retry:1 | --retry-for:1 | --trace:1 | --then:1) break ;;
             --retry:*)
-                as_number "$2" 999 || stop 2 '--retry takes a number up to 999: see mowerbean help play'
+                as_number "$2" 999 || stop_words '--retry takes a number up to 999: see mowerbean help play'
                 retries=$as_number
                 shift
                 ;;
             --retry-for:*)
-                as_seconds "$2" || stop 2 '--retry-for takes a time such as 90s, 20m or 2h, up to 168h: see mowerbean help play'
+                as_seconds "$2" || stop_words '--retry-for takes a time such as 90s, 20m or 2h, up to 168h: see mowerbean help play'
                 retry_for=$as_seconds
                 shift
                 ;;
             --trace:*)
                 trace=$2
-                [ -n "$trace" ] || stop 2 '--trace takes the name of a file: see mowerbean help play'
+                [ -n "$trace" ] || stop_words '--trace takes the name of a file: see mowerbean help play'
                 shift
                 ;;
             --then:*)
                 then_command=$2
-                [ -n "$then_command" ] || stop 2 '--then takes a command: see mowerbean help play'
+                [ -n "$then_command" ] || stop_words '--then takes a command: see mowerbean help play'
                 shift
                 ;;
             *) break ;;
@@ -325,17 +335,23 @@ plays_again() {
 }
 
 play() {
-    retries='' retry_for='' trace='' then_command='' looks=0 at_once=''
+    retries='' retry_for='' trace='' then_command='' looks=0 at_once='' moved=''
     take_play_options "$@"
     shift "$options"
     [ -n "$retries$retry_for" ] || retries=0
-    if [ $# -gt 0 ] || ! has_journal; then
+    if [ $# -gt 0 ]; then
+        wrong="$(printable "$1") is no word of play, or lacks its value"
+        judge play "$@"
+        return
+    fi
+    if ! has_journal; then
         # The program says what is wrong. It is given no server and no password.
-        env MAIL_SERVER= "$program" play "$@"
+        MAIL_SERVER='' "$program" play
         status=$?
         return
     fi
     take_play_settings
+    look_at_server
     choose_link
     ask_password
     trap 'signalled INT' INT
@@ -349,4 +365,5 @@ play() {
     done
     trap - INT TERM HUP
     end_news
+    name_unseen
 }

@@ -1,13 +1,15 @@
-# The words of mowerbean: its help, what a status means, and the sentences under a report.
+# The words of mowerbean: its help, and what a status means.
 # shellcheck shell=sh disable=SC2034,SC2154  # it shares its settings with mowerbean, which reads this file
 
 help_all() {
     cat <<'TEXT'
 usage: mowerbean [-a ACCOUNT] [-q] COMMAND ..
 
-A mail client for people behind a poor link. All commands but play work without
-a network.
+A mail client for people behind a poor link. All commands but account and play work
+without a network.
 
+  account [NAME]          asks for an account, tries its server, and writes its file
+                            mowerbean account
   init BOX ..             sets up a journal for 1 to 32 mailboxes
                             mowerbean init INBOX Archive
   play [--retry-for TIME] plays what waits on the server, and fetches what is new
@@ -15,37 +17,49 @@ a network.
   list BOX                shows a mailbox: ID, mod-sequence and flags of each message
                             mowerbean list INBOX
   flag BOX ID + FLAG ..   the message is to have the flags (with - to be without them)
-                            mowerbean flag INBOX 42 + '\Flagged'
+                            mowerbean flag INBOX 42 + flagged
   move BOX ID BOX         the message is to go to the second mailbox
                             mowerbean move INBOX 42 Archive
   append BOX FLAG ..      the message on standard input is to be put into BOX
-                            mowerbean append Archive '\Seen' < letter.eml
+                            mowerbean append Archive seen < letter.eml
   queue                   shows the actions that wait
                             mowerbean queue
-  report [--long]         reports the actions that could not be done, and why
-                            mowerbean report --long
+  report [--new] [--long] reports the actions that could not be done, and why
+                            mowerbean report --new --long
   help COMMAND            prints more of one command
                             mowerbean help move
-  --help, --version       prints this text, or the version
+  --help, --version       prints this text, or the version (also -h, -V)
 
 ID is a message's UID, or d and the number of the action that makes the message, as
-list shows it.
+list shows it. FLAG is seen, flagged, answered, draft, deleted, or a keyword.
 
-  -a ACCOUNT   takes the account of ~/.config/mowerbean/ACCOUNT.conf (else default.conf,
-               where it is there): lines tls=HOST:PORT, user=, password_command= and more
+  -a ACCOUNT   takes the account of ~/.config/mowerbean/ACCOUNT.conf alone. Without it
+               default.conf is taken, where it is there
   -A           play, list, queue and report for all accounts, one after another
   -q           leaves out the line that explains a status on a terminal
   -w SECONDS   flag, move and append wait as long for a play under way (else 60)
   -v           play prints each command, its answer and how far it is on standard error
 
-MAIL_DIR, MAIL_SERVER, MAIL_USER, MAIL_PASSWORD, MAIL_PAUSE and MAIL_TIME decide over
-that file. Status: 0 done, 1 done with conflicts, 4 no connection, 10 refused; man
-mowerbean has all statuses and all lines of the file.
+Options stand before the command or after it; after -- there are none. Without -a the
+variables MAIL_DIR, MAIL_SERVER, MAIL_USER, MAIL_PASSWORD, MAIL_PAUSE and MAIL_TIME decide
+over the file. Status: 0 done, 1 done with conflicts, 2 wrong words, 4 no connection, 10
+refused; man mowerbean has all statuses and all lines of the file.
 TEXT
 }
 
 help_of() {
     case $1 in
+        account) cat <<'TEXT' ;;
+mowerbean account [NAME]
+
+Asks for the server, the user, a command that prints the password, and the mailboxes. It
+tries them on the server, where it changes nothing: log-in, what the server offers, and
+whether each mailbox is there. Then it writes ~/.config/mowerbean/NAME.conf (without NAME
+default.conf), for you alone. A file that is there stays as it is.
+
+  mowerbean account             then: mowerbean init INBOX Archive
+  mowerbean account work        then: mowerbean -a work init INBOX Archive
+TEXT
         init) cat <<'TEXT' ;;
 mowerbean init BOX ..
 
@@ -57,12 +71,13 @@ A journal.0 or journal.1 that init didn't make is refused, and stays as it is.
   mowerbean -a work init INBOX Archive 'Sent Items'
 TEXT
         play) cat <<'TEXT' ;;
-mowerbean play [--retry-for TIME] [--retry N] [--then COMMAND] [--trace FILE]
+mowerbean play [--retry-for TIME] [--retry N] [--then COMMAND] [--trace FILE] [--moved]
 
 Connects, plays the waiting actions back in their order, fetches what is new of each
 mailbox, and prints `played N conflicts C`. Status 1 says that C isn't 0: report --long
 prints why. Status 4 says that the connection was lost: play again. The next play waits
 2 seconds (pause=) first: a server may still carry out a command of the lost connection.
+A line on standard error says where there are conflicts that no report has shown.
 
   mowerbean play
   mowerbean play --retry-for 20m
@@ -72,6 +87,7 @@ prints why. Status 4 says that the connection was lost: play again. The next pla
                                 runs this where something came, or a conflict did
   mowerbean -v play             prints each command, its answer and how far it is
   mowerbean play --trace FILE   logs what is said, without passwords and messages
+  mowerbean play --moved        the journal's account has another server or user now
 
 A TIME is a number with s, m or h. The pauses of --retry-for are 2, 4, 8 up to 60 seconds,
 and 2 again after a play that got further. A wrong address or certificate ends both.
@@ -92,11 +108,11 @@ TEXT
 mowerbean flag BOX ID + FLAG ..
 mowerbean flag BOX ID - FLAG ..
 
-Asks for 1 to 32 flags on (+) or off (-) a message that list shows. A FLAG is \Answered,
-\Flagged, \Deleted, \Seen or \Draft, or a keyword. In a shell the backslash wants quotes.
+Asks for 1 to 32 flags on (+) or off (-) a message that list shows. A FLAG is answered,
+flagged, deleted, seen or draft, for the flags \Answered and so on; or a keyword.
 
-  mowerbean flag INBOX 42 + '\Seen' work
-  mowerbean flag Archive d1 - '\Flagged'
+  mowerbean flag INBOX 42 + seen work
+  mowerbean flag Archive d1 - flagged
 TEXT
         move) cat <<'TEXT' ;;
 mowerbean move BOX ID BOX
@@ -111,7 +127,7 @@ mowerbean append BOX FLAG ..
 Asks that the message on standard input is put into the mailbox, with these flags. It has
 to have exactly one Message-ID, no NUL, and at most 33,554,432 bytes.
 
-  mowerbean append Archive '\Seen' < letter.eml
+  mowerbean append Archive seen < letter.eml
   mowerbean -w 600 append Archive < letter.eml    waits up to 600 seconds for a play
 TEXT
         queue) cat <<'TEXT' ;;
@@ -123,22 +139,23 @@ been sent, and the next play finds out what became of it. It works beside a play
   mowerbean queue               prints `1 waiting move INBOX 42 Archive`, say
 TEXT
         report) cat <<'TEXT' ;;
-mowerbean report [--long]
+mowerbean report [--new] [--long]
 
 Prints the actions that ended as conflicts, in their order: `N nothing KIND ..` where the
-action had no effect, `N unsure KIND ..` where it had its one effect or none. With --long
-a sentence stands under each. It works beside a play.
+action had no effect, `N unsure KIND ..` where it had its one effect or none. With --new
+those that no report has shown yet. With --long what was asked for stands under each, and
+a sentence. It works beside a play.
 
-  mowerbean report --long
+  mowerbean report --new --long
 TEXT
-        *) stop 2 "no such command: $1: see mowerbean --help" ;;
+        *) stop_words "no such command: $1: see mowerbean --help" ;;
     esac
 }
 
 # What a status says, whether anything is lost, and what to do.
 meaning() {
     case $1 in
-        1) echo 'played to the end, but some actions could not be done. Nothing is lost: see mowerbean report --long' ;;
+        1) echo 'played to the end, but some actions could not be done. Nothing is lost: see mowerbean report --new --long' ;;
         2) echo "these words are no command. Nothing was done: see mowerbean --help" ;;
         3) echo 'the disk failed, or another run uses the journal. What was accepted before is kept: look at the disk, then at mowerbean queue' ;;
         4) echo 'no connection, or it was lost. What was accepted is kept: play again, and it goes on from there' ;;
@@ -164,7 +181,7 @@ explain() {
     case $1 in
         0 | "$NO_PROGRAM" | "$IN_USE" | "$BAD_ACCOUNT") return ;;
     esac
-    if [ -n "$quiet" ] || [ ! -t 2 ]; then
+    if [ -n "$quiet$has_said" ] || [ ! -t 2 ]; then
         return
     fi
     if [ "$1" -eq 3 ] && [ -n "$folder" ] && [ ! -d "$folder" ]; then
@@ -176,48 +193,4 @@ explain() {
     else
         say "$(meaning "$1")"
     fi
-}
-
-# Puts a sentence under each line of a report, by its kind. An action is unsure where an earlier play was cut off after it had
-# written down that it would send the command: it may have been sent or not.
-long_report() {
-    awk '
-        BEGIN {
-            cut = "An earlier play was cut off when it had this command sent or was about to. "
-            of["message-gone"] = "The message was not on the server any more. Nothing was done."
-            of["already-so"] = "The flags were so already. Nothing was done, and nothing is to do."
-            of["flags-changed"] = "Another client changed the message since you saw it. Nothing was done: look at it, and ask again."
-            of["refused-no"] = "The server refused it (NO). Nothing was done: may the mailbox be written, and has it room?"
-            of["refused-bad"] = "The server did not take the command (BAD). Nothing was done."
-            of["not-permanent"] = "The mailbox does not keep such flags. Nothing was done."
-            of["target-unknown"] = "The action that was to make the message ended as a conflict. Nothing was done: see that action."
-            of["found-so"] = cut "The flags were then as asked, by you or by another client. Nothing is to do."
-            of["store-unsure"] = cut "The message was then changed and its flags were not as asked: look at it, and ask again."
-            of["source-gone"] = cut "The message was then not there any more: look for it where it was to go."
-            of["gone-after-loss"] = cut "The message was then not there any more. Nothing is to do."
-            of["ambiguous"] = cut "Several messages then had this Message-ID: look at the two UIDs, and keep one."
-        }
-        { print }
-        $3 in of { print "    " of[$3] }
-    '
-}
-
-# The report with its sentences. The status is the program's, or 12 where they can't be written.
-report() {
-    if [ $# -ne 1 ] || [ "$1" != --long ]; then
-        run report "$@"
-        status=$?
-        return
-    fi
-    status=12
-    { status=$(
-        {
-            {
-                run report 3>&- 4>&-
-                echo $? >&3
-            } | long_report >&4 || echo 12 >&3
-        } 3>&1
-    ); } 4>&1
-    status=${status##*
-}
 }

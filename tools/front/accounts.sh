@@ -39,10 +39,10 @@ $work/all/zoe localhost:143 none none"
     same '  a password may be asked for' "$(echo "$said" | sed -n 4p)" "$work/all/bob localhost:143 none typed"
     said=$("$stub" -A queue 2>/dev/null <&-)
     same '  and input may be closed' "$?, $(echo "$said" | grep -c '^words')" '0, 3'
-    for words in '-A flag INBOX 1 + x' '-A append Archive' '-A' '-A -a ann play' '-A init INBOX'; do
+    for words in '-A flag INBOX 1 + x' '-A append Archive' '-A -a ann play' '-A init INBOX'; do
         # shellcheck disable=SC2086  # words
         ask $words
-        same "$words" "$status, $said" '2, '
+        same "$words" "$status, $said" '2, error words'
     done
     all_signals
     rm -f "$configs"/*.conf

@@ -38,8 +38,10 @@ $MAIL_DIR 127.0.0.1:4143 none none, "
     config "dir=$MAIL_DIR" 'starttls=mail:0144'
     ask -a work play -v
     same 'STARTTLS' "$(linked)" "--folder $MAIL_DIR --starttls mail:144 --verbose --actions 0"
-    MAIL_SERVER=other ask -a work play
+    cp "$configs/work.conf" "$configs/default.conf"
+    MAIL_SERVER=other ask play
     same '  and the environment decides over it' "$(linked)" "--folder $MAIL_DIR --server other:143"
+    rm "$configs/default.conf"
     if script -qec true /dev/null >/dev/null 2>&1 </dev/null; then
         script -qec "$stub play" /dev/null </dev/null >/dev/null
         same 'a terminal' "$(linked)" "--folder $MAIL_DIR --server localhost:143 --progress --actions 0"

@@ -62,7 +62,7 @@ retries() {
     same '  and where the server refused' "$status, $(runs)" '5, 1'
     for word in 20 20d 0m m 1.5h 169h 999999999999h ''; do
         ask play --retry-for "$word"
-        same "--retry-for '$word'" "$status, $said" '2, '
+        same "--retry-for '$word'" "$status, $said" '2, error words'
         has '  and why' "$notice" 'such as 90s, 20m or 2h'
     done
 }

@@ -40,7 +40,7 @@ CASES
 
 account_lines() {
     while IFS='|' read -r title one two part; do
-        config "$one" "$two"
+        config "$one" "$two" "dir=$MAIL_DIR"
         ask -a work play
         same "$title" "$status, $said" '78, '
         has '  and why' "$notice" "$part"
@@ -57,26 +57,26 @@ a memory that is none|user=ann|memory=lots|memory is a number
 a relative cafile|user=ann|cafile=ca.pem|cafile has to begin
 a cafile that is not there|server=mail|cafile=/nowhere/ca.pem|is not there
 CASES
-    config 'server=mail' 'link=no'
+    config 'server=mail' 'link=no' "dir=$MAIL_DIR" 'pause=0'
     ends 4 4 0
-    MAIL_PAUSE=0 ask -a work play --retry 2
+    ask -a work play --retry 2
     same 'without link' "$status, $(grep -c '^MAIL_LINK=' "$work/stub/env")" '0, 0'
     same '  the front says so once' "$(echo "$notice" | grep -c 'guarded by the pause alone')" 1
     ask -a work play --trace "$work/trace"
     same '  and --trace is refused' "$status, $said" '78, '
     ask -a work -v play
     same '  and -v' "$status, $said" '78, '
-    config 'memory=64M' 'time=090'
+    config 'memory=64M' 'time=090' "dir=$MAIL_DIR"
     ask -a work play
     same 'memory= and time=' "$(cat "$work/stub/memory"), $(sed -n 's/^MAIL_TIME=//p' "$work/stub/env")" '65536, 90'
-    MAIL_TIME=0100 ask -a work play
+    MAIL_TIME=0100 ask play
     same '  and MAIL_TIME' "$(sed -n 's/^MAIL_TIME=//p' "$work/stub/env")" 100
-    MAIL_TIME=soon ask -a work play
+    MAIL_TIME=soon ask play
     same '  which has to be a number' "$status, $said" '78, '
 }
 
 numbers() {
-    config 'pause=08'
+    config 'pause=08' "dir=$MAIL_DIR"
     ask -a work play
     same 'pause=08' "$status, $notice" "0, $(without_link)"
     MAIL_PAUSE=08 ask play
@@ -88,7 +88,7 @@ numbers() {
     while IFS='|' read -r words; do
         # shellcheck disable=SC2086  # words
         ask $words
-        same "$words" "$status, $said" '2, '
+        same "$words" "$status, $said" '2, error words'
     done <<'CASES'
 -w soon flag INBOX 1 + x
 -w 86401 flag INBOX 1 + x
@@ -118,7 +118,7 @@ passwords() {
     same "a MAIL_PASSWORD that isn't UTF-8" "$status, $said" '78, '
     has '  and why' "$notice" 'not UTF-8'
     # shellcheck disable=SC1003
-    config 'password_command=printf "caf\\351\\n"'
+    config 'password_command=printf "caf\\351\\n"' "dir=$MAIL_DIR"
     ask -a work play
     same "a password_command's that isn't UTF-8" "$status, $said" '78, '
     # shellcheck disable=SC1003,SC2016  # the words as they stand
@@ -129,7 +129,7 @@ passwords() {
     mkdir "$work/credentials"
     echo of-systemd >"$work/credentials/mail"
     # shellcheck disable=SC2016  # the command's own words
-    config 'password_command=cat "$CREDENTIALS_DIRECTORY/mail" 2>/dev/null || echo by-hand'
+    config 'password_command=cat "$CREDENTIALS_DIRECTORY/mail" 2>/dev/null || echo by-hand' "dir=$MAIL_DIR"
     CREDENTIALS_DIRECTORY=$work/credentials ask -a work play
     same 'a credential of systemd' "$status, $(sed -n 's/^MAIL_PASSWORD=//p' "$work/stub/env")" '0, of-systemd'
     ask -a work play
@@ -148,13 +148,15 @@ unseen_passwords() {
         chmod +x "$work/fakes/$tool"
     done
     echo hidden-word >"$work/secret"
-    config "password_command=cat $work/secret"
+    config "password_command=cat $work/secret" "dir=$MAIL_DIR" 'pause=1'
     ends 4 0
     # The caller exports names that the script uses.
-    for given in '' 'MAIL_PASSWORD=hidden-word'; do
-        # shellcheck disable=SC2086  # a setting or none
-        said=$(env $given password=x told=x account_command=x MAIL_PAUSE=1 "PATH=$work/fakes:$PATH" "$stub" -a work play --retry 1 2>&1)
-        same "a password of the command${given:+, and one of the environment}" "$?, $(sed -n 's/^MAIL_PASSWORD=//p' "$work/stub/env")" '0, hidden-word'
+    for words in '-a work' ''; do
+        given=MAIL_PASSWORD=hidden-word
+        [ -z "$words" ] || given=MAIL_USER=ann
+        # shellcheck disable=SC2086  # words or none
+        said=$(env "$given" password=x told=x account_command=x MAIL_PAUSE=1 "PATH=$work/fakes:$PATH" "$stub" $words play --retry 1 2>&1)
+        same "a password of ${words:-the environment}" "$?, $(sed -n 's/^MAIL_PASSWORD=//p' "$work/stub/env")" '0, hidden-word'
     done
     same '  is in the environment of no other program' "$(grep -l hidden-word "$work/seen"/* | sed 's/.*\.//' | sort -u | tr '\n' ' ')" ''
     same '    of the ones that were looked at' "$(($(find "$work/seen" -type f | wc -l) > 10))" 1

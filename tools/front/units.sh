@@ -48,7 +48,7 @@ notifications() {
     same 'a notification that can not be shown' "$status, $(wc -l <"$work/shown" | tr -d ' ')" '0, 1'
     rm "$work/no_desktop" "$work/shown"
     PATH=$work/fakes:$PATH ask play --then "$work/stub/share/mowerbean/notify"
-    same '  is shown after the next play' "$(cat "$work/shown")" '-a mowerbean -- 2 actions could not be done mowerbean report --long'
+    same '  is shown after the next play' "$(cat "$work/shown")" '-a mowerbean -- 2 actions could not be done mowerbean report --new --long'
     PATH=$work/fakes:$PATH ask play --then "$work/stub/share/mowerbean/notify"
     same '  once' "$(wc -l <"$work/shown" | tr -d ' ')" 1
     put_lists now 1 '' ''
@@ -56,7 +56,7 @@ notifications() {
     PATH=$work/fakes:$PATH ask play --then "$work/stub/share/mowerbean/notify"
     same '  and new messages alone show none' "$(wc -l <"$work/shown" | tr -d ' ')" 1
     said=$(MOWERBEAN_ACCOUNT=work MOWERBEAN_CONFLICTS=1 PATH=$work/fakes:$PATH "$top/contrib/notify"; tail -n 1 "$work/shown")
-    same '  of an account' "$said" '-a mowerbean -- One action could not be done mowerbean -a work report --long'
+    same '  of an account' "$said" '-a mowerbean -- One action could not be done mowerbean -a work report --new --long'
     mv "$work/kept" "$work/stub/libexec/mowerbean/mowerbean"
     rm "$work/fakes/notify-send"
 }

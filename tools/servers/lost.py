@@ -50,7 +50,7 @@ class Cut:
         """What became of them, once they were played to the end behind this cut, if there is one."""
         between = cutting.Relay(("127.0.0.1", self.trial.port), cut).start()
         self.mine.environment["MAIL_SERVER"] = f"127.0.0.1:{between.port}"
-        first = last = self.mine.say("play")[1]
+        first = last = self.mine.say("play", "--moved")[1]
         between.cut = None
         tags = list(between.tags)
         if cut:

@@ -158,26 +158,28 @@ class Trial:
         config = self.home / "config/mowerbean/default.conf"
         config.parent.mkdir(parents=True)
         word = "tls" if self.row.way == "TLS" else "server"
-        said = [f"dir={self.folder}", f"{word}={address[0]}:{address[1]}", f"user={kinds.USER}"]
+        said = [f"dir={self.folder}", f"{word}={address[0]}:{address[1]}", f"user={kinds.USER}", f"password_command=echo {kinds.PASSWORD}"]
         if self.row.way == "TLS":
             said.append(f"cafile={self.settings.certificate.cert}")
         if self.settings.front.has_helper and not self.settings.is_linked:
             said.append("link=no")
         config.write_text("\n".join(said) + "\n")
         config.chmod(0o600)
-        return {"PATH": os.environ["PATH"], "HOME": str(self.home), "XDG_CONFIG_HOME": str(self.home / "config"), "MAIL_PASSWORD": kinds.PASSWORD}
+        return {"PATH": os.environ["PATH"], "HOME": str(self.home), "XDG_CONFIG_HOME": str(self.home / "config")}
 
     def prepare(self, environment: Environment) -> None:
         """An empty mailbox that was synchronised beside the line, and a letter that waits."""
         with Other(self.server.port, self.server.address) as other:
             other.create(self.box)
-        direct = {**environment, "MAIL_SERVER": f"{self.server.address}:{self.server.port}", "MAIL_USER": kinds.USER}
+        direct = {**environment, "MAIL_SERVER": f"{self.server.address}:{self.server.port}", "MAIL_USER": kinds.USER, "MAIL_PASSWORD": kinds.PASSWORD}
         # On a busy machine a server may not answer in time.
         for words, given in ((["init", self.box], b""), (["play", "--retry", "3"], b""), (["append", self.box], self.letter.text)):
             ran = subprocess.run([str(self.settings.front.path), *words], env=direct, input=given, capture_output=True)
             if ran.returncode:
                 told = (ran.stdout + ran.stderr).decode(errors="replace").strip().splitlines()
                 raise RuntimeError(f"{words[0]} ended with {ran.returncode}: {told[-1:]}")
+        # The line's address is another one than the server's.
+        (self.folder / "mowerbean.server").unlink(missing_ok=True)
 
     def words(self, line: Line) -> List[str]:
         """The words of a play over the line."""
