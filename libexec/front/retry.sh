@@ -19,7 +19,7 @@ as_seconds() {
     [ "$as_seconds" -gt 0 ] && [ "$as_seconds" -le "$LONGEST_RETRY" ]
 }
 
-# Begins to count: $until is when the last play may begin, and $gap the seconds before the next one.
+# Begins to count: $until is when the time is over, and $gap the seconds before the next one.
 begin_retries() {
     gap=0 until=''
     if [ -n "$retry_for" ]; then
@@ -53,7 +53,10 @@ may_retry() {
     if [ -n "$retry_for" ]; then
         take_gap
         take_moment
-        [ $((moment + gap * 100)) -le "$until" ] || return 1
+        rest=$(((until - moment) / 100))
+        [ "$rest" -ge "$FIRST_GAP" ] || return 1
+        # The last pause is as long as the time allows.
+        gap=$((gap < rest ? gap : rest))
     fi
     [ -z "$retries" ] || retries=$((retries - 1))
 }

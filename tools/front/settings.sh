@@ -129,7 +129,7 @@ passwords() {
     mkdir "$work/credentials"
     echo of-systemd >"$work/credentials/mail"
     # shellcheck disable=SC2016  # the command's own words
-    config 'password_command=cat "$CREDENTIALS_DIRECTORY/mail" 2>/dev/null || echo by-hand'
+    config 'password_command=cat "$CREDENTIALS_DIRECTORY/mail" 2>/dev/null || echo by-hand' "dir=$MAIL_DIR"
     CREDENTIALS_DIRECTORY=$work/credentials ask -a work play
     same 'a credential of systemd' "$status, $(sed -n 's/^MAIL_PASSWORD=//p' "$work/stub/env")" '0, of-systemd'
     ask -a work play
