@@ -43,7 +43,7 @@ do_all() {
         account=${file##*/}
         account=${account%.conf}
         say "account $account"
-        "$self" ${quiet:+-q} ${verbose:+-v} -a "$account" "$@" <&5 5<&- &
+        "$self" ${quiet:+-q} ${verbose:+-v} -a "$account" -- "$@" <&5 5<&- &
         account_pid=$!
         await "$account_pid"
         account_pid=''

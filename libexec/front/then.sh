@@ -13,22 +13,25 @@ begin_news() {
     fi
 }
 
-# Keeps what `list` and `report` print now. The mailboxes' names are those that init kept.
+# Keeps what `list` and `report` print now, or fails. The mailboxes' names are those that init kept.
 keep_lists() {
-    mkdir "$lists/$1" || return
+    mkdir "$lists/$1" && run report >"$lists/$1/report" && [ -f "$folder/mowerbean.boxes" ] || return
     count=0
-    if [ -f "$folder/mowerbean.boxes" ]; then
-        while IFS= read -r box; do
-            count=$((count + 1))
-            run list "$box" >"$lists/$1/$count" 2>/dev/null </dev/null
-        done <"$folder/mowerbean.boxes"
-    fi
-    run report >"$lists/$1/report" 2>/dev/null
-}
+    while IFS= read -r box; do
+        count=$((count + 1))
+        run list "$box" >"$lists/$1/$count" </dev/null || return
+    done <"$folder/mowerbean.boxes"
+} 2>/dev/null
 
 # Before a play.
 look_before() {
-    if [ -n "$lists" ] && keep_lists before && [ -n "$then_command" ] && [ -z "$is_marked" ]; then
+    if [ -z "$lists" ]; then
+        return
+    fi
+    rm -rf "$lists/before" "$lists/after"
+    can_look=''
+    ! keep_lists before || can_look=yes
+    if [ -n "$then_command" ] && [ -z "$is_marked" ]; then
         mark_command
         is_marked=yes
     fi
@@ -38,6 +41,7 @@ look_before() {
 # that was cut off, or of a command that failed: it is run after this play.
 mark_command() {
     known='' lines=$(report_lines before)
+    lines=${lines:-0}
     if [ -e "$folder/mowerbean.then" ]; then
         has_news=yes
         read -r known <"$folder/mowerbean.then"
@@ -48,29 +52,28 @@ mark_command() {
 }
 
 report_lines() {
-    wc -l <"$lists/$1/report" | tr -d ' '
+    wc -l 2>/dev/null <"$lists/$1/report" | tr -d ' '
 }
 
 # After a play. One that was stopped at once leaves its news to the next one.
 look_after() {
-    if [ -z "$lists" ] || [ -n "$stopped" ] || ! keep_lists after; then
+    if [ -z "$lists" ] || [ -n "$stopped" ]; then
         return
     fi
-    if [ "$count" -eq 0 ]; then
-        # Without the names nothing says that nothing came.
-        case $status in
-            [01]) has_news=yes ;;
-        esac
-    else
+    if [ -n "$can_look" ] && keep_lists after; then
         count=0
         while IFS= read -r box; do
             count=$((count + 1))
             # shellcheck disable=SC2046  # three numbers
-            take_news "$box" $(compare_lists "$count" || echo 0 0 0)
+            take_news "$box" $(compare_lists "$count")
         done <"$folder/mowerbean.boxes"
+        take_conflicts
+    else
+        # Nothing says that nothing came.
+        case $status in
+            [01]) has_news=yes ;;
+        esac
     fi
-    take_conflicts
-    rm -rf "$lists/before" "$lists/after"
 }
 
 # Prints how many messages of a mailbox are new, changed and gone.
@@ -113,7 +116,7 @@ take_conflicts() {
 # Runs the command of --then where something came. What it prints goes to standard error, as standard output is for play's line.
 end_news() {
     [ -z "$lists" ] || rm -rf "$lists"
-    if [ -z "$then_command" ]; then
+    if [ -z "$then_command" ] || [ -n "$stopped" ]; then
         return
     fi
     if [ -n "$has_news" ]; then

@@ -30,6 +30,8 @@ $work/all/zoe localhost:143 none none"
     ends 4 1 0
     ask -A list INBOX
     same '  and the status that is the highest' "$status, $(echo "$said" | grep -c '^words \[list\] \[INBOX\]$')" '4, 3'
+    ask -A list -- -x
+    same '  with words that look like options' "$status, $(echo "$said" | grep -c '^words \[list\] \[-x\]$')" '0, 3'
     account bob nonsense
     ask -q -A queue
     same '  also where an account has none' "$status, $(echo "$said" | grep -c '^words \[queue\]$')" '78, 2'

@@ -46,10 +46,10 @@ packaging() {
         echo "skipped: dpkg-deb or strip isn't installed"
         return
     fi
-    mkdir "$work/deb" "$work/again"
+    mkdir "$work/deb" "$work/deb_again"
     package=$("$top/tools/package" "$program" "$work/deb")
     same 'package' "$?, ${package##*/}" "0, mowerbean_$("$program" --version | sed 's/.* //; s/-/~/')_$(dpkg --print-architecture).deb"
-    again=$("$top/tools/package" "$program" "$work/again")
+    again=$("$top/tools/package" "$program" "$work/deb_again")
     same '  the same bytes, made again' "$(cmp "$package" "$again" && echo so)" so
     tree=$work/unpacked
     dpkg-deb -x "$package" "$tree"

@@ -60,6 +60,7 @@ a conflict and a new message|40 700|d2 -|1 nothing already-so|40 700|8 302|1 not
 an old conflict is no news|40 700||1 nothing already-so|40 700||1 nothing already-so|
 CASES
     news_of_lost_plays
+    news_that_cant_be_seen
     commands_that_fail
     mv "$work/kept" "$work/stub/libexec/mowerbean/mowerbean"
 }
@@ -98,8 +99,36 @@ news_of_lost_plays() {
     same '    once' "$status, $(notice_of_play)" "0, $(without_link)"
 }
 
+# A program whose `report` fails once a play is over, and one that is stopped while it plays.
+news_that_cant_be_seen() {
+    put_lists now 1 '' ''
+    put_lists next 1 '' ''
+    mv "$MAIL_DIR/mowerbean.boxes" "$work/boxes"
+    ask play --then "$told"
+    same 'without the names of the mailboxes each play that ends may have brought something' "$(echo "$notice" | tail -n 1)" ' 0 0 0 0'
+    ends 4
+    MAIL_PAUSE=0 ask play --then "$told"
+    same '  but one that is lost' "$status, $(echo "$notice" | grep -c ' 0 0 0 0$')" '4, 0'
+    mv "$work/boxes" "$MAIL_DIR/mowerbean.boxes"
+    cp "$work/stub/libexec/mowerbean/mowerbean" "$work/lister"
+    # shellcheck disable=SC2016  # the script's own words
+    sed -i 's|^    report) |&[ ! -e "$work/played" ] \|\| exit 11; |; s|^    play)$|&: >"$work/played"|' "$work/stub/libexec/mowerbean/mowerbean"
+    MAIL_PAUSE=0 ask play --then "$told"
+    same '  and so where the report can not be had after it' "$status, $(echo "$notice" | tail -n 1)" '0,  0 0 0 0'
+    cp "$work/kept" "$work/stub/libexec/mowerbean/mowerbean"
+    rm -f "$work/stub/env"
+    hold play --then "$told"
+    wait_for "$work/stub/env"
+    kill -HUP "$held"
+    wait "$held"
+    same 'a play that is stopped at once' "$?, $(grep -c ' 0 0 0 0$' "$work/held"), $(cd "$MAIL_DIR" && echo mowerbean.the*)" '129, 0, mowerbean.then'
+    rm -f "$work/stub/hold" "$MAIL_DIR/mowerbean.then" "$MAIL_DIR/mowerbean.play" "$work/stub/played"
+    mv "$work/lister" "$work/stub/libexec/mowerbean/mowerbean"
+}
+
 commands_that_fail() {
     put_lists now 1 '' ''
+    put_lists next '1;2' '' ''
     ask play --then 'exit 3'
     same 'a command that fails' "$status, $said" '0, played, 0'
     has '  is named' "$notice" 'ended with status 3, and is run again'
@@ -109,10 +138,7 @@ commands_that_fail() {
     same '  and on standard error' "$said" 'played, 0'
     ask play --then "$told"
     same '  once' "$(notice_of_play)" "$(without_link)"
-    rm "$MAIL_DIR/mowerbean.boxes"
-    ask play --then "$told"
-    same 'without the names of the mailboxes each play that ends may have brought something' "$(notice_of_play | tail -n 1)" ' 0 0 0 0'
-    same '  and of it nothing stays behind' "$(cd "$MAIL_DIR" && echo *)" 'journal.0 mowerbean.lock mowerbean.play mowerbean.server'
+    same '  and nothing stays behind' "$(cd "$MAIL_DIR" && ls mowerbean.then 2>/dev/null)" ''
     ask play --then ''
     same '--then without a command' "$status, $said" '2, error words'
 }
