@@ -10,6 +10,12 @@ _mowerbean_ids() {
     lines=$(mowerbean -q "${_mowerbean_front[@]}" list "$box" 2>/dev/null </dev/null) && cut -d ' ' -f 1 <<<"$lines"
 }
 
+# The numbers of the messages that history has. No word in front of an action is a verb.
+_mowerbean_letters() {
+    mowerbean -q "${_mowerbean_front[@]}" history 2>/dev/null </dev/null |
+        awk '{ for (i = 3; i <= NF; i++) if ($i ~ /^(flag|move|append)$/) { if ($i == "append") print $1; next } }'
+}
+
 # Offers the words that begin with what was typed. Each is quoted, since a mailbox may be named like a command of the shell.
 _mowerbean_offer() {
     local typed=$1 each quoted
@@ -34,10 +40,11 @@ _mowerbean_accounts() {
 # The words that may stand after these ones of the line, options left out.
 _mowerbean_next() {
     case $#:${1-} in
-        0:*) words=(account init play list flag move append queue report help --help --version -a -A -q -v -w -h -V) ;;
+        0:*) words=(account init play list flag move append queue report history letter help --help --version -a -A -q -v -w -h -V) ;;
         *:play) words=(--retry --retry-for --then --trace --moved) ;;
         *:report) words=(--new --long) ;;
-        1:help) words=(account init play list flag move append queue report) ;;
+        1:help) words=(account init play list flag move append queue report history letter) ;;
+        1:letter) mapfile -t words < <(_mowerbean_letters) ;;
         1:list | 1:flag | 1:move | 1:append | 3:move) mapfile -t words < <(_mowerbean_boxes) ;;
         2:flag | 2:move) mapfile -t words < <(_mowerbean_ids "$2") ;;
         3:flag) words=(+ -) ;;

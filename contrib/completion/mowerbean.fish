@@ -56,6 +56,13 @@ function __mowerbean_ids
     string replace -r ' ' \t -- $lines
 end
 
+# The numbers of the messages that history has. No word in front of an action is a verb.
+function __mowerbean_letters
+    set -l front (__mowerbean_front)
+    mowerbean -q $front history 2>/dev/null </dev/null |
+        awk '{ for (i = 3; i <= NF; i++) if ($i ~ /^(flag|move|append)$/) { if ($i == "append") print $1; next } }'
+end
+
 complete -c mowerbean -f
 complete -c mowerbean -s A -d 'take all accounts'
 complete -c mowerbean -s q -d 'explain no status'
@@ -64,8 +71,8 @@ complete -c mowerbean -s w -x -d 'wait for a play, for flag, move and append'
 complete -c mowerbean -s a -x -a '(for file in (__mowerbean_configs)/*.conf; basename $file .conf; end)' -d account
 complete -c mowerbean -n '__mowerbean_at 0 ""' -s h -l help -d 'print the help'
 complete -c mowerbean -n '__mowerbean_at 0 ""' -s V -l version -d 'print the version'
-complete -c mowerbean -n '__mowerbean_at 0 ""' -a 'account init play list flag move append queue report help'
-complete -c mowerbean -n '__mowerbean_at 1 help' -a 'account init play list flag move append queue report'
+complete -c mowerbean -n '__mowerbean_at 0 ""' -a 'account init play list flag move append queue report history letter help'
+complete -c mowerbean -n '__mowerbean_at 1 help' -a 'account init play list flag move append queue report history letter'
 complete -c mowerbean -n '__mowerbean_behind 1 play' -l retry -x -d 'play again up to so many times'
 complete -c mowerbean -n '__mowerbean_behind 1 play' -l retry-for -x -d 'play again for so long, as 20m'
 complete -c mowerbean -n '__mowerbean_behind 1 play' -l then -x -d 'run this where something came'
@@ -75,6 +82,7 @@ complete -c mowerbean -n '__mowerbean_behind 1 report' -l long -d 'what was aske
 complete -c mowerbean -n '__mowerbean_behind 1 report' -l new -d 'what no report has shown'
 complete -c mowerbean -n '__mowerbean_at 1 list flag move append' -a '(__mowerbean_boxes)'
 complete -c mowerbean -n '__mowerbean_at 3 move' -a '(__mowerbean_boxes)'
+complete -c mowerbean -n '__mowerbean_at 1 letter' -a '(__mowerbean_letters)'
 complete -c mowerbean -n '__mowerbean_at 2 flag move' -a '(__mowerbean_ids)'
 complete -c mowerbean -n '__mowerbean_at 3 flag' -a '+ -'
 complete -c mowerbean -n '__mowerbean_behind 4 flag' -a "seen flagged answered deleted draft '\\Seen' '\\Flagged' '\\Answered' '\\Deleted' '\\Draft'"

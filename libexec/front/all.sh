@@ -14,8 +14,8 @@ signalled_all() {
 look_at_all() {
     [ -z "$account" ] || stop_words '-A is for all accounts, and -a for one: see mowerbean --help'
     case ${1-} in
-        play | list | queue | report) ;;
-        *) stop_words '-A is for play, list, queue and report: see mowerbean --help' ;;
+        play | list | queue | report | history) ;;
+        *) stop_words '-A is for play, list, queue, report and history: see mowerbean --help' ;;
     esac
     find_configs
     set -- "$configs"/*.conf

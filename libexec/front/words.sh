@@ -26,6 +26,10 @@ without a network.
                             mowerbean queue
   report [--new] [--long] reports the actions that could not be done, and why
                             mowerbean report --new --long
+  history                 shows all actions, with how each stands
+                            mowerbean history
+  letter N                prints the message of action N, an append
+                            mowerbean letter 3 > letter.eml
   help COMMAND            prints more of one command
                             mowerbean help move
   --help, --version       prints this text, or the version (also -h, -V)
@@ -35,7 +39,7 @@ list shows it. FLAG is seen, flagged, answered, draft, deleted, or a keyword.
 
   -a ACCOUNT   takes the account of ~/.config/mowerbean/ACCOUNT.conf alone. Without it
                default.conf is taken, where it is there
-  -A           play, list, queue and report for all accounts, one after another
+  -A           play, list, queue, report and history for all accounts, one after another
   -q           leaves out the line that explains a status on a terminal
   -w SECONDS   flag, move and append wait as long for a play under way (else 60)
   -v           play prints each command, its answer and how far it is on standard error
@@ -147,6 +151,24 @@ those that no report has shown yet. With --long what was asked for stands under 
 a sentence. It works beside a play.
 
   mowerbean report --new --long
+TEXT
+        history) cat <<'TEXT' ;;
+mowerbean history
+
+Prints all actions, in their order: the number, how the action stands, and what it asks
+for. It stands as `waiting` or `begun`, as queue prints it; as `done`, of a move or an
+append with the UIDVALIDITY and the UID that the message got; or as report prints it. It
+works beside a play.
+
+  mowerbean history             prints `1 done 9 7 move INBOX 42 Archive`, say
+TEXT
+        letter) cat <<'TEXT' ;;
+mowerbean letter N
+
+Prints the message of action N, an append, byte for byte as it was accepted: each line
+ends with CR and LF. It works beside a play.
+
+  mowerbean letter 3 > letter.eml
 TEXT
         help) cat <<'TEXT' ;;
 mowerbean help [COMMAND]

@@ -133,8 +133,8 @@ CASES
 
 named_boxes() {
     while IFS='|' read -r words missing; do
-        eval "set -- $words"
-        said=$("$real" "$@" 2>"$work/notice" </dev/null)
+        # shellcheck disable=SC2086  # words
+        said=$("$real" $words 2>"$work/notice" </dev/null)
         same "$words names the mailboxes" "$?, $said, $(cat "$work/notice")" \
             "10, refused no-mailbox, mowerbean: $missing is none of the journal's mailboxes, which are INBOX, Archive, \"Sent Items\". Nothing was written"
     done <<'CASES'
