@@ -1,4 +1,3 @@
-#!/usr/bin/env python3
 """Tries an account for `mowerbean account`: greeting, log-in, capabilities, and each mailbox. Nothing is changed on the server.
 
 usage: try_account.py PORT USER [BOX ..] < PASSWORD

@@ -112,7 +112,7 @@ ask_account() {
     [ "$way" = tls ] || as_address "$server" 143
     ask 'User' '' is_value
     account_user=$answer
-    ask 'Command that prints the password, such as: pass show mail/ann' '' is_command
+    ask 'Command that prints the password (pass show mail/ann, say)' '' is_command
     account_command=$answer
     ask_boxes
 }

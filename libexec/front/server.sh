@@ -12,25 +12,21 @@ look_at_server() {
     fi
 }
 
-# How large the journal is. It grows with all that a play learns or sends.
-journal_size() {
-    wc -c "$folder/journal.0" "$folder/journal.1" 2>/dev/null
-}
-
-# Keeps the account, under the lock. $size is that of a journal that knew none before.
+# Keeps the account, under the lock. In $unknown stand the sizes of a journal that knew none before.
 keep_server() {
-    size=''
+    unknown=''
     look_at_server
     if [ "$known" = "$who" ]; then
         return
     fi
-    [ -n "$known" ] || size=$(journal_size)
+    [ -n "$known" ] || unknown=$(journal_sizes)
     put_line "$folder/mowerbean.server" "$who"
 }
 
-# After a play that got nothing from the server the account isn't kept: it may have been mistyped.
+# After a play that got nothing from the server the account isn't kept: it may have been mistyped. A journal grows with all that a play
+# learns or sends.
 forget_server() {
-    if [ -n "$size" ] && [ "$size" = "$(journal_size)" ]; then
+    if [ -n "$unknown" ] && [ "$unknown" = "$(journal_sizes)" ]; then
         rm -f -- "$folder/mowerbean.server"
     fi
 }

@@ -148,6 +148,13 @@ a sentence. It works beside a play.
 
   mowerbean report --new --long
 TEXT
+        help) cat <<'TEXT' ;;
+mowerbean help [COMMAND]
+
+Prints all commands, or more of one.
+
+  mowerbean help move           the same as: mowerbean move -h
+TEXT
         *) stop_words "no such command: $1: see mowerbean --help" ;;
     esac
 }
