@@ -90,17 +90,23 @@ flag_names() {
     same 'a mailbox of such a name' "$status" 0
 }
 
+# Runs the front over the program on a line, as a shell reads it.
+type_line() {
+    eval "set -- $1"
+    said=$("$real" "$@" 2>"$work/notice" </dev/null)
+    status=$?
+    notice=$(cat "$work/notice")
+}
+
 # The program says that the words are none, and the front which one it is.
 wrong_words() {
     MAIL_DIR=$work/wrong
     export MAIL_DIR
     "$real" init INBOX Archive 'Sent Items' >/dev/null
     while IFS='|' read -r words part; do
-        eval "set -- $words"
-        said=$("$real" "$@" 2>"$work/notice" </dev/null)
-        status=$?
+        type_line "$words"
         same "mowerbean $words" "$status, $said, $(wc -l <"$work/notice" | tr -d ' ')" '2, error words, 1'
-        has '  and why' "$(cat "$work/notice")" "$part"
+        has '  and why' "$notice" "$part"
     done <<'CASES'
 flag Archive d1 +|FLAG is missing: mowerbean flag BOX ID + FLAG ..
 flag Archive d1|SIGN is missing
@@ -133,9 +139,8 @@ CASES
 
 named_boxes() {
     while IFS='|' read -r words missing; do
-        # shellcheck disable=SC2086  # words
-        said=$("$real" $words 2>"$work/notice" </dev/null)
-        same "$words names the mailboxes" "$?, $said, $(cat "$work/notice")" \
+        type_line "$words"
+        same "$words names the mailboxes" "$status, $said, $notice" \
             "10, refused no-mailbox, mowerbean: $missing is none of the journal's mailboxes, which are INBOX, Archive, \"Sent Items\". Nothing was written"
     done <<'CASES'
 list Sent|Sent
