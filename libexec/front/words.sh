@@ -83,7 +83,7 @@ A line on standard error says where there are conflicts that no report has shown
   mowerbean play --retry-for 20m
                                 plays again for 20 minutes, while the status is 4
   mowerbean play --retry 5      plays again up to 5 times
-  mowerbean play --then 'notmuch new'
+  mowerbean play --then 'mbsync mail'
                                 runs this where something came, or a conflict did
   mowerbean -v play             prints each command, its answer and how far it is
   mowerbean play --trace FILE   logs what is said, without passwords and messages
