@@ -46,17 +46,20 @@ keep_shown() {
     fi
 }
 
-# Says how many conflicts no report has shown, after a play.
+# Says how many conflicts no report has shown, after a play. That explains status 1 as well.
 name_unseen() {
     told=$(run report 2>/dev/null) || return 0
     [ -n "$told" ] || return 0
     take_shown "$told"
     unseen=$(printf '%s\n' "$told" | awk -v shown="$shown" '$1 + 0 > shown + 0 { count++ } END { print count + 0 }')
     case $unseen in
-        0 | '') ;;
+        0 | '') return ;;
         1) say "1 conflict not seen yet: mowerbean${account:+ -a $account} report --new --long" ;;
         *) say "$unseen conflicts not seen yet: mowerbean${account:+ -a $account} report --new --long" ;;
     esac
+    if [ "$status" -eq 1 ]; then
+        has_said=yes
+    fi
 }
 
 # --- the report

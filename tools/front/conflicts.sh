@@ -44,6 +44,11 @@ new_conflicts() {
     ask play
     same 'a play that ends with conflicts' "$status" 0
     has '  says so on standard error' "$notice" 'mowerbean: 3 conflicts not seen yet: mowerbean report --new --long'
+    if script -qec true /dev/null >/dev/null 2>&1 </dev/null; then
+        ends 1
+        said=$(script -qec "$stub play" /dev/null </dev/null | tr -d '\r')
+        same '  once, on a terminal too' "$(echo "$said" | grep -c 'report --new --long')" 1
+    fi
     ask report --new
     same 'report --new' "$(numbers_of), $status" '2 5 9 , 0'
     same '  is kept for its owner alone' "$(stat -c %a "$MAIL_DIR/mowerbean.shown") $(cat "$MAIL_DIR/mowerbean.shown")" '600 9'
