@@ -32,6 +32,13 @@ $work/all/zoe localhost:143 none none"
     same '  and the status that is the highest' "$status, $(echo "$said" | grep -c '^words \[list\] \[INBOX\]$')" '4, 3'
     ask -A list -- -x
     same '  with words that look like options' "$status, $(echo "$said" | grep -c '^words \[list\] \[-x\]$')" '0, 3'
+    ask -A history
+    same '  also for the history' "$status, $said" '0, words [history]
+'"$work/all/ann none ann none
+words [history]
+$work/all/bob none none none
+words [history]
+$work/all/zoe none none none"
     account bob nonsense
     ask -q -A queue
     same '  also where an account has none' "$status, $(echo "$said" | grep -c '^words \[queue\]$')" '78, 2'
@@ -41,7 +48,7 @@ $work/all/zoe localhost:143 none none"
     same '  a password may be asked for' "$(echo "$said" | sed -n 4p)" "$work/all/bob localhost:143 none typed"
     said=$("$stub" -A queue 2>/dev/null <&-)
     same '  and input may be closed' "$?, $(echo "$said" | grep -c '^words')" '0, 3'
-    for words in '-A flag INBOX 1 + x' '-A append Archive' '-A -a ann play' '-A init INBOX'; do
+    for words in '-A flag INBOX 1 + x' '-A append Archive' '-A letter 1' '-A -a ann play' '-A init INBOX'; do
         # shellcheck disable=SC2086  # words
         ask $words
         same "$words" "$status, $said" '2, error words'
