@@ -1,4 +1,4 @@
-# When a play is tried again: how often (--retry), for how long (--retry-for), and the pauses between, which grow while nothing is gained.
+# When a play is tried again: how often (--retry), for how long (--retry-for), and the pauses between.
 # shellcheck shell=sh disable=SC2034,SC2154  # it shares its settings with mowerbean, which reads this file
 
 # The first pause of --retry-for and the longest one, in seconds; and the most that can be asked for, a week.
