@@ -89,7 +89,7 @@ try_server() {
     quiet=yes trace='' verbose=''
     start_link
     if [ -z "$port" ]; then
-        wait "$link_pid"
+        [ -z "$link_pid" ] || wait "$link_pid"
         return "$NO_PROGRAM"
     fi
     while IFS= read -r box; do
@@ -122,6 +122,7 @@ write_account() {
     (umask 077 && mkdir -p -- "${file%/*}") 2>/dev/null
     if ! (umask 077 && set -C && printf '%s\n' '# Written by mowerbean account. All lines that may stand here: man mowerbean' \
         "$account_way=$address" "user=$account_user" "password_command=$account_command" >"$file") 2>/dev/null; then
+        [ -s "$file" ] || rm -f -- "$file" 2>/dev/null
         bad_setting "$file can't be written"
     fi
     look_at_owners
@@ -153,7 +154,7 @@ account() {
     forget_environment
     ask_account
     look_for_link
-    tried=1
+    tried=$NO_PROGRAM
     if [ -n "$with_link" ]; then
         say "trying $address"
         (ask_password && try_server)

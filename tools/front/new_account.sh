@@ -84,6 +84,10 @@ accounts_without_a_server() {
     has '  and the mailboxes are three' "$notice" 'next: mowerbean -a offline init INBOX Archive Sent; mowerbean -a offline play'
     answers starts mail.example.org starttls ann 'echo pw' '' yes
     same 'STARTTLS has its own port' "$(echo "$written" | sed -n 2p)" 'starttls=mail.example.org:143'
+    answers none mail.example.org '' ann 'echo pw' '' no
+    same '  and not written, where that is asked' "$status, $said, $written" '70, , '
+    said=$( (ulimit -f 0 && printf '%s\n' mail '' ann 'echo pw' '' yes | "$real" account full) 2>/dev/null | cat)
+    same 'a full disk leaves no file' "$said, $(ls "$configs/full.conf" 2>/dev/null)" ', '
     rm -rf "$configs" && ln -s /nowhere "$configs"
     answers offline mail '' ann 'echo pw' '' yes
     same "a folder that can't be made" "$status, $said" '78, '
