@@ -7,7 +7,7 @@ stub_prints() {
     {
         echo '#!/bin/sh'
         # shellcheck disable=SC2016  # the script's own words
-        echo 'cat "${0%/*}/../../prints.$1" 2>/dev/null || { echo error words; exit 2; }'
+        echo 'cat "${0%/*}/../../prints.$1" 2>/dev/null || { echo error words; echo see --help >&2; exit 2; }'
     } >"$work/stub/libexec/mowerbean/mowerbean"
     chmod +x "$work/stub/libexec/mowerbean/mowerbean"
 }
