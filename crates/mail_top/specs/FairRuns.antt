@@ -19,8 +19,8 @@ use Rattle.mail_top.specs.KeptNow.{IsKeptNow, StaysKept}
 use Rattle.mail_top.specs.Runs.{CutOff}
 
 -- A run, and a clock on its way: its last, or one at which the run was cut off. Its moments are as `run` promises over a link that
--- tells its server, by the clauses `goes`, `each_one_side` and `joined`, and others were fair up to that clock. (Of a run that was cut
--- off the moments behind the cut are those that might have come.)
+-- tells its server, by the clauses `goes`, `sides.each_one_side` and `joined`, and others were fair up to that clock. (Of a run that was
+-- cut off the moments behind the cut are those that might have come.)
 pub record FairRun (words : List (List ℕ)) (input : List ℕ) (seen : Files) (old at new : Clock) : Type 0 where
   pub cut : CutOff words input seen old at new
   pub joined : OneSideAtRest old.now → (books : Books mail) → HasBooks mail books old.now → IsKeptNow old.now → StaysKept old new

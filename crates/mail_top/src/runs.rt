@@ -38,7 +38,7 @@ pub fn runs_one_behind_another()
     // What a stop leaves is where the next run begins.
     ensures begins { (m : Moment) (files : Files) → MayLeave m files → BeginsWith files m (restarted files m) }
 
-    // A run that goes as `run` promises, by its clauses `goes` and `each_one_side`, may be cut off at each of its moments.
+    // A run that goes as `run` promises, by its clauses `goes` and `sides.each_one_side`, may be cut off at each of its moments.
     ensures cut_off { (account : Credentials) (words : List (List ℕ)) (input : List ℕ) (k : Course) (s : Status) (text : List ℕ) →
         Goes account words input k s text → (OneSideAtRest k.old.now → EachOneSide k.old k.new) → (at : Clock) →
         Grows k.old at → Grows at k.new → CutOff words input k.seen k.old at k.new }

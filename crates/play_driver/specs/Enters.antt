@@ -10,7 +10,7 @@ use Rattle.world_traits.specs.declared.clocked.Clocked.{Ghosts}
 use Rattle.play_driver.specs.Entering.{NotEntered}
 use Rattle.play_driver.specs.Questioning.{ConnectsFirst, Questioning}
 
--- However the call ends: the files stay as they were, and only questions were asked, over one connection, which was made first. No honest
+-- However the call ends: the files stay as they were, and only questions were asked, behind the last connection that was made. No honest
 -- server's reply is called bad. Each fault's cause stands in the bytes received.
 pub record Enters {Self T : Type 0} (L : Ghosts Self) (account : Credentials) (old new : Self) (result : Result T SessionFault) : Type 0 where
   pub files : L.tells_files → Linked AnyStep (L.clock old) (L.clock new)

@@ -19,8 +19,8 @@ use Rattle.play_driver.specs.Sessions.{count_of, feed_of, selected_in}
 use Rattle.play_driver.specs.declared.gathering.Gathered.{Gathered}
 use Rattle.play_driver.specs.declared.session.Session.{Session}
 
--- However the call ends: the files stay as they were, and only the questions of a resynchronisation were asked, with whatever is asked
--- behind them; no honest server's reply is called bad. Each fault's cause stands in the bytes received.
+-- However the call ends: the files stay as they were, and only the questions of a resynchronisation were asked (`sent` and `why` say it
+-- for any dialogue behind them); no honest server's reply is called bad. Each fault's cause stands in the bytes received.
 pub record Gathers {Self T : Type 0} (L : Ghosts Self) (name : List ℕ) (kept : Option Cache) (old new : Self) (session : Session)
     (result : Result T SessionFault) : Type 0 where
   pub files : L.tells_files → Linked AnyStep (L.clock old) (L.clock new)

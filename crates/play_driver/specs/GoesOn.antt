@@ -19,7 +19,8 @@ use Rattle.play_driver.specs.declared.fault.PlayFault.{PlayFault}
 use Rattle.play_driver.specs.declared.session.Session.{Session}
 
 -- At every moment a stop leaves the book that was, or one further on. Where the book is kept, and the player knows the connection, which was
--- made at some clock, each moment is kept and joined to the one before it; and where others are fair the player knows it still.
+-- made at some clock: up to each moment to which others were fair each one is kept, and joined to the one before it; and where others were
+-- fair all the time the player knows it still. One side of the journal rests, and no connection is made.
 pub record GoesOn {Self : Type 0} (W : Ghosts Self) (old new : Self) (session : Session) (p q : Player) (b c : Meaning)
     (result : Result Session PlayFault) : Type 0 where
   pub progress : W.tells_files → Progresses b (W.clock old) (W.clock new)
@@ -36,7 +37,7 @@ SyncsOn W old new p q b c result =
     W.tells_server → (start : Clock) → Grows start (W.clock old) → IsKept mail Kept (W.clock old).now
     → AllFair mail played (W.clock old) (W.clock new) → IsSyncedSoFar start (W.clock old) p b → OnOk result (IsSyncedSoFar start (W.clock new) q c)
 
--- The same of a whole run, which connects once, before its first question.
+-- The same of a whole run, which makes no connection behind its first question.
 pub record RunGoesOn {Self : Type 0} (W : Ghosts Self) (old new : Self) (b : Meaning) : Type 0 where
   pub progress : W.tells_files → Progresses b (W.clock old) (W.clock new)
   pub joined : W.tells_server → IsKept mail Kept (W.clock old).now → StaysJoined mail Kept played (W.clock old) (W.clock new)

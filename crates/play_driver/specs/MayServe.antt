@@ -30,8 +30,8 @@ of_empty box =
     ∷ responses.Untagged endings.Ok (codings.UidNext box.uidnext)
     ∷ responses.Untagged endings.Ok (codings.HighestModSeq box.highest) ∷ []
 
--- The replies to the commands of a run over a connection in which the user is logged in already: CAPABILITY, twice; ENABLE; the SELECT
--- of an empty mailbox; FETCH; LOGOUT.
+-- The replies to six questions over a connection in which the user is logged in already: CAPABILITY, twice; ENABLE; the SELECT of an
+-- empty mailbox; FETCH; LOGOUT.
 abbrev pub offer : Replies
 offer = says (responses.Capability (codes "IMAP4rev2" ∷ codes "QRESYNC" ∷ []) ∷ [])
 
@@ -47,8 +47,8 @@ session box =
     (responses.Preauth codings.None ∷ []) ++ told_in (Count 1) offer ++ told_in (Count 2) offer ++ told_in (Count 3) enabled
     ++ told_in (Count 4) (says (of_empty box)) ++ told_in (Count 5) (says []) ++ told_in (Count 6) bye
 
--- Moments that may follow: a connection is made, and a lawful server answers the commands of a run in it, by this; others are fair; and the
--- server serves.
+-- Moments that may follow: a connection is made, and a lawful server answers six questions in it, by these replies; others are fair; and
+-- the server serves.
 pub record MayBeServed (box : Mailbox) (old : Clock) : Type 0 where
   pub new : Clock
   pub runs : ConnectsFirst RunStep old new

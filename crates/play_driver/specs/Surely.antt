@@ -8,7 +8,8 @@ use Rattle.action_queue.specs.declared.queued.Queued.{Queued}
 use Rattle.playback.specs.Once.{is_unsure}
 
 -- An action that ended as unsure in the later book had ended so in the earlier one, or it was due there, with its intent pending. So at
--- most one ended as unsure meanwhile; and where no intent was pending, each ended as done, or as a conflict that had no effect.
+-- most one ended as unsure meanwhile; and where no intent was pending, each that ended meanwhile ended as done, or as a conflict of
+-- another kind.
 abbrev pub EndSurely : Meaning → Meaning → Type 0
 EndSurely b c =
     (i : ℕ) (q : Queued) (kind : Kind) → slice_get c.queue i ≡ Some q → q.outcome ≡ Some (outcomes.Conflict kind) → is_unsure kind ≡ true

@@ -116,8 +116,9 @@ pub fn known_goes_on()
     ensures withstands { Withstands mail played Kept }
 {}
 
-/// What `complete` of `play` asks of server and others can be met, from any moment on and whatever the book: moments may follow in
-/// which a lawful server answers the commands of a whole connection, others are fair, and the server serves.
+/// What `complete` of `play` asks of server and others can be met, from any moment on and whatever the book, where one of the server's
+/// mailboxes is empty and its SELECT is one part: moments may follow in which a lawful server answers the questions of a whole
+/// connection, others are fair, and the server serves.
 pub fn a_server_may_serve()
     ensures { MayServe }
 {}

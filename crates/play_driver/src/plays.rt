@@ -61,8 +61,9 @@ pub fn play<W: World>(
         → IsAsLeft mail store.old (W.clock world.old).now (W.seen world.old) }
 
     // At every moment a stop leaves the book that was, or one further on: no action is forgotten, nor how one ended. Where the book is
-    // kept at entry and others are fair, each moment is kept and joined to the one before it by one step, so that no action takes effect
-    // twice; and each intent and each conflict that is recorded has its reason.
+    // kept at entry, up to each moment to which others were fair each one is kept and joined to the one before it by one step, so that no
+    // action takes effect twice. Where they were fair all the time, each intent and each conflict that is recorded has its reason, and no
+    // action ends as unsure but the one whose intent was pending.
     ensures goes_on { RunGoesOn W.Clocked world.old world.new store.old.book }
     ensures reasons { RunReasons W.Clocked world.old world.new
         store.old.book store.new.book result }

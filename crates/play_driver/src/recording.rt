@@ -15,8 +15,7 @@ ghost use Rattle.store_core.specs.declared.fault.CommitFault.TheVariants as comm
 ghost use Rattle.play_driver.specs.Faults.{of_commit};
 ghost use Rattle.play_driver.specs.Recording.{NotRecorded, recorded};
 ghost use Rattle.play_driver.specs.declared.fault.PlayFault.{PlayFault};
-ghost use Rattle.play_driver.specs.Accuses.{AccusesDisk};
-ghost use Rattle.play_driver.specs.Accuses.{Accuses};
+ghost use Rattle.play_driver.specs.Accuses.{Accuses, AccusesDisk};
 ghost use Rattle.play_driver.specs.GoesOn.{GoesOn, SyncsOn};
 ghost use Rattle.play_driver.specs.Reasons.{Reasons};
 ghost use Rattle.play_driver.specs.Rests.{Rests, Stored};

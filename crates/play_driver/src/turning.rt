@@ -51,7 +51,8 @@ pub(crate) fn turn<W: World>(
     requires left { W.tells_files
         → IsAsLeft mail store.old (W.clock world.old).now (W.seen world.old) }
 
-    // At every moment a stop leaves the book that was, or one further on; and what is recorded has its reason.
+    // At every moment a stop leaves the book that was, or one further on; each mailbox that counts stays the server's; and what is
+    // recorded has its reason.
     ensures goes_on { GoesOn W.Clocked world.old world.new session player.old player.new
         store.old.book store.new.book result }
     ensures synced { SyncsOn W.Clocked world.old world.new player.old player.new
