@@ -32,16 +32,18 @@ linked_leaves : (b : Meaning) (k l : Clock) → Linked Connecting k l → Leaves
 linked_leaves b k l s start =
     since_now Any (Leaves b) (LinkStep Connecting) (λ m n any step here. books_there Connecting m n step mail (Firm (Some b)) here) k start l s
 
+-- what was recorded since the connection was made came behind it
+pub true_grows : (entry : Meaning) (made now : Clock) (b : Meaning) → IsTrueSince entry made now b → Grows made now
+true_grows entry made now b enters = grows_start made
+true_grows entry made now b (rests at later same truly still) =
+    grows_then made at later (true_grows entry made at same truly) (grows (Leaves same) AnyTwo at later still)
+true_grows entry made now b (records at later before event truly reason takes) =
+    grows_then made at later (true_grows entry made at before truly)
+    (grows (Images (λ files. HoldsBook mail (Some before) files ⊎ HoldsBook mail (Some (after before event)) files))
+    (GoesOn (HoldsBook mail (Some before)) (HoldsBook mail (Some (after before event)))) at later takes)
+
 -- since the connection was made
 module _ (entry : Meaning) (made : Clock) (start : Leaves entry made.now) where
-  true_grows : (now : Clock) (b : Meaning) → IsTrueSince entry made now b → Grows made now
-  true_grows now b enters = grows_start made
-  true_grows now b (rests at later same truly still) = grows_then made at later (true_grows at same truly) (grows (Leaves same) AnyTwo at later still)
-  true_grows now b (records at later before event truly reason takes) =
-      grows_then made at later (true_grows at before truly)
-      (grows (Images (λ files. HoldsBook mail (Some before) files ⊎ HoldsBook mail (Some (after before event)) files))
-      (GoesOn (HoldsBook mail (Some before)) (HoldsBook mail (Some (after before event)))) at later takes)
-
   -- all up to this clock was recorded truly, and each stop leaves the last book; or an event that had its reason is being recorded
   abbrev SoFar : Clock → Type 0
   SoFar at = ((b : Meaning) × IsTrueSince entry made at b × Leaves b at.now) ⊎ ((event : Event) × (b : Meaning) × IsTrueBefore event entry b made at)
@@ -58,14 +60,14 @@ module _ (entry : Meaning) (made : Clock) (start : Leaves entry made.now) where
       let still = since_first (Leaves entry) AnyTwo made at made reach left (since_start (Leaves entry) AnyTwo made) in
       inl (entry, rests made at entry enters still, since_now (Leaves entry) (Leaves entry) AnyTwo (λ m n here step before. here) made start at still)
   so_far now b (rests mid later same truly still) at reach left =
-      let begun = true_grows mid same truly in
+      let begun = true_grows entry made mid same truly in
       ⊎_elim (λ (early : Grows at mid). so_far mid same truly at reach early)
       (λ (past : Grows mid at).
       let front = since_first (Leaves same) AnyTwo mid at later past left still in
       rests_so mid at same truly (so_far mid same truly mid begun (grows_start mid)) front.added front.grown front.each front)
       (in_order made at mid later reach left begun (grows (Leaves same) AnyTwo mid later still))
   so_far now b (records mid later before event truly reason takes) at reach left =
-      let begun = true_grows mid before truly in
+      let begun = true_grows entry made mid before truly in
       ⊎_elim (λ (early : Grows at mid). so_far mid before truly at reach early)
       (λ (past : Grows mid at).
       inr (
