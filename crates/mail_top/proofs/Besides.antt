@@ -65,7 +65,7 @@ module _ {Self : Type 0} (W : Ghosts Self) (files : W.tells_server → W.tells_f
         request_once went.request went.never (MayBeLeft went.request (W.clock old).now (seen old)) (W.clock old) (W.clock new) kept went.goes.keeps;
     kept = λ play f. absurd (other play);
     truly = λ play f. absurd (other play);
-    surely = λ play came f. absurd (other play);
+    surely = λ play sound f. absurd (other play);
     synced = λ play came f. absurd (other play);
     serves = λ play f serving none bad. other play;
     faultless = λ f is. no_reply is;
@@ -83,7 +83,7 @@ handed W seen old new P Q s t x y of same text_is b = record {
   twice = b.twice;
   kept = λ play f. b.kept (of play) f;
   truly = λ play f. b.truly (of play) f;
-  surely = λ play came f. b.surely (of play) (subst CameThrough same came) f;
+  surely = λ play other f. b.surely (of play) (λ is. other (same ∙ is)) f;
   synced = λ play came f. b.synced (of play) (subst CameThrough same came) f;
   serves = λ play f serving none bad. b.serves (of play) f serving none (subst IsTheServers same bad);
   faultless = λ f is. b.faultless f (sym same ∙ is);

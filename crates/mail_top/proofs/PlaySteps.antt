@@ -1,5 +1,6 @@
 -- What becomes of a book that is played back: what a stop leaves, which steps it takes, and what it came to.
-use Rattle.std.proofs.Common.{◌≡◌, ◌⊎◌, inl, inr, Bool, Some, Result, Err, refl}
+use Rattle.std.proofs.Common.{◌≡◌, ◌⊎◌, inl, inr, Bool, Some, Result, Err, refl, subst}
+use Rattle.std.specs.Prelude.{slice_get}
 use Rattle.world_traits.specs.Files.{Files}
 use Rattle.world_traits.specs.Links.{Any}
 use Rattle.world_traits.specs.Moments.{Moment, Clock, Since, OneSideAtRest, Within}
@@ -17,11 +18,13 @@ use Rattle.store_core.specs.Holding.{Holding, IsAsLeft}
 use Rattle.store_core.specs.Steps.{Firm, MakesFirm, Chooses}
 use Rattle.store_core.specs.Taking.{HasBooks, ChoosesStep}
 use Rattle.store_core.proofs.Choosing.{only_left}
+use Rattle.store_core.proofs.Folding.{one_held}
 use Rattle.store_core.proofs.MailBook.{one_mail_event}
 use Rattle.play_driver.specs.Joining.{AllFair, IsFair, Relates}
 use Rattle.play_driver.specs.Played.{played}
 use Rattle.play_driver.specs.Progress.{BeginsPlay, IsPlaying, PlayStep, Progresses}
 use Rattle.play_driver.specs.Settled.{AreSyncedBehind}
+use Rattle.play_driver.specs.Surely.{EndSurely}
 use Rattle.play_driver.specs.TrueRecords.{RecordsTruly, StopsTruly}
 use Rattle.play_driver.specs.declared.fault.PlayFault.{PlayFault}
 use Rattle.play_driver.specs.declared.fault.PlayFault.TheVariants as faults
@@ -32,6 +35,7 @@ use Rattle.mail_top.specs.Connecting.{SameOutside}
 use Rattle.mail_top.specs.KeptNow.{IsKeptNow, StaysKept}
 use Rattle.mail_top.specs.Leaving.{MayBeLeft, KeepsStep, BeginsDue, RequestStep}
 use Rattle.mail_top.specs.Played.{AreSynced}
+use Rattle.mail_top.specs.SurePlay.{EndsSurely}
 use Rattle.mail_top.specs.TruePlay.{OnlyOpens, OpensBook, PlaysTruly}
 use Rattle.mail_top.specs.TruePlay.PlaysTruly.{recorded, cut}
 use Rattle.mail_top.specs.Words.{Play}
@@ -117,6 +121,23 @@ play_synced later entry m seen k l n opens left s = record {
     each = s.each;
   };
 }
+
+-- each of the two files holds one book: what is so of the books that are known is so of those that are held
+module _ (seen after : Files) where
+  pub surely_played : {b c : Meaning} → HasBook mail b seen → HasBook mail c after → EndSurely b c → EndsSurely seen after
+  surely_played {b} {c} read holds sure = record {
+    surely = λ entry book p q.
+        subst (λ (x : Meaning). EndSurely x book) (one_held mail one_mail_event seen b entry read p)
+        (subst (λ (x : Meaning). EndSurely b x) (one_held mail one_mail_event after c book holds q) sure);
+  }
+
+  -- nothing was recorded
+  pub surely_unopened : after ≡ seen → EndsSurely seen after
+  surely_unopened same = record {
+    surely = λ entry book p q i queued kind there is unsure.
+        inl (subst (λ (x : Meaning). slice_get x.queue i ≡ Some queued)
+        (one_held mail one_mail_event seen book entry (subst (HasBook mail book) same q) p) there);
+  }
 
 -- an opening does nothing more
 pub only_opens : (k l : Clock) → Since (Within k.now) KeepsActions k l → OnlyOpens k l

@@ -200,6 +200,11 @@ module _ {S : Type 0} (o : Result S StoreFault) (r : Result Played Unfinished) (
   pub opening_disk : status_of_play r ≡ status.Disk → o ≡ Err stores.Disk
   opening_disk is = was ∙ ap (λ (f : StoreFault). Err f) (disk_store x (of_opening status.Disk is))
 
+  pub opening_failed : o ≡ Err stores.Disk → status_of_play r ≡ status.Disk
+  opening_failed is =
+      let same : x ≡ stores.Disk = cc (was, is) in
+      ap status_of_play (ended_by r (ends.Unopened x) given) ∙ ap (λ (f : StoreFault). status_of_refusal (of_store f)) same
+
   pub opening_link : status_of_play r ≡ status.Link → ⊥
   opening_link is = link_store x (of_opening status.Link is)
 
@@ -213,6 +218,10 @@ module _ {S : Type 0} (o : Result S PlayFault) (r : Result Played Unfinished) (x
 
   pub run_disk : status_of_play r ≡ status.Disk → o ≡ Err faults.Disk
   run_disk is = was ∙ ap (λ (f : PlayFault). Err f) (disk_fault x (of_run status.Disk is))
+
+  pub run_failed : o ≡ Err faults.Disk → status_of_play r ≡ status.Disk
+  run_failed is =
+      let same : x ≡ faults.Disk = cc (was, is) in ap status_of_play (ended_by r (ends.Stopped x) given) ∙ ap status_of_fault same
 
   pub run_link : status_of_play r ≡ status.Link → o ≡ Err faults.Link
   run_link is = was ∙ ap (λ (f : PlayFault). Err f) (link_fault x (of_run status.Link is))

@@ -50,7 +50,7 @@ pub record BesideServer {Self : Type 0} (W : Ghosts Self) (seen : Self → Files
   pub twice : W.tells_server → IsKeptNow (W.clock old).now → StaysOnce (W.clock old) (W.clock new)
   pub kept : IsPlay → Fairly W old new → IsKeptNow (W.clock new).now
   pub truly : IsPlay → Fairly W old new → PlaysTruly (seen old) (W.clock old) (W.clock new)
-  pub surely : IsPlay → CameThrough s → Fairly W old new → EndsSurely (seen old) (seen new)
+  pub surely : IsPlay → (s ≡ status.Disk → ⊥) → Fairly W old new → EndsSurely (seen old) (seen new)
   pub synced : IsPlay → CameThrough s → Fairly W old new → AreSynced (seen new) (W.clock old) (W.clock new)
   pub serves : IsPlay → Fairly W old new → AllServing (W.clock old) (W.clock new) → WaitsForNone (seen old) (W.clock old).now.outside.server →
       IsTheServers s → ⊥

@@ -160,14 +160,14 @@ pub fn run<W: World, I: Source, S: Sink>(
     ensures owned { EntersKept W.Clocked world.old → (at : Clock) → FairUpTo W.Clocked world.old world.new at
         → AlwaysOwned (W.clock world.old) at }
 
-    // A `play` that came to its end has settled every action, and each took effect once or is reported; none ended as unsure but the one
-    // whose intent was pending.
+    // A `play` that came to its end has settled every action, and each took effect once or is reported. However it ended, but by a
+    // fault of the disk, no action ended as unsure in it but the one whose intent was pending.
     ensures finishes { W.tells_files → WritesPlay (map string_bytes words.now) → CameThrough result
         → Finishes (W.seen world.old) (W.seen world.new) (W.clock world.new).now }
     ensures once_or_reported { WritesPlay (map string_bytes words.now) → CameThrough result
         → Fairly W.Clocked world.old world.new
         → OnceOrReported (W.seen world.old) (W.seen world.new) (W.clock world.new).now }
-    ensures surely { WritesPlay (map string_bytes words.now) → CameThrough result
+    ensures surely { WritesPlay (map string_bytes words.now) → (result ≡ Status.Disk → ⊥)
         → Fairly W.Clocked world.old world.new → EndsSurely (W.seen world.old) (W.seen world.new) }
 
     // Each intent and each conflict that a `play` recorded had its reason at that moment. One that came to its end leaves each mailbox

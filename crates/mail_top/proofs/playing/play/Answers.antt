@@ -7,12 +7,12 @@ use Rattle.mail_top.specs.Words.{Play}
 use Rattle.mail_top.proofs.Connections.{opens_alone, opens_then}
 use Rattle.mail_top.proofs.Headlines.{kept_last, play_once, still_once}
 use Rattle.mail_top.proofs.PlaySteps.{opening_keeps, opening_joined, play_steps, play_keeps, playing_now, playing_start, opened_kept, play_joined, play_fair}
-use Rattle.mail_top.proofs.PlaySteps.{play_synced, only_opens, opens_store, truly_stopped, one_last}
+use Rattle.mail_top.proofs.PlaySteps.{play_synced, surely_played, surely_unopened, only_opens, opens_store, truly_stopped, one_last}
 use Rattle.mail_top.proofs.Moving.{chooses_steps}
 use Rattle.mail_top.proofs.PlayServed.{none_behind, opening_serves, played_serves, run_serves, serving_behind}
 use Rattle.mail_top.proofs.Openings.{never_err, opened_book}
 use Rattle.mail_top.proofs.Sayings.{unopened_play, is_opened, played_play, played_disk, played_link, stopped_play}
-use Rattle.mail_top.proofs.Sayings.{no_place_told, opening_reply, run_honest, run_reply, played_reply, stopped_early}
+use Rattle.mail_top.proofs.Sayings.{no_place_told, opening_failed, opening_reply, run_failed, run_honest, run_reply, played_reply, stopped_early}
 use Rattle.mail_top.proofs.playing.play.Goals as goal
 
 pub returns-in_err-store-clause-ends : goal.returns-in_err-store-clause-ends
@@ -37,7 +37,9 @@ returns-in_err-store-clause-server g c = record {
       opened_kept (g.W.Clocked.clock c.args.world.now) (g.W.Clocked.clock c.open.new.disk) f.kept
       (narrowed _ _ (c.open.ensures.told (g.W.Clocked.server_with_files f.tells)));
   truly = λ play f. unread (only_opens _ _ (c.open.ensures.held (g.W.Clocked.server_with_files f.tells)));
-  surely = λ play came f. absurd (stopped_early _ _ c.from_residual.ensures.1 came);
+  surely = λ play other f.
+      let reads = c.open.ensures.seen (g.W.Clocked.server_with_files f.tells) in
+      surely_unopened _ _ (reads (λ is. other (opening_failed _ _ _ c.in_err-store.was c.from_residual.ensures.1 is)));
   synced = λ play came f. absurd (stopped_early _ _ c.from_residual.ensures.1 came);
   serves = λ play f serving none bad. opening_serves _ _ c.from_residual.ensures.1 bad;
   faultless = λ f is. opening_reply _ _ _ c.in_err-store.was c.from_residual.ensures.1 is;
@@ -98,7 +100,13 @@ returns-in_err-played-clause-server g c = record {
       let spared = play_fair _ _ _ _ _ opens (c.play.ensures.goes_on.progress files) f.fair in
       truly_stopped c.play.result _ _ _ _ _ _ opened (λ other. c.play.ensures.reasons.truly f.tells here spared other)
       (λ is. c.play.ensures.reasons.stopped_truly f.tells is here spared) (λ other. only_left _ _ _ _ (c.play.ensures.stored.left files other)) _ c.in_err-played.was;
-  surely = λ play came f. absurd (stopped_early _ _ c.from_residual-in_err-played.ensures.1 came);
+  surely = λ play other f.
+      let files = g.W.Clocked.server_with_files f.tells in
+      let opens = c.open.ensures.held files in
+      let here = opened_kept (g.W.Clocked.clock c.args.world.now) (g.W.Clocked.clock c.open.new.disk) f.kept (narrowed _ _ (c.open.ensures.told files)) in
+      surely_played _ _ (opened_book _ _ _ _ (c.in_ok-store.ensures.still files) (c.in_ok-store.ensures.seen files (never_err _ _)))
+      (opened_book _ _ _ _ (c.play.ensures.stored.left files (λ is. other (run_failed _ _ _ c.in_err-played.was c.from_residual-in_err-played.ensures.1 is))) refl)
+      (c.play.ensures.surely f.tells here (play_fair _ _ _ _ _ opens (c.play.ensures.goes_on.progress files) f.fair));
   synced = λ play came f. absurd (stopped_early _ _ c.from_residual-in_err-played.ensures.1 came);
   serves = λ play f serving none bad.
       let files = g.W.Clocked.server_with_files f.tells in
@@ -164,17 +172,13 @@ returns-clause-server g c = record {
       let spared = play_fair _ _ _ _ _ opens (c.play.ensures.goes_on.progress files) f.fair in
       recorded _ _ _ opened (c.in_ok-played.ensures.reasons.truly f.tells here spared (never_err _ _))
       (only_left _ _ _ _ (c.in_ok-played.ensures.stored.left files (never_err _ _)));
-  surely = λ play came f.
+  surely = λ play other f.
       let files = g.W.Clocked.server_with_files f.tells in
       let opens = c.open.ensures.held files in
       let here = opened_kept (g.W.Clocked.clock c.args.world.now) (g.W.Clocked.clock c.open.new.disk) f.kept (narrowed _ _ (c.open.ensures.told files)) in
-      record {
-        entry = c.in_ok-store.store.book;
-        read = opened_book _ _ _ _ (c.in_ok-store.ensures.still files) (c.in_ok-store.ensures.seen files (never_err _ _));
-        book = c.play.new.store.book;
-        holds = opened_book _ _ _ _ (c.in_ok-played.ensures.stored.left files (never_err _ _)) refl;
-        surely = c.play.ensures.surely f.tells here (play_fair _ _ _ _ _ opens (c.play.ensures.goes_on.progress files) f.fair);
-      };
+      surely_played _ _ (opened_book _ _ _ _ (c.in_ok-store.ensures.still files) (c.in_ok-store.ensures.seen files (never_err _ _)))
+      (opened_book _ _ _ _ (c.in_ok-played.ensures.stored.left files (never_err _ _)) refl)
+      (c.play.ensures.surely f.tells here (play_fair _ _ _ _ _ opens (c.play.ensures.goes_on.progress files) f.fair));
   synced = λ play came f.
       let files = g.W.Clocked.server_with_files f.tells in
       let opens = c.open.ensures.held files in

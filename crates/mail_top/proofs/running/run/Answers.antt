@@ -97,8 +97,8 @@ pub returns-clause-truly : goal.returns-clause-truly
 returns-clause-truly g c asks fairly = c.carry_out-ending.ensures.server.truly asks fairly
 
 pub returns-clause-surely : goal.returns-clause-surely
-returns-clause-surely g c asks through fairly =
-    c.carry_out-ending.ensures.server.surely asks (said_through _ _ c.say.ensures.status through) fairly
+returns-clause-surely g c asks other fairly =
+    c.carry_out-ending.ensures.server.surely asks (λ is. other (ended_so status.Disk _ _ (λ e. cc e) (λ e. cc e) c.say.ensures.status is)) fairly
 
 pub returns-clause-synced : goal.returns-clause-synced
 returns-clause-synced g c asks through fairly =
