@@ -3,7 +3,7 @@
 
 # Makes a journal in which an action stands in each way, and one mailbox's name has a space.
 looked_at() {
-    MAIL_DIR=$work/looks
+    MAIL_DIR=$work/each-state
     export MAIL_DIR
     mkdir -m 700 "$MAIL_DIR"
     printf '%s\n' INBOX 'Sent Items' >"$MAIL_DIR/mowerbean.boxes"
