@@ -20,7 +20,7 @@ pub record HasText (b : Meaning) (n : ℕ) (text : Option (List ℕ)) : Type 0 w
   pub there : action_at b.queue n ≡ Some queued
   pub is : text_of queued.action ≡ text
 
--- this is the letter of action n of the book; or the book has no such action; or the action has no text
+-- this is the letter of action n of the book, counted from 1; or the book has no such action; or the action has no text
 abbrev pub IsLetter : Meaning → ℕ → Result (List ℕ) LookReason → Type 0
 IsLetter b n (Ok text) = HasText b n (Some text)
 IsLetter b n (Err reasons.NoAction) = action_at b.queue n ≡ None

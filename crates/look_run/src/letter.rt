@@ -13,7 +13,7 @@ use std::alloc::{AllocError, Global};
 /// The letter of an action.
 #[derive(Clone, Copy)]
 pub struct Letter {
-    /// The action's number.
+    /// The action's number, from 1.
     pub number: u32,
 }
 
@@ -29,7 +29,7 @@ impl Show for Letter {
     }
 }
 
-/// The letter of the action of this number, byte for byte as it was accepted, or the reason why there is none. Fails for want of memory alone.
+/// The letter of the action of this number, from 1, byte for byte as it was accepted, or the reason why there is none. Fails for want of memory alone.
 pub fn letter_of(book: &Book, number: u32) -> Result<Result<Bytes, LookReason>, AllocError>
     ensures { IfOk result (IsLetter (meaning book.now) number) }
 {
