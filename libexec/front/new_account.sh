@@ -64,7 +64,7 @@ is_box_or_none() {
 
 is_yes_or_no() {
     case $1 in
-        yes | no) return 0 ;;
+        yes | no | y | n) return 0 ;;
     esac
     wrong='yes or no, please'
     return 1
@@ -164,7 +164,10 @@ account() {
     fi
     if [ "$tried" -ne 0 ]; then
         ask 'Write the file all the same' no is_yes_or_no
-        [ "$answer" = yes ] || exit "$tried"
+        case $answer in
+            y | yes) ;;
+            *) exit "$tried" ;;
+        esac
     fi
     write_account
     echo "written $file" || exit 12

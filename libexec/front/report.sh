@@ -46,6 +46,15 @@ keep_shown() {
     fi
 }
 
+# Says on a terminal that there are conflicts, where --new has none to print.
+say_shown_before() {
+    last=${1##*"$newline"}
+    last=${last%% *}
+    if [ -n "$is_new" ] && [ -z "$quiet" ] && [ -t 2 ] && as_number "$last" 4294967295 && [ "$last" -le "$shown" ]; then
+        say "each conflict was shown before: mowerbean${account:+ -a $account} report --long prints all"
+    fi
+}
+
 # Says how many conflicts no report has shown, after a play. That explains status 1 as well.
 name_unseen() {
     told=$(run report 2>/dev/null) || return 0
@@ -89,6 +98,7 @@ report() {
     fi
     take_shown "$told"
     if print_report 2>/dev/null; then
+        say_shown_before "$told"
         keep_shown "$told"
     else
         status=12

@@ -216,7 +216,7 @@ explain() {
     if [ "$1" -eq 3 ] && [ -n "$folder" ] && [ ! -d "$folder" ]; then
         say "the folder $folder is not there: mowerbean init makes it. Nothing was done"
     elif [ "$1" -eq 4 ] && [ "$link_status" -eq 4 ]; then
-        say "the account's server is wrong, or its certificate, as the line says. What was accepted is kept: look at tls=, starttls= or server="
+        say "the account's server is wrong, or its certificate, as the line says. What was accepted is kept: look at tls=, starttls=, server= or cafile="
     elif [ "$1" -eq 4 ] && [ -n "$asked" ]; then
         say 'ended after the command that was under way. What was accepted is kept: play again, and it goes on from there'
     else

@@ -54,6 +54,12 @@ new_conflicts() {
     same '  is kept for its owner alone' "$(stat -c %a "$MAIL_DIR/mowerbean.shown") $(cat "$MAIL_DIR/mowerbean.shown")" '600 9'
     ask report --new
     same '  and once more' "$said, $status" ', 0'
+    if script -qec true /dev/null >/dev/null 2>&1 </dev/null; then
+        said=$(script -qec "$stub report --new --long" /dev/null </dev/null | tr -d '\r')
+        same '  on a terminal it says where they are' "$said" 'mowerbean: each conflict was shown before: mowerbean report --long prints all'
+        said=$(script -qec "$stub -q report --new" /dev/null </dev/null)
+        same '  but with -q' "$said" ''
+    fi
     ask play
     same '  a play says nothing then' "$(echo "$notice" | grep -c 'not seen')" 0
     echo '12 nothing refused-no' >>"$work/stub/report"

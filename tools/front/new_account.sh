@@ -70,6 +70,10 @@ accounts_that_are_wrong() {
 mowerbean: the server has INBOX, Plain, Sent Items'
     answers wrong "$server" '' ann 'echo pw' INBOX Archive '' yes
     same '  and it is written all the same' "$status, $(echo "$written" | sed -n 3p)" '0, user=ann'
+    answers short "$server" '' ann 'echo pw' INBOX Archive '' n y
+    same '  n is no' "$status, $said, $written" '5, , '
+    answers short "$server" '' ann 'echo pw' INBOX Archive '' y
+    same '  y is yes' "$status, $(echo "$written" | sed -n 3p)" '0, user=ann'
 }
 
 accounts_without_a_server() {
