@@ -99,6 +99,15 @@ impl Answer {
         Ok(())
     }
 
+    /// Adds the tag of a later try of an action, as `P1R2`.
+    pub fn tried(&mut self, id: u32, turn: u8) -> Result<(), CaseFault> {
+        self.marked("P", id)?;
+        self.text.push('R')?;
+        let mut digits = Buffer::new();
+        self.text.push_str(digits.format(turn))?;
+        Ok(())
+    }
+
     /// Adds a text in quotes.
     pub fn text(&mut self, text: &[u8]) -> Result<(), CaseFault> {
         self.space()?;

@@ -23,8 +23,11 @@ pub fn command(input: &mut Input) -> Result<Command, CaseFault> {
         "fetch" => fetch(input),
         "search" => search(input),
         "ids" => fetch_ids(input),
+        "text" => fetch_text(input),
         "store" => store(input),
         "move" => shift(input),
+        "copy" => copying(input),
+        "expunge" => expunge(input),
         "append" => append(input),
         "logout" => Ok(Command::Logout),
         _ => Err(CaseFault::WrongInput),
@@ -58,6 +61,11 @@ fn fetch_ids(input: &mut Input) -> Result<Command, CaseFault> {
     Ok(Command::FetchIds { uids })
 }
 
+fn fetch_text(input: &mut Input) -> Result<Command, CaseFault> {
+    let uid = uid(input)?;
+    Ok(Command::FetchText { uid })
+}
+
 fn store(input: &mut Input) -> Result<Command, CaseFault> {
     let uid = uid(input)?;
     let since = modseq(input)?;
@@ -75,6 +83,17 @@ fn shift(input: &mut Input) -> Result<Command, CaseFault> {
     let uid = uid(input)?;
     let to = name(input)?;
     Ok(Command::Shift { uid, to })
+}
+
+fn copying(input: &mut Input) -> Result<Command, CaseFault> {
+    let uid = uid(input)?;
+    let to = name(input)?;
+    Ok(Command::Copy { uid, to })
+}
+
+fn expunge(input: &mut Input) -> Result<Command, CaseFault> {
+    let uid = uid(input)?;
+    Ok(Command::Expunge { uid })
 }
 
 fn append(input: &mut Input) -> Result<Command, CaseFault> {
@@ -148,15 +167,17 @@ pub fn put_command(answer: &mut Answer, command: &Command) -> Result<(), CaseFau
         }
         Command::Select { name, since } => put_select(answer, name, since),
         Command::FetchAll => answer.word("all"),
-        Command::FetchRow { uid } => put_uid(answer, *uid),
+        Command::FetchRow { uid } | Command::FetchText { uid } => put_uid(answer, *uid),
         Command::Search { from, id } => {
             put_uid(answer, *from)?;
             answer.text(id.as_slice())
         }
         Command::FetchIds { uids } => put_set(answer, uids),
-        Command::Store { .. } | Command::Shift { .. } | Command::Append { .. } => {
-            put_mutating(answer, command)
-        }
+        Command::Store { .. }
+        | Command::Shift { .. }
+        | Command::Copy { .. }
+        | Command::Expunge { .. }
+        | Command::Append { .. } => put_mutating(answer, command),
     }
 }
 
@@ -170,8 +191,11 @@ fn word_of(command: &Command) -> &'static str {
         Command::FetchAll | Command::FetchRow { .. } => "fetch",
         Command::Search { .. } => "search",
         Command::FetchIds { .. } => "ids",
+        Command::FetchText { .. } => "text",
         Command::Store { .. } => "store",
         Command::Shift { .. } => "move",
+        Command::Copy { .. } => "copy",
+        Command::Expunge { .. } => "expunge",
         Command::Append { .. } => "append",
         Command::Logout => "logout",
     }
@@ -203,10 +227,11 @@ fn put_mutating(answer: &mut Answer, command: &Command) -> Result<(), CaseFault>
             put_sign(answer, *add)?;
             put_flags(answer, flags)
         }
-        Command::Shift { uid, to } => {
+        Command::Shift { uid, to } | Command::Copy { uid, to } => {
             put_uid(answer, *uid)?;
             put_name(answer, to)
         }
+        Command::Expunge { uid } => put_uid(answer, *uid),
         Command::Append { to, flags, text } => {
             put_name(answer, to)?;
             put_flags(answer, flags)?;

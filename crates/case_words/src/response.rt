@@ -75,6 +75,10 @@ fn put_fetched(answer: &mut Answer, fetched: &Fetched) -> Result<(), CaseFault> 
         answer.word("ids")?;
         answer.text(ids.as_slice())?;
     }
+    if let Some(text) = &fetched.text {
+        answer.word("text")?;
+        answer.text(text.as_slice())?;
+    }
     Ok(())
 }
 

@@ -112,18 +112,37 @@ pub fn put_modseq(answer: &mut Answer, modseq: ModSeq) -> Result<(), CaseFault> 
     answer.number(modseq.number())
 }
 
-/// The next word as a tag: `P3`, `C4`, or `strange`.
+/// The next word as a tag: `P3`, `P3R2`, `C4`, or `strange`.
 pub fn tag(input: &mut Input) -> Result<Tag, CaseFault> {
     let word = input.word()?;
     if word == "strange" {
         return Ok(Tag::Strange);
     }
     if let Some(digits) = word.strip_prefix('P') {
-        return Ok(Tag::Play(number_of(digits)?));
+        return played(digits);
     }
     match word.strip_prefix('C') {
         Some(digits) => Ok(Tag::Count(number_of(digits)?)),
         None => Err(CaseFault::WrongInput),
+    }
+}
+
+// What stands behind the `P`: a number, or one and the turn of a later try.
+fn played(text: &str) -> Result<Tag, CaseFault> {
+    match text.split_once('R') {
+        None => Ok(Tag::Play(number_of(text)?)),
+        Some((id, turn)) => {
+            let id = number_of(id)?;
+            let turn = turn_of(turn)?;
+            Ok(Tag::Again { id, turn })
+        }
+    }
+}
+
+fn turn_of(digits: &str) -> Result<u8, CaseFault> {
+    match digits.parse::<u8>() {
+        Ok(turn) => Ok(turn),
+        Err(_) => Err(CaseFault::WrongInput),
     }
 }
 
@@ -138,6 +157,7 @@ fn number_of(digits: &str) -> Result<u32, CaseFault> {
 pub fn put_tag(answer: &mut Answer, tag: Tag) -> Result<(), CaseFault> {
     match tag {
         Tag::Play(number) => answer.marked("P", number),
+        Tag::Again { id, turn } => answer.tried(id, turn),
         Tag::Count(number) => answer.marked("C", number),
         Tag::Strange => answer.word("strange"),
     }

@@ -68,6 +68,10 @@ pub record ReadsUids (Read : Command → Type 0) (text : List ℕ) (later : List
       → Read (commands.FetchIds uids)
   pub shift : (uid : ℕ) (to first : List ℕ) → IsNonzero32 uid → IsBoxName to → text ≡ codes "MOVE " ++ first
       → first ∷ [] ≡ number uid ⌢ (words " " ⌢ (astring_parts to ⌢ line crlf)) → Read (commands.Shift uid to)
+  pub whole : (uid : ℕ) → IsNonzero32 uid → text ≡ codes "FETCH " ++ (decimal uid ++ (codes " (UID BODY.PEEK[])" ++ crlf)) → Read (commands.FetchText uid)
+  pub copy : (uid : ℕ) (to first : List ℕ) → IsNonzero32 uid → IsBoxName to → text ≡ codes "COPY " ++ first
+      → first ∷ [] ≡ number uid ⌢ (words " " ⌢ (astring_parts to ⌢ line crlf)) → Read (commands.Copy uid to)
+  pub expunge : (uid : ℕ) → IsNonzero32 uid → text ≡ codes "EXPUNGE " ++ (decimal uid ++ crlf) → Read (commands.Expunge uid)
   pub search : (from : ℕ) (id first : List ℕ) → IsNonzero32 from → IsText id → text ≡ codes "SEARCH UID " ++ first
       → first ∷ later ≡ number from ⌢ (words ":* HEADER Message-ID " ⌢ (astring_parts id ⌢ line crlf)) → Read (commands.Search from id)
   pub store : (uid since : ℕ) (add : Bool) (flags : List (List ℕ)) (first : List ℕ) → IsNonzero32 uid → IsModSeq since → IsFlagSet flags →
@@ -159,6 +163,15 @@ one_part : (word a b : List ℕ) → line word ⌢ (line a ⌢ (line b ⌢ line 
 unfolding ◌⌢◌
 one_part word a b = refl
 
+two_parts : (word a : List ℕ) → line word ⌢ (line a ⌢ line crlf) ≡ line (word ++ (a ++ crlf))
+unfolding ◌⌢◌
+two_parts word a = refl
+
+two_text : (word a text : List ℕ) (later : List (List ℕ)) → text ∷ later ≡ (line word ⌢ line a) ⌢ line crlf → text ≡ word ++ (a ++ crlf)
+two_text word a text later is =
+    let whole = is ∙ behind_two (line word) (line a) (line crlf) ∙ two_parts word a in
+    cc
+
 three_text : (word a b text : List ℕ) (later : List (List ℕ)) → text ∷ later ≡ (line word ⌢ (line a ⌢ line b)) ⌢ line crlf → text ≡ word ++ (a ++ (b ++ crlf))
 three_text word a b text later is =
     let whole = is ∙ behind_three (line word) (line a) (line b) (line crlf) ∙ one_part word a b in
@@ -219,6 +232,9 @@ module _ (Read : Command → Type 0) (kind : ℕ) (text : List ℕ) (later : Lis
   command_read (commands.FetchIds set) held is =
       let t = three_text (codes "UID FETCH ") (set_text set) (codes " (UID BODY.PEEK[HEADER.FIELDS (MESSAGE-ID)])") text later is in
       (uids (begins _ t)).ids set held (ap (drop 4) t)
+  command_read (commands.FetchText uid) held is =
+      let t = three_text (codes "UID FETCH ") (decimal uid) (codes " (UID BODY.PEEK[])") text later is in
+      (uids (begins _ t)).whole uid held (ap (drop 4) t)
   command_read (commands.Store uid since add flags) held is =
       let b = behind (codes "UID STORE ") _ text later
       (some_behind (number uid) _ (some_behind (words " (UNCHANGEDSINCE ") _
@@ -233,6 +249,14 @@ module _ (Read : Command → Type 0) (kind : ℕ) (text : List ℕ) (later : Lis
       (is ∙ behind_four (words "UID MOVE ") (number uid) (words " ") (astring_parts to) (line crlf)) in
       (uids (begins _ b.is)).shift uid to b.first held.0 held.1 (ap (drop 4) b.is)
       (ap (λ l. b.first ∷ l) (sym (move_alone uid to b.first later (one_name to held.1) b.next)) ∙ b.next)
+  command_read (commands.Copy uid to) held is =
+      let b = behind (codes "UID COPY ") _ text later (some_behind (number uid) _ (some_behind (words " ") _ (some_end (astring_parts to))))
+      (is ∙ behind_four (words "UID COPY ") (number uid) (words " ") (astring_parts to) (line crlf)) in
+      (uids (begins _ b.is)).copy uid to b.first held.0 held.1 (ap (drop 4) b.is)
+      (ap (λ l. b.first ∷ l) (sym (move_alone uid to b.first later (one_name to held.1) b.next)) ∙ b.next)
+  command_read (commands.Expunge uid) held is =
+      let t = two_text (codes "UID EXPUNGE ") (decimal uid) text later is in
+      (uids (begins _ t)).expunge uid held (ap (drop 4) t)
   command_read (commands.Append to flags octets) held is =
       let b = behind (codes "APPEND ") _ text later (some_behind (astring_parts to) _
       (some_behind (words " (") _ (some_behind (line (list_text flags)) _ (some_behind (words ") ") _ (some_end (literal octets))))))

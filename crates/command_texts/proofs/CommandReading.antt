@@ -51,7 +51,7 @@ pub search_text : (from : ℕ) (id text : List ℕ) (later : List (List ℕ)) �
 search_text from id text later is = search_from from id text later (astring_parts id ⌢ line crlf) refl
     (some_behind (astring_parts id) (line crlf) (omega arith)) is
 
--- a move: the UID, and behind a space the mailbox's name
+-- a move or a copy: the UID, and behind a space the mailbox's name
 pub record NamedText (front : List ℕ) (to rest text : List ℕ) : Type 0 where
   pub first : List ℕ
   pub is : text ≡ front ++ 32 ∷ first
@@ -73,10 +73,6 @@ shift_text uid to text is = named_from (decimal uid) to crlf text (astring_parts
 pub search_same : (from : ℕ) (id : List ℕ) (from' : ℕ) (id' : List ℕ) → Some from ≡ Some from' → id ≡ id' →
     Some (commands.Search from id) ≡ Some (commands.Search from' id')
 search_same from id from' id' first second = let one : from ≡ from' = cc in cc
-
-pub shift_same : (uid : ℕ) (to : List ℕ) (uid' : ℕ) (to' : List ℕ) → Some uid ≡ Some uid' → to ≡ to' →
-    Some (commands.Shift uid to) ≡ Some (commands.Shift uid' to')
-shift_same uid to uid' to' first second = let one : uid ≡ uid' = cc in cc
 
 -- what stands behind a mailbox's name in a SELECT
 abbrev pub mark_end : Option Mark → List ℕ

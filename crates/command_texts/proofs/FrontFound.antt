@@ -243,6 +243,8 @@ front_found tag (commands.FetchRow uid) parts front some =
 front_found tag (commands.Search from id) parts front some = search_found tag from id parts front some (shape_of id)
 front_found tag (commands.FetchIds uids) parts front some =
     absurd (none_found tag (commands.FetchIds uids) parts front some (behind _ _ (behind _ _ (plain _) (behind _ _ (plain _) (plain _))) (plain crlf)))
+front_found tag (commands.FetchText uid) parts front some =
+    absurd (none_found tag (commands.FetchText uid) parts front some (behind _ _ (behind _ _ (plain _) (behind _ _ (plain _) (plain _))) (plain crlf)))
 front_found tag (commands.Store uid since add flags) parts front some =
     absurd (none_found tag (commands.Store uid since add flags) parts front some
     (behind _ _ (behind _ _ (plain _) (behind _ _ (plain _) (behind _ _ (plain _)
@@ -251,5 +253,10 @@ front_found tag (commands.Store uid since add flags) parts front some =
 front_found tag (commands.Shift uid to) parts front some =
     absurd (none_found tag (commands.Shift uid to) parts front some
     (behind _ _ (behind _ _ (plain _) (behind _ _ (plain _) (behind _ _ (plain _) (name_line to front.sent.held.1)))) (plain crlf)))
+front_found tag (commands.Copy uid to) parts front some =
+    absurd (none_found tag (commands.Copy uid to) parts front some
+    (behind _ _ (behind _ _ (plain _) (behind _ _ (plain _) (behind _ _ (plain _) (name_line to front.sent.held.1)))) (plain crlf)))
+front_found tag (commands.Expunge uid) parts front some =
+    absurd (none_found tag (commands.Expunge uid) parts front some (behind _ _ (behind _ _ (plain _) (plain _)) (plain crlf)))
 front_found tag (commands.Append to flags octets) parts front some = append_found tag to flags octets parts front some
 front_found tag commands.Logout parts front some = absurd (none_found tag commands.Logout parts front some (behind _ _ (plain _) (plain crlf)))

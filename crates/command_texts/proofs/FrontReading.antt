@@ -1,5 +1,5 @@
 -- The texts of fronts, one byte list behind the other.
-use Rattle.std.proofs.Common.{◌≡◌, ◌<◌, ◌^◌, ℕ, zero, suc, Bool, true, false, cond, not, ◌&&◌, nat_lt, ◌==◌, get_or, drop, Contains, Bor}
+use Rattle.std.proofs.Common.{◌≡◌, ◌<◌, ◌≤◌, ◌^◌, ℕ, zero, suc, Bool, true, false, cond, not, ◌&&◌, nat_lt, ◌==◌, get_or, drop, Contains, Bor}
 use Rattle.std.proofs.Common.{Result, Ok, Err, IfOk, MatchOption, Option, Some, None, subst, List, [], ◌∷◌, ◌++◌, length, codes, decimal}
 use Rattle.std.proofs.Common.{refl, ap, ◌∙◌, sym, append_assoc, arith}
 use Rattle.std.specs.Str.{IsUtf8}
@@ -20,7 +20,7 @@ use Rattle.imap_model.specs.Held.{IsHeldAccount, IsNonzero32}
 use Rattle.imap_model.specs.OneText.{IsText, IsKeptTag}
 use Rattle.imap_model.specs.TagText.{tag_parts, IsCommandTag}
 use Rattle.mail_base.specs.declared.tag.Tag.{Tag}
-use Rattle.mail_base.specs.declared.tag.Tag.TheVariants.{Play, Count, Strange}
+use Rattle.mail_base.specs.declared.tag.Tag.TheVariants.{Play, Again, Count, Strange}
 use Rattle.std.proofs.lemmas.Option.{same_Some}
 use Rattle.std.proofs.Math.Seq.{drop-append_seam}
 use Rattle.mail_base.specs.Account.{Credentials}
@@ -296,6 +296,7 @@ id_is (Message to flags n) text later result held kind is found = absurd (omega 
 -- the part is this tag, a space and this
 abbrev pub IsTagOf : Tag → List ℕ → List ℕ → Type 0
 IsTagOf (Play n) part first = (n < 2 ^ 32) × (part ≡ 80 ∷ (decimal n ++ 32 ∷ first))
+IsTagOf (Again n t) part first = (n < 2 ^ 32) × (2 ≤ t) × (t ≤ 3) × (part ≡ 80 ∷ (decimal n ++ 82 ∷ (decimal t ++ 32 ∷ first)))
 IsTagOf (Count n) part first = (n < 2 ^ 32) × (part ≡ 67 ∷ (decimal n ++ 32 ∷ first))
 IsTagOf Strange part first = ⊥
 
@@ -307,6 +308,12 @@ played n parts = refl
 counted : (n : ℕ) (parts : List (List ℕ)) → ((67 ∷ decimal n) ∷ []) ⌢ (words " " ⌢ parts) ≡ tag_parts (Count n) ⌢ (words " " ⌢ parts)
 unfolding ◌⌢◌
 counted n parts = refl
+
+tried : (n t : ℕ) (first : List ℕ) (later : List (List ℕ)) →
+    tag_parts (Again n t) ⌢ (words " " ⌢ (first ∷ later)) ≡ (80 ∷ (decimal n ++ 82 ∷ (decimal t ++ 32 ∷ first))) ∷ later
+unfolding ◌⌢◌
+tried n t first later =
+    ap (λ x. (80 ∷ x) ∷ later) (append_assoc (decimal n) (82 ∷ decimal t) (32 ∷ first))
 
 -- the tag in front
 pub tag_front : (n : ℕ) (letter : ℕ) (first : List ℕ) (later : List (List ℕ)) →
@@ -336,6 +343,11 @@ tagged_from (Play n) (first ∷ others) part later is fits some same =
     let one : (80 ∷ (decimal n ++ 32 ∷ first)) ≡ part = cc in
     let two : others ≡ later = cc in
     record { first = first; is = (fits, sym one); begun = ap (λ x. first ∷ x) (sym two) }
+tagged_from (Again n t) (first ∷ others) part later is fits some same =
+    let whole : (80 ∷ (decimal n ++ 82 ∷ (decimal t ++ 32 ∷ first))) ∷ others ≡ part ∷ later = sym (tried n t first others) ∙ same in
+    let one : (80 ∷ (decimal n ++ 82 ∷ (decimal t ++ 32 ∷ first))) ≡ part = cc in
+    let two : others ≡ later = cc in
+    record { first = first; is = (fits, is.1, is.2, sym one); begun = ap (λ x. first ∷ x) (sym two) }
 tagged_from (Count n) (first ∷ others) part later is fits some same =
     let whole : (67 ∷ (decimal n ++ 32 ∷ first)) ∷ others ≡ part ∷ later = sym (tag_front n 67 first others) ∙ counted n (first ∷ others) ∙ same in
     let one : (67 ∷ (decimal n ++ 32 ∷ first)) ≡ part = cc in
@@ -368,8 +380,11 @@ some_front tag awaited parts front none =
 pub tag_found : (tag : Tag) (parts : List (List ℕ)) (part : List ℕ) (later : List (List ℕ)) (t : Tagged tag parts part later)
     (result : Option (Tag × Bor (List ℕ)))
     → ((n : ℕ) (rest : List ℕ) → n < 2 ^ 32 → part ≡ 80 ∷ (decimal n ++ 32 ∷ rest) → MatchOption result ⊥ (λ f. (f.0 ≡ Play n) × (f.1.now ≡ rest)))
+    → ((n t : ℕ) (rest : List ℕ) → n < 2 ^ 32 → 2 ≤ t → t ≤ 3 → part ≡ 80 ∷ (decimal n ++ 82 ∷ (decimal t ++ 32 ∷ rest))
+    → MatchOption result ⊥ (λ f. (f.0 ≡ Again n t) × (f.1.now ≡ rest)))
     → ((n : ℕ) (rest : List ℕ) → n < 2 ^ 32 → part ≡ 67 ∷ (decimal n ++ 32 ∷ rest) → MatchOption result ⊥ (λ f. (f.0 ≡ Count n) × (f.1.now ≡ rest)))
     → MatchOption result ⊥ (λ f. (f.0 ≡ tag) × (f.1.now ≡ t.first))
-tag_found (Play n) parts part later t result played counted = played n t.first t.is.0 t.is.1
-tag_found (Count n) parts part later t result played counted = counted n t.first t.is.0 t.is.1
-tag_found Strange parts part later t result played counted = absurd t.is
+tag_found (Play n) parts part later t result played again counted = played n t.first t.is.0 t.is.1
+tag_found (Again n k) parts part later t result played again counted = again n k t.first t.is.0 t.is.1 t.is.2 t.is.3
+tag_found (Count n) parts part later t result played again counted = counted n t.first t.is.0 t.is.1
+tag_found Strange parts part later t result played again counted = absurd t.is

@@ -9,7 +9,7 @@ use Rattle.std.proofs.lemmas.Fmt.{decimal_digit}
 use Rattle.std.proofs.lemmas.List.{length-append}
 use Rattle.mail_base.specs.Frames.{header}
 use Rattle.mail_base.specs.declared.tag.Tag.{Tag}
-use Rattle.mail_base.specs.declared.tag.Tag.TheVariants.{Play, Count, Strange}
+use Rattle.mail_base.specs.declared.tag.Tag.TheVariants.{Play, Again, Count, Strange}
 use Rattle.imap_model.specs.CommandParts.{crlf, ◌⌢◌}
 use Rattle.imap_model.specs.CommandText.{parts_of}
 use Rattle.imap_model.specs.TagText.{IsCommandTag}
@@ -115,6 +115,10 @@ response_part : (tag : Tag) → IsCommandTag tag → (g : List ℕ)
     × (front_parts tag Response ≡ ((g ++ codes " AUTHENTICATE PL") ++ (65 ∷ 73 ∷ 78 ∷ 13 ∷ 10 ∷ [])) ∷ [])
 unfolding ◌⌢◌
 response_part (Play m) is = (80 ∷ decimal m, ap (λ p. p ∷ []) (sym (append_assoc (80 ∷ decimal m) (codes " AUTHENTICATE PL") (65 ∷ 73 ∷ 78 ∷ 13 ∷ 10 ∷ []))))
+response_part (Again m t) is = (
+  80 ∷ (decimal m ++ 82 ∷ decimal t),
+  ap (λ p. p ∷ []) (sym (append_assoc (80 ∷ (decimal m ++ 82 ∷ decimal t)) (codes " AUTHENTICATE PL") (65 ∷ 73 ∷ 78 ∷ 13 ∷ 10 ∷ []))),
+)
 response_part (Count m) is = (67 ∷ decimal m, ap (λ p. p ∷ []) (sym (append_assoc (67 ∷ decimal m) (codes " AUTHENTICATE PL") (65 ∷ 73 ∷ 78 ∷ 13 ∷ 10 ∷ []))))
 response_part Strange is = absurd is
 

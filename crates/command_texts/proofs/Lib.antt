@@ -21,5 +21,6 @@ pub mod PlainBytes
 pub mod Renumbering
 pub mod SetReading
 pub mod StandIns
+pub mod TagNames
 pub mod TextFronts
 pub mod TextsCut

@@ -1,5 +1,5 @@
 -- The whole text of a command is no front of another one's, and the first part of a text tells its tag.
-use Rattle.std.proofs.Common.{◌≡◌, ℕ, ◌<◌, ◌^◌, Bool, true, false, cond, not, ◌&&◌, nat_lt, List, [], ◌∷◌, ◌++◌, length, get_or, drop}
+use Rattle.std.proofs.Common.{◌≡◌, ℕ, ◌<◌, ◌≤◌, ◌^◌, Bool, true, false, cond, not, ◌&&◌, nat_lt, List, [], ◌∷◌, ◌++◌, length, get_or, drop}
 use Rattle.std.proofs.Common.{decimal, codes, refl, ap, sym, ◌∙◌, arith}
 use Rattle.std.specs.Char.{is_ascii_digit}
 use Rattle.std.specs.List.{list_all}
@@ -10,7 +10,7 @@ use Rattle.flag_set.specs.FlagText.{list_text}
 use Rattle.mail_base.specs.BoxName.{IsBoxName}
 use Rattle.mail_base.specs.Frames.{header}
 use Rattle.mail_base.specs.declared.tag.Tag.{Tag}
-use Rattle.mail_base.specs.declared.tag.Tag.TheVariants.{Play, Count, Strange}
+use Rattle.mail_base.specs.declared.tag.Tag.TheVariants.{Play, Again, Count, Strange}
 use Rattle.imap_model.specs.Astring.{is_bare, is_quotable, quoted, literal, astring_parts}
 use Rattle.imap_model.specs.CommandParts.{line, words, number, crlf, ◌⌢◌}
 use Rattle.imap_model.specs.CommandText.{command_parts}
@@ -38,8 +38,37 @@ one_number letter m n a b fits fits' same =
     let tails = both.1 in
     (both.0, cc)
 
+-- a try's number, and behind it one more
+number_before : (m n : ℕ) (x y : List ℕ) → 80 ∷ (decimal m ++ x) ≡ 80 ∷ (decimal n ++ y) → number m ⌢ line x ≡ number n ⌢ line y
+unfolding ◌⌢◌
+number_before m n x y same = cc
+
+tried_number : (m n s t : ℕ) (a b : List ℕ) → m < 2 ^ 32 → n < 2 ^ 32 → s ≤ 3 → t ≤ 3
+    → 80 ∷ (decimal m ++ 82 ∷ (decimal s ++ 32 ∷ a)) ≡ 80 ∷ (decimal n ++ 82 ∷ (decimal t ++ 32 ∷ b)) → (m ≡ n) × (s ≡ t) × (a ≡ b)
+tried_number m n s t a b fits fits' few few' same =
+    let both = cut_number m n (line (82 ∷ (decimal s ++ 32 ∷ a))) (line (82 ∷ (decimal t ++ 32 ∷ b))) (omega arith) (omega arith) refl refl
+    (number_before m n (82 ∷ (decimal s ++ 32 ∷ a)) (82 ∷ (decimal t ++ 32 ∷ b)) same) in
+    let tails = both.1 in
+    let later : 82 ∷ (decimal s ++ 32 ∷ a) ≡ 82 ∷ (decimal t ++ 32 ∷ b) = cc in
+    let turns = one_number 82 s t a b (omega arith) (omega arith) later in
+    (both.0, turns.0, turns.1)
+
+-- a first try isn't a later one
+tries_apart : (m n t : ℕ) (a b : List ℕ) → m < 2 ^ 32 → n < 2 ^ 32 → 80 ∷ (decimal m ++ 32 ∷ a) ≡ 80 ∷ (decimal n ++ 82 ∷ (decimal t ++ 32 ∷ b)) → ⊥
+tries_apart m n t a b fits fits' same =
+    let both = cut_number m n (line (32 ∷ a)) (line (82 ∷ (decimal t ++ 32 ∷ b))) (omega arith) (omega arith) refl refl
+    (number_before m n (32 ∷ a) (82 ∷ (decimal t ++ 32 ∷ b)) same) in
+    let e : ◌≡◌ {A = ℕ} 32 82 = ap (byte_at 0) both.1 in
+    omega (arith, e)
+
 one_tag : (t u : Tag) (part a b : List ℕ) → IsTagOf t part a → IsTagOf u part b → (t ≡ u) × (a ≡ b)
 one_tag (Play m) (Play n) part a b is is' = let both = one_number 80 m n a b is.0 is'.0 (sym is.1 ∙ is'.1) in (ap Play both.0, both.1)
+one_tag (Play m) (Again n t) part a b is is' = absurd (tries_apart m n t a b is.0 is'.0 (sym is.1 ∙ is'.3))
+one_tag (Again m s) (Play n) part a b is is' = absurd (tries_apart n m s b a is'.0 is.0 (sym is'.1 ∙ is.3))
+one_tag (Again m s) (Again n t) part a b is is' =
+    let all = tried_number m n s t a b is.0 is'.0 is.2 is'.2 (sym is.3 ∙ is'.3) in (ap (λ x. Again x s) all.0 ∙ ap (Again n) all.1, all.2)
+one_tag (Again m s) (Count n) part a b is is' = let e : ◌≡◌ {A = ℕ} 80 67 = ap (λ x. get_or x 0 0) (sym is.3 ∙ is'.1) in absurd (omega arith)
+one_tag (Count m) (Again n t) part a b is is' = let e : ◌≡◌ {A = ℕ} 67 80 = ap (λ x. get_or x 0 0) (sym is.1 ∙ is'.3) in absurd (omega arith)
 one_tag (Play m) (Count n) part a b is is' = let e : ◌≡◌ {A = ℕ} 80 67 = ap (λ x. get_or x 0 0) (sym is.1 ∙ is'.1) in absurd (omega arith)
 one_tag (Count m) (Play n) part a b is is' = let e : ◌≡◌ {A = ℕ} 67 80 = ap (λ x. get_or x 0 0) (sym is.1 ∙ is'.1) in absurd (omega arith)
 one_tag (Count m) (Count n) part a b is is' = let both = one_number 67 m n a b is.0 is'.0 (sym is.1 ∙ is'.1) in (ap Count both.0, both.1)
@@ -163,6 +192,9 @@ no_id from n command text later fits held is same =
       row = λ uid kept t. omega (arith, one, ap (λ x. get_or x 0 0) t);
       ids = λ uids kept t. omega (arith, one, ap (λ x. get_or x 0 0) t);
       shift = λ uid to first kept name t next. omega (arith, one, ap (λ x. get_or x 0 0) t);
+      whole = λ uid kept t. omega (arith, one, ap (λ x. get_or x 0 0) t);
+      copy = λ uid to first kept name t next. omega (arith, one, ap (λ x. get_or x 0 0) t);
+      expunge = λ uid kept t. omega (arith, one, ap (λ x. get_or x 0 0) t);
       search = λ uid id first kept carried t next. behind_number uid id kept (sym behind ∙ ap (λ x. drop 11 x ∷ later) t ∙ next);
       store = λ uid since add flags first kept mark set t next. omega (arith, two, ap (λ x. get_or x 1 0) t);
     })

@@ -10,7 +10,7 @@ use Rattle.mail_base.specs.Frames.{header}
 use Rattle.mail_base.specs.Account.{Credentials}
 use Rattle.mail_base.specs.BoxName.{IsBoxName}
 use Rattle.mail_base.specs.declared.tag.Tag.{Tag}
-use Rattle.mail_base.specs.declared.tag.Tag.TheVariants.{Play, Count, Strange}
+use Rattle.mail_base.specs.declared.tag.Tag.TheVariants.{Play, Again, Count, Strange}
 use Rattle.uid_sets.specs.Spelling.{set_text}
 use Rattle.imap_model.specs.Astring.{is_bare, is_quotable, quoted, literal, astring_parts}
 use Rattle.imap_model.specs.CommandParts.{line, words, number, before, joined, crlf, ◌⌢◌}
@@ -246,6 +246,9 @@ pass_command (commands.FetchIds uids) held =
     pass_both (words "UID FETCH ") _ (pass_line (codes "UID FETCH ") refl)
     (pass_both (line (set_text uids)) (words " (UID BODY.PEEK[HEADER.FIELDS (MESSAGE-ID)])") (pass_line (set_text uids) (plain_set uids held))
     (pass_line (codes " (UID BODY.PEEK[HEADER.FIELDS (MESSAGE-ID)])") refl))
+pass_command (commands.FetchText uid) held =
+    pass_both (words "UID FETCH ") _ (pass_line (codes "UID FETCH ") refl)
+    (pass_both (number uid) (words " (UID BODY.PEEK[])") (pass_number uid (omega (arith, held.fits))) (pass_line (codes " (UID BODY.PEEK[])") refl))
 pass_command (commands.Store uid since add flags) held =
     pass_both (words "UID STORE ") _ (pass_line (codes "UID STORE ") refl)
     (pass_both (number uid) _ (pass_number uid (omega (arith, held.0.fits)))
@@ -259,6 +262,12 @@ pass_command (commands.Shift uid to) held =
     pass_both (words "UID MOVE ") _ (pass_line (codes "UID MOVE ") refl)
     (pass_both (number uid) _ (pass_number uid (omega (arith, held.0.fits)))
     (pass_both (words " ") (astring_parts to) (pass_line (codes " ") refl) (pass_argument to (name_short to held.1))))
+pass_command (commands.Copy uid to) held =
+    pass_both (words "UID COPY ") _ (pass_line (codes "UID COPY ") refl)
+    (pass_both (number uid) _ (pass_number uid (omega (arith, held.0.fits)))
+    (pass_both (words " ") (astring_parts to) (pass_line (codes " ") refl) (pass_argument to (name_short to held.1))))
+pass_command (commands.Expunge uid) held =
+    pass_both (words "UID EXPUNGE ") (number uid) (pass_line (codes "UID EXPUNGE ") refl) (pass_number uid (omega (arith, held.fits)))
 pass_command (commands.Append to flags octets) held =
     pass_both (words "APPEND ") _ (pass_line (codes "APPEND ") refl)
     (pass_both (astring_parts to) _ (pass_argument to (name_short to held.0))
@@ -275,6 +284,16 @@ open_tag (Play n) is fits = record {
   fits = refl;
   plain =
       plain_both (codes "P") (decimal n) refl (plain_number n (omega (arith, fits)));
+  text = refl;
+}
+open_tag (Again n t) is fits = record {
+  octets = [];
+  tail = codes "P" ++ (decimal n ++ (codes "R" ++ decimal t));
+  fits = refl;
+  plain =
+      plain_both (codes "P") (decimal n ++ (codes "R" ++ decimal t)) refl
+      (plain_both (decimal n) (codes "R" ++ decimal t) (plain_number n (omega (arith, fits)))
+      (plain_both (codes "R") (decimal t) refl (plain_number t (omega (arith, is.2)))));
   text = refl;
 }
 open_tag (Count n) is fits = record {

@@ -41,8 +41,11 @@ IsPossible commands.FetchAll octets = 0 < octets
 IsPossible (commands.FetchRow uid) octets = 0 < octets
 IsPossible (commands.Search from id) octets = 0 < octets
 IsPossible (commands.FetchIds uids) octets = 0 < octets
+IsPossible (commands.FetchText uid) octets = 0 < octets
 IsPossible (commands.Store uid since add flags) octets = 0 < octets
 IsPossible (commands.Shift uid to) octets = 0 < octets
+IsPossible (commands.Copy uid to) octets = 0 < octets
+IsPossible (commands.Expunge uid) octets = 0 < octets
 IsPossible (commands.Append to flags text) octets = Unit {0}
 IsPossible commands.Logout octets = 0 < octets
 

@@ -3,7 +3,7 @@
 ghost use Rattle.std.specs.Prelude.{◌≡◌, ◌⊎◌, ◌↔◌, ◌<◌, ◌∷◌, ℕ, List, IsTrue, not, length, IfSome, IfNone};
 ghost use Rattle.std.specs.List.{position};
 ghost use Rattle.imap_model.specs.Tagged.{is_tag_byte, IsLettered, NamesTag};
-ghost use Rattle.command_texts.specs.FirstWord.{IsTagged};
+ghost use Rattle.command_texts.specs.FirstWord.{IsNumberBefore, IsTagged};
 
 use crate::reading::numbers::number_of;
 use itoa::Buffer;
@@ -71,19 +71,53 @@ fn number_of_tag(digits: &[u8]) -> Option<u32>
     Some(number)
 }
 
+// The number that stands before this ending, written so.
+fn number_before(text: &[u8], ending: &[u8]) -> Option<u32>
+    ensures some { IfSome result (λ number. IsNumberBefore number ending.now text.now) }
+    ensures none { IfNone result ((number : ℕ) → IsNumberBefore number ending.now text.now → ⊥) }
+{
+    let Some(digits) = text.strip_suffix(ending) else {
+        return None;
+    };
+    number_of_tag(digits)
+}
+
+// The tag whose letter P has this behind it.
+fn action_tag(behind: &[u8]) -> Tag
+    ensures { NamesTag (80 ∷ behind.now) result }
+{
+    if let Some(number) = number_of_tag(behind) {
+        return Tag::Play(number);
+    }
+    if let Some(id) = number_before(behind, b"R2") {
+        return Tag::Again { id, turn: 2 };
+    }
+    match number_before(behind, b"R3") {
+        Some(id) => Tag::Again { id, turn: 3 },
+        None => Tag::Strange,
+    }
+}
+
+// The tag whose letter C has this behind it.
+fn count_tag(behind: &[u8]) -> Tag
+    ensures { NamesTag (67 ∷ behind.now) result }
+{
+    match number_of_tag(behind) {
+        Some(number) => Tag::Count(number),
+        None => Tag::Strange,
+    }
+}
+
 /// The tag that a word names: one of this client's, or a strange one (RFC 9051, section 2.2.1).
 pub fn named(word: &[u8]) -> Tag
     ensures { NamesTag word.now result }
 {
-    let Some((letter, digits)) = word.split_first() else {
-        return Tag::Strange;
-    };
-    let Some(number) = number_of_tag(digits) else {
+    let Some((letter, behind)) = word.split_first() else {
         return Tag::Strange;
     };
     match letter {
-        b'P' => Tag::Play(number),
-        b'C' => Tag::Count(number),
+        b'P' => action_tag(behind),
+        b'C' => count_tag(behind),
         _ => Tag::Strange,
     }
 }

@@ -92,8 +92,11 @@ fn append_of(command: &Command) -> Option<BoxName>
         | Command::FetchRow { .. }
         | Command::Search { .. }
         | Command::FetchIds { .. }
+        | Command::FetchText { .. }
         | Command::Store { .. }
         | Command::Shift { .. }
+        | Command::Copy { .. }
+        | Command::Expunge { .. }
         | Command::Logout => None,
     }
 }

@@ -24,7 +24,9 @@ pub fn command_fits(command: &Command)
             name_fits(name);
             mark_fits(*since);
         }
-        Command::FetchRow { uid } => uid_fits(*uid),
+        Command::FetchRow { uid } | Command::FetchText { uid } | Command::Expunge { uid } => {
+            uid_fits(*uid)
+        }
         Command::Search { from, id } => {
             uid_fits(*from);
             text_fits(id.as_slice());
@@ -40,7 +42,7 @@ pub fn command_fits(command: &Command)
             modseq_fits(*since);
             flags_fit(flags);
         }
-        Command::Shift { uid, to } => {
+        Command::Shift { uid, to } | Command::Copy { uid, to } => {
             uid_fits(*uid);
             name_fits(to);
         }
@@ -59,6 +61,7 @@ pub fn tag_fits(tag: Tag)
 {
     match tag {
         Tag::Play(_) => (),
+        Tag::Again { .. } => (),
         Tag::Count(_) => (),
         Tag::Strange => (),
     }

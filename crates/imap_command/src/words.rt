@@ -1,4 +1,5 @@
-//! The words of each command, between its tag and its end (RFC 9051, section 6; RFC 7162, sections 3.1.3 and 3.2.5).
+//! The words of each command, between its tag and its end (RFC 9051, section 6; RFC 7162, sections 3.1.3 and 3.2.5;
+//! RFC 4315, section 2.1).
 #![tactic(auto, using(imap_model::proofs::Joining::parts_assoc, imap_model::proofs::Joining::parts_nil))]
 
 ghost use Rattle.std.specs.Prelude.{◌≡◌, Some, IfOk, OnOk, string_bytes};
@@ -28,6 +29,7 @@ pub fn put_words(writer: &mut Writer, alloc: Global, command: &Command) -> Resul
         Command::FetchRow { uid } => put_fetch_row(writer, *uid),
         Command::Search { from, id } => put_search(writer, *from, id),
         Command::FetchIds { uids } => put_fetch_ids(writer, uids),
+        Command::FetchText { uid } => put_fetch_text(writer, *uid),
         Command::Store {
             uid,
             since,
@@ -35,6 +37,8 @@ pub fn put_words(writer: &mut Writer, alloc: Global, command: &Command) -> Resul
             flags,
         } => put_store(writer, *uid, *since, *add, flags),
         Command::Shift { uid, to } => put_shift(writer, *uid, to),
+        Command::Copy { uid, to } => put_copy(writer, *uid, to),
+        Command::Expunge { uid } => put_expunge(writer, *uid),
         Command::Append { to, flags, text } => put_append(writer, to, flags, text),
         Command::Logout => writer.put(b"LOGOUT"),
     }
@@ -117,6 +121,14 @@ fn put_fetch_ids(writer: &mut Writer, uids: &UidSet) -> Result<(), AllocError>
     writer.put(b" (UID BODY.PEEK[HEADER.FIELDS (MESSAGE-ID)])")
 }
 
+fn put_fetch_text(writer: &mut Writer, uid: Uid) -> Result<(), AllocError>
+    ensures { OnOk result (writer.new ≡ writer.old ⌢ command_parts (commands.FetchText uid)) }
+{
+    writer.put(b"UID FETCH ")?;
+    writer.uid(uid)?;
+    writer.put(b" (UID BODY.PEEK[])")
+}
+
 fn put_store(
     writer: &mut Writer,
     uid: Uid,
@@ -164,6 +176,22 @@ fn put_shift(writer: &mut Writer, uid: Uid, to: &BoxName) -> Result<(), AllocErr
     writer.uid(uid)?;
     writer.put(b" ")?;
     writer.astring(to.as_bytes())
+}
+
+fn put_copy(writer: &mut Writer, uid: Uid, to: &BoxName) -> Result<(), AllocError>
+    ensures { OnOk result (writer.new ≡ writer.old ⌢ command_parts (commands.Copy uid to.now)) }
+{
+    writer.put(b"UID COPY ")?;
+    writer.uid(uid)?;
+    writer.put(b" ")?;
+    writer.astring(to.as_bytes())
+}
+
+fn put_expunge(writer: &mut Writer, uid: Uid) -> Result<(), AllocError>
+    ensures { OnOk result (writer.new ≡ writer.old ⌢ command_parts (commands.Expunge uid)) }
+{
+    writer.put(b"UID EXPUNGE ")?;
+    writer.uid(uid)
 }
 
 // Without flags the parentheses stand all the same.

@@ -2,6 +2,7 @@
 #![tactic(auto, using(imap_model::proofs::Joining::parts_assoc))]
 
 ghost use Rattle.std.specs.Prelude.{◌≡◌, IfOk, OnOk};
+ghost use Rattle.mail_base.specs.declared.tag.Tag.TheVariants as tags;
 ghost use Rattle.imap_model.specs.CommandText.{IsWritable, parts_of};
 ghost use Rattle.imap_model.specs.Held.{IsSent};
 ghost use Rattle.imap_model.specs.CommandParts.{line, number, ◌⌢◌};
@@ -38,9 +39,18 @@ fn put_tag(writer: &mut Writer, tag: Tag) -> Result<(), AllocError>
 {
     match tag {
         Tag::Play(action) => put_numbered(writer, b"P", action),
+        Tag::Again { id, turn } => put_again(writer, id, turn),
         Tag::Count(count) => put_numbered(writer, b"C", count),
         Tag::Strange => unreachable!(),
     }
+}
+
+// An action's number between `P` and `R`, and the turn of a later try behind them.
+fn put_again(writer: &mut Writer, action: u32, turn: u8) -> Result<(), AllocError>
+    ensures { OnOk result (writer.new ≡ writer.old ⌢ tag_parts (tags.Again action turn)) }
+{
+    put_numbered(writer, b"P", action)?;
+    put_numbered(writer, b"R", u32::from(turn))
 }
 
 // A letter and a number.

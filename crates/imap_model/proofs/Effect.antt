@@ -20,10 +20,15 @@ module _ (w : Waiting) (s : Server) (r : Replies) (t : Server) (after : Option (
   fulfilled (commands.FetchRow uid) f = f.stays.server
   fulfilled (commands.Search from id) f = f.stays.server
   fulfilled (commands.FetchIds uids) f = f.stays.server
+  fulfilled (commands.FetchText uid) f = f.stays.server
   fulfilled (commands.Store uid since add flags) (inl f) = inl f.effect
   fulfilled (commands.Store uid since add flags) (inr f) = inr f.effect
   fulfilled (commands.Shift uid to) (inl f) = inl f.effect
   fulfilled (commands.Shift uid to) (inr f) = inr f.effect
+  fulfilled (commands.Copy uid to) (inl f) = inl f.effect
+  fulfilled (commands.Copy uid to) (inr f) = inr f.effect
+  fulfilled (commands.Expunge uid) (inl f) = inl f.effect
+  fulfilled (commands.Expunge uid) (inr f) = inr f.effect
   fulfilled (commands.Append to flags text) f = f.effect
   fulfilled commands.Logout f = f.stays.server
 

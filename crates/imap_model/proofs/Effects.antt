@@ -28,6 +28,9 @@ pub set_there : (floor uid : ℕ) (flags : List (List ℕ)) (name : List ℕ) (o
     (r : Rewrites (Sets floor uid flags) name old new) → box_at name new ≡ Some r.after
 set_there floor uid flags name old new r = rewritten_there (Sets floor uid flags) name old new (sets_name floor uid flags) r
 
+pub dropped_there : (floor uid : ℕ) (name : List ℕ) (old new : List Mailbox) (r : Rewrites (Drops floor uid) name old new) → box_at name new ≡ Some r.after
+dropped_there floor uid name old new r = rewritten_there (Drops floor uid) name old new (drops_name floor uid) r
+
 -- the mailbox that a message left
 pub left_there : (floor : List ℕ → ℕ) (name : List ℕ) (uid : ℕ) (to : List ℕ) (received : ℕ) (old new : List Mailbox)
     (s : Shifts floor name uid to received old new) → box_at name new ≡ Some s.leaves.after

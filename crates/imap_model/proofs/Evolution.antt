@@ -1,13 +1,13 @@
 -- A server keeps well formed and evolves, at each change and at each batch.
 use Rattle.std.proofs.Common.{◌≡◌, ℕ, ◌≤◌, List, Option, Some, None, refl, sym, ap, subst, arith}
 use Rattle.imap_model.specs.Lookups.{message_at, gone_at}
-use Rattle.imap_model.specs.Changes.{Adds, Sets, Drops, Rewrites, Shifts, Effect, Changes, floor_of, Batch}
+use Rattle.imap_model.specs.Changes.{Adds, Sets, Drops, Resets, Rewrites, Shifts, Effect, Changes, floor_of, Batch}
 use Rattle.imap_model.specs.Changes.Batch.{none, more}
 use Rattle.imap_model.specs.WellFormed.{IsWellFormedBox, IsWellFormed}
 use Rattle.imap_model.specs.Evolving.{IsAbove, GoesOn, BoxEvolves, FindsEvolved, EvolvesFrom}
 use Rattle.imap_model.proofs.Rows.{rows_then}
-use Rattle.imap_model.proofs.Going.{goes_same, adds_evolves, sets_evolves, drops_evolves, rewrites_evolve}
-use Rattle.imap_model.proofs.Forming.{adds_formed, sets_formed, drops_formed, rewrites_formed}
+use Rattle.imap_model.proofs.Going.{goes_same, adds_evolves, sets_evolves, drops_evolves, resets_evolves, rewrites_evolve}
+use Rattle.imap_model.proofs.Forming.{adds_formed, sets_formed, drops_formed, resets_formed, rewrites_formed}
 use Rattle.imap_model.specs.declared.server.Mailbox.{Mailbox}
 use Rattle.imap_model.specs.declared.server.Server.{Server}
 use Rattle.imap_model.specs.declared.deed.Author.{Author}
@@ -62,7 +62,19 @@ sets_name floor uid flags b c a = ap (λ (x : Mailbox). x.name) a.becomes
 pub drops_name : (floor uid : ℕ) (b c : Mailbox) → Drops floor uid b c → c.name ≡ b.name
 drops_name floor uid b c a = ap (λ (x : Mailbox). x.name) a.becomes
 
+resets_name : (validity : ℕ) (uids : List ℕ) (uidnext highest : ℕ) (b c : Mailbox) → Resets validity uids uidnext highest b c → c.name ≡ b.name
+resets_name validity uids uidnext highest b c a = ap (λ (x : Mailbox). x.name) a.becomes
+
 module _ (base : List Mailbox) (old new : List Mailbox) (w : IsWellFormed old) where
+  pub resets_all : (name : List ℕ) (validity : ℕ) (uids : List ℕ) (uidnext highest : ℕ) → Rewrites (Resets validity uids uidnext highest) name old new →
+      IsWellFormed new × EvolvesFrom base old new
+  resets_all name validity uids uidnext highest r = (
+    rewrites_formed (Resets validity uids uidnext highest) name old new (resets_formed validity uids uidnext highest)
+        (resets_name validity uids uidnext highest) w r,
+    rewrites_evolve base (Resets validity uids uidnext highest) name old new (λ b c e. resets_evolves (floor_of base name) validity uids uidnext highest b c)
+        (resets_name validity uids uidnext highest) r,
+  )
+
   pub adds_all : (name : List ℕ) (flags : List (List ℕ)) (text : List ℕ) (uid : ℕ) →
       Rewrites (Adds (floor_of base name) flags text uid) name old new → IsWellFormed new × EvolvesFrom base old new
   adds_all name flags text uid r = (
@@ -101,6 +113,7 @@ effect_all base name (changes.Add flags text uid) old new w e = adds_all base ol
 effect_all base name (changes.SetFlags uid flags) old new w e = sets_all base old new w name uid flags e
 effect_all base name (changes.Drop uid) old new w e = drops_all base old new w name uid e
 effect_all base name (changes.Shift uid to received) old new w e = shifts_all base name uid to received old new w e
+effect_all base name (changes.Reset validity uids uidnext highest) old new w e = resets_all base old new w name validity uids uidnext highest e
 
 pub batch_all : (base : List Mailbox) (old new : Server) → Batch base old new → IsWellFormed old.boxes →
     IsWellFormed new.boxes × EvolvesFrom base old.boxes new.boxes

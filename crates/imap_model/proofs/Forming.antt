@@ -4,8 +4,8 @@ use Rattle.std.proofs.Common.{refl, sym, ◌∙◌, ap, subst, arith}
 use Rattle.std.specs.Prelude.{bytes_eq, Contains}
 use Rattle.std.proofs.lemmas.Bool.{cases_Bool, cases_eq, cond_both, eqb-true, eqb-false, eq-eqb, ne_eqb, cond-true, cond-false}
 use Rattle.std.proofs.lemmas.Option.{same_Some}
-use Rattle.imap_model.specs.Lookups.{box_at, put_box, message_at, put_message, without_message, gone_at}
-use Rattle.imap_model.specs.Changes.{Adds, Sets, Drops, Rewrites}
+use Rattle.imap_model.specs.Lookups.{box_at, put_box, message_at, put_message, without_message, renumbered, gone_at}
+use Rattle.imap_model.specs.Changes.{Adds, Sets, Drops, RiseBelow, Resets, Rewrites}
 use Rattle.imap_model.specs.WellFormed.{Rises, GoOnce, Differ, IsWellFormedBox, IsWellFormed}
 use Rattle.imap_model.proofs.Finding.{cond_two, same_name, box_at-name, box_at-put_same, box_at-put_other, message_at-without, gone_at-push_other}
 use Rattle.imap_model.proofs.Going.{not_gone, none_of, names_apart}
@@ -215,6 +215,63 @@ drops_formed floor uid old new w a =
       gone_numbered = λ u k e. dropped_numbered u k old.highest g old.gone (w.gone_numbered u k) (from_gone_push u k g old.gone e);
       apart = λ u k e. dropped_apart u k g old.gone old.messages (w.apart u k) (from_gone_push u k g old.gone e);
       once = go_once_push g old.gone no w.once;
+    })
+
+rises_above : (from uid : ℕ) (ms : List Message) (m : Message) → Rises from ms → message_at uid ms ≡ Some m → from ≤ uid
+rises_above from uid [] m r = λ e. absurd (cc)
+rises_above from uid (x ∷ xs) m r =
+    cond_both (eqb x.uid uid) (Some x) (message_at uid xs) (λ (o : Option Message). o ≡ Some m → from ≤ uid)
+    (λ t e. subst (λ (k : ℕ). from ≤ k) (eqb-true x.uid uid t) r.0)
+    (λ f e. let h : from ≤ x.uid = r.0 in let k : x.uid + 1 ≤ uid = rises_above (x.uid + 1) uid xs m r.1 e in omega arith)
+
+tail_plain : (from : ℕ) (x : Message) (xs : List Message) → Rises from (x ∷ xs) → ((u : ℕ) (m : Message) → message_at u (x ∷ xs) ≡ Some m → Contains m.text 0 → ⊥) →
+    (u : ℕ) (m : Message) → message_at u xs ≡ Some m → Contains m.text 0 → ⊥
+tail_plain from x xs r p u m e =
+    let k : x.uid + 1 ≤ u = rises_above (x.uid + 1) u xs m r.1 e in
+    p u m (cond-false (eqb x.uid u) (Some x) (message_at u xs) (ne_eqb x.uid u (λ s. absurd (omega arith))) ∙ e)
+
+renumbered_rise : (from next : ℕ) (us : List ℕ) (highest : ℕ) (ms : List Message) → RiseBelow from next us → Rises from (renumbered us highest ms)
+renumbered_rise from next [] highest ms r = tt
+renumbered_rise from next (u ∷ us) highest [] r = tt
+renumbered_rise from next (u ∷ us) highest (m ∷ ms) r = (r.0, renumbered_rise (u + 1) next us highest ms r.2)
+
+renumbered_below : (from next : ℕ) (us : List ℕ) (highest : ℕ) (ms : List Message) → RiseBelow from next us → (uid : ℕ) (m : Message) → message_at uid (renumbered us highest ms) ≡ Some m → uid < next
+renumbered_below from next [] highest ms r uid m = λ e. absurd (cc)
+renumbered_below from next (u ∷ us) highest [] r uid m = λ e. absurd (cc)
+renumbered_below from next (u ∷ us) highest (x ∷ xs) r uid m =
+    cond_both (eqb u uid) (Some (record x { uid = u; modseq = highest })) (message_at uid (renumbered us highest xs)) (λ (o : Option Message). o ≡ Some m → uid < next)
+    (λ t e. subst (λ (k : ℕ). k < next) (eqb-true u uid t) r.1)
+    (λ f e. renumbered_below (u + 1) next us highest xs r.2 uid m e)
+
+renumbered_numbered : (us : List ℕ) (highest : ℕ) (ms : List Message) (uid : ℕ) (m : Message) → message_at uid (renumbered us highest ms) ≡ Some m → m.modseq ≡ highest
+renumbered_numbered [] highest ms uid m = λ e. absurd (cc)
+renumbered_numbered (u ∷ us) highest [] uid m = λ e. absurd (cc)
+renumbered_numbered (u ∷ us) highest (x ∷ xs) uid m =
+    cond_both (eqb u uid) (Some (record x { uid = u; modseq = highest })) (message_at uid (renumbered us highest xs)) (λ (o : Option Message). o ≡ Some m → m.modseq ≡ highest)
+    (λ t e. sym (ap (λ (y : Message). y.modseq) (same_Some (record x { uid = u; modseq = highest }) m e)))
+    (λ f e. renumbered_numbered us highest xs uid m e)
+
+renumbered_plain : (from : ℕ) (us : List ℕ) (highest : ℕ) (ms : List Message) → Rises from ms → ((u : ℕ) (m : Message) → message_at u ms ≡ Some m → Contains m.text 0 → ⊥) →
+    (uid : ℕ) (m : Message) → message_at uid (renumbered us highest ms) ≡ Some m → Contains m.text 0 → ⊥
+renumbered_plain from [] highest ms r p uid m = λ e. absurd (cc)
+renumbered_plain from (u ∷ us) highest [] r p uid m = λ e. absurd (cc)
+renumbered_plain from (u ∷ us) highest (x ∷ xs) r p uid m =
+    cond_both (eqb u uid) (Some (record x { uid = u; modseq = highest })) (message_at uid (renumbered us highest xs)) (λ (o : Option Message). o ≡ Some m → Contains m.text 0 → ⊥)
+    (λ t e. subst (λ (k : List ℕ). Contains k 0 → ⊥) (ap (λ (y : Message). y.text) (same_Some (record x { uid = u; modseq = highest }) m e))
+    (p x.uid x (cond-true (eqb x.uid x.uid) (Some x) (message_at x.uid xs) (eq-eqb x.uid x.uid refl))))
+    (λ f e. renumbered_plain (x.uid + 1) us highest xs r.1 (tail_plain from x xs r p) uid m e)
+
+pub resets_formed : (validity : ℕ) (uids : List ℕ) (uidnext highest : ℕ) (old new : Mailbox) → IsWellFormedBox old → Resets validity uids uidnext highest old new → IsWellFormedBox new
+resets_formed validity uids uidnext highest old new w a =
+    subst IsWellFormedBox (sym a.becomes) (record {
+      rise = rises_lower 0 1 (renumbered uids highest old.messages) (omega arith) (renumbered_rise 1 uidnext uids highest old.messages a.rise);
+      below = renumbered_below 1 uidnext uids highest old.messages a.rise;
+      numbered = λ u m e. let h : m.modseq ≡ highest = renumbered_numbered uids highest old.messages u m e in omega arith;
+      plain = renumbered_plain 0 uids highest old.messages w.rise w.plain;
+      gone_below = λ u k e. absurd (cc);
+      gone_numbered = λ u k e. absurd (cc);
+      apart = λ u k e. absurd (cc);
+      once = tt;
     })
 
 -- the names of the mailboxes stay apart

@@ -4,7 +4,7 @@ use Rattle.std.specs.Prelude.{bytes_eq}
 use Rattle.std.proofs.lemmas.Bool.{cases_Bool}
 use Rattle.std.proofs.lemmas.Option.{same_Some}
 use Rattle.imap_model.specs.Lookups.{box_at, put_box, message_at, put_message, without_message, gone_at}
-use Rattle.imap_model.specs.Changes.{Adds, Sets, Drops, Rewrites, floor_of}
+use Rattle.imap_model.specs.Changes.{Adds, Sets, Drops, Resets, Rewrites, floor_of}
 use Rattle.imap_model.specs.WellFormed.{IsWellFormedBox}
 use Rattle.imap_model.specs.Evolving.{IsAbove, GoesOn, BoxEvolves, FindsEvolved, EvolvesFrom}
 use Rattle.imap_model.proofs.Finding.{same_name, names_same, box_at-name, box_at-put_same, box_at-put_other, message_at-uid, gone_at-push_old, gone_at-push_new}
@@ -73,6 +73,13 @@ drops_evolves floor uid old new w a =
           (λ e. subst (λ (k : ℕ). IsAbove floor (gone_at k (old.gone ++ g ∷ []))) e (subst (λ (o : Option ℕ). IsAbove floor o) (sym went) a.is_next.above));
       gone = λ u k e. gone_at-push_old u k g old.gone e;
     })
+
+pub resets_evolves : (floor validity : ℕ) (uids : List ℕ) (uidnext highest : ℕ) (old new : Mailbox) → Resets validity uids uidnext highest old new →
+    BoxEvolves floor old new
+resets_evolves floor validity uids uidnext highest old new a =
+    let v : new.validity ≡ validity = ap (λ (x : Mailbox). x.validity) a.becomes in
+    let above : old.validity < validity = a.above in
+    record { validity = omega arith; goes_on = λ e. absurd (omega arith) }
 
 pub names_apart : (a b : List ℕ) → bytes_eq a b ≡ false → a ≢ b
 names_apart a b f e = let t : bytes_eq a b ≡ true = names_same a b e in cc

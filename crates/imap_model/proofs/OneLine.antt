@@ -1,11 +1,11 @@
 -- Parts that are one line: a tag, a mailbox's name, a SELECT whole (RFC 9051, sections 2.2.1, 4.3 and 6.3.2).
-use Rattle.std.proofs.Common.{◌≡◌, ℕ, Option, Some, None, Bool, true, false, List, [], ◌∷◌, ◌++◌, codes, refl, ap, ◌∙◌, arith}
+use Rattle.std.proofs.Common.{◌≡◌, ℕ, Option, Some, None, Bool, true, false, List, [], ◌++◌, codes, refl, ap, ◌∙◌, arith}
 use Rattle.std.specs.List.{list_all}
 use Rattle.std.proofs.lemmas.Bool.Decides.{nat_tests}
 use Rattle.std.proofs.lemmas.List.Sums.{list_all-from_AllPass}
 use Rattle.mail_base.specs.BoxName.{IsNameByte, IsBoxName}
 use Rattle.mail_base.specs.declared.tag.Tag.{Tag}
-use Rattle.mail_base.specs.declared.tag.Tag.TheVariants.{Play, Count, Strange}
+use Rattle.mail_base.specs.declared.tag.Tag.TheVariants.{Play, Again, Count, Strange}
 use Rattle.imap_model.specs.Astring.{is_bare, is_quotable, quoted, astring_parts}
 use Rattle.imap_model.specs.CommandParts.{line, words, crlf, ◌⌢◌}
 use Rattle.imap_model.specs.CommandText.{command_parts}
@@ -46,6 +46,7 @@ name_line name is = name_from name (is_bare name) (list_all-from_AllPass is_quot
 
 pub tag_line : (tag : Tag) → IsCommandTag tag → IsLine (tag_parts tag)
 tag_line (Play n) is = behind _ _ (plain _) (plain _)
+tag_line (Again n t) is = behind _ _ (plain _) (behind _ _ (plain _) (behind _ _ (plain _) (plain _)))
 tag_line (Count n) is = behind _ _ (plain _) (plain _)
 tag_line Strange is = absurd is
 

@@ -12,9 +12,9 @@ use Rattle.mail_base.specs.declared.tag.Tag.{Tag}
 use Rattle.uid_sets.specs.Uid.{IsWithin}
 use Rattle.uid_sets.specs.UidSet.{Member}
 use Rattle.uid_sets.specs.declared.uid.UidRange.{UidRange}
-use Rattle.imap_model.specs.Carrying.{IsChanged, IsThere}
+use Rattle.imap_model.specs.Carrying.{IsChanged, IsThere, IsDeleted, deleted}
 use Rattle.imap_model.specs.CarriedOut.{CarriesOut, Fulfils, Refuses, only, is_asked, Asks, RowsSay, EachRow, OneRow, IsFoundTrue}
-use Rattle.imap_model.specs.CarriedOut.{SearchSays, EachFound, IdsSay, EachIds}
+use Rattle.imap_model.specs.CarriedOut.{SearchSays, EachFound, IdsSay, EachIds, TextSays, TextTold, OneText}
 use Rattle.imap_model.specs.Changes.{Changes, floor_of}
 use Rattle.imap_model.specs.Lawful.{broken_rule}
 use Rattle.imap_model.specs.Lookups.{box_at, message_at, gone_at, without_message, validity_of}
@@ -24,7 +24,7 @@ use Rattle.imap_model.specs.PlainServer.{Choices, Turn}
 use Rattle.imap_model.specs.Remarks.{selected_box, AreAbsent, MayCode, MaySay, Remarks, RowTold}
 use Rattle.imap_model.specs.Searching.{in_tail, has_in_id_caseless}
 use Rattle.imap_model.specs.SelectTells.{SelectTells, SelectSays, ToldSince, MarkTells, GoneTold, Parted}
-use Rattle.imap_model.specs.ToldRows.{told_flags, row_of, ids_of, TellsIds}
+use Rattle.imap_model.specs.ToldRows.{told_flags, row_of, ids_of, TellsIds, text_of, TellsText}
 use Rattle.imap_model.specs.UidLists.{set_of}
 use Rattle.imap_model.specs.WellFormed.{IsWellFormedBox, IsWellFormed}
 use Rattle.imap_model.specs.declared.code.Code.{Code}
@@ -43,7 +43,7 @@ use Rattle.imap_model.specs.declared.server.Message.{Message}
 use Rattle.imap_model.specs.declared.server.Mailbox.{Mailbox}
 use Rattle.imap_model.specs.declared.server.Server.{Server}
 use Rattle.imap_model.proofs.Caseless.{found_caseless}
-use Rattle.imap_model.proofs.Effects.{left_there}
+use Rattle.imap_model.proofs.Effects.{left_there, dropped_there}
 use Rattle.imap_model.proofs.Finding.{message_at-uid, message_at-without}
 use Rattle.imap_model.proofs.Possible.{plain_changes}
 use Rattle.imap_model.proofs.Remarking.{here, behind, all_append, each_there, all_told, is_told}
@@ -155,6 +155,20 @@ ids_held uids b uid m member e = (
       (subst (λ (k : ℕ). list_any (λ (r : UidRange). nat_le r.low k && nat_le k r.high) uids ≡ true)
       (sym (message_at-uid uid b.messages m e)) (is_named uid uids member)) e,
 )
+
+-- the text of a message that is there
+tells_text : (m : Message) → TellsText m (text_of m)
+tells_text m = record { flags = inl refl; modseq = inl refl; text = refl }
+
+text_if_true : (b : Mailbox) (uid : ℕ) (o : Option Message) → message_at uid b.messages ≡ o → AllByRecursion (TextSays uid b) (plain.text_if o)
+text_if_true b uid None e = tt
+text_if_true b uid (Some m) e = (inr (m, e, tells_text m), tt)
+
+text_if_held : (b : Mailbox) (uid : ℕ) (o : Option Message) (m : Message) → message_at uid b.messages ≡ o →
+    message_at uid b.messages ≡ Some m → TextTold (plain.text_if o) m
+text_if_held b uid None m e f = absurd (cc)
+text_if_held b uid (Some x) m e f =
+    subst (λ (y : Message). TextTold (plain.text_if (Some x)) y) (same_Some x m (sym e ∙ f)) (text_of x, tells_text x, here (responses.Fetch (text_of x)) [])
 
 -- what went above a mark
 gone_found : (modseq uid : ℕ) (gs : List Gone) → Among uid (plain.gone_above modseq gs) → (went : ℕ) × (gone_at uid gs ≡ Some went)
@@ -390,6 +404,14 @@ module _ (tag : Tag) (s : Server) (w : IsWellFormed s.boxes) where
       (λ b f. ids_true uids b f) (fetch_code_true c) (λ b. ids_held uids b)
       (selected_box selected s.boxes) refl
 
+  fetch_text : (c : Choices) (selected : Option (List ℕ)) (uid : ℕ) →
+      IsCase selected tag (commands.FetchText uid) s (plain.turn_of c selected tag (commands.FetchText uid) s)
+  fetch_text c selected uid =
+      question (TextSays uid) (OneText uid) selected (commands.FetchText uid) (λ b. plain.text_if (message_at uid b.messages)) (plain.fetch_code c)
+      (λ o. record { server = refl; selection = refl; says = tt; code = tt }) (λ r t after a. a)
+      (λ b f. text_if_true b uid (message_at uid b.messages) refl) (fetch_code_true c) (λ b m e. text_if_held b uid (message_at uid b.messages) m refl e)
+      (selected_box selected s.boxes) refl
+
   select : (c : Choices) (selected : Option (List ℕ)) (name : List ℕ) (since : Option Mark) (o : Option Mailbox) →
       box_at name s.boxes ≡ o → IsCase selected tag (commands.Select name since) s (plain.select_turn c selected name since s o)
   select c selected name since None e = record { server = refl; selection = refl; says = tt; code = tt }
@@ -527,6 +549,111 @@ module _ (tag : Tag) (s : Server) (w : IsWellFormed s.boxes) where
   move None uid to = record { server = refl; selection = refl; says = tt; code = tt }
   move (Some name) uid to = move_in name uid to (box_at name s.boxes) (box_at to s.boxes) refl
 
+  -- COPY
+  copied_case : (name : List ℕ) (uid : ℕ) (to : List ℕ) (b target : Mailbox) (m : Message) → box_at name s.boxes ≡ Some b → message_at uid b.messages ≡ Some m →
+      broken_rule s.boxes to (changes.Add m.flags m.text target.uidnext) ≡ None →
+      IsCase (Some name) tag (commands.Copy uid to) s
+      (plain.answered (Some name) (with_change (Ours tag) to (changes.Add m.flags m.text target.uidnext) s)
+      (plain.accepted [] (plain.copied_code uid to target.uidnext (with_change (Ours tag) to (changes.Add m.flags m.text target.uidnext) s))))
+  copied_case name uid to b target m e f lawful =
+      let change : Change = changes.Add m.flags m.text target.uidnext in
+      let t : Server = with_change (Ours tag) to change s in
+      inl (record {
+        effect = record {
+          found = record { name = name; is_selected = refl; box = b; named = e; message = m; there = f };
+          received =
+              target.uidnext;
+          becomes = plain_changes (Ours tag) to change s w lawful;
+        };
+        selection = refl;
+        copied = plain.copied_code uid to target.uidnext t;
+        copied_is = refl;
+        says = tt;
+        code = inr refl;
+        told = inr refl;
+      })
+
+  copy_message : (name : List ℕ) (uid : ℕ) (to : List ℕ) (b target : Mailbox) (o : Option Message) → box_at name s.boxes ≡ Some b →
+      message_at uid b.messages ≡ o →
+      IsCase (Some name) tag (commands.Copy uid to) s (plain.copy_message name tag uid to s target o)
+  copy_message name uid to b target None e f =
+      inr (record {
+        effect = record { absent = λ i. let g : message_at uid b.messages ≡ Some i.message = there_is name uid s b e i in cc; stays = refl };
+        selection = refl;
+        says = record { untagged = tt; code = tt };
+      })
+  copy_message name uid to b target (Some m) e f =
+      change_case (λ (turn : Turn). IsCase (Some name) tag (commands.Copy uid to) s turn) (Some name) tag to (changes.Add m.flags m.text target.uidnext) s
+      (λ x. plain.accepted [] (plain.copied_code uid to target.uidnext x))
+      (record { server = refl; selection = refl; says = tt; code = tt })
+      (λ lawful. copied_case name uid to b target m e f lawful)
+
+  copy_in : (name : List ℕ) (uid : ℕ) (to : List ℕ) (o target : Option Mailbox) → box_at name s.boxes ≡ o →
+      IsCase (Some name) tag (commands.Copy uid to) s (plain.copy_in name tag uid to s o target)
+  copy_in name uid to None target e = record { server = refl; selection = refl; says = tt; code = tt }
+  copy_in name uid to (Some b) None e = record { server = refl; selection = refl; says = tt; code = tt }
+  copy_in name uid to (Some b) (Some target) e = copy_message name uid to b target (message_at uid b.messages) e refl
+
+  copy : (selected : Option (List ℕ)) (uid : ℕ) (to : List ℕ) → IsCase selected tag (commands.Copy uid to) s (plain.copy_turn selected tag uid to s)
+  copy None uid to = record { server = refl; selection = refl; says = tt; code = tt }
+  copy (Some name) uid to = copy_in name uid to (box_at name s.boxes) (box_at to s.boxes) refl
+
+  -- EXPUNGE
+  expunged_case : (name : List ℕ) (uid : ℕ) (b : Mailbox) (m : Message) → box_at name s.boxes ≡ Some b → message_at uid b.messages ≡ Some m →
+      IsTrue (has m.flags deleted) → broken_rule s.boxes name (changes.Drop uid) ≡ None →
+      IsCase (Some name) tag (commands.Expunge uid) s
+      (plain.answered (Some name) (with_change (Ours tag) name (changes.Drop uid) s)
+      (plain.accepted (responses.Vanished false (only uid) ∷ []) codings.None))
+  expunged_case name uid b m e f marked lawful =
+      let change : Change = changes.Drop uid in
+      let t : Server = with_change (Ours tag) name change s in
+      let becomes : Changes s.boxes (Ours tag) name change s t = plain_changes (Ours tag) name change s w lawful in
+      let left : box_at name t.boxes ≡ Some becomes.effect.after = dropped_there (floor_of s.boxes name) uid name s.boxes t.boxes becomes.effect in
+      let gone : AreAbsent becomes.effect.after (only uid) =
+      λ u i. subst (λ (x : Mailbox). message_at u x.messages ≡ None) (sym becomes.effect.becomes.becomes)
+      (subst (λ (k : ℕ). message_at k (without_message uid becomes.effect.before.messages) ≡ None) (sym (only_one uid u i))
+      (message_at-without uid becomes.effect.before.messages)) in
+      inl (record {
+        effect = record {
+          is = record { found = record { name = name; is_selected = refl; box = b; named = e; message = m; there = f }; marked = marked };
+          becomes = becomes;
+        };
+        selection = refl;
+        says = record { untagged = (subst (λ (o : Option Mailbox). MaySay o (responses.Vanished false (only uid))) (sym left) gone, tt); code = tt };
+      })
+
+  unexpunged : (name : List ℕ) (uid : ℕ) → (IsDeleted (Some name) uid s → ⊥) →
+      IsCase (Some name) tag (commands.Expunge uid) s (plain.answered (Some name) s (plain.accepted [] codings.None))
+  unexpunged name uid kept =
+      inr (record { effect = record { not_deleted = kept; stays = refl }; selection = refl; says = record { untagged = tt; code = tt } })
+
+  expunge_message : (name : List ℕ) (uid : ℕ) (b : Mailbox) (o : Option Message) → box_at name s.boxes ≡ Some b → message_at uid b.messages ≡ o →
+      IsCase (Some name) tag (commands.Expunge uid) s (plain.expunge_message name tag uid s o)
+  expunge_message name uid b None e f =
+      unexpunged name uid (λ d. let g : message_at uid b.messages ≡ Some d.found.message = there_is name uid s b e d.found in cc)
+  expunge_message name uid b (Some m) e f =
+      cond_both (has m.flags deleted)
+      (plain.change_turn (Some name) tag name (changes.Drop uid) s (λ t. plain.accepted (responses.Vanished false (only uid) ∷ []) codings.None))
+      (plain.answered (Some name) s (plain.accepted [] codings.None))
+      (λ (turn : Turn). IsCase (Some name) tag (commands.Expunge uid) s turn)
+      (λ marked. change_case (λ (turn : Turn). IsCase (Some name) tag (commands.Expunge uid) s turn) (Some name) tag name (changes.Drop uid) s
+      (λ x. plain.accepted (responses.Vanished false (only uid) ∷ []) codings.None)
+      (record { server = refl; selection = refl; says = tt; code = tt })
+      (λ lawful. expunged_case name uid b m e f marked lawful))
+      (λ unmarked. unexpunged name uid (λ d.
+      let same : m ≡ d.found.message = same_Some m d.found.message (sym f ∙ there_is name uid s b e d.found) in
+      let is : has m.flags deleted ≡ true = subst (λ (x : Message). has x.flags deleted ≡ true) (sym same) d.marked in
+      absurd (cc)))
+
+  expunge_in : (name : List ℕ) (uid : ℕ) (o : Option Mailbox) → box_at name s.boxes ≡ o →
+      IsCase (Some name) tag (commands.Expunge uid) s (plain.expunge_in name tag uid s o)
+  expunge_in name uid None e = record { server = refl; selection = refl; says = tt; code = tt }
+  expunge_in name uid (Some b) e = expunge_message name uid b (message_at uid b.messages) e refl
+
+  expunge : (selected : Option (List ℕ)) (uid : ℕ) → IsCase selected tag (commands.Expunge uid) s (plain.expunge_turn selected tag uid s)
+  expunge None uid = record { server = refl; selection = refl; says = tt; code = tt }
+  expunge (Some name) uid = expunge_in name uid (box_at name s.boxes) refl
+
   -- APPEND
   append_in : (selected : Option (List ℕ)) (to : List ℕ) (flags : List (List ℕ)) (text : List ℕ) (o : Option Mailbox) →
       IsCase selected tag (commands.Append to flags text) s (plain.append_turn selected tag to flags text s o)
@@ -577,7 +704,10 @@ module _ (tag : Tag) (s : Server) (w : IsWellFormed s.boxes) where
   plain_case c selected (commands.FetchRow uid) = fetch_row c selected uid
   plain_case c selected (commands.Search from id) = search c selected from id
   plain_case c selected (commands.FetchIds uids) = fetch_ids c selected uids
+  plain_case c selected (commands.FetchText uid) = fetch_text c selected uid
   plain_case c selected (commands.Store uid since add flags) = store selected uid since add flags
   plain_case c selected (commands.Shift uid to) = move selected uid to
+  plain_case c selected (commands.Copy uid to) = copy selected uid to
+  plain_case c selected (commands.Expunge uid) = expunge selected uid
   plain_case c selected (commands.Append to flags text) = append c selected to flags text
   plain_case c selected commands.Logout = record { stays = record { server = refl; selection = refl }; says = (tt, tt); code = tt; bye = here responses.Bye [] }

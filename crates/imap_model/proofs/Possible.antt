@@ -7,8 +7,9 @@ use Rattle.std.proofs.lemmas.Bool.{and_parts, and_from, or_from, or_parts, not-t
 use Rattle.std.proofs.lemmas.Bool.{leb-true, lt-ltb, le-leb, eqb-true, eq-eqb}
 use Rattle.imap_model.specs.Lookups.{box_at, message_at, put_message, highest_of}
 use Rattle.imap_model.specs.Lawful.{has_boxes, is_free, has_free_uid, holds_message, has_message, has_next, has_room, is_plain_text, first_failed, broken_rule}
-use Rattle.imap_model.specs.Changes.{IsNext, Adds, Sets, Drops, Rewrites, Shifts, Effect, Changes, floor_of}
-use Rattle.imap_model.specs.PlainChanges.{added, with_flags, reflagged, dropped, put_changed, with_box, message_in, moved, changed, with_change}
+use Rattle.imap_model.specs.Lawful.{is_above, rises, rise_below, are_as_many, has_uids}
+use Rattle.imap_model.specs.Changes.{IsNext, Adds, Sets, Drops, RiseBelow, Resets, Rewrites, Shifts, Effect, Changes, floor_of}
+use Rattle.imap_model.specs.PlainChanges.{added, with_flags, reflagged, dropped, renewed, put_changed, with_box, message_in, moved, changed, with_change}
 use Rattle.imap_model.proofs.Finding.{box_at-name, box_at-put_other}
 use Rattle.imap_model.proofs.Going.{names_apart}
 use Rattle.imap_model.proofs.Finding.{names_differ}
@@ -22,29 +23,28 @@ use Rattle.imap_model.specs.declared.deed.Author.{Author}
 use Rattle.imap_model.specs.declared.deed.Change.{Change}
 use Rattle.imap_model.specs.declared.deed.Change.TheVariants as changes
 
--- the rules, each of which holds
-pub record AllHold (a b c d e : Bool) : Type 0 where
-  pub first : a ≡ true
-  pub second : b ≡ true
-  pub third : c ≡ true
-  pub fourth : d ≡ true
-  pub fifth : e ≡ true
+-- each of these tests holds
+abbrev pub AllHold : List Bool → Type 0
+AllHold [] = Unit {0}
+AllHold (t ∷ ts) = (t ≡ true) × AllHold ts
 
-pub none_failed : (a b c d e : Bool) → first_failed 1 (a ∷ b ∷ c ∷ d ∷ e ∷ []) ≡ None → AllHold a b c d e
-none_failed true true true true true = λ n. record { first = refl; second = refl; third = refl; fourth = refl; fifth = refl }
-none_failed false b c d e = λ n. absurd (cc)
-none_failed true false c d e = λ n. absurd (cc)
-none_failed true true false d e = λ n. absurd (cc)
-none_failed true true true false e = λ n. absurd (cc)
-none_failed true true true true false = λ n. absurd (cc)
+first_holds : (number : ℕ) (t : Bool) (ts : List Bool) → first_failed number (t ∷ ts) ≡ None → (t ≡ true) × (first_failed (number + 1) ts ≡ None)
+first_holds number true ts = λ n. (refl, n)
+first_holds number false ts = λ n. absurd (cc)
 
-pub all_hold : (a b c d e : Bool) → AllHold a b c d e → first_failed 1 (a ∷ b ∷ c ∷ d ∷ e ∷ []) ≡ None
-all_hold a b c d e h =
-    subst (λ (x : Bool). first_failed 1 (x ∷ b ∷ c ∷ d ∷ e ∷ []) ≡ None) (sym h.first)
-    (subst (λ (x : Bool). first_failed 1 (true ∷ x ∷ c ∷ d ∷ e ∷ []) ≡ None) (sym h.second)
-    (subst (λ (x : Bool). first_failed 1 (true ∷ true ∷ x ∷ d ∷ e ∷ []) ≡ None) (sym h.third)
-    (subst (λ (x : Bool). first_failed 1 (true ∷ true ∷ true ∷ x ∷ e ∷ []) ≡ None) (sym h.fourth)
-    (subst (λ (x : Bool). first_failed 1 (true ∷ true ∷ true ∷ true ∷ x ∷ []) ≡ None) (sym h.fifth) refl))))
+pub none_failed : (number : ℕ) (tests : List Bool) → first_failed number tests ≡ None → AllHold tests
+none_failed number [] n = tt
+none_failed number (t ∷ ts) n = let h = first_holds number t ts n in (h.0, none_failed (number + 1) ts h.1)
+
+pub all_hold : (number : ℕ) (tests : List Bool) → AllHold tests → first_failed number tests ≡ None
+all_hold number [] h = refl
+all_hold number (t ∷ ts) h = subst (λ (x : Bool). first_failed number (x ∷ ts) ≡ None) (sym h.0) (all_hold (number + 1) ts h.1)
+
+-- the tests of a change
+abbrev pub tests_of : List Mailbox → List ℕ → Change → List Bool
+tests_of boxes name change =
+    has_boxes boxes name change ∷ has_free_uid boxes name change ∷ has_message boxes name change ∷ has_room boxes name change
+    ∷ is_plain_text change ∷ true ∷ rises boxes name change ∷ has_uids boxes name change ∷ []
 
 -- a text without a NUL, as a test and as a fact
 pub plain_test : (text : List ℕ) → (¬ (Contains text 0)) → list_any (λ byte. byte == 0) text ≡ false
@@ -141,14 +141,13 @@ add_possible : (name : List ℕ) (flags : List (List ℕ)) (text : List ℕ) (ui
     Effect boxes name (changes.Add flags text uid) boxes (changed name (changes.Add flags text uid) boxes)
 add_possible name flags text uid boxes lawful =
     let change : Change = changes.Add flags text uid in
-    let hold = none_failed (has_boxes boxes name change) (has_free_uid boxes name change) (has_message boxes name change)
-    (has_room boxes name change) (is_plain_text change) lawful in
-    let found = found_one (box_at name boxes) hold.first in
-    let free : is_free uid (Some found.0) ≡ true = sym (ap (is_free uid) found.1) ∙ hold.second in
-    let room = and_parts (has_next (box_at name boxes)) (has_next (box_at name boxes)) hold.fourth in
+    let hold = none_failed 1 (tests_of boxes name change) lawful in
+    let found = found_one (box_at name boxes) hold.0 in
+    let free : is_free uid (Some found.0) ≡ true = sym (ap (is_free uid) found.1) ∙ hold.1.0 in
+    let room : has_next (box_at name boxes) ≡ true = hold.1.1.1.0 in
     rewrites_plain (Adds (floor_of boxes name) flags text uid) (added flags text uid) name boxes found.0 found.1
-    (adds_plain boxes name flags text uid found.0 (floor_of boxes name) free (next_at boxes name found.0 found.1 room.0)
-    (plain_fact text (not-true (list_any (λ byte. byte == 0) text) hold.fifth)))
+    (adds_plain boxes name flags text uid found.0 (floor_of boxes name) free (next_at boxes name found.0 found.1 room)
+    (plain_fact text (not-true (list_any (λ byte. byte == 0) text) hold.1.1.1.1.0)))
 
 -- the message that a change names
 names_message : (uid : ℕ) (boxes : List Mailbox) (name : List ℕ) (b : Mailbox) → box_at name boxes ≡ Some b →
@@ -159,25 +158,23 @@ set_possible : (name : List ℕ) (uid : ℕ) (flags : List (List ℕ)) (boxes : 
     Effect boxes name (changes.SetFlags uid flags) boxes (changed name (changes.SetFlags uid flags) boxes)
 set_possible name uid flags boxes lawful =
     let change : Change = changes.SetFlags uid flags in
-    let hold = none_failed (has_boxes boxes name change) (has_free_uid boxes name change) (has_message boxes name change)
-    (has_room boxes name change) (is_plain_text change) lawful in
-    let found = found_one (box_at name boxes) hold.first in
-    let message = names_message uid boxes name found.0 found.1 hold.third in
-    let room = and_parts (has_next (box_at name boxes)) (has_next (box_at name boxes)) hold.fourth in
+    let hold = none_failed 1 (tests_of boxes name change) lawful in
+    let found = found_one (box_at name boxes) hold.0 in
+    let message = names_message uid boxes name found.0 found.1 hold.1.1.0 in
+    let room : has_next (box_at name boxes) ≡ true = hold.1.1.1.0 in
     rewrites_plain (Sets (floor_of boxes name) uid flags) (reflagged uid flags) name boxes found.0 found.1
-    (sets_plain uid flags found.0 message.0 (floor_of boxes name) message.1 (next_at boxes name found.0 found.1 room.0))
+    (sets_plain uid flags found.0 message.0 (floor_of boxes name) message.1 (next_at boxes name found.0 found.1 room))
 
 drop_possible : (name : List ℕ) (uid : ℕ) (boxes : List Mailbox) → broken_rule boxes name (changes.Drop uid) ≡ None →
     Effect boxes name (changes.Drop uid) boxes (changed name (changes.Drop uid) boxes)
 drop_possible name uid boxes lawful =
     let change : Change = changes.Drop uid in
-    let hold = none_failed (has_boxes boxes name change) (has_free_uid boxes name change) (has_message boxes name change)
-    (has_room boxes name change) (is_plain_text change) lawful in
-    let found = found_one (box_at name boxes) hold.first in
-    let message = names_message uid boxes name found.0 found.1 hold.third in
-    let room = and_parts (has_next (box_at name boxes)) (has_next (box_at name boxes)) hold.fourth in
+    let hold = none_failed 1 (tests_of boxes name change) lawful in
+    let found = found_one (box_at name boxes) hold.0 in
+    let message = names_message uid boxes name found.0 found.1 hold.1.1.0 in
+    let room : has_next (box_at name boxes) ≡ true = hold.1.1.1.0 in
     rewrites_plain (Drops (floor_of boxes name) uid) (dropped uid) name boxes found.0 found.1
-    (drops_plain uid found.0 message.0 (floor_of boxes name) message.1 (next_at boxes name found.0 found.1 room.0))
+    (drops_plain uid found.0 message.0 (floor_of boxes name) message.1 (next_at boxes name found.0 found.1 room))
 
 -- the three facts of a shift's names
 pub record ShiftNames (name to : List ℕ) (boxes : List Mailbox) : Type 0 where
@@ -214,12 +211,11 @@ shift_possible : (name : List ℕ) (uid : ℕ) (to : List ℕ) (new : ℕ) (boxe
     Effect boxes name (changes.Shift uid to new) boxes (changed name (changes.Shift uid to new) boxes)
 shift_possible name uid to new boxes lawful plain =
     let change : Change = changes.Shift uid to new in
-    let hold = none_failed (has_boxes boxes name change) (has_free_uid boxes name change) (has_message boxes name change)
-    (has_room boxes name change) (is_plain_text change) lawful in
-    let n = shift_names name uid to new boxes hold.first in
-    let message = names_message uid boxes name n.source n.named hold.third in
-    let room = and_parts (has_next (box_at name boxes)) (has_next (box_at to boxes)) hold.fourth in
-    let free : is_free new (Some n.target) ≡ true = sym (ap (is_free new) n.there) ∙ hold.second in
+    let hold = none_failed 1 (tests_of boxes name change) lawful in
+    let n = shift_names name uid to new boxes hold.0 in
+    let message = names_message uid boxes name n.source n.named hold.1.1.0 in
+    let room = and_parts (has_next (box_at name boxes)) (has_next (box_at to boxes)) hold.1.1.1.0 in
+    let free : is_free new (Some n.target) ≡ true = sym (ap (is_free new) n.there) ∙ hold.1.0 in
     let middle : List Mailbox = with_box (dropped uid) name boxes in
     let m : Message = message.0 in
     record {
@@ -238,12 +234,40 @@ shift_possible name uid to new boxes lawful plain =
           (plain uid n.source m n.named message.1)));
     }
 
+-- a renewal
+rise_fact : (from below : ℕ) (uids : List ℕ) → rise_below from below uids ≡ true → RiseBelow from below uids
+rise_fact from below [] t = tt
+rise_fact from below (u ∷ us) t =
+    let one = and_parts (nat_le from u) (nat_lt u below && rise_below (u + 1) below us) t in
+    let two = and_parts (nat_lt u below) (rise_below (u + 1) below us) one.1 in
+    (leb-true from u one.0, ltb-true u below two.0, rise_fact (u + 1) below us two.1)
+
+reset_possible : (name : List ℕ) (validity : ℕ) (uids : List ℕ) (uidnext highest : ℕ) (boxes : List Mailbox) →
+    broken_rule boxes name (changes.Reset validity uids uidnext highest) ≡ None →
+    Effect boxes name (changes.Reset validity uids uidnext highest) boxes (changed name (changes.Reset validity uids uidnext highest) boxes)
+reset_possible name validity uids uidnext highest boxes lawful =
+    let change : Change = changes.Reset validity uids uidnext highest in
+    let hold = none_failed 1 (tests_of boxes name change) lawful in
+    let found = found_one (box_at name boxes) hold.0 in
+    let b : Mailbox = found.0 in
+    let above : is_above validity (Some b) ≡ true = sym (ap (is_above validity) found.1) ∙ hold.1.1.1.1.1.1.0 in
+    let uids_hold = and_parts (rise_below 1 uidnext uids) (are_as_many uids (box_at name boxes)) hold.1.1.1.1.1.1.1.0 in
+    let as_many : are_as_many uids (Some b) ≡ true = sym (ap (are_as_many uids) found.1) ∙ uids_hold.1 in
+    rewrites_plain (Resets validity uids uidnext highest) (renewed validity uids uidnext highest) name boxes b found.1
+    (record {
+      above = ltb-true b.validity validity above;
+      rise = rise_fact 1 uidnext uids uids_hold.0;
+      as_many = eqb-true (length uids) (length b.messages) as_many;
+      becomes = refl;
+    })
+
 -- the plain program's change is one of this kind
 pub plain_effect : (name : List ℕ) (change : Change) (boxes : List Mailbox) → IsWellFormed boxes → broken_rule boxes name change ≡ None →
     Effect boxes name change boxes (changed name change boxes)
 plain_effect name (changes.Add flags text uid) boxes w lawful = add_possible name flags text uid boxes lawful
 plain_effect name (changes.SetFlags uid flags) boxes w lawful = set_possible name uid flags boxes lawful
 plain_effect name (changes.Drop uid) boxes w lawful = drop_possible name uid boxes lawful
+plain_effect name (changes.Reset validity uids uidnext highest) boxes w lawful = reset_possible name validity uids uidnext highest boxes lawful
 plain_effect name (changes.Shift uid to new) boxes w lawful =
     shift_possible name uid to new boxes lawful (λ u b m there here. (w.each name b there).plain u m here)
 
@@ -268,18 +292,10 @@ holds_test boxes name b uid m there here = ap (holds_message uid) there ∙ is_f
 -- a change of one mailbox breaks no rule
 one_unbroken : (boxes : List Mailbox) (name : List ℕ) (b : Mailbox) (floor modseq : ℕ) (free message plain : Bool) →
     box_at name boxes ≡ Some b → IsNext floor b modseq → free ≡ true → message ≡ true → plain ≡ true →
-    first_failed 1 (is_some (box_at name boxes) ∷ free ∷ message ∷ (has_next (box_at name boxes) && has_next (box_at name boxes)) ∷ plain ∷ []) ≡ None
+    first_failed 1 (is_some (box_at name boxes) ∷ free ∷ message ∷ has_next (box_at name boxes) ∷ plain ∷ true ∷ true ∷ true ∷ []) ≡ None
 one_unbroken boxes name b floor modseq free message plain there n f m p =
-    let next = next_test boxes name b floor modseq there n in
-    all_hold (is_some (box_at name boxes)) free message (has_next (box_at name boxes) && has_next (box_at name boxes)) plain
-    (record {
-      first = is_found (box_at name boxes) b there;
-      second = f;
-      third = m;
-      fourth =
-          and_from (has_next (box_at name boxes)) (has_next (box_at name boxes)) next next;
-      fifth = p;
-    })
+    all_hold 1 (is_some (box_at name boxes) ∷ free ∷ message ∷ has_next (box_at name boxes) ∷ plain ∷ true ∷ true ∷ true ∷ [])
+    (is_found (box_at name boxes) b there, (f, (m, (next_test boxes name b floor modseq there n, (p, (refl, (refl, (refl, tt))))))))
 
 shift_unbroken : (name : List ℕ) (uid : ℕ) (to : List ℕ) (new : ℕ) (boxes later : List Mailbox) →
     Shifts (floor_of boxes) name uid to new boxes later → broken_rule boxes name (changes.Shift uid to new) ≡ None
@@ -288,19 +304,60 @@ shift_unbroken name uid to new boxes later s =
     let there : box_at to boxes ≡ Some target = sym (rewritten_other (Drops (floor_of boxes name) uid) name to boxes s.middle
     (drops_name (floor_of boxes name) uid) s.apart s.leaves) ∙ s.comes.there in
     let change : Change = changes.Shift uid to new in
-    all_hold (has_boxes boxes name change) (has_free_uid boxes name change) (has_message boxes name change) (has_room boxes name change) true
-    (record {
-      first = and_from (is_some (box_at name boxes) && is_some (box_at to boxes)) (not (bytes_eq to name))
+    all_hold 1 (tests_of boxes name change) (
+      and_from (is_some (box_at name boxes) && is_some (box_at to boxes)) (not (bytes_eq to name))
           (and_from (is_some (box_at name boxes)) (is_some (box_at to boxes)) (is_found (box_at name boxes) s.source s.named)
           (is_found (box_at to boxes) target there))
-          (not_from_false (bytes_eq to name) (names_differ to name s.apart));
-      second = free_test boxes to target s.comes.after (floor_of boxes to) s.message.flags s.message.text new there s.comes.becomes;
-      third = holds_test boxes name s.source uid s.message s.named s.there;
-      fourth = and_from (has_next (box_at name boxes)) (has_next (box_at to boxes))
-          (next_test boxes name s.leaves.before (floor_of boxes name) s.leaves.becomes.modseq s.leaves.there s.leaves.becomes.is_next)
-          (next_test boxes to target (floor_of boxes to) s.comes.becomes.modseq there s.comes.becomes.is_next);
-      fifth = refl;
-    })
+          (not_from_false (bytes_eq to name) (names_differ to name s.apart)),
+      (
+        free_test boxes to target s.comes.after (floor_of boxes to) s.message.flags s.message.text new there s.comes.becomes,
+        (
+          holds_test boxes name s.source uid s.message s.named s.there,
+          (
+            and_from (has_next (box_at name boxes)) (has_next (box_at to boxes))
+                (next_test boxes name s.leaves.before (floor_of boxes name) s.leaves.becomes.modseq s.leaves.there s.leaves.becomes.is_next)
+                (next_test boxes to target (floor_of boxes to) s.comes.becomes.modseq there s.comes.becomes.is_next),
+            (refl, (refl, (refl, (refl, tt)))),
+          ),
+        ),
+      ),
+    )
+
+rise_test : (from below : ℕ) (uids : List ℕ) → RiseBelow from below uids → rise_below from below uids ≡ true
+rise_test from below [] r = refl
+rise_test from below (u ∷ us) r =
+    and_from (nat_le from u) (nat_lt u below && rise_below (u + 1) below us) (le-leb from u r.0)
+    (and_from (nat_lt u below) (rise_below (u + 1) below us) (lt-ltb u below r.1) (rise_test (u + 1) below us r.2))
+
+reset_unbroken : (name : List ℕ) (validity : ℕ) (uids : List ℕ) (uidnext highest : ℕ) (boxes later : List Mailbox) →
+    Rewrites (Resets validity uids uidnext highest) name boxes later → broken_rule boxes name (changes.Reset validity uids uidnext highest) ≡ None
+reset_unbroken name validity uids uidnext highest boxes later r =
+    all_hold 1 (tests_of boxes name (changes.Reset validity uids uidnext highest)) (
+      is_found (box_at name boxes) r.before r.there,
+      (
+        refl,
+        (
+          refl,
+          (
+            refl,
+            (
+              refl,
+              (
+                refl,
+                (
+                  ap (is_above validity) r.there ∙ lt-ltb r.before.validity validity r.becomes.above,
+                  (
+                    and_from (rise_below 1 uidnext uids) (are_as_many uids (box_at name boxes)) (rise_test 1 uidnext uids r.becomes.rise)
+                        (ap (are_as_many uids) r.there ∙ eq-eqb (length uids) (length r.before.messages) r.becomes.as_many),
+                    tt,
+                  ),
+                ),
+              ),
+            ),
+          ),
+        ),
+      ),
+    )
 
 effect_unbroken : (name : List ℕ) (change : Change) (boxes later : List Mailbox) → Effect boxes name change boxes later → broken_rule boxes name change ≡ None
 effect_unbroken name (changes.Add flags text uid) boxes later r =
@@ -315,6 +372,7 @@ effect_unbroken name (changes.Drop uid) boxes later r =
     one_unbroken boxes name r.before (floor_of boxes name) r.becomes.modseq true (holds_message uid (box_at name boxes)) true r.there r.becomes.is_next
     refl (holds_test boxes name r.before uid r.becomes.message r.there r.becomes.there) refl
 effect_unbroken name (changes.Shift uid to new) boxes later r = shift_unbroken name uid to new boxes later r
+effect_unbroken name (changes.Reset validity uids uidnext highest) boxes later r = reset_unbroken name validity uids uidnext highest boxes later r
 
 pub possible_unbroken : (author : Author) (name : List ℕ) (change : Change) (old new : Server) →
     Changes old.boxes author name change old new → broken_rule old.boxes name change ≡ None

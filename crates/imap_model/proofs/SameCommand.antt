@@ -13,7 +13,7 @@ use Rattle.flag_set.specs.FlagText.{list_text}
 use Rattle.mail_base.specs.Account.{Credentials}
 use Rattle.mail_base.specs.BoxName.{IsBoxName}
 use Rattle.mail_base.specs.declared.tag.Tag.{Tag}
-use Rattle.mail_base.specs.declared.tag.Tag.TheVariants.{Play, Count, Strange}
+use Rattle.mail_base.specs.declared.tag.Tag.TheVariants.{Play, Again, Count, Strange}
 use Rattle.uid_sets.specs.UidSet.{IsCanonical}
 use Rattle.uid_sets.specs.Spelling.{set_text}
 use Rattle.uid_sets.specs.declared.uid.UidRange.{UidRange}
@@ -42,8 +42,11 @@ front commands.FetchAll = codes "UID FETCH "
 front (commands.FetchRow uid) = codes "UID FETCH "
 front (commands.Search from id) = codes "UID SEARCH UID "
 front (commands.FetchIds uids) = codes "UID FETCH "
+front (commands.FetchText uid) = codes "UID FETCH "
 front (commands.Store uid since add flags) = codes "UID STORE "
 front (commands.Shift uid to) = codes "UID MOVE "
+front (commands.Copy uid to) = codes "UID COPY "
+front (commands.Expunge uid) = codes "UID EXPUNGE "
 front (commands.Append to flags octets) = codes "APPEND "
 front commands.Logout = codes "LOGOUT"
 
@@ -58,9 +61,12 @@ tail_of commands.FetchAll = words "1:* (UID FLAGS MODSEQ)"
 tail_of (commands.FetchRow uid) = number uid ⌢ words " (UID FLAGS MODSEQ)"
 tail_of (commands.Search from id) = number from ⌢ words ":* HEADER Message-ID " ⌢ astring_parts id
 tail_of (commands.FetchIds uids) = line (set_text uids) ⌢ words " (UID BODY.PEEK[HEADER.FIELDS (MESSAGE-ID)])"
+tail_of (commands.FetchText uid) = number uid ⌢ words " (UID BODY.PEEK[])"
 tail_of (commands.Store uid since add flags) =
     number uid ⌢ words " (UNCHANGEDSINCE " ⌢ number since ⌢ words ") " ⌢ sign add ⌢ words "FLAGS (" ⌢ line (list_text flags) ⌢ words ")"
 tail_of (commands.Shift uid to) = number uid ⌢ words " " ⌢ astring_parts to
+tail_of (commands.Copy uid to) = number uid ⌢ words " " ⌢ astring_parts to
+tail_of (commands.Expunge uid) = number uid
 tail_of (commands.Append to flags octets) = astring_parts to ⌢ words " (" ⌢ line (list_text flags) ⌢ words ") " ⌢ literal octets
 tail_of commands.Logout = []
 
@@ -76,8 +82,11 @@ whole_is commands.FetchAll = refl
 whole_is (commands.FetchRow uid) = refl
 whole_is (commands.Search from id) = refl
 whole_is (commands.FetchIds uids) = refl
+whole_is (commands.FetchText uid) = refl
 whole_is (commands.Store uid since add flags) = refl
 whole_is (commands.Shift uid to) = refl
+whole_is (commands.Copy uid to) = refl
+whole_is (commands.Expunge uid) = refl
 whole_is (commands.Append to flags octets) = refl
 whole_is commands.Logout = refl
 
@@ -116,8 +125,11 @@ front_long commands.FetchAll = omega arith
 front_long (commands.FetchRow uid) = omega arith
 front_long (commands.Search from id) = omega arith
 front_long (commands.FetchIds uids) = omega arith
+front_long (commands.FetchText uid) = omega arith
 front_long (commands.Store uid since add flags) = omega arith
 front_long (commands.Shift uid to) = omega arith
+front_long (commands.Copy uid to) = omega arith
+front_long (commands.Expunge uid) = omega arith
 front_long (commands.Append to flags octets) = omega arith
 front_long commands.Logout = omega arith
 
@@ -126,7 +138,7 @@ front_byte k c d within same =
     sym (byte_of_line k (front c) (rest c) (omega (arith, front_long c))) ∙ ap (byte_at k) (fronts c d same)
     ∙ byte_of_line k (front d) (rest d) (omega (arith, front_long d))
 
--- five bytes tell the kinds of commands apart, up to the three FETCHes
+-- five bytes tell the kinds of commands apart, up to the four FETCHes
 record Alike (c d : Command) : Type 0 where
   one : get_or (front c) 0 0 ≡ get_or (front d) 0 0
   two : get_or (front c) 1 0 ≡ get_or (front d) 1 0
@@ -306,12 +318,15 @@ same_select x m (commands.Select y n) kept mark kept' same =
     cc
 same_select x m d kept mark kept' same = let e = alike (commands.Select x m) d same in absurd (omega arith)
 
--- the three FETCHes
+-- the four FETCHes
 abbrev row_end : List (List ℕ)
 row_end = words " (UID FLAGS MODSEQ)" ⌢ end
 
 abbrev ids_end : List (List ℕ)
 ids_end = words " (UID BODY.PEEK[HEADER.FIELDS (MESSAGE-ID)])" ⌢ end
+
+abbrev text_end : List (List ℕ)
+text_end = words " (UID BODY.PEEK[])" ⌢ end
 
 all_is : rest commands.FetchAll ≡ line (codes "1:*") ⌢ row_end
 unfolding ◌⌢◌
@@ -323,9 +338,20 @@ row_is uid = parts_assoc (number uid) (words " (UID FLAGS MODSEQ)") end
 ids_is : (uids : List UidRange) → rest (commands.FetchIds uids) ≡ line (set_text uids) ⌢ ids_end
 ids_is uids = parts_assoc (line (set_text uids)) (words " (UID BODY.PEEK[HEADER.FIELDS (MESSAGE-ID)])") end
 
+text_is : (uid : ℕ) → rest (commands.FetchText uid) ≡ number uid ⌢ text_end
+text_is uid = parts_assoc (number uid) (words " (UID BODY.PEEK[])") end
+
 no_rows : row_end ≡ ids_end → ⊥
 unfolding ◌⌢◌
 no_rows same = let seventh : ◌≡◌ {A = ℕ} 70 66 = ap (byte_at 6) same in omega arith
+
+no_row_text : row_end ≡ text_end → ⊥
+unfolding ◌⌢◌
+no_row_text same = let seventh : ◌≡◌ {A = ℕ} 70 66 = ap (byte_at 6) same in omega arith
+
+no_ids_text : ids_end ≡ text_end → ⊥
+unfolding ◌⌢◌
+no_ids_text same = let behind : ◌≡◌ {A = ℕ} 72 93 = ap (byte_at 16) same in omega arith
 
 no_star : (uid : ℕ) → uid < 2 ^ 64 → codes "1:*" ≡ decimal uid → ⊥
 no_star uid fits same = cc (ap (list_all is_ascii_digit) same, all_digits uid fits)
@@ -345,12 +371,29 @@ row_ids uid uids fits is same =
     no_rows (cut_run is_solid (decimal uid) (set_text uids) row_end ids_end (solid_number uid fits) (solid_set uids is)
     (stops_line is_solid 32 _ end refl) (stops_line is_solid 32 _ end refl) same).1
 
+all_text : (uid : ℕ) → uid < 2 ^ 64 → line (codes "1:*") ⌢ row_end ≡ number uid ⌢ text_end → ⊥
+all_text uid fits same =
+    no_row_text (cut_run is_solid (codes "1:*") (decimal uid) row_end text_end refl (solid_number uid fits) (stops_line is_solid 32 _ end refl)
+    (stops_line is_solid 32 _ end refl) same).1
+
+row_text : (m n : ℕ) → m < 2 ^ 64 → n < 2 ^ 64 → number m ⌢ row_end ≡ number n ⌢ text_end → ⊥
+row_text m n fits fits' same =
+    no_row_text (cut_run is_solid (decimal m) (decimal n) row_end text_end (solid_number m fits) (solid_number n fits')
+    (stops_line is_solid 32 _ end refl) (stops_line is_solid 32 _ end refl) same).1
+
+ids_text : (uids : List UidRange) (uid : ℕ) → IsCanonical uids → uid < 2 ^ 64 → line (set_text uids) ⌢ ids_end ≡ number uid ⌢ text_end → ⊥
+ids_text uids uid is fits same =
+    no_ids_text (cut_run is_solid (set_text uids) (decimal uid) ids_end text_end (solid_set uids is) (solid_number uid fits)
+    (stops_line is_solid 32 _ end refl) (stops_line is_solid 32 _ end refl) same).1
+
 same_fetch_all : (d : Command) → IsKept d → Same commands.FetchAll d → commands.FetchAll ≡ d
 same_fetch_all commands.FetchAll kept same = refl
 same_fetch_all (commands.FetchRow uid) kept same =
     absurd (all_row uid (omega (arith, kept)) (sym all_is ∙ tails_same commands.FetchAll (commands.FetchRow uid) refl same ∙ row_is uid))
 same_fetch_all (commands.FetchIds uids) kept same =
     absurd (all_ids uids kept (sym all_is ∙ tails_same commands.FetchAll (commands.FetchIds uids) refl same ∙ ids_is uids))
+same_fetch_all (commands.FetchText uid) kept same =
+    absurd (all_text uid (omega (arith, kept)) (sym all_is ∙ tails_same commands.FetchAll (commands.FetchText uid) refl same ∙ text_is uid))
 same_fetch_all d kept same = let e = alike commands.FetchAll d same in absurd (omega arith)
 
 same_fetch_row : (uid : ℕ) (d : Command) → uid < 2 ^ 32 → IsKept d → Same (commands.FetchRow uid) d → commands.FetchRow uid ≡ d
@@ -363,6 +406,8 @@ same_fetch_row m (commands.FetchRow n) kept kept' same =
     ap commands.FetchRow both.0
 same_fetch_row m (commands.FetchIds uids) kept kept' same =
     absurd (row_ids m uids (omega arith) kept' (sym (row_is m) ∙ tails_same (commands.FetchRow m) (commands.FetchIds uids) refl same ∙ ids_is uids))
+same_fetch_row m (commands.FetchText n) kept kept' same =
+    absurd (row_text m n (omega arith) (omega (arith, kept')) (sym (row_is m) ∙ tails_same (commands.FetchRow m) (commands.FetchText n) refl same ∙ text_is n))
 same_fetch_row m d kept kept' same = let e = alike (commands.FetchRow m) d same in absurd (omega arith)
 
 same_fetch_ids : (uids : List UidRange) (d : Command) → IsCanonical uids → IsKept d → Same (commands.FetchIds uids) d → commands.FetchIds uids ≡ d
@@ -374,9 +419,25 @@ same_fetch_ids u (commands.FetchIds v) kept kept' same =
     let both = cut_set u v ids_end ids_end kept kept' (stops_line is_solid 32 _ end refl) (stops_line is_solid 32 _ end refl)
     (sym (ids_is u) ∙ tails_same (commands.FetchIds u) (commands.FetchIds v) refl same ∙ ids_is v) in
     ap commands.FetchIds both.0
+same_fetch_ids u (commands.FetchText n) kept kept' same =
+    absurd (ids_text u n kept (omega (arith, kept')) (sym (ids_is u) ∙ tails_same (commands.FetchIds u) (commands.FetchText n) refl same ∙ text_is n))
 same_fetch_ids u d kept kept' same = let e = alike (commands.FetchIds u) d same in absurd (omega arith)
 
--- SEARCH, STORE, MOVE and APPEND
+same_fetch_text : (uid : ℕ) (d : Command) → uid < 2 ^ 32 → IsKept d → Same (commands.FetchText uid) d → commands.FetchText uid ≡ d
+same_fetch_text m commands.FetchAll kept kept' same =
+    absurd (all_text m (omega arith) (sym all_is ∙ sym (tails_same (commands.FetchText m) commands.FetchAll refl same) ∙ text_is m))
+same_fetch_text m (commands.FetchRow n) kept kept' same =
+    absurd (row_text n m (omega (arith, kept')) (omega arith) (sym (row_is n) ∙ sym (tails_same (commands.FetchText m) (commands.FetchRow n) refl same) ∙ text_is m))
+same_fetch_text m (commands.FetchIds u) kept kept' same =
+    absurd (ids_text u m kept' (omega arith) (sym (ids_is u) ∙ sym (tails_same (commands.FetchText m) (commands.FetchIds u) refl same) ∙ text_is m))
+same_fetch_text m (commands.FetchText n) kept kept' same =
+    let both = cut_number m n text_end text_end (omega arith) (omega (arith, kept')) (stops_line is_ascii_digit 32 _ end refl)
+    (stops_line is_ascii_digit 32 _ end refl)
+    (sym (text_is m) ∙ tails_same (commands.FetchText m) (commands.FetchText n) refl same ∙ text_is n) in
+    ap commands.FetchText both.0
+same_fetch_text m d kept kept' same = let e = alike (commands.FetchText m) d same in absurd (omega arith)
+
+-- SEARCH, MOVE, COPY, EXPUNGE, STORE and APPEND
 same_search : (from : ℕ) (id : List ℕ) (d : Command) → from < 2 ^ 32 → IsText id → IsKept d → Same (commands.Search from id) d → commands.Search from id ≡ d
 same_search m x (commands.Search n y) kept text kept' same =
     let tails = tails_same (commands.Search m x) (commands.Search n y) refl same in
@@ -393,19 +454,40 @@ same_search m x (commands.Search n y) kept text kept' same =
     cc
 same_search m x d kept text kept' same = let e = alike (commands.Search m x) d same in absurd (omega arith)
 
-same_shift : (uid : ℕ) (to : List ℕ) (d : Command) → uid < 2 ^ 32 → IsBoxName to → IsKept d → Same (commands.Shift uid to) d → commands.Shift uid to ≡ d
-same_shift m x (commands.Shift n y) kept name kept' same =
-    let tails = tails_same (commands.Shift m x) (commands.Shift n y) refl same in
-    let numbers = cut_number m n (words " " ⌢ (astring_parts x ⌢ end)) (words " " ⌢ (astring_parts y ⌢ end)) (omega arith) (omega (arith, kept'.0))
+-- a UID and a mailbox's name
+abbrev to_end : ℕ → List ℕ → List (List ℕ)
+to_end uid to = (number uid ⌢ words " " ⌢ astring_parts to) ⌢ end
+
+number_name : (m : ℕ) (x : List ℕ) (n : ℕ) (y : List ℕ) → m < 2 ^ 32 → IsBoxName x → n < 2 ^ 32 → IsBoxName y → to_end m x ≡ to_end n y → (m ≡ n) × (x ≡ y)
+number_name m x n y fits name fits' name' tails =
+    let numbers = cut_number m n (words " " ⌢ (astring_parts x ⌢ end)) (words " " ⌢ (astring_parts y ⌢ end)) (omega arith) (omega arith)
     (stops_line is_ascii_digit 32 _ _ refl) (stops_line is_ascii_digit 32 _ _ refl)
     (sym (chain_three (number m) (words " ") (astring_parts x)) ∙ tails ∙ chain_three (number n) (words " ") (astring_parts y)) in
     let behind = cut_same (codes " ") (astring_parts x ⌢ end) (astring_parts y ⌢ end) (some_behind _ end (omega arith))
     (some_behind _ end (omega arith)) numbers.1 in
-    let names = astring_same x y end end (name_short x name) (name_short y kept'.1) refl refl behind in
-    let first : m ≡ n = numbers.0 in
-    let second : x ≡ y = names.0 in
+    (numbers.0, (astring_same x y end end (name_short x name) (name_short y name') refl refl behind).0)
+
+same_shift : (uid : ℕ) (to : List ℕ) (d : Command) → uid < 2 ^ 32 → IsBoxName to → IsKept d → Same (commands.Shift uid to) d → commands.Shift uid to ≡ d
+same_shift m x (commands.Shift n y) kept name kept' same =
+    let both = number_name m x n y kept name kept'.0 kept'.1 (tails_same (commands.Shift m x) (commands.Shift n y) refl same) in
+    let first : m ≡ n = both.0 in
+    let second : x ≡ y = both.1 in
     cc
 same_shift m x d kept name kept' same = let e = alike (commands.Shift m x) d same in absurd (omega arith)
+
+same_copy : (uid : ℕ) (to : List ℕ) (d : Command) → uid < 2 ^ 32 → IsBoxName to → IsKept d → Same (commands.Copy uid to) d → commands.Copy uid to ≡ d
+same_copy m x (commands.Copy n y) kept name kept' same =
+    let both = number_name m x n y kept name kept'.0 kept'.1 (tails_same (commands.Copy m x) (commands.Copy n y) refl same) in
+    let first : m ≡ n = both.0 in
+    let second : x ≡ y = both.1 in
+    cc
+same_copy m x d kept name kept' same = let e = alike (commands.Copy m x) d same in absurd (omega arith)
+
+same_expunge : (uid : ℕ) (d : Command) → uid < 2 ^ 32 → IsKept d → Same (commands.Expunge uid) d → commands.Expunge uid ≡ d
+same_expunge m (commands.Expunge n) kept kept' same =
+    let both = cut_number m n end end (omega arith) (omega (arith, kept')) refl refl (tails_same (commands.Expunge m) (commands.Expunge n) refl same) in
+    ap commands.Expunge both.0
+same_expunge m d kept kept' same = let e = alike (commands.Expunge m) d same in absurd (omega arith)
 
 -- a STORE up to its end
 abbrev store_flags : List (List ℕ) → List (List ℕ)
@@ -506,15 +588,15 @@ same_command commands.FetchAll d kept kept' same = same_fetch_all d kept' same
 same_command (commands.FetchRow uid) d kept kept' same = same_fetch_row uid d kept kept' same
 same_command (commands.Search from id) d kept kept' same = same_search from id d kept.0 kept.1 kept' same
 same_command (commands.FetchIds uids) d kept kept' same = same_fetch_ids uids d kept kept' same
+same_command (commands.FetchText uid) d kept kept' same = same_fetch_text uid d kept kept' same
 same_command (commands.Store uid since add flags) d kept kept' same = same_store uid since add flags d kept.0 kept.1 kept.2 kept' same
 same_command (commands.Shift uid to) d kept kept' same = same_shift uid to d kept.0 kept.1 kept' same
+same_command (commands.Copy uid to) d kept kept' same = same_copy uid to d kept.0 kept.1 kept' same
+same_command (commands.Expunge uid) d kept kept' same = same_expunge uid d kept kept' same
 same_command (commands.Append to flags octets) d kept kept' same = same_append to flags octets d kept.0 kept.1 kept.2 kept' same
 same_command commands.Logout d kept kept' same = same_logout d kept' same
 
 -- the tag, in front of a space
-tag_byte : (letter : ℕ) (n : ℕ) (P : List (List ℕ)) → byte_at 0 ((line (letter ∷ []) ⌢ number n) ⌢ P) ≡ letter
-tag_byte letter n P = ap (byte_at 0) (parts_assoc (line (letter ∷ [])) (number n) P) ∙ byte_of_line 0 (letter ∷ []) (number n ⌢ P) (omega arith)
-
 numbers_same : (letter m n : ℕ) (P Q : List (List ℕ)) → m < 2 ^ 32 → n < 2 ^ 32 → StopsAt is_ascii_digit P → StopsAt is_ascii_digit Q
     → (line (letter ∷ []) ⌢ number m) ⌢ P ≡ (line (letter ∷ []) ⌢ number n) ⌢ Q → (m ≡ n) × (P ≡ Q)
 numbers_same letter m n P Q fits fits' stop stop' same =
@@ -522,23 +604,68 @@ numbers_same letter m n P Q fits fits' stop stop' same =
     (cut_same (letter ∷ []) (number m ⌢ P) (number n ⌢ Q) (some_first _ _ _) (some_first _ _ _)
     (sym (parts_assoc (line (letter ∷ [])) (number m) P) ∙ same ∙ parts_assoc (line (letter ∷ [])) (number n) Q))
 
+-- what is behind the number of a try
+tried_same : (m n a b : ℕ) (P Q : List (List ℕ)) → m < 2 ^ 32 → n < 2 ^ 32 → a ≤ 3 → b ≤ 3 → StopsAt is_ascii_digit P → StopsAt is_ascii_digit Q
+    → (line (80 ∷ []) ⌢ (number m ⌢ (line (82 ∷ []) ⌢ number a))) ⌢ P ≡ (line (80 ∷ []) ⌢ (number n ⌢ (line (82 ∷ []) ⌢ number b))) ⌢ Q
+    → (m ≡ n) × (a ≡ b) × (P ≡ Q)
+tried_same m n a b P Q fits fits' few few' stop stop' same =
+    let one = cut_number m n (line (82 ∷ []) ⌢ (number a ⌢ P)) (line (82 ∷ []) ⌢ (number b ⌢ Q)) (omega arith) (omega arith)
+    (stops_line is_ascii_digit 82 [] (number a ⌢ P) refl) (stops_line is_ascii_digit 82 [] (number b ⌢ Q) refl)
+    (cut_same (80 ∷ []) (number m ⌢ (line (82 ∷ []) ⌢ (number a ⌢ P))) (number n ⌢ (line (82 ∷ []) ⌢ (number b ⌢ Q))) (some_first _ _ _) (some_first _ _ _)
+    (sym (tried_parts m a P) ∙ same ∙ tried_parts n b Q)) in
+    let two = cut_number a b P Q (omega arith) (omega arith) stop stop'
+    (cut_same (82 ∷ []) (number a ⌢ P) (number b ⌢ Q) (some_first _ _ _) (some_first _ _ _) one.1) in
+    (one.0, two.0, two.1)
+  where
+    tried_parts : (k c : ℕ) (R : List (List ℕ)) → (line (80 ∷ []) ⌢ (number k ⌢ (line (82 ∷ []) ⌢ number c))) ⌢ R
+        ≡ line (80 ∷ []) ⌢ (number k ⌢ (line (82 ∷ []) ⌢ (number c ⌢ R)))
+    tried_parts k c R =
+        parts_assoc (line (80 ∷ [])) (number k ⌢ (line (82 ∷ []) ⌢ number c)) R
+        ∙ ap (λ x. line (80 ∷ []) ⌢ x) (parts_assoc (number k) (line (82 ∷ []) ⌢ number c) R ∙ ap (λ x. number k ⌢ x) (parts_assoc (line (82 ∷ [])) (number c) R))
+
+-- a first try isn't a later one, where a space is behind its number
+tries_apart : (m n b : ℕ) (P Q : List (List ℕ)) → m < 2 ^ 32 → n < 2 ^ 32 → StopsAt is_ascii_digit P → byte_at 0 P ≡ 32
+    → (line (80 ∷ []) ⌢ number m) ⌢ P ≡ (line (80 ∷ []) ⌢ (number n ⌢ (line (82 ∷ []) ⌢ number b))) ⌢ Q → ⊥
+tries_apart m n b P Q fits fits' stop space same =
+    let one = cut_number m n P (line (82 ∷ []) ⌢ (number b ⌢ Q)) (omega arith) (omega arith) stop (stops_line is_ascii_digit 82 [] (number b ⌢ Q) refl)
+    (cut_same (80 ∷ []) (number m ⌢ P) (number n ⌢ (line (82 ∷ []) ⌢ (number b ⌢ Q))) (some_first _ _ _) (some_first _ _ _)
+    (sym (parts_assoc (line (80 ∷ [])) (number m) P) ∙ same ∙ parts_assoc (line (80 ∷ [])) (number n ⌢ (line (82 ∷ []) ⌢ number b)) Q
+    ∙ ap (λ x. line (80 ∷ []) ⌢ x) (parts_assoc (number n) (line (82 ∷ []) ⌢ number b) Q ∙ ap (λ x. number n ⌢ x) (parts_assoc (line (82 ∷ [])) (number b) Q)))) in
+    let e : ◌≡◌ {A = ℕ} 32 82 = sym space ∙ ap (byte_at 0) one.1 ∙ byte_of_line 0 (82 ∷ []) (number b ⌢ Q) (omega arith) in
+    absurd (omega arith)
+
+first_byte : (letter : ℕ) (R P : List (List ℕ)) → byte_at 0 ((line (letter ∷ []) ⌢ R) ⌢ P) ≡ letter
+first_byte letter R P = ap (byte_at 0) (parts_assoc (line (letter ∷ [])) R P) ∙ byte_of_line 0 (letter ∷ []) (R ⌢ P) (omega arith)
+
+letters_apart : (a b : ℕ) (R S P Q : List (List ℕ)) → (a ≡ b → ⊥) → (line (a ∷ []) ⌢ R) ⌢ P ≡ (line (b ∷ []) ⌢ S) ⌢ Q → ⊥
+letters_apart a b R S P Q n same = n (sym (first_byte a R P) ∙ ap (byte_at 0) same ∙ first_byte b S Q)
+
 pub tag_same : (t u : Tag) (P Q : List (List ℕ)) → IsCommandTag t → IsCommandTag u → IsKeptTag t → IsKeptTag u → StopsAt is_ascii_digit P →
-    StopsAt is_ascii_digit Q
+    StopsAt is_ascii_digit Q → byte_at 0 P ≡ 32 → byte_at 0 Q ≡ 32
     → tag_parts t ⌢ P ≡ tag_parts u ⌢ Q → (t ≡ u) × (P ≡ Q)
-tag_same (Play m) (Play n) P Q is is' kept kept' stop stop' same = let both = numbers_same 80 m n P Q kept kept' stop stop' same in (ap Play both.0, both.1)
-tag_same (Play m) (Count n) P Q is is' kept kept' stop stop' same = let e : ◌≡◌ {A = ℕ} 80 67 =
-    sym (tag_byte 80 m P) ∙ ap (byte_at 0) same ∙ tag_byte 67 n Q in absurd (omega arith)
-tag_same (Count m) (Play n) P Q is is' kept kept' stop stop' same = let e : ◌≡◌ {A = ℕ} 67 80 =
-    sym (tag_byte 67 m P) ∙ ap (byte_at 0) same ∙ tag_byte 80 n Q in absurd (omega arith)
-tag_same (Count m) (Count n) P Q is is' kept kept' stop stop' same = let both = numbers_same 67 m n P Q kept kept' stop stop' same in (ap Count both.0, both.1)
-tag_same Strange u P Q is is' kept kept' stop stop' same = absurd is
-tag_same t Strange P Q is is' kept kept' stop stop' same = absurd is'
+tag_same (Play m) (Play n) P Q is is' kept kept' stop stop' sp sp' same =
+    let both = numbers_same 80 m n P Q kept kept' stop stop' same in (ap Play both.0, both.1)
+tag_same (Play m) (Again n b) P Q is is' kept kept' stop stop' sp sp' same = absurd (tries_apart m n b P Q kept kept' stop sp same)
+tag_same (Again m a) (Play n) P Q is is' kept kept' stop stop' sp sp' same = absurd (tries_apart n m a Q P kept' kept stop' sp' (sym same))
+tag_same (Again m a) (Again n b) P Q is is' kept kept' stop stop' sp sp' same =
+    let all = tried_same m n a b P Q kept kept' is.2 is'.2 stop stop' same in (ap (λ x. Again x a) all.0 ∙ ap (Again n) all.1, all.2)
+tag_same (Play m) (Count n) P Q is is' kept kept' stop stop' sp sp' same = absurd (letters_apart 80 67 (number m) (number n) P Q (λ e. absurd (omega arith)) same)
+tag_same (Count m) (Play n) P Q is is' kept kept' stop stop' sp sp' same = absurd (letters_apart 67 80 (number m) (number n) P Q (λ e. absurd (omega arith)) same)
+tag_same (Again m a) (Count n) P Q is is' kept kept' stop stop' sp sp' same =
+    absurd (letters_apart 80 67 (number m ⌢ (line (82 ∷ []) ⌢ number a)) (number n) P Q (λ e. absurd (omega arith)) same)
+tag_same (Count m) (Again n b) P Q is is' kept kept' stop stop' sp sp' same =
+    absurd (letters_apart 67 80 (number m) (number n ⌢ (line (82 ∷ []) ⌢ number b)) P Q (λ e. absurd (omega arith)) same)
+tag_same (Count m) (Count n) P Q is is' kept kept' stop stop' sp sp' same =
+    let both = numbers_same 67 m n P Q kept kept' stop stop' same in (ap Count both.0, both.1)
+tag_same Strange u P Q is is' kept kept' stop stop' sp sp' same = absurd is
+tag_same t Strange P Q is is' kept kept' stop stop' sp sp' same = absurd is'
 
 pub one_text : OneText
 one_text t u c d written written' same =
     let tags = tag_same t u (words " " ⌢ (command_parts c ⌢ end))
     (words " " ⌢ (command_parts d ⌢ end)) written.writable.tagged written'.writable.tagged written.kept_tag written'.kept_tag
-    (stops_line is_ascii_digit 32 [] _ refl) (stops_line is_ascii_digit 32 [] _ refl) same in
+    (stops_line is_ascii_digit 32 [] _ refl) (stops_line is_ascii_digit 32 [] _ refl)
+    (byte_of_line 0 (32 ∷ []) (command_parts c ⌢ end) (omega arith)) (byte_of_line 0 (32 ∷ []) (command_parts d ⌢ end) (omega arith)) same in
     let behind = cut_same (codes " ") (command_parts c ⌢ end) (command_parts d ⌢ end) (some_behind _ end (omega arith))
     (some_behind _ end (omega arith)) tags.1 in
     (tags.0, same_command c d written.kept written'.kept behind)

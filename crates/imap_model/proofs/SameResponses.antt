@@ -6,7 +6,7 @@ use Rattle.std.proofs.Math.Logic.{∥∥₁_elim}
 use Rattle.std.specs.Coded.{Coded, Coded-set, coded_ℕ, coded_bool, coded_list, coded×, coded⊎, coded_option, code_by}
 use base.Stored.{coded_unit}
 use Rattle.mail_base.specs.declared.tag.Tag.{Tag}
-use Rattle.mail_base.specs.declared.tag.Tag.TheVariants.{Play, Count, Strange}
+use Rattle.mail_base.specs.declared.tag.Tag.TheVariants.{Play, Again, Count, Strange}
 use Rattle.uid_sets.specs.declared.uid.UidRange.{UidRange}
 use Rattle.imap_model.specs.declared.code.Code.{Code}
 use Rattle.imap_model.specs.declared.code.Code.TheVariants as codings
@@ -35,32 +35,37 @@ coded_uids = coded_list coded_range
 
 coded_fetched : Coded Fetched
 coded_fetched =
-    code_by (Option ℕ × (Option Words × (Option ℕ × Option (List ℕ))))
-    (coded× (coded_option coded_ℕ) (coded× (coded_option coded_words) (coded× (coded_option coded_ℕ) (coded_option (coded_list coded_ℕ)))))
-    (λ f. (f.uid, (f.flags, (f.modseq, f.ids)))) (λ p. record { uid = p.0; flags = p.1.0; modseq = p.1.1.0; ids = p.1.1.1 }) (λ _. refl)
+    code_by (Option ℕ × (Option Words × (Option ℕ × (Option (List ℕ) × Option (List ℕ)))))
+    (coded× (coded_option coded_ℕ) (coded× (coded_option coded_words) (coded× (coded_option coded_ℕ)
+    (coded× (coded_option (coded_list coded_ℕ)) (coded_option (coded_list coded_ℕ))))))
+    (λ f. (f.uid, (f.flags, (f.modseq, (f.ids, f.text)))))
+    (λ p. record { uid = p.0; flags = p.1.0; modseq = p.1.1.0; ids = p.1.1.1.0; text = p.1.1.1.1 }) (λ _. refl)
 
 -- tags: one summand for each variant, in their order, as for each enum below
 abbrev SumTag : Type 0
-SumTag = ℕ ⊎ (ℕ ⊎ Unit {0})
+SumTag = ℕ ⊎ ((ℕ × ℕ) ⊎ (ℕ ⊎ Unit {0}))
 
 tag_to : Tag → SumTag
 tag_to (Play number) = (inl number)
-tag_to (Count number) = (inr (inl number))
-tag_to Strange = (inr (inr tt))
+tag_to (Again id turn) = (inr (inl (id, turn)))
+tag_to (Count number) = (inr (inr (inl number)))
+tag_to Strange = (inr (inr (inr tt)))
 
 tag_from : SumTag → Tag
 tag_from (inl v) = Play v
-tag_from (inr (inl v)) = Count v
-tag_from (inr (inr v)) = Strange
+tag_from (inr (inl v)) = Again v.0 v.1
+tag_from (inr (inr (inl v))) = Count v
+tag_from (inr (inr (inr v))) = Strange
 
 tag_back : (x : Tag) → tag_from (tag_to x) ≡ x
 unfolding tag_from tag_to
 tag_back (Play number) = refl
+tag_back (Again x0 x1) = refl
 tag_back (Count x0) = refl
 tag_back Strange = refl
 
 pub coded_tag : Coded Tag
-coded_tag = code_by SumTag (coded⊎ coded_ℕ (coded⊎ coded_ℕ coded_unit)) tag_to tag_from tag_back
+coded_tag = code_by SumTag (coded⊎ coded_ℕ (coded⊎ (coded× coded_ℕ coded_ℕ) (coded⊎ coded_ℕ coded_unit))) tag_to tag_from tag_back
 
 -- the endings of a completion
 abbrev SumEnding : Type 0

@@ -1,7 +1,7 @@
 -- No completion and no request to go on stands among the untagged responses of a reply.
 use Rattle.std.proofs.Common.{◌≡◌, inl, inr, ℕ, List, ◌∷◌, Option, Some, None, refl, sym, subst}
 use Rattle.std.specs.List.{AllByRecursion}
-use Rattle.imap_model.specs.CarriedOut.{CarriesOut, EnableSays, SearchSays, IdsSay, MoveSays, ByeSays, RefusalSays, Fulfils, Refuses, Decides}
+use Rattle.imap_model.specs.CarriedOut.{CarriesOut, EnableSays, SearchSays, IdsSay, TextSays, MoveSays, ByeSays, RefusalSays, Fulfils, Refuses, Decides}
 use Rattle.imap_model.specs.Carrying.{Waiting}
 use Rattle.imap_model.specs.Remarks.{selected_box, MaySay, Remarks}
 use Rattle.imap_model.specs.SelectTells.{SelectSays, SelectTells}
@@ -71,8 +71,11 @@ refusal_no_done commands.FetchAll selected tag ending code h = no_done selected 
 refusal_no_done (commands.FetchRow uid) selected tag ending code h = no_done selected tag ending code h
 refusal_no_done (commands.Search from id) selected tag ending code h = no_done selected tag ending code h
 refusal_no_done (commands.FetchIds uids) selected tag ending code h = no_done selected tag ending code h
+refusal_no_done (commands.FetchText uid) selected tag ending code h = no_done selected tag ending code h
 refusal_no_done (commands.Store uid since add flags) selected tag ending code h = no_done selected tag ending code h
 refusal_no_done (commands.Shift uid to) selected tag ending code h = no_done selected tag ending code h
+refusal_no_done (commands.Copy uid to) selected tag ending code h = no_done selected tag ending code h
+refusal_no_done (commands.Expunge uid) selected tag ending code h = no_done selected tag ending code h
 refusal_no_done (commands.Append to flags octets) selected tag ending code h = no_done selected tag ending code h
 refusal_no_done commands.Logout selected tag ending code h = no_done selected tag ending code h
 
@@ -86,8 +89,11 @@ refusal_no_go commands.FetchAll selected h = no_go selected h
 refusal_no_go (commands.FetchRow uid) selected h = no_go selected h
 refusal_no_go (commands.Search from id) selected h = no_go selected h
 refusal_no_go (commands.FetchIds uids) selected h = no_go selected h
+refusal_no_go (commands.FetchText uid) selected h = no_go selected h
 refusal_no_go (commands.Store uid since add flags) selected h = no_go selected h
 refusal_no_go (commands.Shift uid to) selected h = no_go selected h
+refusal_no_go (commands.Copy uid to) selected h = no_go selected h
+refusal_no_go (commands.Expunge uid) selected h = no_go selected h
 refusal_no_go (commands.Append to flags octets) selected h = no_go selected h
 refusal_no_go commands.Logout selected h = no_go selected h
 
@@ -109,12 +115,19 @@ module _ (w : Waiting) (s : Server) (r : Replies) (t : Server) (after : Option (
   fulfilled (commands.FetchRow uid) x = remarks_before (Some x.box) r.untagged x.says
   fulfilled (commands.Search from id) x = all_before (SearchSays from id x.box) (no_done (Some x.box)) (no_go (Some x.box)) r.untagged x.says
   fulfilled (commands.FetchIds uids) x = all_before (IdsSay uids x.box) (no_done (Some x.box)) (no_go (Some x.box)) r.untagged x.says
+  fulfilled (commands.FetchText uid) x = all_before (TextSays uid x.box) (no_done (Some x.box)) (no_go (Some x.box)) r.untagged x.says
   fulfilled (commands.Store uid since add flags) (inl x) = remarks_before _ r.untagged x.says.untagged
   fulfilled (commands.Store uid since add flags) (inr x) = remarks_before _ r.untagged x.says
   fulfilled (commands.Shift uid to) (inl x) =
       let sel = selected_box w.selected t.boxes in
       all_before (MoveSays x.copied sel) (no_done sel) (no_go sel) r.untagged x.says
   fulfilled (commands.Shift uid to) (inr x) = remarks_before _ r.untagged x.says.untagged
+  fulfilled (commands.Copy uid to) (inl x) =
+      let sel = selected_box w.selected t.boxes in
+      all_before (MoveSays x.copied sel) (no_done sel) (no_go sel) r.untagged x.says
+  fulfilled (commands.Copy uid to) (inr x) = remarks_before _ r.untagged x.says.untagged
+  fulfilled (commands.Expunge uid) (inl x) = remarks_before _ r.untagged x.says.untagged
+  fulfilled (commands.Expunge uid) (inr x) = remarks_before _ r.untagged x.says.untagged
   fulfilled (commands.Append to flags octets) x = remarks_before _ r.untagged x.says
   fulfilled commands.Logout x =
       let sel = selected_box w.selected s.boxes in

@@ -1,17 +1,17 @@
 -- What a server does and tells as it carries out a command, all of it at one moment (RFC 9051, sections 6 and 7; RFC 7162,
--- sections 3.1 and 3.2; RFC 4315, section 3).
+-- sections 3.1 and 3.2; RFC 4315, sections 2.1 and 3).
 use Rattle.std.specs.Prelude.{◌≡◌, ◌⊎◌, ℕ, ◌≤◌, Bool, IsTrue, List, [], ◌∷◌, ◌++◌, Option, Some, None, Contains, codes, if◌then◌else◌}
 use Rattle.std.specs.List.{AllByRecursion, list_any}
 use Rattle.std.specs.Str.{bytes_eq}
 use Rattle.mail_base.specs.declared.tag.Tag.{Tag}
 use Rattle.uid_sets.specs.UidSet.{Member}
 use Rattle.uid_sets.specs.declared.uid.UidRange.{UidRange}
-use Rattle.imap_model.specs.Carrying.{Waiting, IsThere, Stores, StoresNothing, Moves, MovesNothing, Appends}
+use Rattle.imap_model.specs.Carrying.{Waiting, IsThere, Stores, StoresNothing, Moves, MovesNothing, Copies, Expunges, ExpungesNothing, Appends}
 use Rattle.imap_model.specs.Lookups.{box_at, message_at, validity_of}
 use Rattle.imap_model.specs.Remarks.{selected_box, MayCode, MaySay, Remarks, CodeTold, RowTold}
 use Rattle.imap_model.specs.Searching.{in_tail, lower, has_in_id, has_in_id_caseless}
 use Rattle.imap_model.specs.SelectTells.{SelectTells}
-use Rattle.imap_model.specs.ToldRows.{TellsIds}
+use Rattle.imap_model.specs.ToldRows.{TellsIds, TellsText}
 use Rattle.imap_model.specs.declared.code.Code.{Code}
 use Rattle.imap_model.specs.declared.code.Code.TheVariants as codings
 use Rattle.imap_model.specs.declared.command.Command.{Command}
@@ -129,6 +129,19 @@ IdsTold told m = (fetched : Fetched) × TellsIds m fetched × Contains told (res
 abbrev pub EachIds : List UidRange → Mailbox → List Response → Type 0
 EachIds uids b told = (uid : ℕ) (m : Message) → Member uids uid → message_at uid b.messages ≡ Some m → IdsTold told m
 
+-- FETCH of a message's text: where the UID is there. (Each text that is told is that of the message of this UID.)
+abbrev pub TextSays : ℕ → Mailbox → Response → Type 0
+TextSays uid b (responses.Fetch fetched) = MaySay (Some b) (responses.Fetch fetched)
+    ⊎ ((m : Message) × (message_at uid b.messages ≡ Some m) × TellsText m fetched)
+TextSays uid b response = MaySay (Some b) response
+
+-- the message's text is told
+abbrev pub TextTold : List Response → Message → Type 0
+TextTold told m = (fetched : Fetched) × TellsText m fetched × Contains told (responses.Fetch fetched)
+
+abbrev pub OneText : ℕ → Mailbox → List Response → Type 0
+OneText uid b told = (m : Message) → message_at uid b.messages ≡ Some m → TextTold told m
+
 -- STORE with effect: the message's new row is told, and no MODIFIED
 pub record Stored (uid since : ℕ) (add : Bool) (flags : List (List ℕ)) (w : Waiting) (s : Server) (r : Replies) (t : Server)
     (after : Option (List ℕ)) : Type 0 where
@@ -145,7 +158,7 @@ pub record Unstored (uid since : ℕ) (w : Waiting) (s : Server) (r : Replies) (
   pub code : MayCode (selected_box w.selected s.boxes) r.code ⊎ (r.code ≡ codings.Modified (only uid))
   pub modified : IsThere w.selected uid s → r.code ≡ codings.Modified (only uid)
 
--- MOVE with effect: COPYUID is told with this UID and the new one, and no other COPYUID
+-- MOVE or COPY with effect: COPYUID is told with this UID and the new one, and no other COPYUID
 abbrev pub MoveCode : Code → Option Mailbox → Code → Type 0
 MoveCode copied selected code = MayCode selected code ⊎ (code ≡ copied)
 
@@ -165,6 +178,32 @@ pub record Moved (uid : ℕ) (to : List ℕ) (w : Waiting) (s : Server) (r : Rep
 -- MOVE of a UID that isn't there: no COPYUID
 pub record Unmoved (uid : ℕ) (w : Waiting) (s : Server) (r : Replies) (t : Server) (after : Option (List ℕ)) : Type 0 where
   pub effect : MovesNothing w.selected uid s t
+  pub selection : after ≡ w.selected
+  pub says : SaysRemarks (selected_box w.selected s.boxes) r
+
+-- COPY with effect: COPYUID is told of the message that came, as by MOVE
+pub record Copied (uid : ℕ) (to : List ℕ) (w : Waiting) (s : Server) (r : Replies) (t : Server) (after : Option (List ℕ)) : Type 0 where
+  pub effect : Copies w.tag w.selected uid to s t
+  pub selection : after ≡ w.selected
+  pub copied : Code
+  pub copied_is : copied ≡ codings.CopyUid (validity_of (box_at to t.boxes)) (only uid) (only effect.received)
+  pub says : AllByRecursion (MoveSays copied (selected_box w.selected t.boxes)) r.untagged
+  pub code : MoveCode copied (selected_box w.selected t.boxes) r.code
+  pub told : CodeTold r.untagged r.code copied
+
+-- COPY of a UID that isn't there: no COPYUID
+abbrev pub Uncopied : ℕ → Waiting → Server → Replies → Server → Option (List ℕ) → Type 0
+Uncopied uid w s r t after = Unmoved uid w s r t after
+
+-- EXPUNGE with effect: that the message is gone may be told, as after any command
+pub record Expunged (uid : ℕ) (w : Waiting) (s : Server) (r : Replies) (t : Server) (after : Option (List ℕ)) : Type 0 where
+  pub effect : Expunges w.tag w.selected uid s t
+  pub selection : after ≡ w.selected
+  pub says : SaysRemarks (selected_box w.selected t.boxes) r
+
+-- EXPUNGE of a UID that isn't there, or whose message isn't marked as deleted
+pub record Unexpunged (uid : ℕ) (w : Waiting) (s : Server) (r : Replies) (t : Server) (after : Option (List ℕ)) : Type 0 where
+  pub effect : ExpungesNothing w.selected uid s t
   pub selection : after ≡ w.selected
   pub says : SaysRemarks (selected_box w.selected s.boxes) r
 
@@ -198,8 +237,11 @@ Fulfils commands.FetchAll w s r t after = Asks RowsSay EachRow w s r t after
 Fulfils (commands.FetchRow uid) w s r t after = Asks RowsSay (OneRow uid) w s r t after
 Fulfils (commands.Search from id) w s r t after = Asks (SearchSays from id) (EachFound from id) w s r t after
 Fulfils (commands.FetchIds uids) w s r t after = Asks (IdsSay uids) (EachIds uids) w s r t after
+Fulfils (commands.FetchText uid) w s r t after = Asks (TextSays uid) (OneText uid) w s r t after
 Fulfils (commands.Store uid since add flags) w s r t after = Stored uid since add flags w s r t after ⊎ Unstored uid since w s r t after
 Fulfils (commands.Shift uid to) w s r t after = Moved uid to w s r t after ⊎ Unmoved uid w s r t after
+Fulfils (commands.Copy uid to) w s r t after = Copied uid to w s r t after ⊎ Uncopied uid w s r t after
+Fulfils (commands.Expunge uid) w s r t after = Expunged uid w s r t after ⊎ Unexpunged uid w s r t after
 Fulfils (commands.Append to flags text) w s r t after = Appended to flags text w s r t after
 Fulfils commands.Logout w s r t after = LogsOut w s r t after
 
@@ -214,8 +256,11 @@ left_selected commands.FetchAll selected = selected
 left_selected (commands.FetchRow uid) selected = selected
 left_selected (commands.Search from id) selected = selected
 left_selected (commands.FetchIds uids) selected = selected
+left_selected (commands.FetchText uid) selected = selected
 left_selected (commands.Store uid since add flags) selected = selected
 left_selected (commands.Shift uid to) selected = selected
+left_selected (commands.Copy uid to) selected = selected
+left_selected (commands.Expunge uid) selected = selected
 left_selected (commands.Append to flags octets) selected = selected
 left_selected commands.Logout selected = selected
 
@@ -230,10 +275,13 @@ RefusalCode commands.FetchAll w s code = MayCode (selected_box w.selected s.boxe
 RefusalCode (commands.FetchRow uid) w s code = MayCode (selected_box w.selected s.boxes) code
 RefusalCode (commands.Search from id) w s code = MayCode (selected_box w.selected s.boxes) code
 RefusalCode (commands.FetchIds uids) w s code = MayCode (selected_box w.selected s.boxes) code
+RefusalCode (commands.FetchText uid) w s code = MayCode (selected_box w.selected s.boxes) code
 RefusalCode (commands.Store uid since add flags) w s code =
     MayCode (selected_box w.selected s.boxes) code
     ⊎ ((code ≡ codings.Modified (only uid)) × ((found : IsThere w.selected uid s) → found.message.modseq ≤ since → ⊥))
 RefusalCode (commands.Shift uid to) w s code = MayCode (selected_box w.selected s.boxes) code
+RefusalCode (commands.Copy uid to) w s code = MayCode (selected_box w.selected s.boxes) code
+RefusalCode (commands.Expunge uid) w s code = MayCode (selected_box w.selected s.boxes) code
 RefusalCode (commands.Append to flags octets) w s code = MayCode (selected_box w.selected s.boxes) code
 RefusalCode commands.Logout w s code = MayCode (selected_box w.selected s.boxes) code
 
@@ -253,8 +301,11 @@ RefusalSays commands.FetchAll selected response = MaySay selected response
 RefusalSays (commands.FetchRow uid) selected response = MaySay selected response
 RefusalSays (commands.Search from id) selected response = MaySay selected response
 RefusalSays (commands.FetchIds uids) selected response = MaySay selected response
+RefusalSays (commands.FetchText uid) selected response = MaySay selected response
 RefusalSays (commands.Store uid since add flags) selected response = MaySay selected response
 RefusalSays (commands.Shift uid to) selected response = MaySay selected response
+RefusalSays (commands.Copy uid to) selected response = MaySay selected response
+RefusalSays (commands.Expunge uid) selected response = MaySay selected response
 RefusalSays (commands.Append to flags octets) selected response = MaySay selected response
 RefusalSays commands.Logout selected response = MaySay selected response
 

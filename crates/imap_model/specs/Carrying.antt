@@ -1,5 +1,6 @@
--- What a command does to the server where it is answered OK (RFC 9051, sections 6.3.12, 6.4.6 and 6.4.8; RFC 7162, section 3.1.3).
-use Rattle.std.specs.Prelude.{◌≡◌, ℕ, ◌≤◌, ◌⊎◌, Bool, true, false, not, ◌&&◌, ◌||◌, List, Option, Some}
+-- What a command does to the server where it is answered OK (RFC 9051, sections 6.3.12 and 6.4.6 to 6.4.9; RFC 4315, section 2.1; RFC 7162,
+-- section 3.1.3).
+use Rattle.std.specs.Prelude.{◌≡◌, ℕ, ◌≤◌, ◌⊎◌, Bool, true, false, IsTrue, not, ◌&&◌, ◌||◌, List, Option, Some, codes}
 use Rattle.flag_set.specs.FlagSet.{has}
 use Rattle.mail_base.specs.declared.tag.Tag.{Tag}
 use Rattle.imap_model.specs.Lookups.{box_at, message_at}
@@ -51,9 +52,35 @@ pub record Moves (tag : Tag) (selected : Option (List ℕ)) (uid : ℕ) (to : Li
   pub received : ℕ
   pub becomes : Changes old.boxes (Ours tag) found.name (changes.Shift uid to received) old new
 
--- the message isn't there, and nothing changes
+-- the message isn't there, and nothing changes: of a MOVE, and of a COPY
 pub record MovesNothing (selected : Option (List ℕ)) (uid : ℕ) (old new : Server) : Type 0 where
   pub absent : IsThere selected uid old → ⊥
+  pub stays : new ≡ old
+
+-- A message with its flags and its text comes to the mailbox, and the message itself stays. The mailbox may be the selected one, where it comes
+-- a second time (RFC 9051, section 6.4.7).
+pub record Copies (tag : Tag) (selected : Option (List ℕ)) (uid : ℕ) (to : List ℕ) (old new : Server) : Type 0 where
+  pub found : IsThere selected uid old
+  pub received : ℕ
+  pub becomes : Changes old.boxes (Ours tag) to (changes.Add found.message.flags found.message.text received) old new
+
+-- the flag of a message that an EXPUNGE takes away, as it is kept: in lower case (RFC 9051, section 2.3.2)
+abbrev pub deleted : List ℕ
+deleted = codes "\\deleted"
+
+-- the message is there, and is marked as deleted
+pub record IsDeleted (selected : Option (List ℕ)) (uid : ℕ) (old : Server) : Type 0 where
+  pub found : IsThere selected uid old
+  pub marked : IsTrue (has found.message.flags deleted)
+
+-- the message is marked as deleted, and goes
+pub record Expunges (tag : Tag) (selected : Option (List ℕ)) (uid : ℕ) (old new : Server) : Type 0 where
+  pub is : IsDeleted selected uid old
+  pub becomes : Changes old.boxes (Ours tag) is.found.name (changes.Drop uid) old new
+
+-- the message isn't there, or isn't marked as deleted, and nothing changes
+pub record ExpungesNothing (selected : Option (List ℕ)) (uid : ℕ) (old new : Server) : Type 0 where
+  pub not_deleted : IsDeleted selected uid old → ⊥
   pub stays : new ≡ old
 
 -- the message comes to the mailbox
@@ -72,8 +99,11 @@ Accepted selected tag commands.FetchAll old new = new ≡ old
 Accepted selected tag (commands.FetchRow uid) old new = new ≡ old
 Accepted selected tag (commands.Search from id) old new = new ≡ old
 Accepted selected tag (commands.FetchIds uids) old new = new ≡ old
+Accepted selected tag (commands.FetchText uid) old new = new ≡ old
 Accepted selected tag (commands.Store uid since add flags) old new = Stores tag selected uid since add flags old new ⊎ StoresNothing selected uid since old new
 Accepted selected tag (commands.Shift uid to) old new = Moves tag selected uid to old new ⊎ MovesNothing selected uid old new
+Accepted selected tag (commands.Copy uid to) old new = Copies tag selected uid to old new ⊎ MovesNothing selected uid old new
+Accepted selected tag (commands.Expunge uid) old new = Expunges tag selected uid old new ⊎ ExpungesNothing selected uid old new
 Accepted selected tag (commands.Append to flags octets) old new = Appends tag to flags octets old new
 Accepted selected tag commands.Logout old new = new ≡ old
 

@@ -1,6 +1,6 @@
 -- What one change of a mailbox does, and what others do at one moment (RFC 9051, sections 2.3.1.1 and 2.3.2; RFC 7162, section 3.1).
-use Rattle.std.specs.Prelude.{◌≡◌, ◌≢◌, ℕ, ◌-◌, ◌≤◌, ◌<◌, ◌^◌, max, List, [], ◌∷◌, ◌++◌, Contains, Some}
-use Rattle.imap_model.specs.Lookups.{box_at, put_box, message_at, put_message, without_message, highest_of, validity_of}
+use Rattle.std.specs.Prelude.{◌≡◌, ◌≢◌, ℕ, ◌+◌, ◌-◌, ◌≤◌, ◌<◌, ◌^◌, max, List, [], ◌∷◌, ◌++◌, length, Contains, Some}
+use Rattle.imap_model.specs.Lookups.{box_at, put_box, message_at, put_message, without_message, renumbered, highest_of, validity_of}
 use Rattle.imap_model.specs.declared.server.Message.{Message}
 use Rattle.imap_model.specs.declared.server.Mailbox.{Mailbox}
 use Rattle.imap_model.specs.declared.server.Server.{Server}
@@ -54,6 +54,25 @@ pub record Drops (floor uid : ℕ) (old new : Mailbox) : Type 0 where
         old.gone ++ record { uid = uid; modseq = modseq } ∷ [];
   }
 
+-- numbers rise, from this one on and below that one
+abbrev pub RiseBelow : ℕ → ℕ → List ℕ → Type 0
+RiseBelow from below [] = Unit {0}
+RiseBelow from below (u ∷ us) = (from ≤ u) × (u < below) × RiseBelow (u + 1) below us
+
+-- A mailbox is renewed under a greater UIDVALIDITY: its messages get these UIDs, in their order, and this mod-sequence; which UIDs went is
+-- forgotten.
+pub record Resets (validity : ℕ) (uids : List ℕ) (uidnext highest : ℕ) (old new : Mailbox) : Type 0 where
+  pub above : old.validity < validity
+  pub rise : RiseBelow 1 uidnext uids
+  pub as_many : length uids ≡ length old.messages
+  pub becomes : new ≡ record old {
+    validity = validity;
+    uidnext = uidnext;
+    highest = highest;
+    messages = renumbered uids highest old.messages;
+    gone = [];
+  }
+
 -- the mailbox of this name becomes another, and the others stay
 pub record Rewrites (Becomes : Mailbox → Mailbox → Type 0) (name : List ℕ) (old new : List Mailbox) : Type 0 where
   pub before : Mailbox
@@ -83,6 +102,7 @@ Effect base name (changes.Add flags text uid) old new = Rewrites (Adds (floor_of
 Effect base name (changes.SetFlags uid flags) old new = Rewrites (Sets (floor_of base name) uid flags) name old new
 Effect base name (changes.Drop uid) old new = Rewrites (Drops (floor_of base name) uid) name old new
 Effect base name (changes.Shift uid to received) old new = Shifts (floor_of base) name uid to received old new
+Effect base name (changes.Reset validity uids uidnext highest) old new = Rewrites (Resets validity uids uidnext highest) name old new
 
 -- the mailbox that a change puts a message in, or the changed one
 abbrev pub receiver : List ℕ → Change → List ℕ
@@ -90,6 +110,7 @@ receiver name (changes.Add flags text uid) = name
 receiver name (changes.SetFlags uid flags) = name
 receiver name (changes.Drop uid) = name
 receiver name (changes.Shift uid to received) = to
+receiver name (changes.Reset validity uids uidnext highest) = name
 
 -- a change as the history keeps it
 abbrev pub deed_of : Author → List ℕ → Change → List Mailbox → Deed

@@ -1,5 +1,5 @@
 -- What holds of every change (RFC 9051, section 2.3.1.1; RFC 7162, section 3.1): a server stays well formed, its mailboxes
--- go on, and the five rules tell which changes are possible.
+-- go on, and the eight rules tell which changes are possible.
 use Rattle.std.specs.Prelude.{◌≡◌, ℕ, List, None}
 use Rattle.imap_model.specs.Changes.{Changes, Batch}
 use Rattle.imap_model.specs.Evolving.{EvolvesFrom}
@@ -24,7 +24,7 @@ ChangesStayWell = (base : List Mailbox) (author : Author) (name : List ℕ) (cha
 abbrev pub BatchesStayWell : Type 0
 BatchesStayWell = (old new : Server) → IsWellFormed old.boxes → Batch old.boxes old new → StayWell old.boxes old.boxes new.boxes
 
--- A change is possible exactly where it breaks none of the five rules; the plain program makes it.
+-- A change is possible exactly where it breaks none of the eight rules; the plain program makes it.
 pub record RulesDecide : Type 0 where
   pub possible : (author : Author) (name : List ℕ) (change : Change) (old : Server) → IsWellFormed old.boxes → broken_rule old.boxes name change ≡ None
       → Changes old.boxes author name change old (with_change author name change old)

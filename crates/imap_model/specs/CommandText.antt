@@ -1,4 +1,4 @@
--- The one text of each command (RFC 9051, section 6; RFC 7162, sections 3.1.3 and 3.2.5), in the parts in which it is sent.
+-- The one text of each command (RFC 9051, section 6; RFC 7162, sections 3.1.3 and 3.2.5; RFC 4315, section 2.1), in the parts in which it is sent.
 use Rattle.std.specs.Prelude.{ℕ, Bool, Option, Some, None, List, [], ◌∷◌, ◌++◌, if◌then◌else◌, Contains}
 use Rattle.base64.specs.Engines.{standard}
 use Rattle.base64.specs.GeneralPurpose.{encode_of}
@@ -37,9 +37,12 @@ command_parts commands.FetchAll = words "UID FETCH 1:* (UID FLAGS MODSEQ)"
 command_parts (commands.FetchRow uid) = words "UID FETCH " ⌢ number uid ⌢ words " (UID FLAGS MODSEQ)"
 command_parts (commands.Search from id) = words "UID SEARCH UID " ⌢ number from ⌢ words ":* HEADER Message-ID " ⌢ astring_parts id
 command_parts (commands.FetchIds uids) = words "UID FETCH " ⌢ line (set_text uids) ⌢ words " (UID BODY.PEEK[HEADER.FIELDS (MESSAGE-ID)])"
+command_parts (commands.FetchText uid) = words "UID FETCH " ⌢ number uid ⌢ words " (UID BODY.PEEK[])"
 command_parts (commands.Store uid since add flags) =
     words "UID STORE " ⌢ number uid ⌢ words " (UNCHANGEDSINCE " ⌢ number since ⌢ words ") " ⌢ sign add ⌢ words "FLAGS (" ⌢ line (list_text flags) ⌢ words ")"
 command_parts (commands.Shift uid to) = words "UID MOVE " ⌢ number uid ⌢ words " " ⌢ astring_parts to
+command_parts (commands.Copy uid to) = words "UID COPY " ⌢ number uid ⌢ words " " ⌢ astring_parts to
+command_parts (commands.Expunge uid) = words "UID EXPUNGE " ⌢ number uid
 command_parts (commands.Append to flags octets) = words "APPEND " ⌢ astring_parts to ⌢ words " (" ⌢ line (list_text flags) ⌢ words ") " ⌢ literal octets
 command_parts commands.Logout = words "LOGOUT"
 
@@ -58,8 +61,11 @@ IsCarried commands.FetchAll = Unit {0}
 IsCarried (commands.FetchRow uid) = Unit {0}
 IsCarried (commands.Search from id) = ¬ (Contains id 0)
 IsCarried (commands.FetchIds uids) = Unit {0}
+IsCarried (commands.FetchText uid) = Unit {0}
 IsCarried (commands.Store uid since add flags) = Unit {0}
 IsCarried (commands.Shift uid to) = Unit {0}
+IsCarried (commands.Copy uid to) = Unit {0}
+IsCarried (commands.Expunge uid) = Unit {0}
 IsCarried (commands.Append to flags octets) = Unit {0}
 IsCarried commands.Logout = Unit {0}
 

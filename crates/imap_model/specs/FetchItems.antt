@@ -18,6 +18,7 @@ pub data Told : Type 0 where
   FlagsAre : (flags : List (List ℕ)) → Told
   ModSeqIs : (modseq : ℕ) → Told
   IdsAre : (ids : List ℕ) → Told
+  TextIs : (text : List ℕ) → Told
   Nothing : Told
 
 -- "UID" SP uniqueid
@@ -78,6 +79,16 @@ pub record IsIdsItem (parts : List Part) (ids : List ℕ) : Type 0 where
   pub told : IsNstring value ids
   pub whole : parts ≡ bytes (name ++ 91 ∷ []) ++ inside ++ bytes (93 ∷ gap) ++ value
 
+-- "BODY" "[" "]" SP nstring: the whole text
+pub record IsTextItem (parts : List Part) (text : List ℕ) : Type 0 where
+  pub name : List ℕ
+  pub named : SameWord name (codes "BODY")
+  pub gap : List ℕ
+  pub spaces : IsGap gap
+  pub value : List Part
+  pub told : IsNstring value text
+  pub whole : parts ≡ bytes (name ++ 91 ∷ 93 ∷ gap) ++ value
+
 -- the names of the items without brackets that have a meaning here
 abbrev pub known_items : List (List ℕ)
 known_items = codes "UID" ∷ codes "FLAGS" ∷ codes "MODSEQ" ∷ []
@@ -90,7 +101,7 @@ IsOtherName parts = (name : List ℕ) × IsAtom name × (list_any (λ known. str
 abbrev pub IsOrigin : List ℕ → Type 0
 IsOrigin text = (text ≡ []) ⊎ ((digits : List ℕ) × IsNumeral 10 digits × (text ≡ 60 ∷ (digits ++ 62 ∷ [])))
 
--- a name with a section, which isn't that of the identifiers, or is one with an origin behind it
+-- a name with a section, which is neither that of the identifiers nor that of the whole text, or is one of these with an origin behind it
 pub record IsSectionName (parts : List Part) : Type 0 where
   pub name : List ℕ
   pub atom : IsAtom name
@@ -99,6 +110,7 @@ pub record IsSectionName (parts : List Part) : Type 0 where
   pub origin : List ℕ
   pub origins : IsOrigin origin
   pub other : SameWord name (codes "BODY") → IsIdSection inside → origin ≢ []
+  pub no_text : SameWord name (codes "BODY") → inside ≡ [] → origin ≢ []
   pub whole : parts ≡ bytes (name ++ 91 ∷ []) ++ inside ++ bytes (93 ∷ origin)
 
 -- any other name and a value
@@ -117,6 +129,7 @@ IsItem parts (UidIs uid) = IsUidItem parts uid
 IsItem parts (FlagsAre flags) = IsFlagsItem parts flags
 IsItem parts (ModSeqIs modseq) = IsModSeqItem parts modseq
 IsItem parts (IdsAre ids) = IsIdsItem parts ids
+IsItem parts (TextIs text) = IsTextItem parts text
 IsItem parts Nothing = IsOtherItem parts
 
 -- one item or more, with spaces between
@@ -133,6 +146,7 @@ with_told fetched (UidIs uid) = record fetched { uid = Some uid }
 with_told fetched (FlagsAre flags) = record fetched { flags = Some flags }
 with_told fetched (ModSeqIs modseq) = record fetched { modseq = Some modseq }
 with_told fetched (IdsAre ids) = record fetched { ids = Some ids }
+with_told fetched (TextIs text) = record fetched { text = Some text }
 with_told fetched Nothing = fetched
 
 -- what the items tell together

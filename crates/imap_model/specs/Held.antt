@@ -43,8 +43,11 @@ IsHeld commands.FetchAll = Unit {0}
 IsHeld (commands.FetchRow uid) = IsNonzero32 uid
 IsHeld (commands.Search from id) = IsNonzero32 from × IsText id
 IsHeld (commands.FetchIds uids) = IsCanonical uids
+IsHeld (commands.FetchText uid) = IsNonzero32 uid
 IsHeld (commands.Store uid since add flags) = IsNonzero32 uid × IsModSeq since × IsFlagSet flags
 IsHeld (commands.Shift uid to) = IsNonzero32 uid × IsBoxName to
+IsHeld (commands.Copy uid to) = IsNonzero32 uid × IsBoxName to
+IsHeld (commands.Expunge uid) = IsNonzero32 uid
 IsHeld (commands.Append to flags octets) = IsBoxName to × IsFlagSet flags × IsText octets
 IsHeld commands.Logout = Unit {0}
 

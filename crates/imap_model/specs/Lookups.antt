@@ -30,6 +30,12 @@ abbrev pub without_message : ℕ → List Message → List Message
 without_message uid [] = []
 without_message uid (m ∷ ms) = if m.uid == uid then without_message uid ms else m ∷ without_message uid ms
 
+-- the messages under new UIDs, in their order, all with one mod-sequence
+abbrev pub renumbered : List ℕ → ℕ → List Message → List Message
+renumbered [] highest ms = []
+renumbered (u ∷ us) highest [] = []
+renumbered (u ∷ us) highest (m ∷ ms) = record m { uid = u; modseq = highest } ∷ renumbered us highest ms
+
 -- the mod-sequence at which a UID went
 abbrev pub gone_at : ℕ → List Gone → Option ℕ
 gone_at uid [] = None

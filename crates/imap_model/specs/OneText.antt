@@ -5,7 +5,7 @@ use Rattle.flag_set.specs.FlagSet.{IsFlagSet}
 use Rattle.mail_base.specs.Account.{Credentials, IsPlain}
 use Rattle.mail_base.specs.BoxName.{IsBoxName}
 use Rattle.mail_base.specs.declared.tag.Tag.{Tag}
-use Rattle.mail_base.specs.declared.tag.Tag.TheVariants.{Play, Count, Strange}
+use Rattle.mail_base.specs.declared.tag.Tag.TheVariants.{Play, Again, Count, Strange}
 use Rattle.uid_sets.specs.UidSet.{IsCanonical}
 use Rattle.imap_model.specs.CommandText.{IsWritable, parts_of}
 use Rattle.imap_model.specs.declared.mark.Mark.{Mark}
@@ -39,14 +39,18 @@ IsKept commands.FetchAll = Unit {0}
 IsKept (commands.FetchRow uid) = uid < 2 ^ 32
 IsKept (commands.Search from id) = (from < 2 ^ 32) × IsText id
 IsKept (commands.FetchIds uids) = IsCanonical uids
+IsKept (commands.FetchText uid) = uid < 2 ^ 32
 IsKept (commands.Store uid since add flags) = (uid < 2 ^ 32) × (since < 2 ^ 63) × IsFlagSet flags
 IsKept (commands.Shift uid to) = (uid < 2 ^ 32) × IsBoxName to
+IsKept (commands.Copy uid to) = (uid < 2 ^ 32) × IsBoxName to
+IsKept (commands.Expunge uid) = uid < 2 ^ 32
 IsKept (commands.Append to flags octets) = IsBoxName to × IsFlagSet flags × IsText octets
 IsKept commands.Logout = Unit {0}
 
 -- a tag as its type keeps it
 abbrev pub IsKeptTag : Tag → Type 0
 IsKeptTag (Play n) = n < 2 ^ 32
+IsKeptTag (Again n t) = n < 2 ^ 32
 IsKeptTag (Count n) = n < 2 ^ 32
 IsKeptTag Strange = Unit {0}
 

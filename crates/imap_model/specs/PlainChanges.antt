@@ -2,7 +2,7 @@
 -- highest, and after a message came UIDNEXT is one above its UID. A server may choose otherwise.
 use Rattle.std.specs.Prelude.{ℕ, ◌+◌, List, [], ◌∷◌, ◌++◌, Option, Some, None}
 use Rattle.imap_model.specs.Changes.{deed_of}
-use Rattle.imap_model.specs.Lookups.{box_at, put_box, message_at, put_message, without_message}
+use Rattle.imap_model.specs.Lookups.{box_at, put_box, message_at, put_message, without_message, renumbered}
 use Rattle.imap_model.specs.declared.server.Message.{Message}
 use Rattle.imap_model.specs.declared.server.Mailbox.{Mailbox}
 use Rattle.imap_model.specs.declared.server.Server.{Server}
@@ -35,6 +35,16 @@ dropped uid b = record b {
       b.gone ++ record { uid = uid; modseq = b.highest + 1 } ∷ [];
 }
 
+-- a mailbox that is renewed
+abbrev pub renewed : ℕ → List ℕ → ℕ → ℕ → Mailbox → Mailbox
+renewed validity uids uidnext highest b = record b {
+  validity = validity;
+  uidnext = uidnext;
+  highest = highest;
+  messages = renumbered uids highest b.messages;
+  gone = [];
+}
+
 -- the mailboxes with another in place of this one, if there is one
 abbrev pub put_changed : (Mailbox → Mailbox) → Option Mailbox → List Mailbox → List Mailbox
 put_changed f None boxes = boxes
@@ -60,6 +70,7 @@ changed name (changes.Add flags text uid) boxes = with_box (added flags text uid
 changed name (changes.SetFlags uid flags) boxes = with_box (reflagged uid flags) name boxes
 changed name (changes.Drop uid) boxes = with_box (dropped uid) name boxes
 changed name (changes.Shift uid to new) boxes = moved (message_in uid (box_at name boxes)) to new (with_box (dropped uid) name boxes)
+changed name (changes.Reset validity uids uidnext highest) boxes = with_box (renewed validity uids uidnext highest) name boxes
 
 -- the server after it
 abbrev pub with_change : Author → List ℕ → Change → Server → Server

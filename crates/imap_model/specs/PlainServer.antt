@@ -4,16 +4,17 @@ use Rattle.std.specs.Prelude.{ℕ, ◌==◌, ◌&&◌, nat_lt, nat_le, Bool, fal
 use Rattle.std.specs.Prelude.{map, filter, codes, if◌then◌else◌}
 use Rattle.std.specs.List.{list_any}
 use Rattle.std.specs.Str.{bytes_eq}
-use Rattle.flag_set.specs.FlagSet.{union, minus}
+use Rattle.flag_set.specs.FlagSet.{has, union, minus}
 use Rattle.mail_base.specs.declared.tag.Tag.{Tag}
 use Rattle.uid_sets.specs.declared.uid.UidRange.{UidRange}
 use Rattle.imap_model.specs.CarriedOut.{only}
+use Rattle.imap_model.specs.Carrying.{deleted}
 use Rattle.imap_model.specs.Lawful.{broken_rule}
 use Rattle.imap_model.specs.Lookups.{box_at, message_at, validity_of}
 use Rattle.imap_model.specs.PlainChanges.{with_change}
 use Rattle.imap_model.specs.Remarks.{selected_box}
 use Rattle.imap_model.specs.Searching.{in_tail, lower, has_in_id_caseless}
-use Rattle.imap_model.specs.ToldRows.{told_flags, row_of, ids_of}
+use Rattle.imap_model.specs.ToldRows.{told_flags, row_of, ids_of, text_of}
 use Rattle.imap_model.specs.UidLists.{set_of}
 use Rattle.imap_model.specs.declared.code.Code.{Code}
 use Rattle.imap_model.specs.declared.code.Code.TheVariants as codings
@@ -144,6 +145,11 @@ is_named uids m = list_any (λ range. nat_le range.low m.uid && nat_le m.uid ran
 abbrev pub ids_in : List UidRange → List Message → List Response
 ids_in uids messages = map (λ m. responses.Fetch (ids_of m)) (filter (is_named uids) messages)
 
+-- FETCH of a text: no line where the UID isn't there
+abbrev pub text_if : Option Message → List Response
+text_if None = []
+text_if (Some m) = responses.Fetch (text_of m) ∷ []
+
 -- a change by this client, unless a rule forbids it
 abbrev pub change_turn : Option (List ℕ) → Tag → List ℕ → Change → Server → (Server → Replies) → Turn
 change_turn selected tag name change s reply =
@@ -192,6 +198,37 @@ abbrev pub move_turn : Option (List ℕ) → Tag → ℕ → List ℕ → Server
 move_turn None tag uid to s = answered None s (denied codings.Other)
 move_turn (Some name) tag uid to s = move_in name tag uid to s (box_at name s.boxes) (box_at to s.boxes)
 
+-- COPY: a UID that isn't there is passed over; what came has the UIDNEXT that its mailbox had
+abbrev pub copy_message : List ℕ → Tag → ℕ → List ℕ → Server → Mailbox → Option Message → Turn
+copy_message name tag uid to s target None = answered (Some name) s (accepted [] codings.None)
+copy_message name tag uid to s target (Some m) =
+    change_turn (Some name) tag to (changes.Add m.flags m.text target.uidnext) s (λ t. accepted [] (copied_code uid to target.uidnext t))
+
+abbrev pub copy_in : List ℕ → Tag → ℕ → List ℕ → Server → Option Mailbox → Option Mailbox → Turn
+copy_in name tag uid to s None target = answered (Some name) s (denied codings.Other)
+copy_in name tag uid to s (Some b) None = answered (Some name) s (denied codings.Other)
+copy_in name tag uid to s (Some b) (Some target) = copy_message name tag uid to s target (message_at uid b.messages)
+
+abbrev pub copy_turn : Option (List ℕ) → Tag → ℕ → List ℕ → Server → Turn
+copy_turn None tag uid to s = answered None s (denied codings.Other)
+copy_turn (Some name) tag uid to s = copy_in name tag uid to s (box_at name s.boxes) (box_at to s.boxes)
+
+-- EXPUNGE: a UID that isn't there is passed over, and so is a message that isn't marked as deleted
+abbrev pub expunge_message : List ℕ → Tag → ℕ → Server → Option Message → Turn
+expunge_message name tag uid s None = answered (Some name) s (accepted [] codings.None)
+expunge_message name tag uid s (Some m) =
+    if has m.flags deleted then
+    change_turn (Some name) tag name (changes.Drop uid) s (λ t. accepted (responses.Vanished false (only uid) ∷ []) codings.None)
+    else answered (Some name) s (accepted [] codings.None)
+
+abbrev pub expunge_in : List ℕ → Tag → ℕ → Server → Option Mailbox → Turn
+expunge_in name tag uid s None = answered (Some name) s (denied codings.Other)
+expunge_in name tag uid s (Some b) = expunge_message name tag uid s (message_at uid b.messages)
+
+abbrev pub expunge_turn : Option (List ℕ) → Tag → ℕ → Server → Turn
+expunge_turn None tag uid s = answered None s (denied codings.Other)
+expunge_turn (Some name) tag uid s = expunge_in name tag uid s (box_at name s.boxes)
+
 -- APPEND: NO where the mailbox is missing, or is the one that nothing is appended to
 abbrev pub is_closed : Option (List ℕ) → List ℕ → Bool
 is_closed None name = false
@@ -218,8 +255,12 @@ turn_of c selected tag (commands.Search from id) s =
     question_turn selected s (λ b. accepted (responses.Found (set_of (found_in from id b.messages)) ∷ []) codings.None) (selected_box selected s.boxes)
 turn_of c selected tag (commands.FetchIds uids) s =
     question_turn selected s (λ b. accepted (ids_in uids b.messages) (fetch_code c b)) (selected_box selected s.boxes)
+turn_of c selected tag (commands.FetchText uid) s =
+    question_turn selected s (λ b. accepted (text_if (message_at uid b.messages)) (fetch_code c b)) (selected_box selected s.boxes)
 turn_of c selected tag (commands.Store uid since add flags) s = store_turn selected tag uid since add flags s
 turn_of c selected tag (commands.Shift uid to) s = move_turn selected tag uid to s
+turn_of c selected tag (commands.Copy uid to) s = copy_turn selected tag uid to s
+turn_of c selected tag (commands.Expunge uid) s = expunge_turn selected tag uid s
 turn_of c selected tag (commands.Append to flags text) s =
     if is_closed c.closed to then answered selected s (denied codings.Other) else append_turn selected tag to flags text s (box_at to s.boxes)
 turn_of c selected tag commands.Logout s = answered selected s (accepted (responses.Bye ∷ []) codings.None)

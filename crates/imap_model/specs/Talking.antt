@@ -85,6 +85,7 @@ pub data Answering (p : Peer) : Peer → Type 0 where
 -- out before the next greeting or never (this client's premise).
 pub data Connecting (p : Peer) : Peer → Type 0 where
   as_before : {q : Peer} → Answering p q → Connecting p q
+  ends : Connecting p (record p { talk = record p.talk { selected = None; arriving = None } })
   begins : (greeting : Response) → IsGreeting greeting → Connecting p (record { server = p.server; waiting = None; talk = greeted greeting })
 
 -- a part of a command's text, with the parts before it and behind it

@@ -37,6 +37,10 @@ id_fields text = id_lines (whole_header text)
 abbrev pub ids_of : Message → Fetched
 ids_of m = record nothing_fetched { uid = Some m.uid; ids = Some (id_fields m.text) }
 
+-- a message's UID and its whole text
+abbrev pub text_of : Message → Fetched
+text_of m = record nothing_fetched { uid = Some m.uid; text = Some m.text }
+
 -- nothing, or this
 abbrev pub NoneOr : {A : Type 0} → A → Option A → Type 0
 NoneOr value told = (told ≡ None) ⊎ (told ≡ Some value)
@@ -46,3 +50,9 @@ pub record TellsIds (m : Message) (fetched : Fetched) : Type 0 where
   pub flags : NoneOr (told_flags m.flags) fetched.flags
   pub modseq : NoneOr m.modseq fetched.modseq
   pub ids : fetched ≡ record (ids_of m) { flags = fetched.flags; modseq = fetched.modseq }
+
+-- A message's UID and its whole text. A server may tell its flags and its mod-sequence with them.
+pub record TellsText (m : Message) (fetched : Fetched) : Type 0 where
+  pub flags : NoneOr (told_flags m.flags) fetched.flags
+  pub modseq : NoneOr m.modseq fetched.modseq
+  pub text : fetched ≡ record (text_of m) { flags = fetched.flags; modseq = fetched.modseq }

@@ -4,4 +4,4 @@ use Rattle.imap_model.specs.declared.fetched.Fetched.{Fetched}
 
 -- nothing: every other `Fetched` of the definitions is this one with some items in place of its own
 abbrev pub nothing_fetched : Fetched
-nothing_fetched = record { uid = None; flags = None; modseq = None; ids = None }
+nothing_fetched = record { uid = None; flags = None; modseq = None; ids = None; text = None }

@@ -1,4 +1,4 @@
-//! The commands that this client sends (RFC 9051, section 6; RFC 7162, sections 3.1.3 and 3.2.5).
+//! The commands that this client sends (RFC 9051, section 6; RFC 7162, sections 3.1.3 and 3.2.5; RFC 4315, section 2.1).
 
 ghost use Rattle.std.specs.Prelude.{◌≡◌, ◌↔◌, IsTrue, IfOk};
 ghost use Rattle.imap_model.specs.CommandText.{IsWritable};
@@ -48,6 +48,10 @@ pub enum Command {
     FetchIds {
         uids: UidSet,
     },
+    /// UID FETCH of one message's whole text, which leaves its flags as they are.
+    FetchText {
+        uid: Uid,
+    },
     /// UID STORE: the flags are added, or taken away, where the message's mod-sequence is at most `since`.
     Store {
         uid: Uid,
@@ -59,6 +63,15 @@ pub enum Command {
     Shift {
         uid: Uid,
         to: BoxName,
+    },
+    /// UID COPY of one message.
+    Copy {
+        uid: Uid,
+        to: BoxName,
+    },
+    /// UID EXPUNGE of one message: it goes where it has the flag `\Deleted`.
+    Expunge {
+        uid: Uid,
     },
     /// APPEND of one message.
     Append {
@@ -77,7 +90,11 @@ impl Command {
     {
         matches!(
             self,
-            Command::Store { .. } | Command::Shift { .. } | Command::Append { .. }
+            Command::Store { .. }
+                | Command::Shift { .. }
+                | Command::Copy { .. }
+                | Command::Expunge { .. }
+                | Command::Append { .. }
         )
     }
 
@@ -99,8 +116,11 @@ impl Command {
             | Command::FetchAll
             | Command::FetchRow { .. }
             | Command::FetchIds { .. }
+            | Command::FetchText { .. }
             | Command::Store { .. }
             | Command::Shift { .. }
+            | Command::Copy { .. }
+            | Command::Expunge { .. }
             | Command::Append { .. }
             | Command::Logout => true,
         }
@@ -130,6 +150,7 @@ impl Command {
                 id: id.copy()?,
             }),
             Command::FetchIds { uids } => Ok(Command::FetchIds { uids: uids.copy()? }),
+            Command::FetchText { uid } => Ok(Command::FetchText { uid: *uid }),
             Command::Store {
                 uid,
                 since,
@@ -145,6 +166,11 @@ impl Command {
                 uid: *uid,
                 to: to.copy(),
             }),
+            Command::Copy { uid, to } => Ok(Command::Copy {
+                uid: *uid,
+                to: to.copy(),
+            }),
+            Command::Expunge { uid } => Ok(Command::Expunge { uid: *uid }),
             Command::Append { to, flags, text } => Ok(Command::Append {
                 to: to.copy(),
                 flags: flags.copy()?,
@@ -161,6 +187,7 @@ fn is_command_tag(tag: Tag) -> bool
 {
     match tag {
         Tag::Play(number) | Tag::Count(number) => number > 0,
+        Tag::Again { id, turn } => id > 0 && turn >= 2 && turn <= 3,
         Tag::Strange => false,
     }
 }

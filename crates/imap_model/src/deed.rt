@@ -3,7 +3,7 @@
 ghost use Rattle.std.specs.Prelude.{◌≡◌, IfOk};
 
 use flag_set::FlagSet;
-use mail_base::{BoxName, Bytes, Tag, Validity};
+use mail_base::{BoxName, Bytes, List, ModSeq, Tag, Validity};
 use std::alloc::AllocError;
 use uid_sets::Uid;
 
@@ -40,6 +40,14 @@ pub enum Change {
         to: BoxName,
         new: Uid,
     },
+    /// The mailbox is renewed under a greater UIDVALIDITY: its messages get these UIDs, in their order, and this mod-sequence
+    /// (RFC 9051, section 2.3.1.1).
+    Reset {
+        validity: Validity,
+        uids: List<Uid>,
+        uidnext: Uid,
+        highest: ModSeq,
+    },
 }
 
 impl Change {
@@ -62,6 +70,17 @@ impl Change {
                 uid: *uid,
                 to: to.copy(),
                 new: *new,
+            }),
+            Change::Reset {
+                validity,
+                uids,
+                uidnext,
+                highest,
+            } => Ok(Change::Reset {
+                validity: *validity,
+                uids: List::of(uids.as_slice().to_vec(uids.allocator())?),
+                uidnext: *uidnext,
+                highest: *highest,
             }),
         }
     }

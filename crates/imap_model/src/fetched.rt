@@ -19,6 +19,8 @@ pub struct Fetched {
     pub modseq: Option<ModSeq>,
     /// The text of the header's Message-ID fields, BODY[HEADER.FIELDS (Message-ID)]; of NIL no bytes.
     pub ids: Option<Bytes>,
+    /// The whole text, BODY[]; of NIL no bytes.
+    pub text: Option<Bytes>,
 }
 
 impl Fetched {
@@ -31,6 +33,7 @@ impl Fetched {
             flags: None,
             modseq: None,
             ids: None,
+            text: None,
         }
     }
 
@@ -46,11 +49,16 @@ impl Fetched {
             Some(ids) => Some(ids.copy()?),
             None => None,
         };
+        let text = match &self.text {
+            Some(text) => Some(text.copy()?),
+            None => None,
+        };
         Ok(Fetched {
             uid: self.uid,
             flags,
             modseq: self.modseq,
             ids,
+            text,
         })
     }
 }

@@ -31,4 +31,6 @@ pub enum Item {
     ModSeq,
     /// The row of a message.
     Row,
+    /// BODY[] of a message, its whole text.
+    Body,
 }

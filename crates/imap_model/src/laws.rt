@@ -24,7 +24,7 @@ pub fn changes_stay_well()
     ensures all { BatchesStayWell }
 {}
 
-/// A change of a server that is well formed can be made exactly where it breaks none of the five rules.
+/// A change of a server that is well formed can be made exactly where it breaks none of the eight rules.
 pub fn rules_decide()
     ensures { RulesDecide }
 {}

@@ -19,4 +19,6 @@ pub enum Limit {
     Journal,
     /// The actions of the journal.
     Actions,
+    /// How often the journal can be written anew.
+    Generation,
 }

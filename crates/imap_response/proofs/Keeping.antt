@@ -96,6 +96,7 @@ same_told (tellings.Flags flags excess) = (flags, refl, λ e. refl)
 same_told (tellings.Uid uid) = refl
 same_told (tellings.ModSeq modseq) = refl
 same_told (tellings.Ids ids) = refl
+same_told (tellings.Text text) = refl
 same_told tellings.Nothing = refl
 
 same_item : (item : Told × Left) → Beside KeptTold item item
@@ -250,6 +251,7 @@ told_kept w k (tellings.Flags flags excess) other r t =
 told_kept w k (tellings.Uid uid) other r t = rw t (r.0, λ e. ap (λ g. with_told g (tellings.Uid uid)) (r.1 e))
 told_kept w k (tellings.ModSeq modseq) other r t = rw t (r.0, λ e. ap (λ g. with_told g (tellings.ModSeq modseq)) (r.1 e))
 told_kept w k (tellings.Ids ids) other r t = rw t (r.0, λ e. ap (λ g. with_told g (tellings.Ids ids)) (r.1 e))
+told_kept w k (tellings.Text text) other r t = rw t (r.0, λ e. ap (λ g. with_told g (tellings.Text text)) (r.1 e))
 told_kept w k tellings.Nothing other r t = rw t r
 
 abbrev behind_item : Keep → ℕ → Gathered → Told × Left → Result (Gathered × Left) ℕ

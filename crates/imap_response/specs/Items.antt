@@ -5,6 +5,8 @@ use Rattle.std.specs.Option.{option_or}
 use Rattle.std.specs.List.{prefix_len}
 use Rattle.std.specs.Str.{bytes_eq}
 use Rattle.std.specs.Char.{is_ascii_digit}
+use Rattle.imap_response.specs.declared.fetch.Body.{Body}
+use Rattle.imap_response.specs.declared.fetch.Body.TheVariants as bodies
 use Rattle.imap_response.specs.declared.fetch.Gathered.{Gathered}
 use Rattle.imap_response.specs.declared.fetch.Told.{Told}
 use Rattle.imap_response.specs.declared.fetch.Told.TheVariants as tellings
@@ -40,7 +42,7 @@ is_origin (byte ∷ more) =
 unfoldable pub origin_at : List ℕ → Result (List ℕ) ℕ
 origin_at text = if is_origin (wide_at text).0 then Ok (wide_at text).1 else Err (length text)
 
--- what stands behind a section that isn't that of the identifiers
+-- what stands behind a section that is neither that of the identifiers nor empty
 unfoldable pub other_section_at : Left → Result (Told × Left) ℕ
 other_section_at left = do
   behind ← section_at left
@@ -49,21 +51,26 @@ other_section_at left = do
   value ← value_at (at_left behind text)
   Ok (tellings.Nothing, value)
 
-abbrev pub ids_behind : Bool → Left → Result (Told × Left) ℕ
-ids_behind true left = nstring_at left >>= λ ids. Ok (tellings.Ids ids.0, ids.1)
-ids_behind false left = value_at left >>= λ value. Ok (tellings.Nothing, value)
+abbrev pub told_body : Body → List ℕ → Told
+told_body bodies.Ids bytes = tellings.Ids bytes
+told_body bodies.Text bytes = tellings.Text bytes
 
--- the identifiers, behind their section; with an origin they tell nothing
-unfoldable pub ids_at : Left → Result (Told × Left) ℕ
-ids_at left = do
+abbrev pub body_behind : Body → Bool → Left → Result (Told × Left) ℕ
+body_behind which true left = nstring_at left >>= λ string. Ok (told_body which string.0, string.1)
+body_behind which false left = value_at left >>= λ value. Ok (tellings.Nothing, value)
+
+-- the string of a BODY item, behind its section; with an origin it tells nothing
+unfoldable pub body_at : Body → Left → Result (Told × Left) ℕ
+body_at which left = do
   after ← origin_at left.text
   text ← gap_at after
-  ids_behind (length (wide_at left.text).0 == 0) (at_left left text)
+  body_behind which (length (wide_at left.text).0 == 0) (at_left left text)
 
 -- an item whose name has a section, behind the left bracket
 unfoldable pub sectioned_at : List ℕ → Left → Result (Told × Left) ℕ
 sectioned_at name left =
-    if same_word name (codes "BODY") then or_else (id_section_at left) ids_at (other_section_at left)
+    if same_word name (codes "BODY")
+    then or_else (id_section_at left) (body_at bodies.Ids) (or_else (mark_in 93 left) (body_at bodies.Text) (other_section_at left))
     else other_section_at left
 
 -- an item whose name has none, behind the spaces
@@ -87,7 +94,7 @@ item_at keep left =
 
 -- nothing was told yet
 abbrev pub nothing : Gathered
-nothing = record { fetched = record { uid = None; flags = None; modseq = None; ids = None }; excess = None }
+nothing = record { fetched = record { uid = None; flags = None; modseq = None; ids = None; text = None }; excess = None }
 
 -- One item more. Of two of one name the last one counts; of two lists of flags that are too large the first.
 abbrev pub with_told : Gathered → Told → Gathered
@@ -96,6 +103,7 @@ with_told gathered (tellings.Flags flags excess) =
     record { fetched = record gathered.fetched { flags = Some flags }; excess = option_or gathered.excess excess }
 with_told gathered (tellings.ModSeq modseq) = record gathered { fetched = record gathered.fetched { modseq = Some modseq } }
 with_told gathered (tellings.Ids ids) = record gathered { fetched = record gathered.fetched { ids = Some ids } }
+with_told gathered (tellings.Text text) = record gathered { fetched = record gathered.fetched { text = Some text } }
 with_told gathered tellings.Nothing = gathered
 
 -- one item or more up to the right parenthesis; a text of n bytes has no more than n

@@ -8,4 +8,5 @@ IsSmallTold (tellings.Flags flags excess) = AreFew flags
 IsSmallTold (tellings.Uid uid) = Unit {0}
 IsSmallTold (tellings.ModSeq modseq) = Unit {0}
 IsSmallTold (tellings.Ids ids) = Unit {0}
+IsSmallTold (tellings.Text text) = Unit {0}
 IsSmallTold tellings.Nothing = Unit {0}

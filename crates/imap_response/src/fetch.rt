@@ -4,7 +4,7 @@ ghost use Rattle.std.specs.Prelude.{◌≡◌, length, IfOk, IfErr};
 ghost use Rattle.imap_model.specs.Small.{AreFewIfTold};
 ghost use Rattle.imap_response.specs.Told.{IsSmallTold};
 ghost use Rattle.imap_response.specs.Flags.{kept};
-ghost use Rattle.imap_response.specs.Items.{is_atom, id_section_at, is_origin, origin_at, other_section_at, ids_at, sectioned_at, named_item_at, item_at, nothing, with_told, items_from, items_at};
+ghost use Rattle.imap_response.specs.Items.{is_atom, id_section_at, is_origin, origin_at, other_section_at, told_body, body_at, sectioned_at, named_item_at, item_at, nothing, with_told, items_from, items_at};
 ghost use Rattle.imap_response.specs.Left.{left_of};
 ghost use Rattle.imap_response.specs.Reads.{Gives, IsPlace};
 
@@ -28,7 +28,17 @@ pub(crate) enum Told {
     Flags(FlagSet, Option<FlagFault>),
     ModSeq(ModSeq),
     Ids(Bytes),
+    Text(Bytes),
     Nothing,
+}
+
+// Which string stands behind the section of a BODY item.
+#[derive(Clone, Copy)]
+pub(crate) enum Body {
+    // The fields that identify a message.
+    Ids,
+    // The whole text.
+    Text,
 }
 
 // What items told, and the first reason for which flags are too large.
@@ -94,6 +104,7 @@ fn with_told(gathered: Gathered, told: Told) -> Gathered
         }
         Told::ModSeq(modseq) => fetched.modseq = Some(modseq),
         Told::Ids(ids) => fetched.ids = Some(ids),
+        Told::Text(text) => fetched.text = Some(text),
         Told::Nothing => {}
     }
     Gathered { fetched, excess }
@@ -154,8 +165,11 @@ fn sectioned<'a>(alloc: Global, name: &[u8], rest: Rest<'a>) -> Result<(Told, Re
     if !name.eq_ignore_ascii_case(b"BODY") {
         return other_section(rest);
     }
-    match id_section(rest) {
-        Ok(behind) => ids(alloc, behind),
+    if let Ok(behind) = id_section(rest) {
+        return body_string(alloc, Body::Ids, behind);
+    }
+    match mark_in(rest, b']') {
+        Ok(behind) => body_string(alloc, Body::Text, behind),
         Err(_) => other_section(rest),
     }
 }
@@ -172,22 +186,32 @@ fn id_section<'a>(rest: Rest<'a>) -> Result<Rest<'a>, Misfit>
     mark_in(list, b']')
 }
 
-// The identifiers, behind their section. With an origin they tell nothing.
-#[tactic(auto, unfolding(crate::specs::Items::ids_at))]
-fn ids<'a>(alloc: Global, rest: Rest<'a>) -> Result<(Told, Rest<'a>), Misfit>
+// The string of a BODY item, behind its section. With an origin it tells nothing.
+#[tactic(auto, unfolding(crate::specs::Items::body_at))]
+fn body_string<'a>(alloc: Global, which: Body, rest: Rest<'a>) -> Result<(Told, Rest<'a>), Misfit>
     ensures small { IfOk result (λ read. IsSmallTold read.0) }
-    ensures value { Gives (λ read. (read.0, left_of read.1)) result (ids_at (left_of rest.entry)) }
+    ensures value { Gives (λ read. (read.0, left_of read.1)) result (body_at which (left_of rest.entry)) }
 {
     let after = at(rest, gap(origin(rest.text)?)?);
     let (run, _) = wide(rest.text);
     if run.is_empty() {
         let (bytes, behind) = nstring(alloc, after)?;
-        return Ok((Told::Ids(bytes), behind));
+        return Ok((told_body(which, bytes), behind));
     }
     Ok((Told::Nothing, value(after)?))
 }
 
-// What stands behind a section that isn't that of the identifiers.
+fn told_body(which: Body, bytes: Bytes) -> Told
+    ensures small { IsSmallTold result }
+    ensures value { result ≡ told_body which bytes }
+{
+    match which {
+        Body::Ids => Told::Ids(bytes),
+        Body::Text => Told::Text(bytes),
+    }
+}
+
+// What stands behind a section that is neither that of the identifiers nor empty.
 #[tactic(auto, unfolding(crate::specs::Items::other_section_at))]
 fn other_section<'a>(rest: Rest<'a>) -> Result<(Told, Rest<'a>), Misfit>
     ensures small { IfOk result (λ read. IsSmallTold read.0) }

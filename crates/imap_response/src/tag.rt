@@ -2,10 +2,10 @@
 
 ghost use Rattle.std.specs.Prelude.{◌≡◌};
 ghost use Rattle.imap_model.specs.Tagged.{is_astring_byte, is_tag_byte};
-ghost use Rattle.imap_response.specs.Tags.{tag_misfit, lettered, tag_of};
+ghost use Rattle.imap_response.specs.Tags.{tag_misfit, lettered, turn_of, play_of, tag_of};
 
 use crate::leaf::number_of;
-use crate::runs::{is_atom_byte, start_behind, token_place};
+use crate::runs::{digits_len, is_atom_byte, start_behind, token_place};
 use mail_base::Tag;
 
 // Whether an astring may hold the byte as it is.
@@ -41,15 +41,40 @@ pub(crate) fn tag_of(word: &[u8]) -> Tag
     ensures { result ≡ tag_of word.now }
 {
     match word.split_first() {
-        Some((b'P', digits)) => match lettered(digits) {
-            Some(number) => Tag::Play(number),
-            None => Tag::Strange,
-        },
+        Some((b'P', text)) => play_of(text),
         Some((b'C', digits)) => match lettered(digits) {
             Some(number) => Tag::Count(number),
             None => Tag::Strange,
         },
         _ => Tag::Strange,
+    }
+}
+
+// The tag that begins with `P`: behind it stands an action's number, and behind that the turn of a later try.
+fn play_of(text: &[u8]) -> Tag
+    ensures { result ≡ play_of text.now }
+{
+    let (digits, behind) = text.split_at(digits_len(text));
+    let Some(id) = lettered(digits) else {
+        return Tag::Strange;
+    };
+    if behind.is_empty() {
+        return Tag::Play(id);
+    }
+    match turn_of(behind) {
+        Some(turn) => Tag::Again { id, turn },
+        None => Tag::Strange,
+    }
+}
+
+// The turn that `R2` or `R3` names.
+fn turn_of(text: &[u8]) -> Option<u8>
+    ensures { result ≡ turn_of text.now }
+{
+    match text {
+        b"R2" => Some(2),
+        b"R3" => Some(3),
+        _ => None,
     }
 }
 

@@ -102,6 +102,13 @@ impl Feed {
         self.progress.whole -= count;
         Ok(Some(frame))
     }
+
+    /// How many bytes of the stream came and stand in no frame that was taken.
+    pub fn held(&self) -> u64
+        ensures { result ≡ length self.now.bytes }
+    {
+        self.bytes.as_slice().len() as u64
+    }
 }
 
 // The fault as an answer.

@@ -1,4 +1,5 @@
 pub mod Account
+pub mod Arguments
 pub mod Bodies
 pub mod BoxName
 pub mod Frames

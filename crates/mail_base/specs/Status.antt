@@ -20,3 +20,4 @@ number_of status.Memory = 11
 number_of status.Output = 12
 number_of status.Input = 13
 number_of status.Limit = 14
+number_of status.Shelf = 16

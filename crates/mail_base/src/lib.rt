@@ -2,9 +2,11 @@
 #![tactic(auto)]
 
 mod account;
+mod argument;
 mod box_name;
 mod bytes;
 mod frame;
+mod limits;
 mod line;
 mod list;
 mod literal_header;
@@ -17,9 +19,11 @@ mod tag;
 mod words;
 
 pub use account::{Account, AccountFault};
+pub use argument::{box_of, number_of};
 pub use box_name::{BoxName, MAX_NAME, NameFault};
 pub use bytes::Bytes;
 pub use frame::{FeedFault, Frame};
+pub use limits::{MAX_ACTIONS, MAX_QUEUE, MAX_ROWS, MAX_TEXT};
 pub use line::Line;
 pub use list::List;
 pub use literal_header::{LiteralHeader, literal_at_end};

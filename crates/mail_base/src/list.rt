@@ -50,6 +50,11 @@ impl<T> List<T> {
         &self.content
     }
 
+    /// The allocator that the list keeps.
+    pub fn allocator(&self) -> Global {
+        *self.content.allocator()
+    }
+
     /// The items, given up to change them.
     pub fn into_vec(self) -> Vec<T>
         ensures { result.items ≡ self }

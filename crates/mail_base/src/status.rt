@@ -36,6 +36,8 @@ pub enum Status {
     Input,
     /// A limit is passed.
     Limit,
+    /// The shelf of the kept texts failed.
+    Shelf,
 }
 
 impl Status {
@@ -59,6 +61,7 @@ impl Status {
             Status::Output => 12,
             Status::Input => 13,
             Status::Limit => 14,
+            Status::Shelf => 16,
         }
     }
 }

@@ -15,7 +15,7 @@ use Rattle.uid_sets.specs.UidSet.{Member, RisesAbove, IsCanonical}
 use Rattle.uid_sets.specs.declared.uid.UidRange.{UidRange}
 use Rattle.uid_sets.proofs.RoundTrip.{set_spells}
 use Rattle.imap_model.specs.Lines.{IsSpelled}
-use Rattle.imap_model.specs.OneText.{IsKeptTag}
+use Rattle.response_lines.specs.Tellable.{TagFits}
 use Rattle.imap_model.specs.Parts.{Part, Byte, bytes}
 use Rattle.imap_model.specs.Searches.{AreNumbers, MayCorrelate, ArePairs, Pair, All, TellsExtended, found_of}
 use Rattle.imap_model.specs.Strings.{Plain, IsCharacter, IsQuotedOf, character_text, character_byte}
@@ -159,9 +159,11 @@ own_character b h = (
 digit_own : (b : ℕ) → is_ascii_digit b ≡ true → is_own_byte b ≡ true
 digit_own b h = grind (arith, nat_tests)
 
-tag_own : (tag : Tag) → IsKeptTag tag → list_all is_own_byte (tag_text tag) ≡ true
+tag_own : (tag : Tag) → TagFits tag → list_all is_own_byte (tag_text tag) ≡ true
 unfolding ◌⌢◌
 tag_own (tags.Play n) kept = decimal_all is_own_byte digit_own n (omega arith)
+tag_own (tags.Again n t) kept =
+    all_join is_own_byte (decimal n) (82 ∷ decimal t) (decimal_all is_own_byte digit_own n (omega arith)) (decimal_all is_own_byte digit_own t (omega arith))
 tag_own (tags.Count n) kept = decimal_all is_own_byte digit_own n (omega arith)
 tag_own tags.Strange kept = refl
 
@@ -177,7 +179,7 @@ bytes_are : (text : List ℕ) → flat_map character_byte (map Plain text) ≡ t
 bytes_are [] = refl
 bytes_are (b ∷ text) = ap (λ (t : List ℕ). b ∷ t) (bytes_are text)
 
-quoted_tag : (tag : Tag) → IsKeptTag tag → IsQuotedOf (bytes (34 ∷ (tag_text tag ++ 34 ∷ []))) (tag_text tag)
+quoted_tag : (tag : Tag) → TagFits tag → IsQuotedOf (bytes (34 ∷ (tag_text tag ++ 34 ∷ []))) (tag_text tag)
 quoted_tag tag kept = (
   34 ∷ (tag_text tag ++ 34 ∷ []),
   map Plain (tag_text tag),
@@ -192,7 +194,7 @@ quoted tag = bytes (34 ∷ (tag_text tag ++ 34 ∷ []))
 abbrev correlator : Tag → List Part
 correlator tag = bytes (codes "(TAG ") ++ quoted tag ++ bytes (41 ∷ [])
 
-correlates : (tag : Tag) → IsKeptTag tag → MayCorrelate (Byte 32 ∷ correlator tag)
+correlates : (tag : Tag) → TagFits tag → MayCorrelate (Byte 32 ∷ correlator tag)
 correlates tag kept = inr (
   32 ∷ [],
   correlator tag,
@@ -252,7 +254,7 @@ all_quiet [] is = refl
 all_quiet (r ∷ uids) is = set_quiet (r ∷ uids) is
 
 -- ESEARCH
-tells : (tag : Tag) (uids : List UidRange) → IsKeptTag tag → IsCanonical uids →
+tells : (tag : Tag) (uids : List UidRange) → TagFits tag → IsCanonical uids →
     TellsExtended (bytes (codes " (TAG \"" ++ (tag_text tag ++ (codes "\") UID" ++ all_text uids)))) uids
 tells tag uids kept is = record {
   correlator = Byte 32 ∷ correlator tag;
@@ -270,7 +272,7 @@ tells tag uids kept is = record {
   found = found_is uids;
 }
 
-pub extended_spelled : (tag : Tag) (uids : List UidRange) → IsKeptTag tag → IsCanonical uids → IsSpelled (responses.Found uids) (found_text false tag uids)
+pub extended_spelled : (tag : Tag) (uids : List UidRange) → TagFits tag → IsCanonical uids → IsSpelled (responses.Found uids) (found_text false tag uids)
 unfolding ◌⌢◌
 extended_spelled tag uids kept is =
     let rest : List ℕ = codes " (TAG \"" ++ (tag_text tag ++ (codes "\") UID" ++ all_text uids)) in

@@ -1,4 +1,4 @@
--- FETCH lines with Message-ID fields, which stand in a literal.
+-- FETCH lines with Message-ID fields, or a whole text, which stand in a literal.
 use Rattle.std.proofs.Common.{◌≡◌, ℕ, ◌+◌, ◌<◌, ◌^◌, Bool, true, List, [], ◌∷◌, ◌++◌, Some, refl, sym, ◌∙◌, ap, subst, arith, length}
 use Rattle.std.proofs.Common.{decimal, inl, inr, append_assoc, length-append}
 use Rattle.std.proofs.lemmas.Fmt.{decimal_is_IsNumeral}
@@ -8,7 +8,7 @@ use Rattle.std.specs.List.{AllByRecursion, list_all, flat_map}
 use Rattle.mail_base.specs.Frames.{Opening, header, line_text}
 use Rattle.mail_base.specs.declared.frame.Frame.{Frame}
 use Rattle.mail_base.specs.declared.span.Span.{Span}
-use Rattle.imap_model.specs.FetchItems.{IsIdsItem, IsIdSection, AreItems, UidIs, IdsAre}
+use Rattle.imap_model.specs.FetchItems.{IsIdsItem, IsIdSection, IsTextItem, IsItem, AreItems, Told, UidIs, IdsAre, TextIs, fetched_of}
 use Rattle.imap_model.specs.Lines.{IsSpelled}
 use Rattle.imap_model.specs.Parts.{Part, Literal, IsPart, part_text, literals_from, bytes}
 use Rattle.imap_model.specs.Responses.{IsFetchLine, IsLineOf}
@@ -132,104 +132,134 @@ ids_item octets = record {
   whole = refl;
 }
 
-abbrev items_of : ℕ → List ℕ → List Part
-items_of uid octets = (bytes (codes "UID " ++ decimal uid) ++ bytes (32 ∷ []))
-    ++ (bytes (codes "BODY[HEADER.FIELDS (MESSAGE-ID)] ") ++ literal_part octets ∷ [])
+text_item : (octets : List ℕ) → IsTextItem (bytes (codes "BODY[] ") ++ literal_part octets ∷ []) octets
+text_item octets = record {
+  name = codes "BODY";
+  named = refl;
+  gap = 32 ∷ [];
+  spaces = a_gap;
+  value = literal_part octets ∷ [];
+  told = inl (inr (decimal (length octets), refl));
+  whole = refl;
+}
 
-ids_items : (uid : ℕ) (octets : List ℕ) → 0 < uid → uid < 2 ^ 32 → AreItems (items_of uid octets) (UidIs uid ∷ IdsAre octets ∷ [])
-ids_items uid octets some h = (
-  bytes (codes "UID " ++ decimal uid),
-  32 ∷ [],
-  bytes (codes "BODY[HEADER.FIELDS (MESSAGE-ID)] ") ++ literal_part octets ∷ [],
-  uid_item uid some h,
-  a_gap,
-  refl,
-  ids_item octets,
-)
+-- a row of a UID and one item more, whose value is a literal behind this label
+module _ (label : List ℕ) (quiet : list_all is_quiet_byte label ≡ true) (tell : List ℕ → Told)
+    (item : (octets : List ℕ) → IsItem (bytes label ++ literal_part octets ∷ []) (tell octets)) where
+  abbrev items_of : ℕ → List ℕ → List Part
+  items_of uid octets = (bytes (codes "UID " ++ decimal uid) ++ bytes (32 ∷ [])) ++ (bytes label ++ literal_part octets ∷ [])
 
--- the text in front of the literal
-abbrev middle : ℕ → List ℕ
-middle uid = codes "UID " ++ (decimal uid ++ codes " BODY[HEADER.FIELDS (MESSAGE-ID)] ")
+  items_are : (uid : ℕ) (octets : List ℕ) → 0 < uid → uid < 2 ^ 32 → AreItems (items_of uid octets) (UidIs uid ∷ tell octets ∷ [])
+  items_are uid octets some h = (
+    bytes (codes "UID " ++ decimal uid),
+    32 ∷ [],
+    bytes label ++ literal_part octets ∷ [],
+    uid_item uid some h,
+    a_gap,
+    refl,
+    item octets,
+  )
 
-abbrev before : ℕ → ℕ → List ℕ
-before number uid = 42 ∷ 32 ∷ (decimal number ++ (codes " FETCH (" ++ middle uid))
+  -- the text in front of the literal
+  abbrev middle : ℕ → List ℕ
+  middle uid = codes "UID " ++ (decimal uid ++ 32 ∷ label)
 
-before_quiet : (number uid : ℕ) → number < 2 ^ 32 → uid < 2 ^ 32 → list_all is_quiet_byte (before number uid) ≡ true
-before_quiet number uid h k =
-    all_join is_quiet_byte (decimal number) (codes " FETCH (" ++ middle uid) (decimal_all is_quiet_byte digit_quiet number (omega arith))
-    (all_join is_quiet_byte (decimal uid) (codes " BODY[HEADER.FIELDS (MESSAGE-ID)] ") (decimal_all is_quiet_byte digit_quiet uid (omega arith)) refl)
+  abbrev before : ℕ → ℕ → List ℕ
+  before number uid = 42 ∷ 32 ∷ (decimal number ++ (codes " FETCH (" ++ middle uid))
 
--- what stands behind the front of the line
-abbrev later_parts : ℕ → List ℕ → List Part
-later_parts uid octets = bytes (32 ∷ 40 ∷ middle uid) ++ literal_part octets ∷ bytes (41 ∷ [])
+  before_quiet : (number uid : ℕ) → number < 2 ^ 32 → uid < 2 ^ 32 → list_all is_quiet_byte (before number uid) ≡ true
+  before_quiet number uid h k =
+      all_join is_quiet_byte (decimal number) (codes " FETCH (" ++ middle uid) (decimal_all is_quiet_byte digit_quiet number (omega arith))
+      (all_join is_quiet_byte (decimal uid) (32 ∷ label) (decimal_all is_quiet_byte digit_quiet uid (omega arith)) quiet)
 
-before_parts : (number uid : ℕ) (octets : List ℕ) → parts_of (before number uid) octets ≡ bytes (front_of number) ++ later_parts uid octets
-before_parts number uid octets =
-    ap (λ (t : List ℕ). bytes t ++ literal_part octets ∷ bytes (41 ∷ [])) (front_join number (40 ∷ middle uid))
-    ∙ ap (λ (ps : List Part). ps ++ literal_part octets ∷ bytes (41 ∷ [])) (join_bytes (front_of number) (32 ∷ 40 ∷ middle uid))
-    ∙ append_assoc (bytes (front_of number)) (bytes (32 ∷ 40 ∷ middle uid)) (literal_part octets ∷ bytes (41 ∷ []))
+  -- what stands behind the front of the line
+  abbrev later_parts : ℕ → List ℕ → List Part
+  later_parts uid octets = bytes (32 ∷ 40 ∷ middle uid) ++ literal_part octets ∷ bytes (41 ∷ [])
 
-middle_parts : (uid : ℕ) → bytes (middle uid) ≡ (bytes (codes "UID " ++ decimal uid) ++ bytes (32 ∷ [])) ++ bytes (codes "BODY[HEADER.FIELDS (MESSAGE-ID)] ")
-middle_parts uid =
-    join_bytes (codes "UID " ++ decimal uid) (codes " BODY[HEADER.FIELDS (MESSAGE-ID)] ")
-    ∙ sym (append_assoc (bytes (codes "UID " ++ decimal uid)) (bytes (32 ∷ [])) (bytes (codes "BODY[HEADER.FIELDS (MESSAGE-ID)] ")))
+  before_parts : (number uid : ℕ) (octets : List ℕ) → parts_of (before number uid) octets ≡ bytes (front_of number) ++ later_parts uid octets
+  before_parts number uid octets =
+      ap (λ (t : List ℕ). bytes t ++ literal_part octets ∷ bytes (41 ∷ [])) (front_join number (40 ∷ middle uid))
+      ∙ ap (λ (ps : List Part). ps ++ literal_part octets ∷ bytes (41 ∷ [])) (join_bytes (front_of number) (32 ∷ 40 ∷ middle uid))
+      ∙ append_assoc (bytes (front_of number)) (bytes (32 ∷ 40 ∷ middle uid)) (literal_part octets ∷ bytes (41 ∷ []))
 
-later_is : (uid : ℕ) (octets : List ℕ) → later_parts uid octets ≡ (bytes (32 ∷ 40 ∷ []) ++ items_of uid octets) ++ bytes (41 ∷ [])
-later_is uid octets =
-    ap (λ (ps : List Part). bytes (32 ∷ 40 ∷ []) ++ ps)
-    (ap (λ (ps : List Part). ps ++ literal_part octets ∷ bytes (41 ∷ [])) (middle_parts uid)
-    ∙ sym (append_assoc (((bytes (codes "UID " ++ decimal uid) ++ bytes (32 ∷ [])) ++ bytes (codes "BODY[HEADER.FIELDS (MESSAGE-ID)] ")))
-    (literal_part octets ∷ []) (bytes (41 ∷ [])))
-    ∙ ap (λ (ps : List Part). ps ++ bytes (41 ∷ [])) (append_assoc (bytes (codes "UID " ++ decimal uid) ++ bytes (32 ∷ []))
-    (bytes (codes "BODY[HEADER.FIELDS (MESSAGE-ID)] ")) (literal_part octets ∷ [])))
+  middle_parts : (uid : ℕ) → bytes (middle uid) ≡ (bytes (codes "UID " ++ decimal uid) ++ bytes (32 ∷ [])) ++ bytes label
+  middle_parts uid =
+      join_bytes (codes "UID " ++ decimal uid) (32 ∷ label) ∙ sym (append_assoc (bytes (codes "UID " ++ decimal uid)) (bytes (32 ∷ [])) (bytes label))
 
--- the line
-line_is : (number uid : ℕ) (octets : List ℕ) → text_of (before number uid) octets
-    ≡ 42 ∷ 32 ∷ (decimal number ++ (codes " FETCH (" ++ (codes "UID "
-    ++ (decimal uid ++ (codes " BODY[HEADER.FIELDS (MESSAGE-ID)] "
-    ++ (header (decimal (length octets)) ++ (13 ∷ 10 ∷ (octets ++ 41 ∷ []))))))))
-line_is number uid octets =
-    ap (λ (t : List ℕ). 42 ∷ 32 ∷ t) (append_assoc (decimal number) (codes " FETCH (" ++ middle uid)
-    (header (decimal (length octets)) ++ (13 ∷ 10 ∷ (octets ++ 41 ∷ [])))
-    ∙ ap (λ (t : List ℕ). decimal number ++ (codes " FETCH (UID " ++ t))
-    (append_assoc (decimal uid) (codes " BODY[HEADER.FIELDS (MESSAGE-ID)] ")
-    (header (decimal (length octets)) ++ (13 ∷ 10 ∷ (octets ++ 41 ∷ [])))))
+  later_is : (uid : ℕ) (octets : List ℕ) → later_parts uid octets ≡ (bytes (32 ∷ 40 ∷ []) ++ items_of uid octets) ++ bytes (41 ∷ [])
+  later_is uid octets =
+      ap (λ (ps : List Part). bytes (32 ∷ 40 ∷ []) ++ ps)
+      (ap (λ (ps : List Part). ps ++ literal_part octets ∷ bytes (41 ∷ [])) (middle_parts uid)
+      ∙ sym (append_assoc ((bytes (codes "UID " ++ decimal uid) ++ bytes (32 ∷ [])) ++ bytes label) (literal_part octets ∷ []) (bytes (41 ∷ [])))
+      ∙ ap (λ (ps : List Part). ps ++ bytes (41 ∷ []))
+      (append_assoc (bytes (codes "UID " ++ decimal uid) ++ bytes (32 ∷ [])) (bytes label) (literal_part octets ∷ [])))
 
-header_is : (octets : List ℕ) → header (decimal (length octets)) ++ (13 ∷ 10 ∷ (octets ++ 41 ∷ []))
-    ≡ (123 ∷ (decimal (length octets) ++ (125 ∷ 13 ∷ 10 ∷ octets))) ++ 41 ∷ []
-header_is octets =
-    ap (λ (t : List ℕ). 123 ∷ t) (append_assoc (decimal (length octets)) (125 ∷ []) (13 ∷ 10 ∷ (octets ++ 41 ∷ []))
-    ∙ sym (append_assoc (decimal (length octets)) (125 ∷ 13 ∷ 10 ∷ octets) (41 ∷ [])))
+  -- the line
+  line_is : (number uid : ℕ) (octets : List ℕ) → text_of (before number uid) octets
+      ≡ 42 ∷ 32 ∷ (decimal number ++ (codes " FETCH (" ++ (codes "UID "
+      ++ (decimal uid ++ ((32 ∷ label) ++ (header (decimal (length octets)) ++ (13 ∷ 10 ∷ (octets ++ 41 ∷ []))))))))
+  line_is number uid octets =
+      ap (λ (t : List ℕ). 42 ∷ 32 ∷ t) (append_assoc (decimal number) (codes " FETCH (" ++ middle uid)
+      (header (decimal (length octets)) ++ (13 ∷ 10 ∷ (octets ++ 41 ∷ [])))
+      ∙ ap (λ (t : List ℕ). decimal number ++ (codes " FETCH (UID " ++ t))
+      (append_assoc (decimal uid) (32 ∷ label) (header (decimal (length octets)) ++ (13 ∷ 10 ∷ (octets ++ 41 ∷ [])))))
+
+  header_is : (octets : List ℕ) → header (decimal (length octets)) ++ (13 ∷ 10 ∷ (octets ++ 41 ∷ []))
+      ≡ (123 ∷ (decimal (length octets) ++ (125 ∷ 13 ∷ 10 ∷ octets))) ++ 41 ∷ []
+  header_is octets =
+      ap (λ (t : List ℕ). 123 ∷ t) (append_assoc (decimal (length octets)) (125 ∷ []) (13 ∷ 10 ∷ (octets ++ 41 ∷ []))
+      ∙ sym (append_assoc (decimal (length octets)) (125 ∷ 13 ∷ 10 ∷ octets) (41 ∷ [])))
+
+  written_is : (number uid : ℕ) (octets : List ℕ) → text_of (before number uid) octets
+      ≡ 42 ∷ 32 ∷ (decimal number ++ (codes " FETCH (UID "
+      ++ ((decimal uid ++ (32 ∷ label)) ++ ((123 ∷ (decimal (length octets) ++ (125 ∷ 13 ∷ 10 ∷ octets))) ++ 41 ∷ []))))
+  written_is number uid octets =
+      line_is number uid octets
+      ∙ ap (λ (t : List ℕ). 42 ∷ 32 ∷ (decimal number ++ (codes " FETCH (UID " ++ (decimal uid ++ ((32 ∷ label) ++ t))))) (header_is octets)
+      ∙ ap (λ (t : List ℕ). 42 ∷ 32 ∷ (decimal number ++ (codes " FETCH (UID " ++ t)))
+      (sym (append_assoc (decimal uid) (32 ∷ label) ((123 ∷ (decimal (length octets) ++ (125 ∷ 13 ∷ 10 ∷ octets))) ++ 41 ∷ [])))
+
+  row_is_spelled : (number uid : ℕ) (octets : List ℕ) → 0 < number → number < 2 ^ 32 → 0 < uid → uid < 2 ^ 32 → length octets < 2 ^ 64
+      → IsSpelled (responses.Fetch (fetched_of (UidIs uid ∷ tell octets ∷ []))) (text_of (before number uid) octets)
+  row_is_spelled number uid octets n h some k long =
+      let more : List ℕ = codes "(UID " ++ (decimal uid ++ ((32 ∷ label) ++ (header (decimal (length octets)) ++ (13 ∷ 10 ∷ (octets ++ 41 ∷ []))))) in
+      let line = fetch_line number more (later_parts uid octets) (parts_of (before number uid) octets) n h (before_parts number uid octets) in
+      literal_spelled (fetched_of (UidIs uid ∷ tell octets ∷ [])) (before number uid) octets (before_quiet number uid h k) long (
+        later_parts uid octets,
+        32 ∷ [],
+        items_of uid octets,
+        UidIs uid ∷ tell octets ∷ [],
+        [],
+        subst (λ (t : List ℕ). IsFetchLine t (parts_of (before number uid) octets) (later_parts uid octets)) (sym (line_is number uid octets)) line,
+        a_gap,
+        items_are uid octets some k,
+        tt,
+        later_is uid octets,
+        refl,
+      )
 
 abbrev ids_row : ℕ → List ℕ → Fetched
 ids_row uid octets = record nothing_fetched { uid = Some uid; ids = Some octets }
 
-written_is : (older : Bool) (number uid : ℕ) (octets : List ℕ) → text_of (before number uid) octets ≡ fetch_text older number (ids_row uid octets)
-unfolding ◌⌢◌
-written_is older number uid octets =
-    line_is number uid octets
-    ∙ ap (λ (t : List ℕ). 42 ∷ 32 ∷ (decimal number ++ (codes " FETCH (UID "
-    ++ (decimal uid ++ (codes " BODY[HEADER.FIELDS (MESSAGE-ID)] " ++ t))))) (header_is octets)
-    ∙ ap (λ (t : List ℕ). 42 ∷ 32 ∷ (decimal number ++ (codes " FETCH (UID " ++ t)))
-    (sym (append_assoc (decimal uid) (codes " BODY[HEADER.FIELDS (MESSAGE-ID)] ") ((123 ∷ (decimal (length octets) ++ (125 ∷ 13 ∷ 10 ∷ octets))) ++ 41 ∷ [])))
+abbrev ids_label : List ℕ
+ids_label = codes "BODY[HEADER.FIELDS (MESSAGE-ID)] "
 
 pub ids_spelled : (older : Bool) (number uid : ℕ) (octets : List ℕ) → 0 < number → number < 2 ^ 32 → 0 < uid → uid < 2 ^ 32 → length octets < 2 ^ 64
     → IsSpelled (responses.Fetch (ids_row uid octets)) (fetch_text older number (ids_row uid octets))
+unfolding ◌⌢◌
 ids_spelled older number uid octets n h some k long =
-    let more : List ℕ = codes "(UID " ++ (decimal uid ++ (codes " BODY[HEADER.FIELDS (MESSAGE-ID)] "
-    ++ (header (decimal (length octets)) ++ (13 ∷ 10 ∷ (octets ++ 41 ∷ []))))) in
-    let line = fetch_line number more (later_parts uid octets) (parts_of (before number uid) octets) n h (before_parts number uid octets) in
-    subst (IsSpelled (responses.Fetch (ids_row uid octets))) (written_is older number uid octets)
-    (literal_spelled (ids_row uid octets) (before number uid) octets (before_quiet number uid h k) long (
-      later_parts uid octets,
-      32 ∷ [],
-      items_of uid octets,
-      UidIs uid ∷ IdsAre octets ∷ [],
-      [],
-      subst (λ (t : List ℕ). IsFetchLine t (parts_of (before number uid) octets) (later_parts uid octets)) (sym (line_is number uid octets)) line,
-      a_gap,
-      ids_items uid octets some k,
-      tt,
-      later_is uid octets,
-      refl,
-    ))
+    subst (IsSpelled (responses.Fetch (ids_row uid octets))) (written_is ids_label refl IdsAre ids_item number uid octets)
+    (row_is_spelled ids_label refl IdsAre ids_item number uid octets n h some k long)
+
+abbrev whole_row : ℕ → List ℕ → Fetched
+whole_row uid octets = record nothing_fetched { uid = Some uid; text = Some octets }
+
+abbrev whole_label : List ℕ
+whole_label = codes "BODY[] "
+
+pub text_spelled : (older : Bool) (number uid : ℕ) (octets : List ℕ) → 0 < number → number < 2 ^ 32 → 0 < uid → uid < 2 ^ 32 → length octets < 2 ^ 64
+    → IsSpelled (responses.Fetch (whole_row uid octets)) (fetch_text older number (whole_row uid octets))
+unfolding ◌⌢◌
+text_spelled older number uid octets n h some k long =
+    subst (IsSpelled (responses.Fetch (whole_row uid octets))) (written_is whole_label refl TextIs text_item number uid octets)
+    (row_is_spelled whole_label refl TextIs text_item number uid octets n h some k long)

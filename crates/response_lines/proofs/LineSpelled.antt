@@ -12,7 +12,7 @@ use Rattle.uid_sets.specs.UidSet.{IsCanonical}
 use Rattle.uid_sets.specs.declared.uid.UidRange.{UidRange}
 use Rattle.uid_sets.proofs.RoundTrip.{set_spells, some_of}
 use Rattle.imap_model.specs.Lines.{IsSpelled}
-use Rattle.imap_model.specs.OneText.{IsKeptTag}
+use Rattle.response_lines.specs.Tellable.{TagFits}
 use Rattle.imap_model.specs.Responses.{ending_word}
 use Rattle.imap_model.specs.TagText.{IsCommandTag}
 use Rattle.imap_model.specs.Tagged.{IsTag, NamesTag, is_tag_byte}
@@ -94,19 +94,31 @@ lettered_tag letter n h k = (
       (both_true (is_tag_byte letter) _ h (decimal_all is_tag_byte digit_tag n (omega arith))),
 )
 
-pub tag_quiet : (tag : Tag) → IsKeptTag tag → list_all is_quiet_byte (tag_text tag) ≡ true
+tried_tag : (n t : ℕ) → n < 2 ^ 32 → t < 2 ^ 8 → IsTag (80 ∷ (decimal n ++ 82 ∷ decimal t))
+tried_tag n t h k = (
+  λ e. cc,
+  all_each is_tag_byte (λ byte. IsTrue (is_tag_byte byte)) (λ b is. is) (80 ∷ (decimal n ++ 82 ∷ decimal t))
+      (all_join is_tag_byte (decimal n) (82 ∷ decimal t) (decimal_all is_tag_byte digit_tag n (omega arith))
+      (decimal_all is_tag_byte digit_tag t (omega arith))),
+)
+
+pub tag_quiet : (tag : Tag) → TagFits tag → list_all is_quiet_byte (tag_text tag) ≡ true
 unfolding ◌⌢◌
 tag_quiet (tags.Play n) kept = decimal_all is_quiet_byte digit_quiet n (omega arith)
+tag_quiet (tags.Again n t) kept =
+    all_join is_quiet_byte (decimal n) (82 ∷ decimal t) (decimal_all is_quiet_byte digit_quiet n (omega arith)) (decimal_all is_quiet_byte digit_quiet t (omega arith))
 tag_quiet (tags.Count n) kept = decimal_all is_quiet_byte digit_quiet n (omega arith)
 tag_quiet tags.Strange kept = refl
 
-tag_names : (tag : Tag) → IsCommandTag tag → IsKeptTag tag → IsTag (tag_text tag) × NamesTag (tag_text tag) tag
+tag_names : (tag : Tag) → IsCommandTag tag → TagFits tag → IsTag (tag_text tag) × NamesTag (tag_text tag) tag
 unfolding ◌⌢◌
 tag_names (tags.Play n) some kept = (lettered_tag 80 n refl (omega arith), record { nonzero = some; fits = omega arith; whole = refl })
+tag_names (tags.Again n t) some kept =
+    (tried_tag n t (omega arith) (omega arith), record { nonzero = some.0; fits = omega arith; second = some.1; third = some.2; whole = refl })
 tag_names (tags.Count n) some kept = (lettered_tag 67 n refl (omega arith), record { nonzero = some; fits = omega arith; whole = refl })
 tag_names tags.Strange some kept = absurd some
 
-pub done_spelled : (tag : Tag) (ending : Ending) (code : Code) → IsCommandTag tag → IsKeptTag tag → FitsBrackets ending code
+pub done_spelled : (tag : Tag) (ending : Ending) (code : Code) → IsCommandTag tag → TagFits tag → FitsBrackets ending code
     → IsSpelled (responses.Done tag ending code) (done_text tag ending code)
 unfolding ◌⌢◌
 done_spelled tag ending code some kept fits =

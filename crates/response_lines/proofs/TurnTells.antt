@@ -7,6 +7,7 @@ use Rattle.flag_set.specs.FlagSet.{has}
 use Rattle.mail_base.specs.declared.tag.Tag.{Tag}
 use Rattle.uid_sets.specs.declared.uid.UidRange.{UidRange}
 use Rattle.imap_model.specs.CarriedOut.{only, told_in}
+use Rattle.imap_model.specs.Carrying.{deleted}
 use Rattle.imap_model.specs.Lawful.{broken_rule}
 use Rattle.imap_model.specs.Lookups.{box_at, message_at, validity_of}
 use Rattle.imap_model.specs.PlainChanges.{with_change}
@@ -101,6 +102,10 @@ in_tells : (uid : ℕ) (o : Option Mailbox) → AreTellable (plain.row_in uid o)
 in_tells uid None = tt
 in_tells uid (Some b) = if_tells (message_at uid b.messages)
 
+text_tells : (o : Option Message) → AreTellable (plain.text_if o)
+text_tells None = tt
+text_tells (Some m) = (tt, tt)
+
 -- what a SELECT tells
 vanished_tells : (uids : List ℕ) → AreTellable (plain.vanished_of uids)
 vanished_tells [] = tt
@@ -189,6 +194,41 @@ move_turn_tells : (selected : Option (List ℕ)) (tag : Tag) (uid : ℕ) (to : L
 move_turn_tells None tag uid to s = record { untagged = tt; code = tt }
 move_turn_tells (Some name) tag uid to s = move_in_tells name tag uid to s (box_at name s.boxes) (box_at to s.boxes)
 
+copy_tells : (name : List ℕ) (tag : Tag) (uid : ℕ) (to : List ℕ) (s : Server) (target : Mailbox) (o : Option Message) →
+    Tells (plain.copy_message name tag uid to s target o).replies
+copy_tells name tag uid to s target None = record { untagged = tt; code = tt }
+copy_tells name tag uid to s target (Some m) =
+    let reply : Server → Replies = λ t. plain.accepted [] (plain.copied_code uid to target.uidnext t) in
+    change_tells (Some name) tag to (changes.Add m.flags m.text target.uidnext) s reply
+    (λ t. record { untagged = tt; code = (one_some uid, one_some target.uidnext) })
+
+copy_in_tells : (name : List ℕ) (tag : Tag) (uid : ℕ) (to : List ℕ) (s : Server) (o target : Option Mailbox) →
+    Tells (plain.copy_in name tag uid to s o target).replies
+copy_in_tells name tag uid to s None target = record { untagged = tt; code = tt }
+copy_in_tells name tag uid to s (Some b) None = record { untagged = tt; code = tt }
+copy_in_tells name tag uid to s (Some b) (Some target) = copy_tells name tag uid to s target (message_at uid b.messages)
+
+copy_turn_tells : (selected : Option (List ℕ)) (tag : Tag) (uid : ℕ) (to : List ℕ) (s : Server) → Tells (plain.copy_turn selected tag uid to s).replies
+copy_turn_tells None tag uid to s = record { untagged = tt; code = tt }
+copy_turn_tells (Some name) tag uid to s = copy_in_tells name tag uid to s (box_at name s.boxes) (box_at to s.boxes)
+
+expunge_tells : (name : List ℕ) (tag : Tag) (uid : ℕ) (s : Server) (o : Option Message) → Tells (plain.expunge_message name tag uid s o).replies
+expunge_tells name tag uid s None = record { untagged = tt; code = tt }
+expunge_tells name tag uid s (Some m) =
+    let reply : Server → Replies = λ t. plain.accepted (responses.Vanished false (only uid) ∷ []) codings.None in
+    either (λ (t : plain.Turn). Tells t.replies) (has m.flags deleted) (plain.change_turn (Some name) tag name (changes.Drop uid) s reply)
+    (plain.answered (Some name) s (plain.accepted [] codings.None))
+    (change_tells (Some name) tag name (changes.Drop uid) s reply (λ t. record { untagged = (one_some uid, tt); code = tt }))
+    (record { untagged = tt; code = tt })
+
+expunge_in_tells : (name : List ℕ) (tag : Tag) (uid : ℕ) (s : Server) (o : Option Mailbox) → Tells (plain.expunge_in name tag uid s o).replies
+expunge_in_tells name tag uid s None = record { untagged = tt; code = tt }
+expunge_in_tells name tag uid s (Some b) = expunge_tells name tag uid s (message_at uid b.messages)
+
+expunge_turn_tells : (selected : Option (List ℕ)) (tag : Tag) (uid : ℕ) (s : Server) → Tells (plain.expunge_turn selected tag uid s).replies
+expunge_turn_tells None tag uid s = record { untagged = tt; code = tt }
+expunge_turn_tells (Some name) tag uid s = expunge_in_tells name tag uid s (box_at name s.boxes)
+
 append_tells : (selected : Option (List ℕ)) (tag : Tag) (to : List ℕ) (flags : List (List ℕ)) (text : List ℕ) (s : Server)
     (o : Option Mailbox) → Tells (plain.append_turn selected tag to flags text s o).replies
 append_tells selected tag to flags text s None = record { untagged = tt; code = tt }
@@ -228,8 +268,12 @@ turn_tells c selected tag (commands.FetchIds uids) s all =
           ids_tell (filter (plain.is_named uids) b.messages);
       code = code_tells c b;
     })
+turn_tells c selected tag (commands.FetchText uid) s all =
+    question_tells selected s _ (selected_box selected s.boxes) (λ b. record { untagged = text_tells (message_at uid b.messages); code = code_tells c b })
 turn_tells c selected tag (commands.Store uid since add flags) s all = store_turn_tells selected tag uid since add flags s
 turn_tells c selected tag (commands.Shift uid to) s all = move_turn_tells selected tag uid to s
+turn_tells c selected tag (commands.Copy uid to) s all = copy_turn_tells selected tag uid to s
+turn_tells c selected tag (commands.Expunge uid) s all = expunge_turn_tells selected tag uid s
 turn_tells c selected tag (commands.Append to flags text) s all =
     either (λ (t : plain.Turn). Tells t.replies) (plain.is_closed c.closed to) (plain.answered selected s (plain.denied codings.Other))
     (plain.append_turn selected tag to flags text s (box_at to s.boxes)) (record { untagged = tt; code = tt })

@@ -67,6 +67,7 @@ code_text ending code last = codes " [" ⌢ inner_text ending code ⌢ codes "] 
 -- a tag of this client
 abbrev pub tag_text : Tag → List ℕ
 tag_text (tags.Play number) = codes "P" ⌢ decimal number
+tag_text (tags.Again id turn) = codes "P" ⌢ decimal id ⌢ codes "R" ⌢ decimal turn
 tag_text (tags.Count number) = codes "C" ⌢ decimal number
 tag_text tags.Strange = codes "X"
 
@@ -89,7 +90,7 @@ abbrev pub found_text : Bool → Tag → List UidRange → List ℕ
 found_text older tag uids =
     if older then codes "* SEARCH" ⌢ members_text uids else codes "* ESEARCH (TAG \"" ⌢ tag_text tag ⌢ codes "\") UID" ⌢ all_text uids
 
--- the flags and the mod-sequence of a message, and its Message-ID fields
+-- the flags and the mod-sequence of a message, its Message-ID fields, and its whole text
 abbrev pub row_text : Bool → ℕ → List (List ℕ) → ℕ → List ℕ
 row_text older uid flags modseq =
     codes "UID " ⌢ decimal uid ⌢ codes " FLAGS (" ⌢ flags_text older flags ⌢ codes ") MODSEQ (" ⌢ decimal modseq ⌢ codes "))"
@@ -97,14 +98,18 @@ row_text older uid flags modseq =
 abbrev pub ids_front : ℕ → List ℕ
 ids_front uid = codes "UID " ⌢ decimal uid ⌢ codes " BODY[HEADER.FIELDS (MESSAGE-ID)] "
 
+abbrev pub text_front : ℕ → List ℕ
+text_front uid = codes "UID " ⌢ decimal uid ⌢ codes " BODY[] "
+
 abbrev pub literal_text : List ℕ → List ℕ
 literal_text octets = codes "{" ⌢ decimal (length octets) ⌢ codes "}\r\n" ⌢ octets
 
 -- what stands behind the parenthesis of a FETCH
-abbrev pub items_text : Bool → Option ℕ → Option (List (List ℕ)) → Option ℕ → Option (List ℕ) → List ℕ
-items_text older (Some uid) (Some flags) (Some modseq) None = row_text older uid flags modseq
-items_text older (Some uid) None None (Some ids) = ids_front uid ⌢ literal_text ids ⌢ codes ")"
-items_text older uid flags modseq ids = []
+abbrev pub items_text : Bool → Option ℕ → Option (List (List ℕ)) → Option ℕ → Option (List ℕ) → Option (List ℕ) → List ℕ
+items_text older (Some uid) (Some flags) (Some modseq) None None = row_text older uid flags modseq
+items_text older (Some uid) None None (Some ids) None = ids_front uid ⌢ literal_text ids ⌢ codes ")"
+items_text older (Some uid) None None None (Some text) = text_front uid ⌢ literal_text text ⌢ codes ")"
+items_text older uid flags modseq ids text = []
 
 -- the lines that no standard asks for: the first two are of IMAP4rev1, and what follows is unknown
 abbrev pub other_text : ℕ → List ℕ
@@ -140,7 +145,7 @@ abbrev pub exists_text : ℕ → List ℕ
 exists_text count = codes "* " ⌢ decimal count ⌢ codes " EXISTS"
 
 abbrev pub fetch_text : Bool → ℕ → Fetched → List ℕ
-fetch_text older number f = codes "* " ⌢ decimal number ⌢ codes " FETCH (" ⌢ items_text older f.uid f.flags f.modseq f.ids
+fetch_text older number f = codes "* " ⌢ decimal number ⌢ codes " FETCH (" ⌢ items_text older f.uid f.flags f.modseq f.ids f.text
 
 abbrev pub vanished_text : Bool → List UidRange → List ℕ
 vanished_text true uids = codes "* VANISHED (EARLIER) " ⌢ set_text uids

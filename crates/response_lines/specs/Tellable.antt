@@ -10,6 +10,8 @@ use Rattle.imap_model.specs.declared.code.Code.{Code}
 use Rattle.imap_model.specs.declared.code.Code.TheVariants as codings
 use Rattle.imap_model.specs.declared.response.Response.{Response}
 use Rattle.imap_model.specs.declared.response.Response.TheVariants as responses
+use Rattle.mail_base.specs.declared.tag.Tag.{Tag}
+use Rattle.mail_base.specs.declared.tag.Tag.TheVariants as tags
 
 -- an atom (RFC 9051, section 9)
 abbrev pub IsAtomic : List ℕ → Type 0
@@ -35,17 +37,26 @@ IsTellableCode (codings.Modified uids) = uids ≢ []
 IsTellableCode codings.Closed = Unit {0}
 IsTellableCode codings.Other = Unit {0}
 
--- what is told of a message: its UID, flags and mod-sequence, or its UID and its Message-ID fields
-abbrev pub IsTellableRow : Option ℕ → Option (List (List ℕ)) → Option ℕ → Option (List ℕ) → Type 0
-IsTellableRow (Some uid) (Some flags) (Some modseq) None = LacksRecent flags
-IsTellableRow (Some uid) None None (Some ids) = Unit {0}
-IsTellableRow uid flags modseq ids = ⊥
+-- what is told of a message: its UID, flags and mod-sequence, or its UID and its Message-ID fields, or its UID and its whole text
+abbrev pub IsTellableRow : Option ℕ → Option (List (List ℕ)) → Option ℕ → Option (List ℕ) → Option (List ℕ) → Type 0
+IsTellableRow (Some uid) (Some flags) (Some modseq) None None = LacksRecent flags
+IsTellableRow (Some uid) None None (Some ids) None = Unit {0}
+IsTellableRow (Some uid) None None None (Some text) = Unit {0}
+IsTellableRow uid flags modseq ids text = ⊥
 
 -- the numbers and flags of it are those that a program can hold
-abbrev pub RowFits : Option ℕ → Option (List (List ℕ)) → Option ℕ → Option (List ℕ) → Type 0
-RowFits (Some uid) (Some flags) (Some modseq) None = IsNonzero32 uid × IsFlagSet flags × IsModSeq modseq
-RowFits (Some uid) None None (Some ids) = IsNonzero32 uid × (length ids < 2 ^ 64)
-RowFits uid flags modseq ids = ⊥
+abbrev pub RowFits : Option ℕ → Option (List (List ℕ)) → Option ℕ → Option (List ℕ) → Option (List ℕ) → Type 0
+RowFits (Some uid) (Some flags) (Some modseq) None None = IsNonzero32 uid × IsFlagSet flags × IsModSeq modseq
+RowFits (Some uid) None None (Some ids) None = IsNonzero32 uid × (length ids < 2 ^ 64)
+RowFits (Some uid) None None None (Some text) = IsNonzero32 uid × (length text < 2 ^ 64)
+RowFits uid flags modseq ids text = ⊥
+
+-- the numbers of a tag are those that a program can hold
+abbrev pub TagFits : Tag → Type 0
+TagFits (tags.Play number) = number < 2 ^ 32
+TagFits (tags.Again id turn) = (id < 2 ^ 32) × (turn < 2 ^ 8)
+TagFits (tags.Count number) = number < 2 ^ 32
+TagFits tags.Strange = Unit {0}
 
 -- a response that can be spelled, and is told by this server
 abbrev pub IsTellable : Response → Type 0
@@ -57,7 +68,7 @@ IsTellable responses.Go = Unit {0}
 IsTellable (responses.Capability words) = (words ≢ []) × AllByRecursion IsAtomic words
 IsTellable (responses.Enabled words) = AllByRecursion IsAtomic words
 IsTellable (responses.Exists count) = Unit {0}
-IsTellable (responses.Fetch f) = IsTellableRow f.uid f.flags f.modseq f.ids
+IsTellable (responses.Fetch f) = IsTellableRow f.uid f.flags f.modseq f.ids f.text
 IsTellable (responses.Vanished earlier uids) = uids ≢ []
 IsTellable (responses.Found uids) = Unit {0}
 IsTellable responses.Other = Unit {0}

@@ -4,7 +4,7 @@
 ghost use Rattle.std.specs.Prelude.{◌≡◌, ◌<◌, ◌^◌, Some, None, OnOk, length, codes, decimal};
 ghost use Rattle.flag_set.specs.FlagSet.{IsFlagSet};
 ghost use Rattle.imap_model.specs.Held.{IsModSeq, IsNonzero32};
-ghost use Rattle.response_lines.specs.LineTexts.{◌⌢◌, flags_text, ids_front, items_text, literal_text, row_text};
+ghost use Rattle.response_lines.specs.LineTexts.{◌⌢◌, flags_text, ids_front, items_text, literal_text, row_text, text_front};
 ghost use Rattle.response_lines.specs.Tellable.{IsTellableRow, RowFits};
 
 use crate::texts::{put, put_flags, put_flags_with, put_modseq, put_number, put_uid};
@@ -16,13 +16,22 @@ use uid_sets::Uid;
 
 /// Puts what stands behind the parenthesis of a FETCH behind the bytes. With `older` the flag `\Recent` comes last.
 pub fn put_items(out: &mut Vec<u8>, older: bool, fetched: &Fetched) -> Result<(), AllocError>
-    requires { IsTellableRow fetched.now.uid fetched.now.flags fetched.now.modseq fetched.now.ids }
-    ensures text { OnOk result (out.new.items ≡ out.old.items ⌢ items_text older fetched.now.uid fetched.now.flags fetched.now.modseq fetched.now.ids) }
-    ensures fits { OnOk result (RowFits fetched.now.uid fetched.now.flags fetched.now.modseq fetched.now.ids) }
+    requires { IsTellableRow fetched.now.uid fetched.now.flags fetched.now.modseq fetched.now.ids fetched.now.text }
+    ensures text { OnOk result (out.new.items ≡ out.old.items ⌢ items_text older fetched.now.uid fetched.now.flags fetched.now.modseq fetched.now.ids fetched.now.text) }
+    ensures fits { OnOk result (RowFits fetched.now.uid fetched.now.flags fetched.now.modseq fetched.now.ids fetched.now.text) }
 {
-    match (&fetched.uid, &fetched.flags, &fetched.modseq, &fetched.ids) {
-        (Some(uid), Some(flags), Some(modseq), None) => put_row(out, older, *uid, flags, *modseq),
-        (Some(uid), None, None, Some(ids)) => put_ids(out, *uid, ids),
+    match (
+        &fetched.uid,
+        &fetched.flags,
+        &fetched.modseq,
+        &fetched.ids,
+        &fetched.text,
+    ) {
+        (Some(uid), Some(flags), Some(modseq), None, None) => {
+            put_row(out, older, *uid, flags, *modseq)
+        }
+        (Some(uid), None, None, Some(ids), None) => put_ids(out, *uid, ids),
+        (Some(uid), None, None, None, Some(text)) => put_whole(out, *uid, text),
         _ => unreachable!(),
     }
 }
@@ -35,7 +44,7 @@ fn put_row(
     modseq: ModSeq,
 ) -> Result<(), AllocError>
     ensures text { OnOk result (out.new.items ≡ out.old.items ⌢ row_text older uid flags.now modseq) }
-    ensures fits { OnOk result (RowFits (Some uid) (Some flags.now) (Some modseq) None) }
+    ensures fits { OnOk result (RowFits (Some uid) (Some flags.now) (Some modseq) None None) }
 {
     put(out, b"UID ")?;
     put_uid(out, uid)?;
@@ -66,7 +75,7 @@ fn put_told_flags(out: &mut Vec<u8>, older: bool, flags: &FlagSet) -> Result<(),
 
 fn put_ids(out: &mut Vec<u8>, uid: Uid, ids: &Bytes) -> Result<(), AllocError>
     ensures text { OnOk result (out.new.items ≡ out.old.items ⌢ (ids_front uid ⌢ literal_text ids.now ⌢ codes ")")) }
-    ensures fits { OnOk result (RowFits (Some uid) None None (Some ids.now)) }
+    ensures fits { OnOk result (RowFits (Some uid) None None (Some ids.now) None) }
 {
     put_ids_front(out, uid)?;
     put_literal(out, ids.as_slice())?;
@@ -80,6 +89,24 @@ fn put_ids_front(out: &mut Vec<u8>, uid: Uid) -> Result<(), AllocError>
     put(out, b"UID ")?;
     put_uid(out, uid)?;
     put(out, b" BODY[HEADER.FIELDS (MESSAGE-ID)] ")
+}
+
+fn put_whole(out: &mut Vec<u8>, uid: Uid, text: &Bytes) -> Result<(), AllocError>
+    ensures text { OnOk result (out.new.items ≡ out.old.items ⌢ (text_front uid ⌢ literal_text text.now ⌢ codes ")")) }
+    ensures fits { OnOk result (RowFits (Some uid) None None None (Some text.now)) }
+{
+    put_text_front(out, uid)?;
+    put_literal(out, text.as_slice())?;
+    put(out, b")")
+}
+
+fn put_text_front(out: &mut Vec<u8>, uid: Uid) -> Result<(), AllocError>
+    ensures text { OnOk result (out.new.items ≡ out.old.items ⌢ text_front uid) }
+    ensures nonzero { OnOk result (IsNonzero32 uid) }
+{
+    put(out, b"UID ")?;
+    put_uid(out, uid)?;
+    put(out, b" BODY[] ")
 }
 
 // A literal, whatever the octets are.

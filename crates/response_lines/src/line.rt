@@ -180,7 +180,7 @@ fn put_fetch(
     number: u32,
     fetched: &Fetched,
 ) -> Result<(), AllocError>
-    requires tellable { IsTellableRow fetched.now.uid fetched.now.flags fetched.now.modseq fetched.now.ids }
+    requires tellable { IsTellableRow fetched.now.uid fetched.now.flags fetched.now.modseq fetched.now.ids fetched.now.text }
     requires number { 0 < number }
     ensures text { OnOk result (out.new.items ≡ out.old.items ⌢ fetch_text older number fetched.now) }
     ensures spelled { OnOk result (IsSpelled (responses.Fetch fetched.now) (fetch_text older number fetched.now)) }

@@ -1,13 +1,13 @@
 //! The parts of a line: texts, numbers, words, flags and sets.
 #![tactic(auto, using(crate::proofs::TextChains::text_assoc, crate::proofs::TextChains::text_nil))]
 
-ghost use Rattle.std.specs.Prelude.{◌≡◌, ◌<◌, ◌^◌, OnOk, decimal};
+ghost use Rattle.std.specs.Prelude.{◌≡◌, ◌<◌, ◌^◌, OnOk, codes, decimal};
 ghost use Rattle.flag_set.specs.FlagSet.{IsFlagSet};
 ghost use Rattle.flag_set.specs.FlagText.{list_text};
-ghost use Rattle.imap_model.specs.OneText.{IsKeptTag};
 ghost use Rattle.uid_sets.specs.Spelling.{set_text};
 ghost use Rattle.uid_sets.specs.UidSet.{IsCanonical};
 ghost use Rattle.response_lines.specs.LineTexts.{◌⌢◌, flags_with, tag_text, words_text};
+ghost use Rattle.response_lines.specs.Tellable.{TagFits};
 
 use flag_set::FlagSet;
 use itoa::Buffer;
@@ -109,17 +109,28 @@ pub fn put_flags_with(out: &mut Vec<u8>, flags: &FlagSet, last: &[u8]) -> Result
 /// Puts the text of a tag behind the bytes.
 pub fn put_tag(out: &mut Vec<u8>, tag: Tag) -> Result<(), AllocError>
     ensures text { OnOk result (out.new.items ≡ out.old.items ⌢ tag_text tag) }
-    ensures kept { IsKeptTag tag }
+    ensures fits { TagFits tag }
 {
     match tag {
         Tag::Play(number) => {
             put(out, b"P")?;
             put_number(out, u64::from(number))
         }
+        Tag::Again { id, turn } => put_try(out, id, turn),
         Tag::Count(number) => {
             put(out, b"C")?;
             put_number(out, u64::from(number))
         }
         Tag::Strange => put(out, b"X"),
     }
+}
+
+// The tag of an action's second or third try.
+fn put_try(out: &mut Vec<u8>, id: u32, turn: u8) -> Result<(), AllocError>
+    ensures { OnOk result (out.new.items ≡ out.old.items ⌢ (codes "P" ⌢ decimal id ⌢ codes "R" ⌢ decimal turn)) }
+{
+    put(out, b"P")?;
+    put_number(out, u64::from(id))?;
+    put(out, b"R")?;
+    put_number(out, u64::from(turn))
 }

@@ -23,11 +23,11 @@ pub struct DiskFailed;
 /// end, and any length from the synced one to the furthest end written; all other bytes stay. After
 /// a sync that answers Ok a stop leaves what a read gives.
 ///
-/// Each call answers `DiskFailed` only where the count of faults rose in that call, and leaves the
-/// link as it was.
+/// Each call answers `DiskFailed` only where the count of faults rose in that call, leaves that
+/// count where it answers Ok, and leaves the link as it was.
 pub trait Disk: Clocked {
     ghost use Rattle.std.specs.Prelude.{◌≡◌, ◌≤◌, ◌+◌, ◌-◌, ◌^◌};
-    ghost use Rattle.std.specs.Prelude.{min, length, take, drop, OnErr, IfOk};
+    ghost use Rattle.std.specs.Prelude.{min, length, take, drop, OnOk, OnErr, IfOk};
     ghost use Rattle.world_traits.specs.Files.{Files, file_of};
     ghost use Rattle.world_traits.specs.Moments.{MayLeave};
     ghost use Rattle.world_traits.specs.Calls.{Rose, Looked, Wrote, Synced};
@@ -45,7 +45,9 @@ pub trait Disk: Clocked {
         ensures count { Self.disk_faults self.old ≤ Self.disk_faults self.new }
         ensures link { Self.link self.new ≡ Self.link self.old }
         ensures cause { OnErr result
-            (Rose (Self.disk_faults self.old) (Self.disk_faults self.new)) };
+            (Rose (Self.disk_faults self.old) (Self.disk_faults self.new)) }
+        ensures unfailed { OnOk result
+            (Self.disk_faults self.new ≡ Self.disk_faults self.old) };
 
     /// Reads from a place into the buffer's front, as many bytes as there are and fit, and answers
     /// how many. After an error too the files and the moment stay.
@@ -60,7 +62,9 @@ pub trait Disk: Clocked {
         ensures count { Self.disk_faults self.old ≤ Self.disk_faults self.new }
         ensures link { Self.link self.new ≡ Self.link self.old }
         ensures cause { OnErr result
-            (Rose (Self.disk_faults self.old) (Self.disk_faults self.new)) };
+            (Rose (Self.disk_faults self.old) (Self.disk_faults self.new)) }
+        ensures unfailed { OnOk result
+            (Self.disk_faults self.new ≡ Self.disk_faults self.old) };
 
     /// Writes the bytes at a place. A gap between the file's end and that place reads as zeros.
     /// After an error the range counts as written and may hold any bytes, or nothing was written at
@@ -72,7 +76,9 @@ pub trait Disk: Clocked {
         ensures count { Self.disk_faults self.old ≤ Self.disk_faults self.new }
         ensures link { Self.link self.new ≡ Self.link self.old }
         ensures cause { OnErr result
-            (Rose (Self.disk_faults self.old) (Self.disk_faults self.new)) };
+            (Rose (Self.disk_faults self.old) (Self.disk_faults self.new)) }
+        ensures unfailed { OnOk result
+            (Self.disk_faults self.new ≡ Self.disk_faults self.old) };
 
     /// Makes what a read gives the synced bytes. After an error nothing more is known of what a
     /// stop leaves than before.
@@ -82,7 +88,9 @@ pub trait Disk: Clocked {
         ensures count { Self.disk_faults self.old ≤ Self.disk_faults self.new }
         ensures link { Self.link self.new ≡ Self.link self.old }
         ensures cause { OnErr result
-            (Rose (Self.disk_faults self.old) (Self.disk_faults self.new)) };
+            (Rose (Self.disk_faults self.old) (Self.disk_faults self.new)) }
+        ensures unfailed { OnOk result
+            (Self.disk_faults self.new ≡ Self.disk_faults self.old) };
 
     /// What the files read as is one of the images that a stop may leave now.
     ghost seen_is: { (disk : Self) → Self.tells_files →

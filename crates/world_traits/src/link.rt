@@ -13,10 +13,10 @@ pub struct LinkFailed;
 ///
 /// Where the object tells its server, that server is honest: in each call it does what RFC 9051
 /// allows it to. A command that waits is carried out once, before the next greeting or never. Each
-/// call answers `LinkFailed` only where the count of faults rose in that call, and leaves the disk
-/// as it was.
+/// call answers `LinkFailed` only where the count of faults rose in that call, leaves that count
+/// where it answers Ok, and leaves the disk as it was.
 pub trait Link: Clocked {
-    ghost use Rattle.std.specs.Prelude.{◌≡◌, ◌⊎◌, ◌≤◌, ◌<◌, ◌++◌, ℕ, List, [], Option, Some, None};
+    ghost use Rattle.std.specs.Prelude.{◌≡◌, ◌≤◌, ◌<◌, ◌++◌, ℕ, List, [], ◌∷◌, Option, Some, None};
     ghost use Rattle.std.specs.Prelude.{take, length, OnOk, OnErr, IfOk, IfSome};
     ghost use Rattle.mail_base.specs.declared.tag.Tag.{Tag};
     ghost use Rattle.imap_model.specs.Lines.{Received};
@@ -29,7 +29,9 @@ pub trait Link: Clocked {
     ghost use Rattle.world_traits.specs.Sends.{Sent};
 
     /// Begins a new connection and ends an old one. After Ok the server has greeted, nothing that
-    /// was sent before waits any more, and nothing was received yet.
+    /// was sent before waits any more, and nothing was received yet. What was sent up to now stands
+    /// in front of what was sent earlier, also where it is nothing, as before the first connection.
+    /// After an error both are as they were. No other call changes what was sent earlier.
     fn connect(&mut self) -> Result<(), LinkFailed>
         ensures disk { Self.disk_faults self.new ≡ Self.disk_faults self.old }
         ensures files { Self.tells_files →
@@ -43,13 +45,19 @@ pub trait Link: Clocked {
         ensures greets { Self.tells_server →
             OnOk result (IsGreeted (Self.clock self.new).now.outside) }
         ensures sent { Self.tells_files → OnOk result ((Self.link self.new).sent ≡ []) }
-        ensures unsent { Self.tells_files → OnErr result (((Self.link self.new).sent ≡ [])
-            ⊎ ((Self.link self.new).sent ≡ (Self.link self.old).sent)) }
+        ensures earlier { Self.tells_files → OnOk result ((Self.link self.new).earlier
+            ≡ (Self.link self.old).sent ∷ (Self.link self.old).earlier) }
+        ensures unsent { Self.tells_files →
+            OnErr result ((Self.link self.new).sent ≡ (Self.link self.old).sent) }
+        ensures unmade { Self.tells_files →
+            OnErr result ((Self.link self.new).earlier ≡ (Self.link self.old).earlier) }
         ensures lost { Self.tells_files →
             OnErr result ((Self.link self.new).connection ≡ None) }
         ensures count { (Self.link self.old).faults ≤ (Self.link self.new).faults }
         ensures cause { OnErr result
-            (Rose (Self.link self.old).faults (Self.link self.new).faults) };
+            (Rose (Self.link self.old).faults (Self.link self.new).faults) }
+        ensures unfailed { OnOk result
+            ((Self.link self.new).faults ≡ (Self.link self.old).faults) };
 
     /// Sends all the bytes. After an error some prefix of them went out, and there is no connection
     /// any more. Where they are the part of a command's text that the server awaits, that part
@@ -70,13 +78,17 @@ pub trait Link: Clocked {
             ((Self.link self.new).sent ≡ (Self.link self.old).sent ++ bytes.now) }
         ensures front { Self.tells_files → OnErr result ((n : ℕ)
             × ((Self.link self.new).sent ≡ (Self.link self.old).sent ++ take n bytes.now)) }
+        ensures earlier { Self.tells_files →
+            (Self.link self.new).earlier ≡ (Self.link self.old).earlier }
         ensures received { Self.tells_files → OnOk result
             ((Self.link self.new).connection ≡ (Self.link self.old).connection) }
         ensures lost { Self.tells_files →
             OnErr result ((Self.link self.new).connection ≡ None) }
         ensures count { (Self.link self.old).faults ≤ (Self.link self.new).faults }
         ensures cause { OnErr result
-            (Rose (Self.link self.old).faults (Self.link self.new).faults) };
+            (Rose (Self.link self.old).faults (Self.link self.new).faults) }
+        ensures unfailed { OnOk result
+            ((Self.link self.new).faults ≡ (Self.link self.old).faults) };
 
     /// Waits for what the server sends, writes at least one byte of it to the buffer's front, and
     /// answers how many. A stream that ends counts as a fault. After an error there is no connection
@@ -97,11 +109,15 @@ pub trait Link: Clocked {
             (Self.link self.new).connection
             ≡ Some (record c { received = c.received ++ take n into.new }))) }
         ensures sent { Self.tells_files → (Self.link self.new).sent ≡ (Self.link self.old).sent }
+        ensures earlier { Self.tells_files →
+            (Self.link self.new).earlier ≡ (Self.link self.old).earlier }
         ensures lost { Self.tells_files →
             OnErr result ((Self.link self.new).connection ≡ None) }
         ensures count { (Self.link self.old).faults ≤ (Self.link self.new).faults }
         ensures cause { OnErr result
-            (Rose (Self.link self.old).faults (Self.link self.new).faults) };
+            (Rose (Self.link self.old).faults (Self.link self.new).faults) }
+        ensures unfailed { OnOk result
+            ((Self.link self.new).faults ≡ (Self.link self.old).faults) };
 
     /// Ends the connection, where there is one. What was sent before may still be carried out.
     fn close(&mut self)
@@ -112,6 +128,8 @@ pub trait Link: Clocked {
             Linked Answering (Self.clock self.old) (Self.clock self.new) }
         ensures ended { Self.tells_files → (Self.link self.new).connection ≡ None }
         ensures sent { Self.tells_files → (Self.link self.new).sent ≡ (Self.link self.old).sent }
+        ensures earlier { Self.tells_files →
+            (Self.link self.new).earlier ≡ (Self.link self.old).earlier }
         ensures count { (Self.link self.new).faults ≡ (Self.link self.old).faults };
 
     /// The bytes received are a front of the lines of what the server has told in this connection:

@@ -28,8 +28,9 @@ use crate::reading::numbers::{modseq_of, uid_of, validity_of};
 use crate::reading::sets::uids_of;
 use crate::reading::tags::tagged;
 use imap_model::{Command, Mark};
-use mail_base::{Bytes, Tag};
+use mail_base::{BoxName, Bytes, Tag};
 use std::alloc::{AllocError, Global};
+use uid_sets::Uid;
 
 /// A command under its tag.
 #[derive(Drop)]
@@ -115,8 +116,12 @@ fn on_uids(alloc: Global, text: &[u8], later: &[Bytes]) -> Result<Option<Command
     ensures row { (uid : ℕ) → IsNonzero32 uid → text.now ≡ codes "FETCH " ++ (decimal uid ++ (codes " (UID FLAGS MODSEQ)" ++ crlf)) → IfOk result (λ found. found ≡ Some (commands.FetchRow uid)) }
     ensures ids { (uids : List UidRange) → IsCanonical uids → text.now ≡ codes "FETCH " ++ (set_text uids ++ (codes " (UID BODY.PEEK[HEADER.FIELDS (MESSAGE-ID)])" ++ crlf))
         → IfOk result (λ found. found ≡ Some (commands.FetchIds uids)) }
+    ensures text { (uid : ℕ) → IsNonzero32 uid → text.now ≡ codes "FETCH " ++ (decimal uid ++ (codes " (UID BODY.PEEK[])" ++ crlf)) → IfOk result (λ found. found ≡ Some (commands.FetchText uid)) }
     ensures shift { (uid : ℕ) (to first : List ℕ) → IsNonzero32 uid → IsBoxName to → text.now ≡ codes "MOVE " ++ first
         → first ∷ [] ≡ number uid ⌢ (words " " ⌢ (astring_parts to ⌢ line crlf)) → IfOk result (λ found. found ≡ Some (commands.Shift uid to)) }
+    ensures copy { (uid : ℕ) (to first : List ℕ) → IsNonzero32 uid → IsBoxName to → text.now ≡ codes "COPY " ++ first
+        → first ∷ [] ≡ number uid ⌢ (words " " ⌢ (astring_parts to ⌢ line crlf)) → IfOk result (λ found. found ≡ Some (commands.Copy uid to)) }
+    ensures expunge { (uid : ℕ) → IsNonzero32 uid → text.now ≡ codes "EXPUNGE " ++ (decimal uid ++ crlf) → IfOk result (λ found. found ≡ Some (commands.Expunge uid)) }
     ensures search { (from : ℕ) (id first : List ℕ) → IsNonzero32 from → IsText id → text.now ≡ codes "SEARCH UID " ++ first
         → first ∷ later.now ≡ number from ⌢ (words ":* HEADER Message-ID " ⌢ (astring_parts id ⌢ line crlf)) → IfOk result (λ found. found ≡ Some (commands.Search from id)) }
     ensures store { (uid since : ℕ) (add : Bool) (flags : List (List ℕ)) (first : List ℕ) → IsNonzero32 uid → IsModSeq since → IsFlagSet flags → text.now ≡ codes "STORE " ++ first
@@ -126,6 +131,8 @@ fn on_uids(alloc: Global, text: &[u8], later: &[Bytes]) -> Result<Option<Command
     match byte_at(text, 0) {
         b'F' => fetch(alloc, behind(text, 6)),
         b'M' => shift(alloc, behind(text, 5)),
+        b'C' => copy(alloc, behind(text, 5)),
+        b'E' => Ok(expunge(behind(text, 8))),
         _ => search_or_store(alloc, text, later),
     }
 }
@@ -203,12 +210,26 @@ fn fetch(alloc: Global, text: &[u8]) -> Result<Option<Command>, AllocError>
     ensures row { (uid : ℕ) → IsNonzero32 uid → text.now ≡ decimal uid ++ (codes " (UID FLAGS MODSEQ)" ++ crlf) → IfOk result (λ found. found ≡ Some (commands.FetchRow uid)) }
     ensures ids { (uids : List UidRange) → IsCanonical uids → text.now ≡ set_text uids ++ (codes " (UID BODY.PEEK[HEADER.FIELDS (MESSAGE-ID)])" ++ crlf)
         → IfOk result (λ found. found ≡ Some (commands.FetchIds uids)) }
+    ensures text { (uid : ℕ) → IsNonzero32 uid → text.now ≡ decimal uid ++ (codes " (UID BODY.PEEK[])" ++ crlf) → IfOk result (λ found. found ≡ Some (commands.FetchText uid)) }
 {
     let (uids, items) = until(text, b' ');
     if byte_at(items, 5) == b'F' {
         return Ok(fetch_rows(uids));
     }
+    if byte_at(items, 15) == b']' {
+        return Ok(fetch_text(uids));
+    }
     fetch_ids(alloc, uids)
+}
+
+// The whole text of one message.
+fn fetch_text(text: &[u8]) -> Option<Command>
+    ensures { (uid : ℕ) → IsNonzero32 uid → text.now ≡ decimal uid → result ≡ Some (commands.FetchText uid) }
+{
+    match uid_of(text) {
+        Some(uid) => Some(Command::FetchText { uid }),
+        None => None,
+    }
 }
 
 fn fetch_ids(alloc: Global, text: &[u8]) -> Result<Option<Command>, AllocError>
@@ -278,17 +299,48 @@ fn store(alloc: Global, text: &[u8]) -> Result<Option<Command>, AllocError>
     }
 }
 
-fn shift(alloc: Global, text: &[u8]) -> Result<Option<Command>, AllocError>
+// A UID, and behind a space a mailbox's name.
+fn placed(alloc: Global, text: &[u8]) -> Result<Option<(Uid, BoxName)>, AllocError>
     ensures { (uid : ℕ) (to : List ℕ) → IsNonzero32 uid → IsBoxName to
-        → text.now ∷ [] ≡ number uid ⌢ (words " " ⌢ (astring_parts to ⌢ line crlf)) → IfOk result (λ found. found ≡ Some (commands.Shift uid to)) }
+        → text.now ∷ [] ≡ number uid ⌢ (words " " ⌢ (astring_parts to ⌢ line crlf)) → IfOk result (λ found. MatchOption found ⊥ (λ p. (p.0 ≡ uid) × (p.1 ≡ to))) }
 {
     let (uid, rest) = until(text, b' ');
     let Some(uid) = uid_of(uid) else {
         return Ok(None);
     };
     match name(alloc, rest)? {
-        Some((to, _)) => Ok(Some(Command::Shift { uid, to })),
+        Some((to, _)) => Ok(Some((uid, to))),
         None => Ok(None),
+    }
+}
+
+fn shift(alloc: Global, text: &[u8]) -> Result<Option<Command>, AllocError>
+    ensures { (uid : ℕ) (to : List ℕ) → IsNonzero32 uid → IsBoxName to
+        → text.now ∷ [] ≡ number uid ⌢ (words " " ⌢ (astring_parts to ⌢ line crlf)) → IfOk result (λ found. found ≡ Some (commands.Shift uid to)) }
+{
+    match placed(alloc, text)? {
+        Some((uid, to)) => Ok(Some(Command::Shift { uid, to })),
+        None => Ok(None),
+    }
+}
+
+fn copy(alloc: Global, text: &[u8]) -> Result<Option<Command>, AllocError>
+    ensures { (uid : ℕ) (to : List ℕ) → IsNonzero32 uid → IsBoxName to
+        → text.now ∷ [] ≡ number uid ⌢ (words " " ⌢ (astring_parts to ⌢ line crlf)) → IfOk result (λ found. found ≡ Some (commands.Copy uid to)) }
+{
+    match placed(alloc, text)? {
+        Some((uid, to)) => Ok(Some(Command::Copy { uid, to })),
+        None => Ok(None),
+    }
+}
+
+fn expunge(text: &[u8]) -> Option<Command>
+    ensures { (uid : ℕ) → IsNonzero32 uid → text.now ≡ decimal uid ++ crlf → result ≡ Some (commands.Expunge uid) }
+{
+    let (uid, _) = until(text, b'\r');
+    match uid_of(uid) {
+        Some(uid) => Some(Command::Expunge { uid }),
+        None => None,
     }
 }
 

@@ -239,8 +239,11 @@ pub fn is_possible(stand_in: &StandIn) -> bool
         | Command::FetchRow { .. }
         | Command::Search { .. }
         | Command::FetchIds { .. }
+        | Command::FetchText { .. }
         | Command::Store { .. }
         | Command::Shift { .. }
+        | Command::Copy { .. }
+        | Command::Expunge { .. }
         | Command::Logout => has_some,
     }
 }

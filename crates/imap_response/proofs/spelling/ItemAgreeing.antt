@@ -3,14 +3,16 @@ use Rattle.std.proofs.Common.{◌≡◌, ℕ, Bool, true, false, List, length, c
 use Rattle.std.specs.Prelude.{◌==◌}
 use Rattle.std.specs.Option.{option_or}
 use Rattle.flag_set.specs.declared.flag_fault.FlagFault.{FlagFault}
+use Rattle.imap_response.specs.declared.fetch.Body.{Body}
+use Rattle.imap_response.specs.declared.fetch.Body.TheVariants as bodies
 use Rattle.imap_response.specs.declared.fetch.Gathered.{Gathered}
 use Rattle.imap_response.specs.declared.fetch.Told.{Told}
 use Rattle.imap_response.specs.declared.fetch.Told.TheVariants as tellings
 use Rattle.imap_response.specs.declared.flags.Listed.{Listed}
 use Rattle.imap_response.specs.Flags.{whole, flags_at}
-use Rattle.imap_response.specs.Items.{is_atom, with_told, id_section_at, origin_at, other_section_at, ids_behind, ids_at, sectioned_at, named_item_at, item_at}
+use Rattle.imap_response.specs.Items.{is_atom, with_told, id_section_at, origin_at, other_section_at, told_body, body_behind, body_at, sectioned_at, named_item_at, item_at}
 use Rattle.imap_response.specs.Leaf.{gap_at, mark_at, wide_at, same_word}
-use Rattle.imap_response.specs.Left.{Left, at_left}
+use Rattle.imap_response.specs.Left.{Left, at_left, mark_in}
 use Rattle.imap_response.specs.ReadNumbers.{nonzero_at, modseq_at}
 use Rattle.imap_response.specs.Reads.{◌>>=◌, or_else}
 use Rattle.imap_response.specs.ReadStrings.{nstring_at}
@@ -18,8 +20,8 @@ use Rattle.imap_response.specs.ReadValues.{value_at, section_at}
 use Rattle.imap_response.specs.Within.{IsToldWithin}
 use Rattle.imap_response.proofs.spelling.Agreeing.{Agrees, no_excess, listed_agrees}
 use Rattle.imap_response.proofs.spelling.Choices.{Chosen, choice}
-use Rattle.imap_response.proofs.spelling.Items.{Read, told_of, told_nothing, value_there, origin_there, section_there, ids_told}
-use Rattle.imap_response.proofs.spelling.Items.{ids_there, ids_origin, by_section, by_name, item_is}
+use Rattle.imap_response.proofs.spelling.Items.{Read, told_of, told_nothing, value_there, origin_there, section_there, string_told}
+use Rattle.imap_response.proofs.spelling.Items.{body_there, body_origin, empty_or_other, by_section, by_name, item_is}
 use Rattle.imap_response.proofs.spelling.ItemReads.{rows_of, value_of, items_are}
 use Rattle.imap_response.proofs.spelling.Results.{ok_is, ok_first, ok_either, ok_bind, ok_or_else}
 
@@ -50,26 +52,33 @@ other_agrees left read is =
     let text = ok_bind (gap_at after.0) (value_there behind.0) read after.2 in
     nothing_agrees (value_at (at_left behind.0 text.0)) read text.2
 
-ids_from : (t : Bool) (left : Left) (read : Read) → ids_behind t left ≡ Ok read → ReadAgrees read
-ids_from true left read is =
-    let ids = ok_bind (nstring_at left) ids_told read is in
-    subst ReadAgrees (ok_is (tellings.Ids ids.0.0, ids.0.1) read ids.2) (no_excess (IsToldWithin (told_of (tellings.Ids ids.0.0))) tt)
-ids_from false left read is = nothing_agrees (value_at left) read is
+string_agrees : (which : Body) (text : List ℕ) → ToldAgrees (told_body which text)
+string_agrees bodies.Ids text = no_excess (IsToldWithin (told_of (tellings.Ids text))) tt
+string_agrees bodies.Text text = no_excess (IsToldWithin (told_of (tellings.Text text))) tt
 
-ids_agrees : (left : Left) (read : Read) → ids_at left ≡ Ok read → ReadAgrees read
-unfolding ids_at
-ids_agrees left read is =
-    let after = ok_bind (origin_at left.text) (ids_origin left) read is in
-    let text = ok_bind (gap_at after.0) (ids_there left) read after.2 in
-    ids_from (length (wide_at left.text).0 == 0) (at_left left text.0) read text.2
+body_from : (which : Body) (t : Bool) (left : Left) (read : Read) → body_behind which t left ≡ Ok read → ReadAgrees read
+body_from which true left read is =
+    let string = ok_bind (nstring_at left) (string_told which) read is in
+    subst ReadAgrees (ok_is (told_body which string.0.0, string.0.1) read string.2) (string_agrees which string.0.0)
+body_from which false left read is = nothing_agrees (value_at left) read is
+
+body_agrees : (which : Body) (left : Left) (read : Read) → body_at which left ≡ Ok read → ReadAgrees read
+unfolding body_at
+body_agrees which left read is =
+    let after = ok_bind (origin_at left.text) (body_origin which left) read is in
+    let text = ok_bind (gap_at after.0) (body_there which left) read after.2 in
+    body_from which (length (wide_at left.text).0 == 0) (at_left left text.0) read text.2
 
 sectioned_agrees : (name : List ℕ) (left : Left) (read : Read) → sectioned_at name left ≡ Ok read → ReadAgrees read
 unfolding sectioned_at
 sectioned_agrees name left read is = elim (ok_either (same_word name (codes "BODY"))
-    (or_else (id_section_at left) ids_at (other_section_at left)) (other_section_at left) read is) [
-      | inl body ↦ elim (ok_or_else (id_section_at left) ids_at (other_section_at left) read body.1) [
-        | inl ids ↦ ids_agrees ids.0 read ids.2
-        | inr other ↦ other_agrees left read other.2
+    (or_else (id_section_at left) (body_at bodies.Ids) (empty_or_other left)) (other_section_at left) read is) [
+      | inl body ↦ elim (ok_or_else (id_section_at left) (body_at bodies.Ids) (empty_or_other left) read body.1) [
+        | inl ids ↦ body_agrees bodies.Ids ids.0 read ids.2
+        | inr more ↦ elim (ok_or_else (mark_in 93 left) (body_at bodies.Text) (other_section_at left) read more.2) [
+          | inl text ↦ body_agrees bodies.Text text.0 read text.2
+          | inr other ↦ other_agrees left read other.2
+        ]
       ]
       | inr other ↦ other_agrees left read other.1
     ]
@@ -132,6 +141,7 @@ excess_more gathered (tellings.Uid uid) = sym (more_none gathered.excess)
 excess_more gathered (tellings.Flags flags excess) = refl
 excess_more gathered (tellings.ModSeq modseq) = sym (more_none gathered.excess)
 excess_more gathered (tellings.Ids ids) = sym (more_none gathered.excess)
+excess_more gathered (tellings.Text text) = sym (more_none gathered.excess)
 excess_more gathered tellings.Nothing = sym (more_none gathered.excess)
 
 or_none : (o p : Option FlagFault) → option_or o p ≡ None → (o ≡ None) × (p ≡ None)

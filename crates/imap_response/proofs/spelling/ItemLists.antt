@@ -40,6 +40,7 @@ told_more gathered (tellings.Uid uid) = refl
 told_more gathered (tellings.Flags flags excess) = refl
 told_more gathered (tellings.ModSeq modseq) = refl
 told_more gathered (tellings.Ids ids) = refl
+told_more gathered (tellings.Text text) = refl
 told_more gathered tellings.Nothing = refl
 
 -- no excess so far, and each set within the limits

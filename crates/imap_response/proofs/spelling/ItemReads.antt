@@ -1,6 +1,6 @@
 -- An item of a message: what is spelled is read so.
 use Rattle.std.proofs.Common.{◌≡◌, ◌≢◌, ℕ, Bool, true, false, not, List, [], ◌∷◌, ◌++◌, length, codes, refl, ap, sym, ◌∙◌, subst, inl}
-use Rattle.std.proofs.Common.{inr, ◌⊎◌, arith, append_assoc, append-nil, Result, Ok, Err}
+use Rattle.std.proofs.Common.{inr, ◌⊎◌, arith, append_assoc, append-nil, length-append, Result, Ok, Err}
 use Rattle.std.proofs.lemmas.Bool.{cases_Bool}
 use Rattle.std.proofs.lemmas.Bool.Decides.{nat_tests}
 use Rattle.std.specs.Prelude.{◌&&◌, ◌==◌}
@@ -14,9 +14,11 @@ use Rattle.imap_model.specs.Numbers.{IsNonzero, IsModSeq}
 use Rattle.imap_model.specs.Strings.{character_text}
 use Rattle.imap_model.specs.Values.{is_wide_byte, IsWide, IsAtom, IsValue, IsSection}
 use Rattle.imap_model.specs.FetchItems as model
-use Rattle.imap_model.specs.FetchItems.{IsUidItem, IsFlagsItem, IsModSeqItem, IsIdSection, IsNstring, IsIdsItem, known_items, IsOtherName}
+use Rattle.imap_model.specs.FetchItems.{IsUidItem, IsFlagsItem, IsModSeqItem, IsIdSection, IsNstring, IsIdsItem, IsTextItem, known_items, IsOtherName}
 use Rattle.imap_model.specs.FetchItems.{IsOrigin, IsSectionName, IsOtherItem, IsItem}
 use Rattle.imap_model.proofs.Cutting.{Stops as Ends}
+use Rattle.imap_response.specs.declared.fetch.Body.{Body}
+use Rattle.imap_response.specs.declared.fetch.Body.TheVariants as bodies
 use Rattle.imap_response.specs.declared.fetch.Told.{Told}
 use Rattle.imap_response.specs.declared.fetch.Told.TheVariants as tellings
 use Rattle.imap_response.specs.declared.flags.Listed.{Listed}
@@ -24,22 +26,22 @@ use Rattle.imap_response.specs.Leaf.{is_space, gap_at, mark_at, wide_at, same_wo
 use Rattle.imap_response.specs.Reads.{◌>>=◌, or_else}
 use Rattle.imap_response.specs.ReadNumbers.{nonzero_at, modseq_at}
 use Rattle.imap_response.specs.Flags.{whole, flags_at}
-use Rattle.imap_response.specs.Left.{Left, at_left}
+use Rattle.imap_response.specs.Left.{Left, at_left, mark_in}
 use Rattle.imap_response.specs.ReadStrings.{nstring_at}
 use Rattle.imap_response.specs.ReadValues.{value_at, section_at}
-use Rattle.imap_response.specs.Items.{is_atom, id_section_at, origin_at, other_section_at, ids_behind, ids_at, sectioned_at, named_item_at, item_at}
+use Rattle.imap_response.specs.Items.{is_atom, id_section_at, origin_at, other_section_at, told_body, body_behind, body_at, sectioned_at, named_item_at, item_at}
 use Rattle.imap_response.proofs.spelling.Choices.{choose, choose_same, choose_none, same_test, none_of}
 use Rattle.imap_response.proofs.spelling.Flags.{IsListed, flags_reads}
 use Rattle.imap_response.proofs.spelling.IdSections.{id_spells, id_reads, id_is_section, origin_reads, gap_wide}
-use Rattle.imap_response.proofs.spelling.Items.{Read, told_of, told_nothing, value_there, origin_there, section_there, ids_told}
-use Rattle.imap_response.proofs.spelling.Items.{ids_there, ids_origin, by_section, by_name, item_is}
+use Rattle.imap_response.proofs.spelling.Items.{Read, told_of, told_nothing, value_there, origin_there, section_there, string_told}
+use Rattle.imap_response.proofs.spelling.Items.{body_there, body_origin, empty_or_other, IsBodySection, NotTold, by_section, by_name, item_is}
 use Rattle.imap_response.proofs.spelling.Names.{same_is, is_same, is_other, all_lower, from_all, same_wide}
 use Rattle.imap_response.proofs.spelling.Numbers.{IsFront, nonzero_at_reads, modseq_at_reads, numeral_is, digits_pass}
 use Rattle.imap_response.proofs.spelling.OneSection.{section_same, same_mid}
 use Rattle.imap_response.proofs.spelling.Passing.{Passes, pass_bytes, pass_left, split, joined, bytes_joined, none_passed}
 use Rattle.imap_response.proofs.spelling.Results.{some_len, byte_not, bind_ok, or_else_ok, or_else_err}
 use Rattle.imap_response.proofs.spelling.Runs.{IsCut, cut_front, cut_behind}
-use Rattle.imap_response.proofs.spelling.Steps.{repart, gap_there, no_mark}
+use Rattle.imap_response.proofs.spelling.Steps.{repart, gap_there, mark_in_front, mark_in_there, no_mark}
 use Rattle.imap_response.proofs.spelling.Strings.{nstring_reads}
 use Rattle.imap_response.proofs.spelling.ValueReads.{value_reads, section_reads}
 use Rattle.imap_response.proofs.spelling.Words.{mark_reads}
@@ -300,22 +302,46 @@ sectioned left behind name inside between value passes =
 body_test : (name : List ℕ) → SameWord name (codes "BODY") → same_word name (codes "BODY") ≡ true
 body_test name same = is_same name (codes "BODY") same
 
-ids_section : (two mid four behind : Left) (name : List ℕ) (inside : List Part) (gap : List ℕ) (value : List Part) (ids : List ℕ) →
-    SameWord name (codes "BODY") → IsIdSection inside → Passes two (inside ++ bytes (93 ∷ [])) mid
+-- the section of the identifiers doesn't begin with its end
+no_id_end : (left behind other : Left) (inside : List Part) → IsIdSection inside → Passes left (inside ++ bytes (93 ∷ [])) behind →
+    Passes left (bytes (93 ∷ [])) other → inside ≡ []
+no_id_end left behind other inside section passes ends =
+    section_same left behind other inside [] (id_is_section inside section) ([], tt, tt, refl) passes ends
+
+id_not_empty : (inside : List Part) → IsIdSection inside → inside ≡ [] → ⊥
+id_not_empty inside section none =
+    let last : length (bytes (41 ∷ [])) ≡ 1 = refl in
+    omega (arith, ap length (sym none ∙ section.whole), length-append (bytes (section.name ++ section.gap ++ 40 ∷ []) ++ section.field) (bytes (41 ∷ [])), last)
+
+-- what is read before the string
+section_read : (which : Body) (name : List ℕ) (two mid : Left) (inside : List Part) → SameWord name (codes "BODY") → IsBodySection which inside →
+    Passes two (inside ++ bytes (93 ∷ [])) mid → sectioned_at name two ≡ body_at which mid
+unfolding sectioned_at
+section_read bodies.Ids name two mid inside same section sectioned =
+    rw (body_test name same) (or_else_ok (id_section_at two) (body_at bodies.Ids) (empty_or_other two) mid (id_reads two mid inside section sectioned))
+section_read bodies.Text name two mid inside same section sectioned =
+    let ends : Passes two (bytes (93 ∷ [])) mid = subst (λ (p : List Part). Passes two (p ++ bytes (93 ∷ [])) mid) section sectioned in
+    rw (body_test name same) (or_else_err (id_section_at two) (body_at bodies.Ids) (empty_or_other two)
+    (λ found is. let front = id_spells two found (sectioned.fits) is in
+    id_not_empty front.inside front.section (no_id_end two found mid front.inside front.section front.passes ends))
+    ∙ or_else_ok (mark_in 93 two) (body_at bodies.Text) (other_section_at two) mid (mark_in_there 93 two mid ends))
+
+body_section : (which : Body) (two mid four behind : Left) (name : List ℕ) (inside : List Part) (gap : List ℕ) (value : List Part) (ids : List ℕ) →
+    SameWord name (codes "BODY") → IsBodySection which inside → Passes two (inside ++ bytes (93 ∷ [])) mid
     → IsGap gap → Passes mid (bytes gap) four → IsNstring value ids → Passes four value behind → Ends is_wide_byte behind.text →
-    sectioned_at name two ≡ Ok (tellings.Ids ids, behind)
-unfolding sectioned_at ids_at
-ids_section two mid four behind name inside gap value ids same section sectioned spaces middle told last ends =
+    sectioned_at name two ≡ Ok (told_body which ids, behind)
+unfolding body_at
+body_section which two mid four behind name inside gap value ids same section sectioned spaces middle told last ends =
     let solid = value_solid four behind value (nstring_value value ids told) last in
     let origin = origin_reads mid.text [] mid.text (inl refl) refl (gap_wide gap four.text mid.text spaces (pass_bytes mid gap four middle)) in
     let none : (length (wide_at mid.text).0 == 0) ≡ true = ap (λ (o : List ℕ). length o == 0) origin.1 in
     let back : at_left mid four.text ≡ four = pass_left mid gap four middle in
-    let there : ids_there mid four.text ≡ Ok (tellings.Ids ids, behind) =
-    ap (λ (t : Bool). ids_behind t (at_left mid four.text)) none ∙ ap (λ (l : Left). ids_behind true l) back
-    ∙ bind_ok (nstring_at four) ids_told (ids, behind) (tellings.Ids ids, behind) (nstring_reads four behind value ids told last ends) refl in
-    rw (body_test name same) (or_else_ok (id_section_at two) ids_at (other_section_at two) mid (id_reads two mid inside section sectioned)
-    ∙ bind_ok (origin_at mid.text) (ids_origin mid) mid.text (tellings.Ids ids, behind) origin.0
-    (bind_ok (gap_at mid.text) (ids_there mid) four.text (tellings.Ids ids, behind) (gap_there mid four gap spaces solid middle) there))
+    let there : body_there which mid four.text ≡ Ok (told_body which ids, behind) =
+    ap (λ (t : Bool). body_behind which t (at_left mid four.text)) none ∙ ap (λ (l : Left). body_behind which true l) back
+    ∙ bind_ok (nstring_at four) (string_told which) (ids, behind) (told_body which ids, behind) (nstring_reads four behind value ids told last ends) refl in
+    section_read which name two mid inside same section sectioned
+    ∙ bind_ok (origin_at mid.text) (body_origin which mid) mid.text (told_body which ids, behind) origin.0
+    (bind_ok (gap_at mid.text) (body_there which mid) four.text (told_body which ids, behind) (gap_there mid four gap spaces solid middle) there)
 
 ids_reads : (left behind : Left) (parts : List Part) (ids : List ℕ) → IsIdsItem parts ids → Passes left parts behind →
     Ends is_wide_byte behind.text → Gives left (model.IdsAre ids) behind
@@ -324,7 +350,27 @@ ids_reads left behind parts ids item passes ends =
     let atom = named_atom item.name (codes "BODY") item.named (λ e. cc) refl refl refl in (
       tellings.Ids ids,
       section_item left w.two item.name (tellings.Ids ids, behind) atom w.named
-          (ids_section w.two w.three_ w.four behind item.name item.inside item.gap item.value ids item.named item.id_section
+          (body_section bodies.Ids w.two w.three_ w.four behind item.name item.inside item.gap item.value ids item.named item.id_section
+          w.section item.spaces w.middle item.told w.last ends),
+      refl,
+    )
+
+-- the whole text
+text_whole : (name gap : List ℕ) (value : List Part) →
+    bytes (name ++ 91 ∷ 93 ∷ gap) ++ value ≡ ((bytes (name ++ 91 ∷ []) ++ []) ++ bytes (93 ∷ gap)) ++ value
+text_whole name gap value = ap (λ (p : List Part). p ++ value)
+    (ap (λ (t : List ℕ). bytes t) (sym (append_assoc name (91 ∷ []) (93 ∷ gap))) ∙ bytes_joined (name ++ 91 ∷ []) (93 ∷ gap)
+    ∙ ap (λ (p : List Part). p ++ bytes (93 ∷ gap)) (sym (append-nil (bytes (name ++ 91 ∷ [])))))
+
+text_reads : (left behind : Left) (parts : List Part) (text : List ℕ) → IsTextItem parts text → Passes left parts behind →
+    Ends is_wide_byte behind.text → Gives left (model.TextIs text) behind
+text_reads left behind parts text item passes ends =
+    let w = sectioned left behind item.name [] item.gap item.value
+    (repart left behind parts _ (item.whole ∙ text_whole item.name item.gap item.value) passes) in
+    let atom = named_atom item.name (codes "BODY") item.named (λ e. cc) refl refl refl in (
+      tellings.Text text,
+      section_item left w.two item.name (tellings.Text text, behind) atom w.named
+          (body_section bodies.Text w.two w.three_ w.four behind item.name [] item.gap item.value text item.named refl
           w.section item.spaces w.middle item.told w.last ends),
       refl,
     )
@@ -376,30 +422,44 @@ module _ (two mid four five behind : Left) (name : List ℕ) (inside : List Part
       (bind_ok (origin_at mid.text) (origin_there mid) four.text (tellings.Nothing, behind) origin_is.0
       (bind_ok (gap_at four.text) (value_there mid) five.text (tellings.Nothing, behind) gap_is value_is))
 
-  ids_is : origin ≢ [] → ids_at mid ≡ Ok (tellings.Nothing, behind)
-  unfolding ids_at
-  ids_is some =
+  body_is : (which : Body) → origin ≢ [] → body_at which mid ≡ Ok (tellings.Nothing, behind)
+  unfolding body_at
+  body_is which some =
       let test : (length (wide_at mid.text).0 == 0) ≡ false = ap (λ (o : List ℕ). length o == 0) origin_is.1 ∙ some_len origin some in
-      bind_ok (origin_at mid.text) (ids_origin mid) four.text (tellings.Nothing, behind) origin_is.0
-      (bind_ok (gap_at four.text) (ids_there mid) five.text (tellings.Nothing, behind) gap_is
-      (ap (λ (t : Bool). ids_behind t (at_left mid five.text)) test ∙ value_is))
+      bind_ok (origin_at mid.text) (body_origin which mid) four.text (tellings.Nothing, behind) origin_is.0
+      (bind_ok (gap_at four.text) (body_there which mid) five.text (tellings.Nothing, behind) gap_is
+      (ap (λ (t : Bool). body_behind which t (at_left mid five.text)) test ∙ value_is))
 
-  ids_or_other : (other : SameWord name (codes "BODY") → IsIdSection inside → origin ≢ []) → SameWord name (codes "BODY") →
-      (r : Result Left ℕ) → id_section_at two ≡ r → or_else r ids_at (other_section_at two) ≡ Ok (tellings.Nothing, behind)
-  ids_or_other other same (Err left) is = other_is
+  text_or_other : NotTold name inside origin → SameWord name (codes "BODY") →
+      (r : Result Left ℕ) → mark_in 93 two ≡ r → or_else r (body_at bodies.Text) (other_section_at two) ≡ Ok (tellings.Nothing, behind)
+  text_or_other other same (Err left) is = other_is
+  text_or_other other same (Ok found) is =
+      let front = mark_in_front 93 two found (sectioned_.fits) is in
+      let parts = section_same two found mid [] inside ([], tt, tt, refl) section front sectioned_ in
+      let here : found ≡ mid = same_mid two (inside ++ bytes (93 ∷ [])) found mid
+      (subst (λ (p : List Part). Passes two (p ++ bytes (93 ∷ [])) found) parts front) sectioned_ in
+      ap (body_at bodies.Text) here ∙ body_is bodies.Text (other bodies.Text same (sym parts))
+
+  ids_or_other : NotTold name inside origin → SameWord name (codes "BODY") →
+      (r : Result Left ℕ) → id_section_at two ≡ r → or_else r (body_at bodies.Ids) (empty_or_other two) ≡ Ok (tellings.Nothing, behind)
+  ids_or_other other same (Err left) is = text_or_other other same (mark_in 93 two) refl
   ids_or_other other same (Ok found) is =
       let front = id_spells two found (sectioned_.fits) is in
       let parts = section_same two found mid front.inside inside (id_is_section front.inside front.section) section front.passes sectioned_ in
       let here : found ≡ mid = same_mid two (inside ++ bytes (93 ∷ [])) found mid
       (subst (λ (p : List Part). Passes two (p ++ bytes (93 ∷ [])) found) parts front.passes) sectioned_ in
-      ap ids_at here ∙ ids_is (other same (subst IsIdSection parts front.section))
+      ap (body_at bodies.Ids) here ∙ body_is bodies.Ids (other bodies.Ids same (subst IsIdSection parts front.section))
 
-  pub sectioned_reads : (SameWord name (codes "BODY") → IsIdSection inside → origin ≢ []) → sectioned_at name two ≡ Ok (tellings.Nothing, behind)
+  pub sectioned_reads : NotTold name inside origin → sectioned_at name two ≡ Ok (tellings.Nothing, behind)
   unfolding sectioned_at
   sectioned_reads other = elim (cases_Bool (same_word name (codes "BODY"))) [
     | inl body ↦ rw body (ids_or_other other (same_is name (codes "BODY") body) (id_section_at two) refl)
     | inr none ↦ rw none other_is
   ]
+
+not_told : (name_parts : List Part) (named : IsSectionName name_parts) → NotTold named.name named.inside named.origin
+not_told name_parts named bodies.Ids = named.other
+not_told name_parts named bodies.Text = named.no_text
 
 other_section : (left behind : Left) (name_parts : List Part) (gap : List ℕ) (value : List Part) → IsSectionName name_parts → IsGap gap →
     IsValue value → Passes left ((name_parts ++ bytes gap) ++ value) behind → Ends is_wide_byte behind.text →
@@ -413,7 +473,7 @@ other_section left behind name_parts gap value named spaces valued passes ends =
       tellings.Nothing,
       section_item left w.two named.name (tellings.Nothing, behind) named.atom w.named
           (sectioned_reads w.two w.three_ middle.0 last.0 behind named.name named.inside named.origin gap value named.section
-          w.section named.origins origin spaces middle.2 valued last.2 ends named.other),
+          w.section named.origins origin spaces middle.2 valued last.2 ends (not_told name_parts named)),
       refl,
     )
 
@@ -436,4 +496,5 @@ item_reads left behind parts (model.UidIs uid) item passes ends = uid_reads left
 item_reads left behind parts (model.FlagsAre flags) item passes ends = flags_item_reads left behind parts flags item passes
 item_reads left behind parts (model.ModSeqIs modseq) item passes ends = modseq_reads left behind parts modseq item passes
 item_reads left behind parts (model.IdsAre ids) item passes ends = ids_reads left behind parts ids item passes ends
+item_reads left behind parts (model.TextIs text) item passes ends = text_reads left behind parts text item passes ends
 item_reads left behind parts model.Nothing item passes ends = other_reads left behind parts item passes ends

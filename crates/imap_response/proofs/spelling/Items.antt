@@ -1,6 +1,6 @@
 -- An item of a message: what is read is spelled so.
 use Rattle.std.proofs.Common.{◌≡◌, ◌≢◌, ℕ, Bool, true, false, cond, not, List, [], ◌∷◌, ◌++◌, length, codes, refl, ap, sym, ◌∙◌, subst}
-use Rattle.std.proofs.Common.{inl, inr, ◌⊎◌, append_assoc, Result, Ok, Err}
+use Rattle.std.proofs.Common.{inl, inr, ◌⊎◌, append_assoc, append-nil, Result, Ok, Err}
 use Rattle.std.proofs.lemmas.Bool.{and_parts}
 use Rattle.std.specs.Prelude.{◌&&◌, ◌==◌}
 use Rattle.std.specs.Str.Parse.{IsNumeral}
@@ -8,8 +8,10 @@ use Rattle.imap_model.specs.Parts.{Part, bytes}
 use Rattle.imap_model.specs.Words.{SameWord, IsGap}
 use Rattle.imap_model.specs.Values.{is_wide_byte, IsAtom, IsSection}
 use Rattle.imap_model.specs.FetchItems as model
-use Rattle.imap_model.specs.FetchItems.{IsUidItem, IsFlagsItem, IsModSeqItem, IsIdSection, IsNstring, IsIdsItem, known_items, IsOtherName}
+use Rattle.imap_model.specs.FetchItems.{IsUidItem, IsFlagsItem, IsModSeqItem, IsIdSection, IsNstring, IsIdsItem, IsTextItem, known_items, IsOtherName}
 use Rattle.imap_model.specs.FetchItems.{IsOrigin, IsSectionName, IsOtherItem, IsItem}
+use Rattle.imap_response.specs.declared.fetch.Body.{Body}
+use Rattle.imap_response.specs.declared.fetch.Body.TheVariants as bodies
 use Rattle.imap_response.specs.declared.fetch.Told.{Told}
 use Rattle.imap_response.specs.declared.fetch.Told.TheVariants as tellings
 use Rattle.imap_response.specs.declared.flags.Listed.{Listed}
@@ -17,10 +19,10 @@ use Rattle.imap_response.specs.Leaf.{gap_at, mark_at, wide_at, same_word, is_dig
 use Rattle.imap_response.specs.Reads.{◌>>=◌, or_else}
 use Rattle.imap_response.specs.ReadNumbers.{nonzero_at, modseq_at}
 use Rattle.imap_response.specs.Flags.{whole, flags_at}
-use Rattle.imap_response.specs.Left.{Left, at_left}
+use Rattle.imap_response.specs.Left.{Left, at_left, mark_in}
 use Rattle.imap_response.specs.ReadStrings.{nstring_at}
 use Rattle.imap_response.specs.ReadValues.{value_at, section_at}
-use Rattle.imap_response.specs.Items.{is_atom, id_section_at, origin_at, other_section_at, ids_behind, ids_at, sectioned_at, named_item_at, item_at}
+use Rattle.imap_response.specs.Items.{is_atom, id_section_at, origin_at, other_section_at, told_body, body_behind, body_at, sectioned_at, named_item_at, item_at}
 use Rattle.imap_response.proofs.spelling.Choices.{choose, Chosen, choice, of_none}
 use Rattle.imap_response.proofs.spelling.Flags.{IsListed, flags_spells}
 use Rattle.imap_response.proofs.spelling.IdSections.{id_spells, id_reads, id_is_section, origin_spells}
@@ -29,7 +31,7 @@ use Rattle.imap_response.proofs.spelling.Numbers.{nonzero_at_spells, modseq_at_s
 use Rattle.imap_response.proofs.spelling.Passing.{Passes, Fits, bytes_pass, joined, fits_behind, bytes_joined}
 use Rattle.imap_response.proofs.spelling.Results.{len_some, len_none, ok_is, ok_first, ok_either, ok_bind, ok_or_else}
 use Rattle.imap_response.proofs.spelling.Runs.{reading_cuts}
-use Rattle.imap_response.proofs.spelling.Steps.{repart, gap_front}
+use Rattle.imap_response.proofs.spelling.Steps.{repart, gap_front, mark_in_front, mark_in_there}
 use Rattle.imap_response.proofs.spelling.Strings.{nstring_spells}
 use Rattle.imap_response.proofs.spelling.Words.{mark_spells}
 use Rattle.imap_response.proofs.spelling.Values.{value_spells, section_spells}
@@ -40,6 +42,7 @@ told_of (tellings.Uid uid) = model.UidIs uid
 told_of (tellings.Flags flags excess) = model.FlagsAre flags
 told_of (tellings.ModSeq modseq) = model.ModSeqIs modseq
 told_of (tellings.Ids ids) = model.IdsAre ids
+told_of (tellings.Text text) = model.TextIs text
 told_of tellings.Nothing = model.Nothing
 
 abbrev pub Read : Type 0
@@ -187,19 +190,32 @@ origin_there behind after = gap_at after >>= value_there behind
 abbrev pub section_there : Left → Result Read ℕ
 section_there behind = origin_at behind.text >>= origin_there behind
 
-abbrev pub ids_told : List ℕ × Left → Result Read ℕ
-ids_told ids = Ok (tellings.Ids ids.0, ids.1)
+abbrev pub string_told : Body → List ℕ × Left → Result Read ℕ
+string_told which string = Ok (told_body which string.0, string.1)
 
-abbrev pub ids_there : Left → List ℕ → Result Read ℕ
-ids_there behind text = ids_behind (length (wide_at behind.text).0 == 0) (at_left behind text)
+abbrev pub body_there : Body → Left → List ℕ → Result Read ℕ
+body_there which behind text = body_behind which (length (wide_at behind.text).0 == 0) (at_left behind text)
 
-abbrev pub ids_origin : Left → List ℕ → Result Read ℕ
-ids_origin behind after = gap_at after >>= ids_there behind
+abbrev pub body_origin : Body → Left → List ℕ → Result Read ℕ
+body_origin which behind after = gap_at after >>= body_there which behind
+
+-- the section of the whole text, or any other
+abbrev pub empty_or_other : Left → Result Read ℕ
+empty_or_other left = or_else (mark_in 93 left) (body_at bodies.Text) (other_section_at left)
+
+-- this section, and no other, stands before the string
+abbrev pub IsBodySection : Body → List Part → Type 0
+IsBodySection bodies.Ids inside = IsIdSection inside
+IsBodySection bodies.Text inside = inside ≡ []
+
+-- no string is told of this section
+abbrev pub NotTold : List ℕ → List Part → List ℕ → Type 0
+NotTold name inside origin = (which : Body) → SameWord name (codes "BODY") → IsBodySection which inside → origin ≢ []
 
 module _ (start left : Left) (name : List ℕ) (atom : IsAtom name) (named : Passes start (bytes (name ++ 91 ∷ [])) left) where
   -- a section that isn't that of the identifiers, or one with an origin, and then a value
   passed_item : (behind : Left) (inside : List Part) (origin rest text : List ℕ) (read : Read) → IsSection inside → IsOrigin origin →
-      (SameWord name (codes "BODY") → IsIdSection inside → origin ≢ [])
+      NotTold name inside origin
       → Passes left (inside ++ bytes (93 ∷ [])) behind → behind.text ≡ origin ++ rest → gap_at rest ≡ Ok text →
       value_there behind text ≡ Ok read → IsItemFront start read
   passed_item behind inside origin rest text read section origins other passes whole gapped is =
@@ -232,8 +248,8 @@ module _ (start left : Left) (name : List ℕ) (atom : IsAtom name) (named : Pas
             section = section;
             origin = origin;
             origins = origins;
-            other =
-                other;
+            other = other bodies.Ids;
+            no_text = other bodies.Text;
             whole = refl;
           });
           gap = two.gap;
@@ -249,27 +265,54 @@ module _ (start left : Left) (name : List ℕ) (atom : IsAtom name) (named : Pas
   fits_here : Fits left
   fits_here = fits_behind start (bytes (name ++ 91 ∷ [])) left named
 
-  other_item : (read : Read) → ((behind : Left) (inside : List Part) → SameWord name (codes "BODY") → IsIdSection inside →
+  other_item : (read : Read) → ((which : Body) (behind : Left) (inside : List Part) → SameWord name (codes "BODY") → IsBodySection which inside →
       Passes left (inside ++ bytes (93 ∷ [])) behind → ⊥) → other_section_at left ≡ Ok read → IsItemFront start read
   unfolding other_section_at
-  other_item read no_ids is =
+  other_item read none_told is =
       let behind = ok_bind (section_at left) section_there read is in
       let after = ok_bind (origin_at behind.0.text) (origin_there behind.0) read behind.2 in
       let text = ok_bind (gap_at after.0) (value_there behind.0) read after.2 in
       let section = section_spells (length left.text) left behind.0 fits_here behind.1 in
       let origin = origin_spells behind.0.text after.0 after.1 in
       passed_item behind.0 section.inside origin.origin after.0 text.0 read section.section origin.origins
-      (λ same ids none. no_ids behind.0 section.inside same ids section.passes) section.passes origin.whole text.1 text.2
+      (λ which same told none. none_told which behind.0 section.inside same told section.passes) section.passes origin.whole text.1 text.2
 
-  told_item : (behind : Left) (inside : List Part) (rest text : List ℕ) (read : Read) → SameWord name (codes "BODY") → IsIdSection inside →
-      Passes left (inside ++ bytes (93 ∷ [])) behind → behind.text ≡ rest → gap_at rest ≡ Ok text
-      → (nstring_at (at_left behind text) >>= ids_told) ≡ Ok read → IsItemFront start read
-  told_item behind inside rest text read same section passes whole gapped is =
+  -- a string and what it tells, as the definition has it
+  string_item : (which : Body) (inside value : List Part) (gap bytes_told : List ℕ) → SameWord name (codes "BODY") → IsBodySection which inside →
+      IsGap gap → IsNstring value bytes_told
+      → IsItem (bytes (name ++ 91 ∷ []) ++ inside ++ bytes (93 ∷ gap) ++ value) (told_of (told_body which bytes_told))
+  string_item bodies.Ids inside value gap bytes_told same section spaces told = record {
+    name = name;
+    named = same;
+    inside = inside;
+    id_section = section;
+    gap = gap;
+    spaces = spaces;
+    value = value;
+    told = told;
+    whole = refl;
+  }
+  string_item bodies.Text inside value gap bytes_told same section spaces told = record {
+    name = name;
+    named = same;
+    gap = gap;
+    spaces = spaces;
+    value = value;
+    told = told;
+    whole = ap (λ (p : List Part). p ++ value) (ap (λ (p : List Part). bytes (name ++ 91 ∷ []) ++ p ++ bytes (93 ∷ gap)) section
+        ∙ ap (λ (p : List Part). p ++ bytes (93 ∷ gap)) (append-nil (bytes (name ++ 91 ∷ [])))
+        ∙ sym (bytes_joined (name ++ 91 ∷ []) (93 ∷ gap)) ∙ ap (λ (t : List ℕ). bytes t) (append_assoc name (91 ∷ []) (93 ∷ gap)));
+  }
+
+  told_item : (which : Body) (behind : Left) (inside : List Part) (rest text : List ℕ) (read : Read) → SameWord name (codes "BODY") →
+      IsBodySection which inside → Passes left (inside ++ bytes (93 ∷ [])) behind → behind.text ≡ rest → gap_at rest ≡ Ok text
+      → (nstring_at (at_left behind text) >>= string_told which) ≡ Ok read → IsItemFront start read
+  told_item which behind inside rest text read same section passes whole gapped is =
       let fits = fits_behind left (inside ++ bytes (93 ∷ [])) behind passes in
       let two = gap_front behind text fits (ap gap_at whole ∙ gapped) in
       let fits2 = fits_behind behind (bytes two.gap) (at_left behind text) two.passes in
-      let ids = ok_bind (nstring_at (at_left behind text)) ids_told read is in
-      let front = nstring_spells (at_left behind text) ids.0 fits2 ids.1 in
+      let string = ok_bind (nstring_at (at_left behind text)) (string_told which) read is in
+      let front = nstring_spells (at_left behind text) string.0 fits2 string.1 in
       let with_section : Passes start (bytes (name ++ 91 ∷ []) ++ (inside ++ bytes (93 ∷ []))) behind =
       joined start (bytes (name ++ 91 ∷ [])) left (inside ++ bytes (93 ∷ [])) behind named passes in
       let with_gap : Passes start (bytes (name ++ 91 ∷ []) ++ inside ++ bytes (93 ∷ two.gap)) (at_left behind text) =
@@ -278,53 +321,61 @@ module _ (start left : Left) (name : List ℕ) (atom : IsAtom name) (named : Pas
       (ap (λ (p : List Part). p ++ bytes two.gap) (sym (append_assoc (bytes (name ++ 91 ∷ [])) inside (bytes (93 ∷ []))))
       ∙ append_assoc (bytes (name ++ 91 ∷ []) ++ inside) (bytes (93 ∷ [])) (bytes two.gap))
       (joined start (bytes (name ++ 91 ∷ []) ++ (inside ++ bytes (93 ∷ []))) behind (bytes two.gap) (at_left behind text) with_section two.passes) in
-      subst (IsItemFront start) (ok_is (tellings.Ids ids.0.0, ids.0.1) read ids.2) (record {
+      subst (IsItemFront start) (ok_is (told_body which string.0.0, string.0.1) read string.2) (record {
         parts = bytes (name ++ 91 ∷ []) ++ inside ++ bytes (93 ∷ two.gap) ++ front.0;
-        item = record {
-          name = name;
-          named = same;
-          inside = inside;
-          id_section = section;
-          gap = two.gap;
-          spaces = two.spaces;
-          value =
-              front.0;
-          told = front.1;
-          whole = refl;
-        };
-        passes = joined start (bytes (name ++ 91 ∷ []) ++ inside ++ bytes (93 ∷ two.gap)) (at_left behind text) front.0 ids.0.1 with_gap front.2;
+        item = string_item which inside front.0 two.gap string.0.0 same section two.spaces front.1;
+        passes = joined start (bytes (name ++ 91 ∷ []) ++ inside ++ bytes (93 ∷ two.gap)) (at_left behind text) front.0 string.0.1 with_gap front.2;
       })
 
-  ids_from : (behind : Left) (inside : List Part) (origin rest text : List ℕ) (read : Read) (t : Bool) → (length origin == 0) ≡ t →
-      SameWord name (codes "BODY") → IsIdSection inside → Passes left (inside ++ bytes (93 ∷ [])) behind
-      → IsOrigin origin → behind.text ≡ origin ++ rest → gap_at rest ≡ Ok text → ids_behind t (at_left behind text) ≡ Ok read → IsItemFront start read
-  ids_from behind inside origin rest text read true none same section passes origins whole gapped is =
-      told_item behind inside rest text read same section passes (whole ∙ ap (λ (o : List ℕ). o ++ rest) (len_none origin none)) gapped is
-  ids_from behind inside origin rest text read false some same section passes origins whole gapped is =
-      passed_item behind inside origin rest text read (id_is_section inside section) origins (λ s i. len_some origin some) passes whole gapped is
+  section_is : (which : Body) (inside : List Part) → IsBodySection which inside → IsSection inside
+  section_is bodies.Ids inside section = id_is_section inside section
+  section_is bodies.Text inside section = ([], tt, tt, section)
 
-  ids_item : (behind : Left) (inside : List Part) (read : Read) → SameWord name (codes "BODY") → IsIdSection inside →
-      Passes left (inside ++ bytes (93 ∷ [])) behind → ids_at behind ≡ Ok read → IsItemFront start read
-  unfolding ids_at
-  ids_item behind inside read same section passes is =
-      let after = ok_bind (origin_at behind.text) (ids_origin behind) read is in
-      let text = ok_bind (gap_at after.0) (ids_there behind) read after.2 in
+  body_from : (which : Body) (behind : Left) (inside : List Part) (origin rest text : List ℕ) (read : Read) (t : Bool) → (length origin == 0) ≡ t →
+      SameWord name (codes "BODY") → IsBodySection which inside → Passes left (inside ++ bytes (93 ∷ [])) behind
+      → IsOrigin origin → behind.text ≡ origin ++ rest → gap_at rest ≡ Ok text → body_behind which t (at_left behind text) ≡ Ok read
+      → IsItemFront start read
+  body_from which behind inside origin rest text read true none same section passes origins whole gapped is =
+      told_item which behind inside rest text read same section passes (whole ∙ ap (λ (o : List ℕ). o ++ rest) (len_none origin none)) gapped is
+  body_from which behind inside origin rest text read false some same section passes origins whole gapped is =
+      passed_item behind inside origin rest text read (section_is which inside section) origins (λ w s i. len_some origin some) passes whole gapped is
+
+  body_item : (which : Body) (behind : Left) (inside : List Part) (read : Read) → SameWord name (codes "BODY") → IsBodySection which inside →
+      Passes left (inside ++ bytes (93 ∷ [])) behind → body_at which behind ≡ Ok read → IsItemFront start read
+  unfolding body_at
+  body_item which behind inside read same section passes is =
+      let after = ok_bind (origin_at behind.text) (body_origin which behind) read is in
+      let text = ok_bind (gap_at after.0) (body_there which behind) read after.2 in
       let origin = origin_spells behind.text after.0 after.1 in
-      ids_from behind inside origin.origin after.0 text.0 read (length (wide_at behind.text).0 == 0)
+      body_from which behind inside origin.origin after.0 text.0 read (length (wide_at behind.text).0 == 0)
       (ap (λ (o : List ℕ). length o == 0) (sym origin.run)) same section passes origin.origins origin.whole text.1 text.2
+
+  -- neither section whose string is told stands here, where neither is read
+  none_read : (ids empty : ℕ) → id_section_at left ≡ Err ids → mark_in 93 left ≡ Err empty → (which : Body) (behind : Left) (inside : List Part) →
+      IsBodySection which inside → Passes left (inside ++ bytes (93 ∷ [])) behind → ⊥
+  none_read ids empty no_ids no_end bodies.Ids behind inside section passes =
+      no_err (id_section_at left) ids behind no_ids (id_reads left behind inside section passes)
+  none_read ids empty no_ids no_end bodies.Text behind inside section passes =
+      no_err (mark_in 93 left) empty behind no_end
+      (mark_in_there 93 left behind (subst (λ (p : List Part). Passes left (p ++ bytes (93 ∷ [])) behind) section passes))
 
   pub sectioned_item : (read : Read) → sectioned_at name left ≡ Ok read → IsItemFront start read
   unfolding sectioned_at
-  sectioned_item read is = elim (ok_either (same_word name (codes "BODY")) (or_else (id_section_at left) ids_at (other_section_at left))
-      (other_section_at left) read is) [
-        | inl body ↦ elim (ok_or_else (id_section_at left) ids_at (other_section_at left) read body.1) [
-          | inl ids ↦
-              let front = id_spells left ids.0 fits_here ids.1 in
-              ids_item ids.0 front.inside read (same_is name (codes "BODY") body.0) front.section front.passes ids.2
-          | inr other ↦ other_item read (λ behind inside same section passes. no_err (id_section_at left) other.0 behind other.1
-              (id_reads left behind inside section passes)) other.2
-        ]
-        | inr other ↦ other_item read (λ behind inside same section passes. other_is name (codes "BODY") other.0 same) other.1
+  sectioned_item read is = elim (ok_either (same_word name (codes "BODY"))
+      (or_else (id_section_at left) (body_at bodies.Ids) (empty_or_other left)) (other_section_at left) read is) [
+        | inl body ↦
+            let same = same_is name (codes "BODY") body.0 in
+            elim (ok_or_else (id_section_at left) (body_at bodies.Ids) (empty_or_other left) read body.1) [
+              | inl ids ↦
+                  let front = id_spells left ids.0 fits_here ids.1 in
+                  body_item bodies.Ids ids.0 front.inside read same front.section front.passes ids.2
+              | inr more ↦ elim (ok_or_else (mark_in 93 left) (body_at bodies.Text) (other_section_at left) read more.2) [
+                | inl text ↦ body_item bodies.Text text.0 [] read same refl (mark_in_front 93 left text.0 fits_here text.1) text.2
+                | inr other ↦ other_item read
+                    (λ which behind inside s section passes. none_read more.0 other.0 more.1 other.1 which behind inside section passes) other.2
+              ]
+            ]
+        | inr other ↦ other_item read (λ which behind inside same section passes. other_is name (codes "BODY") other.0 same) other.1
       ]
 
 -- an item

@@ -8,4 +8,4 @@ returns-clause-text c =
     c.put_all.ensures.text
 
 pub returns-clause-spelled : goal.returns-clause-spelled
-returns-clause-spelled c = on_ok c.put_all.result _ (extended_spelled c.args.tag c.args.uids.now c.put_tag.ensures.kept c.put_all.ensures.canonical)
+returns-clause-spelled c = on_ok c.put_all.result _ (extended_spelled c.args.tag c.args.uids.now c.put_tag.ensures.fits c.put_all.ensures.canonical)

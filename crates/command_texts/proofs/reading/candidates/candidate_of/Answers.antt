@@ -11,6 +11,7 @@ returns-in_default-tagged c = λ tag command whole.
     let t = whole_tagged tag command _ _ _ whole c.in-Some.ensures.cases.0 in
     rw c.in_default-tagged.is at (tag_found tag _ _ _ t c.tagged.result
     (λ n rest fits is. c.tagged.ensures.played n rest fits (c.as_slice.ensures ∙ is))
+    (λ n t rest fits low high is. c.tagged.ensures.again n t rest fits low high (c.as_slice.ensures ∙ is))
     (λ n rest fits is. c.tagged.ensures.counted n rest fits (c.as_slice.ensures ∙ is)))
 
 pub returns-in-Some-2 : goal.returns-in-Some-2
@@ -18,6 +19,7 @@ returns-in-Some-2 c = λ tag command whole.
     let t = whole_tagged tag command _ _ _ whole c.in-Some.ensures.cases.0 in
     let x = rw c.in-Some-tagged.is at (tag_found tag _ _ _ t c.tagged.result
     (λ n rest fits is. c.tagged.ensures.played n rest fits (c.as_slice.ensures ∙ is))
+    (λ n t rest fits low high is. c.tagged.ensures.again n t rest fits low high (c.as_slice.ensures ∙ is))
     (λ n rest fits is. c.tagged.ensures.counted n rest fits (c.as_slice.ensures ∙ is))) in
     let found = c.in_ok-command.ensures command whole.sent.held (ap (λ z. z ∷ c.in-Some.later.now) x.1 ∙ t.begun) in
     (x.0, same_candidate _ command (rw c.in-Some-2.is at found))
@@ -27,6 +29,7 @@ returns-in-None c = λ tag command whole.
     let t = whole_tagged tag command _ _ _ whole c.in-Some.ensures.cases.0 in
     let x = rw c.in-Some-tagged.is at (tag_found tag _ _ _ t c.tagged.result
     (λ n rest fits is. c.tagged.ensures.played n rest fits (c.as_slice.ensures ∙ is))
+    (λ n t rest fits low high is. c.tagged.ensures.again n t rest fits low high (c.as_slice.ensures ∙ is))
     (λ n rest fits is. c.tagged.ensures.counted n rest fits (c.as_slice.ensures ∙ is))) in
     let found = c.in_ok-command.ensures command whole.sent.held (ap (λ z. z ∷ c.in-Some.later.now) x.1 ∙ t.begun) in
     let none = rw c.in-None.is at found in

@@ -12,6 +12,9 @@ returns-then-kind-eq73 c = command_read (λ x. IfOk c.on_uids.result
       ids = c.on_uids.ensures.ids;
       shift =
           c.on_uids.ensures.shift;
+      whole = c.on_uids.ensures.text;
+      copy = c.on_uids.ensures.copy;
+      expunge = c.on_uids.ensures.expunge;
       search = c.on_uids.ensures.search;
       store = c.on_uids.ensures.store;
     }))

@@ -10,6 +10,7 @@ returns-in_default-tagged c = λ tag awaited front.
     let t = front_tagged tag awaited _ _ _ front c.in-Some.ensures.cases.0 in
     rw c.in_default-tagged.is at (tag_found tag _ _ _ t c.tagged.result
     (λ n rest fits is. c.tagged.ensures.played n rest fits (c.as_slice.ensures ∙ is))
+    (λ n t rest fits low high is. c.tagged.ensures.again n t rest fits low high (c.as_slice.ensures ∙ is))
     (λ n rest fits is. c.tagged.ensures.counted n rest fits (c.as_slice.ensures ∙ is)))
 
 pub returns-in-Some-2 : goal.returns-in-Some-2
@@ -17,6 +18,7 @@ returns-in-Some-2 c = λ tag awaited front.
     let t = front_tagged tag awaited _ _ _ front c.in-Some.ensures.cases.0 in
     let x = rw c.in-Some-tagged.is at (tag_found tag _ _ _ t c.tagged.result
     (λ n rest fits is. c.tagged.ensures.played n rest fits (c.as_slice.ensures ∙ is))
+    (λ n t rest fits low high is. c.tagged.ensures.again n t rest fits low high (c.as_slice.ensures ∙ is))
     (λ n rest fits is. c.tagged.ensures.counted n rest fits (c.as_slice.ensures ∙ is))) in
     let y = rw c.in-Some-2.is at (c.in_ok-stand_in.ensures awaited front.held (ap (λ z. z ∷ c.in-Some.later.now) x.1 ∙ t.begun)) in
     (x.0, y)
@@ -26,5 +28,6 @@ returns-in-None c = λ tag awaited front.
     let t = front_tagged tag awaited _ _ _ front c.in-Some.ensures.cases.0 in
     let x = rw c.in-Some-tagged.is at (tag_found tag _ _ _ t c.tagged.result
     (λ n rest fits is. c.tagged.ensures.played n rest fits (c.as_slice.ensures ∙ is))
+    (λ n t rest fits low high is. c.tagged.ensures.again n t rest fits low high (c.as_slice.ensures ∙ is))
     (λ n rest fits is. c.tagged.ensures.counted n rest fits (c.as_slice.ensures ∙ is))) in
     rw c.in-None.is at (c.in_ok-stand_in.ensures awaited front.held (ap (λ z. z ∷ c.in-Some.later.now) x.1 ∙ t.begun))
