@@ -20,10 +20,11 @@ use Rattle.imap_session.proofs.Talking.{linked_start, linked_then}
 module _ {Self : Type 0} (L : Ghosts Self) (command : Command) (next : Replies → Dialogue) (asked : ℕ) (old mid : Self) (before : Stream) where
   -- it wasn't answered
   pub not_answered : {T U : Type 0} (first : Result U SessionFault) (result : Result T SessionFault)
-      → ((fault : SessionFault) → IsErrOf result fault → IsErrOf first fault) → (L.tells_files → Follows (L.link old).connection before)
+      → ((fault : SessionFault) → IsErrOf result fault → IsErrOf first fault) → (IsErrOf first faults.Link → IsErrOf result faults.Link)
+      → (L.tells_files → Follows (L.link old).connection before)
       → Talks L (next_tag asked) command old mid first → FailsFor L (next_tag asked) command old mid before first
       → Converses L (Asks command next) asked old mid before result
-  not_answered first result same follows talks fails = record {
+  not_answered first result same back follows talks fails = record {
     files = talks.files;
     told = λ t. inl (talks.told t, talks.sent (L.server_with_files t));
     sent = λ t. inl (talks.sent t);
@@ -34,7 +35,13 @@ module _ {Self : Type 0} (L : Ghosts Self) (command : Command) (next : Replies �
     why = λ t heard h fault is. broke_first command next asked _ h.connection.received heard _ fault (talks.sent t)
         (fails.why t heard h fault (same fault is));
     honest = λ t at is. talks.honest t at (same (faults.BadReply at) is);
-    blames = record { disk = talks.blames.disk; count = talks.blames.count; cause = λ is. talks.blames.cause (same faults.Link is) };
+    earlier = talks.earlier;
+    blames = record {
+      disk = talks.blames.disk;
+      count = talks.blames.count;
+      cause = λ is. talks.blames.cause (same faults.Link is);
+      unfailed = λ none. talks.blames.unfailed (λ is. none (back is));
+    };
   }
 
   -- it was, and then this was held
@@ -42,9 +49,9 @@ module _ {Self : Type 0} (L : Ghosts Self) (command : Command) (next : Replies �
       (talks : Talks L (next_tag asked) command old mid first) (reply : HasReply L (next_tag asked) command old mid before between r)
       (stands : L.tells_server → Stands None (L.clock old) (L.link old).connection before) (d : Dialogue) (goes : next r ≡ d) where
     pub then_converses : {T V : Type 0} (rest : Result V SessionFault) (result : Result T SessionFault)
-        → ((fault : SessionFault) → IsErrOf result fault → IsErrOf rest fault)
-        → Converses L d (asked + 1) mid new between rest → Converses L (Asks command next) asked old new before result
-    then_converses rest result same c =
+        → ((fault : SessionFault) → IsErrOf result fault → IsErrOf rest fault) → (IsErrOf rest faults.Link → IsErrOf result faults.Link)
+        → (IsErrOf first faults.Link → ⊥) → Converses L d (asked + 1) mid new between rest → Converses L (Asks command next) asked old new before result
+    then_converses rest result same back well c =
         let behind = subst (λ (x : Dialogue). Converses L x (asked + 1) mid new between rest) (sym goes) c in
         record {
           files = λ t. linked_then AnyStep _ _ _ (talks.files t) (behind.files t);
@@ -74,10 +81,12 @@ module _ {Self : Type 0} (L : Ghosts Self) (command : Command) (next : Replies �
                     (had_now heard (next_tag asked) command r _ _ _ q _ w) (behind.why t _ q.hears fault (same fault is)),
               );
           honest = λ t at is. behind.honest t at (same (faults.BadReply at) is);
+          earlier = λ t. behind.earlier t ∙ talks.earlier t;
           blames = record {
             disk = behind.blames.disk ∙ talks.blames.disk;
             count = omega (arith, behind.blames.count, talks.blames.count);
             cause = λ is small. omega (arith, behind.blames.cause (same faults.Link is) small, talks.blames.count);
+            unfailed = λ none. behind.blames.unfailed (λ is. none (back is)) ∙ talks.blames.unfailed well;
           };
         }
 
@@ -122,7 +131,8 @@ module _ {Self : Type 0} (L : Ghosts Self) (asked : ℕ) (at : Self) (feed : Str
     lacking = λ t item is. none (faults.Lacking item) is;
     why = λ t heard h fault is. none fault is;
     honest = λ t at is. none (faults.BadReply at) is;
-    blames = record { disk = refl; count = omega arith; cause = λ is. absurd (none faults.Link is) };
+    earlier = λ t. refl;
+    blames = record { disk = refl; count = omega arith; cause = λ is. absurd (none faults.Link is); unfailed = λ never. refl };
   }
 
   pub lacks_here : {T : Type 0} (item : Item) (result : Result T SessionFault)
@@ -134,7 +144,13 @@ module _ {Self : Type 0} (L : Ghosts Self) (asked : ℕ) (at : Self) (feed : Str
     lacking = λ t what is. let same = only (faults.Lacking what) is in (cc same, refl);
     why = λ t heard h fault is. (only fault is, (feed, record { sends = refl; has = h.there; hears = h }));
     honest = λ t at is. let no = only (faults.BadReply at) is in absurd (cc);
-    blames = record { disk = refl; count = omega arith; cause = λ is. let no = only faults.Link is in absurd (cc) };
+    earlier = λ t. refl;
+    blames = record {
+      disk = refl;
+      count = omega arith;
+      cause = λ is. let no = only faults.Link is in absurd (cc);
+      unfailed = λ never. refl;
+    };
   }
 
   pub concludes_here : (rev2 : Bool) → (L.tells_server → Stands None (L.clock at) (L.link at).connection feed)

@@ -5,5 +5,5 @@ use Rattle.imap_model.specs.TagText.{IsCommandTag}
 use Rattle.imap_session.specs.Counting.{HasTag}
 
 pub has_tag : (mutating : Bool) (count : ℕ) (tag : Tag) → HasTag mutating count tag → IsCommandTag tag
-has_tag true count tag has = subst IsCommandTag (sym has.1) has.2
+has_tag true count tag has = has.2
 has_tag false count tag has = subst IsCommandTag (sym has) (let some : 0 < count + 1 = omega arith in some)

@@ -13,6 +13,7 @@ pub mod Selects
 pub mod Sent
 pub mod Spelled
 pub mod Sending
+pub mod Taken
 pub mod Hello
 pub mod Dialogues
 pub mod LoggingIn
@@ -21,3 +22,4 @@ pub mod Offering
 pub mod Farewells
 pub mod Talks
 pub mod Conversing
+pub mod Under

@@ -19,14 +19,14 @@ use Rattle.imap_session.proofs.Outcomes.{not_true}
 use Rattle.imap_session.proofs.Replying.{none_weaker, none_append, none_asked, asked_append}
 use Rattle.imap_session.proofs.Sending.{unfit_weaker}
 
-module _ (heard before rows : List Response) (frame : Frame) (response : Response) (had : List ℕ) (most left : ℕ) (c : Option Connection)
+module _ (heard told : List Response) (frame : Frame) (response : Response) (had : List ℕ) (most left : ℕ) (c : Option Connection)
     (feed : Stream) where
   last_of : (part : Bool) (weaker : (rs : List Response) → NoEnd part rs → NoEnd false rs)
-      → HeardTo part heard before rows frame response had most left c feed → Spells frame response
+      → HeardTo part heard told frame response had most left c feed → Spells frame response
       → LastLine heard frame response had c
   last_of part weaker h spells = record {
-    told = h.told;
-    none = weaker h.told h.none;
+    told = told;
+    none = weaker told h.none;
     before = h.reads.before;
     left = feed;
     took = record {
@@ -35,36 +35,36 @@ module _ (heard before rows : List Response) (frame : Frame) (response : Respons
       reply = h.reads.reads.reply;
       grown = h.reads.reads.grown;
       stands = subst (λ (fs : List Frame). StandsFor h.reads.reads.hears.connection.received fs feed) h.reads.last h.reads.reads.hears.stands;
-      spell = subst (λ (fs : List Frame). Spell fs (heard ++ (h.told ++ response ∷ []))) h.reads.last h.reads.reads.hears.spell;
+      spell = subst (λ (fs : List Frame). Spell fs (heard ++ (told ++ response ∷ []))) h.reads.last h.reads.reads.hears.spell;
     };
     spells = spells;
   }
 
   -- behind a part, where none more was asked for,
-  pub unfit_part : (tag : Tag) (fault : SessionFault) → HeardTo true heard before rows frame response had most left c feed
+  pub unfit_part : (tag : Tag) (fault : SessionFault) → HeardTo true heard told frame response had most left c feed
       → Spells frame response → Unfit tag (IsTrue true) frame response fault → IsNoReply heard tag 1 had c fault
   unfolding last_of
   unfit_part tag fault h spells unfit =
-      let few : requests h.told < 1 = omega (arith, none_asked h.told h.none) in
+      let few : requests told < 1 = omega (arith, none_asked told h.none) in
       record {
         frame = frame;
         response = response;
         line = last_of true none_weaker h spells;
-        unfit = unfit_weaker tag (IsTrue true) (requests h.told < 1) frame response fault (λ early. few) unfit;
+        unfit = unfit_weaker tag (IsTrue true) (requests told < 1) frame response fault (λ early. few) unfit;
       }
 
   -- and behind the whole command
-  pub last_whole : HeardTo false heard before rows frame response had most left c feed → Spells frame response → LastLine heard frame response had c
+  pub last_whole : HeardTo false heard told frame response had most left c feed → Spells frame response → LastLine heard frame response had c
   last_whole h spells = last_of false (λ rs none. none) h spells
 
-  pub unfit_whole : (tag : Tag) (fault : SessionFault) → HeardTo false heard before rows frame response had most left c feed
+  pub unfit_whole : (tag : Tag) (fault : SessionFault) → HeardTo false heard told frame response had most left c feed
       → Spells frame response → Unfit tag (IsTrue false) frame response fault → IsNoReply heard tag 0 had c fault
   unfolding last_of
   unfit_whole tag fault h spells unfit = record {
     frame = frame;
     response = response;
     line = last_of false (λ rs none. none) h spells;
-    unfit = unfit_weaker tag (IsTrue false) (requests h.told < 0) frame response fault (λ early. absurd (not_true early)) unfit;
+    unfit = unfit_weaker tag (IsTrue false) (requests told < 0) frame response fault (λ early. absurd (not_true early)) unfit;
   }
 
 -- reading fails: for want of memory, or of the link,

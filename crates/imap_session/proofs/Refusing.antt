@@ -25,8 +25,11 @@ kept commands.FetchAll selected k = refl
 kept (commands.FetchRow uid) selected k = refl
 kept (commands.Search from id) selected k = refl
 kept (commands.FetchIds uids) selected k = refl
+kept (commands.FetchText uid) selected k = refl
 kept (commands.Store uid since add flags) selected k = refl
 kept (commands.Shift uid to) selected k = refl
+kept (commands.Copy uid to) selected k = refl
+kept (commands.Expunge uid) selected k = refl
 kept (commands.Append to flags text) selected k = refl
 kept commands.Logout selected k = refl
 
@@ -40,8 +43,11 @@ says commands.FetchAll selected r k h = h
 says (commands.FetchRow uid) selected r k h = h
 says (commands.Search from id) selected r k h = h
 says (commands.FetchIds uids) selected r k h = h
+says (commands.FetchText uid) selected r k h = h
 says (commands.Store uid since add flags) selected r k h = h
 says (commands.Shift uid to) selected r k h = h
+says (commands.Copy uid to) selected r k h = h
+says (commands.Expunge uid) selected r k h = h
 says (commands.Append to flags text) selected r k h = h
 says commands.Logout selected r k h = h
 
@@ -56,8 +62,11 @@ codes_say commands.FetchAll w s code h = h
 codes_say (commands.FetchRow uid) w s code h = h
 codes_say (commands.Search from id) w s code h = h
 codes_say (commands.FetchIds uids) w s code h = h
+codes_say (commands.FetchText uid) w s code h = h
 codes_say (commands.Store uid since add flags) w s code h = inl h
 codes_say (commands.Shift uid to) w s code h = h
+codes_say (commands.Copy uid to) w s code h = h
+codes_say (commands.Expunge uid) w s code h = h
 codes_say (commands.Append to flags text) w s code h = h
 codes_say commands.Logout w s code h = h
 
@@ -92,10 +101,15 @@ module _ (w : Waiting) (s : Server) (r : Replies) (t : Server) (after : Option (
   fulfilled (commands.FetchRow uid) k x = x.stays.selection
   fulfilled (commands.Search from id) k x = x.stays.selection
   fulfilled (commands.FetchIds uids) k x = x.stays.selection
+  fulfilled (commands.FetchText uid) k x = x.stays.selection
   fulfilled (commands.Store uid since add flags) k (inl x) = x.selection
   fulfilled (commands.Store uid since add flags) k (inr x) = x.selection
   fulfilled (commands.Shift uid to) k (inl x) = x.selection
   fulfilled (commands.Shift uid to) k (inr x) = x.selection
+  fulfilled (commands.Copy uid to) k (inl x) = x.selection
+  fulfilled (commands.Copy uid to) k (inr x) = x.selection
+  fulfilled (commands.Expunge uid) k (inl x) = x.selection
+  fulfilled (commands.Expunge uid) k (inr x) = x.selection
   fulfilled (commands.Append to flags text) k x = x.selection
   fulfilled commands.Logout k x = x.stays.selection
 

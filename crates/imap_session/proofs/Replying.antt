@@ -24,9 +24,9 @@ use Rattle.imap_session.specs.Knowing.{IsEnd, NoEnd, request_of, requests}
 use Rattle.imap_session.specs.Permanent.{behind, behind_all, behind_code, permitted}
 use Rattle.imap_session.specs.Replying.{AllSmall, AreSmall, HeardOn, HeardTo, HeardDone, Came, ReceivedAtMost, read_as}
 use Rattle.imap_session.specs.Sent.{joined}
-use Rattle.imap_session.specs.declared.asking.Completion.{Completion}
 use Rattle.imap_session.specs.declared.permits.Permits.{Permits}
 use Rattle.imap_session.specs.declared.fault.SessionFault.TheVariants as faults
+use Rattle.imap_model.specs.declared.listen.Last.{Last}
 use Rattle.imap_session.proofs.Hearing.{at_most}
 
 -- what ends a whole reply ends the wait behind a part
@@ -47,6 +47,10 @@ end_weaker responses.Other e = e
 pub none_weaker : (rs : List Response) → NoEnd true rs → NoEnd false rs
 none_weaker [] none = tt
 none_weaker (r ∷ rs) none = ((λ e. none.0 (end_weaker r e)), none_weaker rs none.1)
+
+pub none_part : (part : Bool) (rs : List Response) → NoEnd part rs → NoEnd false rs
+none_part true rs none = none_weaker rs none
+none_part false rs none = none
 
 pub none_append : (part : Bool) (rs qs : List Response) → NoEnd part rs → NoEnd part qs → NoEnd part (rs ++ qs)
 none_append part [] qs a b = b
@@ -77,20 +81,22 @@ plain_told [] all = refl
 plain_told (r ∷ rs) all = ap (λ (t : List Response). t ++ all_told_by rs) (plain_one r all.0)
     ∙ ap (λ (t : List Response). r ∷ t) (plain_told rs all.1)
 
--- one response more
-pub told_more : (before rows more : List Response) (told : List Response) (r : Response) → rows ≡ before ++ all_told_by told
-    → more ≡ rows ++ told_by r
-    → more ≡ before ++ all_told_by (told ++ r ∷ [])
-told_more before rows more told r is next =
-    next ∙ ap (λ (t : List Response). t ++ told_by r) is ∙ append_assoc before (all_told_by told) (told_by r)
-    ∙ ap (λ (t : List Response). before ++ t)
-    (ap (λ (t : List Response). all_told_by told ++ t) (sym (append-nil (told_by r))) ∙ sym (told_append told (r ∷ [])))
+-- behind responses that tell nothing
+pub told_behind : (a b : List Response) → all_told_by a ≡ [] → all_told_by (a ++ b) ≡ all_told_by b
+told_behind a b silent = told_append a b ∙ ap (λ (t : List Response). t ++ all_told_by b) silent
 
-behind_append : (p : Option Permits) (rs qs : List Response) → behind_all p (rs ++ qs) ≡ behind_all (behind_all p rs) qs
+pub silent_then : (a b : List Response) → all_told_by a ≡ [] → all_told_by b ≡ [] → all_told_by (a ++ b) ≡ []
+silent_then a b first second = told_behind a b first ∙ second
+
+-- one response more
+pub told_one : (told : List Response) (r : Response) → all_told_by (told ++ r ∷ []) ≡ all_told_by told ++ told_by r
+told_one told r = told_append told (r ∷ []) ∙ ap (λ (t : List Response). all_told_by told ++ t) (append-nil (told_by r))
+
+pub behind_append : (p : Option Permits) (rs qs : List Response) → behind_all p (rs ++ qs) ≡ behind_all (behind_all p rs) qs
 behind_append p [] qs = refl
 behind_append p (r ∷ rs) qs = behind_append (behind p r) rs qs
 
-behind_told : (p : Option Permits) (r : Response) → behind_all p (told_by r) ≡ behind p r
+pub behind_told : (p : Option Permits) (r : Response) → behind_all p (told_by r) ≡ behind p r
 behind_told p (responses.Done tag ending code) = refl
 behind_told p (responses.Untagged ending code) = refl
 behind_told p responses.Bye = refl
@@ -103,14 +109,6 @@ behind_told p (responses.Fetch fetched) = refl
 behind_told p (responses.Vanished earlier uids) = refl
 behind_told p (responses.Found uids) = refl
 behind_told p responses.Other = refl
-
--- what counts behind the rows counts behind one more
-pub permits_on : (start p q : Option Permits) (rows more : List Response) (r : Response) → p ≡ behind_all start rows → q ≡ behind p r
-    → more ≡ rows ++ told_by r
-    → q ≡ behind_all start more
-permits_on start p q rows more r is next grown =
-    next ∙ ap (λ (x : Option Permits). behind x r) is ∙ sym (behind_told (behind_all start rows) r) ∙ sym (behind_append start rows (told_by r))
-    ∙ ap (λ (t : List Response). behind_all start t) (sym grown)
 
 -- how many parts are asked for
 pub asked_append : (rs qs : List Response) → requests (rs ++ qs) ≡ requests rs + requests qs
@@ -135,126 +133,94 @@ none_asked (r ∷ rs) none = omega (arith, one_asked r none.0, none_asked rs non
     one_asked (responses.Found uids) not = refl
     one_asked responses.Other not = refl
 
-module _ (heard before rows : List Response) (had : List ℕ) (most left : ℕ) (c : Option Connection) (feed : Stream) where
+module _ (heard : List Response) (had : List ℕ) (most left : ℕ) (c : Option Connection) (feed : Stream) where
   -- nothing was heard yet
-  pub heard_nothing : rows ≡ before → Reads heard had most left c feed → HeardOn false heard before rows 0 had most left c feed
-  heard_nothing same r = record {
-    told = [];
+  pub heard_nothing : Reads heard had most left c feed → HeardOn heard [] 0 had most left c feed
+  heard_nothing r = record {
     none = tt;
-    grown = same ∙ sym (append-nil before);
     asked = refl;
     reads = subst (λ (h : List Response). Reads h had most left c feed) (sym (append-nil heard)) r;
   }
 
-  pub heard_at : (parts all : ℕ) (d : Option Connection) → d ≡ c → parts ≡ all → HeardOn false heard before rows parts had most left c feed
-      → HeardOn false heard before rows all had most left d feed
-  heard_at parts all d same is h = subst (λ (x : Option Connection). HeardOn false heard before rows all had most left x feed) (sym same)
-      (record { told = h.told; none = h.none; grown = h.grown; asked = h.asked ∙ is; reads = h.reads })
+  pub heard_at : (told : List Response) (parts all : ℕ) (d : Option Connection) → d ≡ c → parts ≡ all
+      → HeardOn heard told parts had most left c feed → HeardOn heard told all had most left d feed
+  heard_at told parts all d same is h = subst (λ (x : Option Connection). HeardOn heard told all had most left x feed) (sym same)
+      (record { none = h.none; asked = h.asked ∙ is; reads = h.reads })
 
-grown_on : (before mid after a b : List Response) → mid ≡ before ++ all_told_by a → after ≡ mid ++ all_told_by b
-    → after ≡ before ++ all_told_by (a ++ b)
-grown_on before mid after a b is next =
-    next ∙ ap (λ (t : List Response). t ++ all_told_by b) is ∙ append_assoc before (all_told_by a) (all_told_by b)
-    ∙ ap (λ (t : List Response). before ++ t) (sym (told_append a b))
-
-module _ (heard before mid after : List Response) (parts : ℕ) (had : List ℕ) (most left l : ℕ) (c d : Option Connection) (feed f : Stream)
-    (h : HeardOn false heard before mid parts had most left c feed) where
+module _ (heard a b : List Response) (parts : ℕ) (had : List ℕ) (most left l : ℕ) (c d : Option Connection) (feed f : Stream)
+    (h : HeardOn heard a parts had most left c feed) where
   -- more was heard behind it
-  pub on_on : HeardOn false (heard ++ h.told) mid after 1 had most l d f → HeardOn false heard before after (parts + 1) had most l d f
+  pub on_on : HeardOn (heard ++ a) b 1 had most l d f → HeardOn heard (a ++ b) (parts + 1) had most l d f
   on_on n = record {
-    told = h.told ++ n.told;
-    none = none_append false h.told n.told h.none n.none;
-    grown = grown_on before mid after h.told n.told h.grown n.grown;
-    asked = omega (arith, asked_append h.told n.told, h.asked, n.asked);
-    reads = subst (λ (t : List Response). Reads t had most l d f) (append_assoc heard h.told n.told) n.reads;
+    none = none_append false a b h.none n.none;
+    asked = omega (arith, asked_append a b, h.asked, n.asked);
+    reads = subst (λ (t : List Response). Reads t had most l d f) (append_assoc heard a b) n.reads;
   }
 
   -- and the completion
   pub on_done : (tag : Tag) (e : Ending) (k : Code) (more all : ℕ) → all ≡ parts + more
-      → HeardDone (heard ++ h.told) mid after tag e k more had most l d f → HeardDone heard before after tag e k all had most l d f
+      → HeardDone (heard ++ a) b tag e k more had most l d f → HeardDone heard (a ++ b) tag e k all had most l d f
   on_done tag e k more all is n = record {
-    told = h.told ++ n.told;
-    none = none_append false h.told n.told h.none n.none;
-    grown = grown_on before mid after h.told n.told h.grown n.grown;
-    asked = omega (arith, asked_append h.told n.told, h.asked, n.asked, is);
+    none = none_append false a b h.none n.none;
+    asked = omega (arith, asked_append a b, h.asked, n.asked, is);
     reads = subst (λ (t : List Response). Reads t had most l d f)
-        (append_assoc heard h.told (n.told ++ responses.Done tag e k ∷ [])
-        ∙ ap (λ (t : List Response). heard ++ t) (sym (append_assoc h.told n.told (responses.Done tag e k ∷ []))))
+        (append_assoc heard a (b ++ responses.Done tag e k ∷ [])
+        ∙ ap (λ (t : List Response). heard ++ t) (sym (append_assoc a b (responses.Done tag e k ∷ []))))
         n.reads;
   }
 
+pub none_go : (told : List Response) (last : Response) → NoEnd true told → last ≡ responses.Go → NoEnd false (told ++ last ∷ [])
+none_go told last none go = none_append false told (last ∷ []) (none_weaker told none)
+    (subst (λ (r : Response). NoEnd false (r ∷ [])) (sym go) ((λ e. e), tt))
+
 -- what a line behind a part leads to
-abbrev pub TurnedTo : Response → Tag → Option Completion → Type 0
+abbrev pub TurnedTo : Response → Tag → Option Last → Type 0
 TurnedTo last tag o = MatchOption o (last ≡ responses.Go) (λ d. last ≡ responses.Done tag d.ending d.code)
 
-module _ (heard before rows : List Response) (frame : Frame) (last : Response) (had : List ℕ) (most left : ℕ) (c : Option Connection)
+module _ (heard told : List Response) (frame : Frame) (last : Response) (had : List ℕ) (most left : ℕ) (c : Option Connection)
     (feed : Stream) where
   -- a `+` goes on
-  to_on : HeardTo true heard before rows frame last had most left c feed → last ≡ responses.Go
-      → HeardOn false heard before rows 1 had most left c feed
+  pub to_on : HeardTo true heard told frame last had most left c feed → last ≡ responses.Go
+      → HeardOn heard (told ++ last ∷ []) 1 had most left c feed
   to_on h go =
       let one : requests (last ∷ []) ≡ 1 = ap (λ (r : Response). requests (r ∷ [])) go in
       record {
-        told = h.told ++ last ∷ [];
-        none = none_append false h.told (last ∷ []) (none_weaker h.told h.none)
-            (subst (λ (r : Response). NoEnd false (r ∷ [])) (sym go) ((λ e. e), tt));
-        grown = h.grown ∙ ap (λ (t : List Response). before ++ t)
-            (sym (append-nil (all_told_by h.told)) ∙ ap (λ (r : Response). all_told_by h.told ++ all_told_by (r ∷ [])) (sym go)
-            ∙ sym (told_append h.told (last ∷ [])));
-        asked = omega (arith, asked_append h.told (last ∷ []), none_asked h.told h.none, one);
+        none = none_go told last h.none go;
+        asked = omega (arith, asked_append told (last ∷ []), none_asked told h.none, one);
         reads = h.reads.reads;
       }
 
-  to_done : HeardTo true heard before rows frame last had most left c feed → (tag : Tag) (e : Ending) (k : Code)
-      → last ≡ responses.Done tag e k → HeardDone heard before rows tag e k 0 had most left c feed
+  pub to_done : HeardTo true heard told frame last had most left c feed → (tag : Tag) (e : Ending) (k : Code)
+      → last ≡ responses.Done tag e k → HeardDone heard told tag e k 0 had most left c feed
   to_done h tag e k is = record {
-    told = h.told;
-    none = none_weaker h.told h.none;
-    grown = h.grown;
-    asked = none_asked h.told h.none;
-    reads = subst (λ (r : Response). Reads (heard ++ (h.told ++ r ∷ [])) had most left c feed) is h.reads.reads;
+    none = none_weaker told h.none;
+    asked = none_asked told h.none;
+    reads = subst (λ (r : Response). Reads (heard ++ (told ++ r ∷ [])) had most left c feed) is h.reads.reads;
   }
 
-  pub whole_done : (h : HeardTo false heard before rows frame last had most left c feed) (tag : Tag) (e : Ending) (k : Code)
-      → last ≡ responses.Done tag e k → HeardDone heard before rows tag e k (requests h.told) had most left c feed
+  pub whole_done : (h : HeardTo false heard told frame last had most left c feed) (tag : Tag) (e : Ending) (k : Code)
+      → last ≡ responses.Done tag e k → HeardDone heard told tag e k (requests told) had most left c feed
   whole_done h tag e k is = record {
-    told = h.told;
     none = h.none;
-    grown = h.grown;
     asked = refl;
-    reads = subst (λ (r : Response). Reads (heard ++ (h.told ++ r ∷ [])) had most left c feed) is h.reads.reads;
+    reads = subst (λ (r : Response). Reads (heard ++ (told ++ r ∷ [])) had most left c feed) is h.reads.reads;
   }
-
-  turned_one : (o : Option Completion) (tag : Tag) → TurnedTo last tag o → HeardTo true heard before rows frame last had most left c feed
-      → MatchOption o (HeardOn false heard before rows 1 had most left c feed)
-      (λ d. HeardDone heard before rows tag d.ending d.code 0 had most left c feed)
-  turned_one None tag go h = to_on h go
-  turned_one (Some d) tag is h = to_done h tag d.ending d.code is
-
-  pub turned_reads : {E : Type 0} (res : Result (Option Completion) E) (tag : Tag) → IfOk res (TurnedTo last tag)
-      → HeardTo true heard before rows frame last had most left c feed
-      → IfOk res
-      (λ o. MatchOption o (HeardOn false heard before rows 1 had most left c feed)
-      (λ d. HeardDone heard before rows tag d.ending d.code 0 had most left c feed))
-  turned_reads (Ok o) tag is h = turned_one o tag is h
-  turned_reads (Err e) tag is h = tt
 
 -- the whole reply came
-module _ (heard before rows : List Response) (tag : Tag) (command : Command) (r : Replies) (e : Ending) (k : Code) (parts : ℕ) (had : List ℕ)
+module _ (heard told : List Response) (tag : Tag) (command : Command) (e : Ending) (k : Code) (parts : ℕ) (had : List ℕ)
     (most left : ℕ) (old new : LinkState) (feed : Stream) where
-  pub done_came : before ≡ [] → r ≡ read_as rows e k → new.sent ≡ old.sent ++ joined (take (parts + 1) (parts_of tag command))
+  pub done_came : new.sent ≡ old.sent ++ joined (take (parts + 1) (parts_of tag command))
       → (e ≡ endings.Ok → more_parts tag command ≤ parts)
-      → HeardDone heard before rows tag e k parts had most left new.connection feed → Came heard tag command r old new feed
-  done_came none is sent all h =
-      subst (λ (x : Replies). Came heard tag command x old new feed) (sym is)
-      (record {
-        told = h.told;
-        none = h.none;
-        untagged = h.grown ∙ ap (λ (t : List Response). t ++ all_told_by h.told) none;
-        hears = h.reads.hears;
-        sent = sent ∙ ap (λ (n : ℕ). old.sent ++ joined (take (n + 1) (parts_of tag command))) (sym h.asked);
-        all = λ ok. omega (arith, all ok, h.asked);
-      })
+      → HeardDone heard told tag e k parts had most left new.connection feed
+      → Came heard tag command (read_as (all_told_by told) e k) old new feed
+  done_came sent all h = record {
+    told = told;
+    none = h.none;
+    untagged = refl;
+    hears = h.reads.hears;
+    sent = sent ∙ ap (λ (n : ℕ). old.sent ++ joined (take (n + 1) (parts_of tag command))) (sym h.asked);
+    all = λ ok. omega (arith, all ok, h.asked);
+  }
 
 -- and where the last part was sent, all were
 pub all_sent : (texts parts : List (List ℕ)) (n : ℕ) (old new : List ℕ) → texts ≡ parts → length texts - 1 ≤ n
@@ -263,10 +229,9 @@ all_sent texts parts n old new same enough is =
     is ∙ ap (λ (t : List (List ℕ)). old ++ joined t) (same ∙ sym (take_all (n + 1) parts (omega (arith, enough, ap length same))))
 
 -- the permits that count behind the whole reply
-pub permitted_as : (start p q : Option Permits) (rows : List Response) (e : Ending) (k : Code) (r : Replies) → p ≡ behind_all start rows
-    → r ≡ read_as rows e k → q ≡ behind_code p k → q ≡ permitted start r
-permitted_as start p q rows e k r counts is last =
-    last ∙ ap (λ (x : Option Permits). behind_code x k) counts ∙ ap (λ (x : Replies). behind_code (behind_all start x.untagged) x.code) (sym is)
+pub permitted_as : (start p q : Option Permits) (rows : List Response) (e : Ending) (k : Code) → p ≡ behind_all start rows
+    → q ≡ behind_code p k → q ≡ permitted start (read_as rows e k)
+permitted_as start p q rows e k counts last = last ∙ ap (λ (x : Option Permits). behind_code x k) counts
 
 -- a fault for want of memory alone is no other
 pub bad_memory : (at : ℕ) → faults.BadReply at ≡ faults.Memory → ⊥
@@ -276,33 +241,26 @@ pub link_memory : faults.Link ≡ faults.Memory → ⊥
 link_memory e = cc
 
 -- one response more keeps all small
-pub small_on : (rows more : List Response) (r : Response) → AllSmall rows → IsSmall r → more ≡ rows ++ told_by r → AllSmall more
-small_on rows more r all small grown = subst AllSmall (sym grown) (all_append IsSmall rows (told_by r) all (small_told r small))
-  where
-    small_told : (r : Response) → IsSmall r → AllSmall (told_by r)
-    small_told (responses.Done tag ending code) small = (small, tt)
-    small_told (responses.Untagged ending code) small = (small, tt)
-    small_told responses.Bye small = (small, tt)
-    small_told (responses.Preauth code) small = (small, tt)
-    small_told responses.Go small = tt
-    small_told (responses.Capability words) small = (small, tt)
-    small_told (responses.Enabled words) small = (small, tt)
-    small_told (responses.Exists count) small = (small, tt)
-    small_told (responses.Fetch fetched) small = (small, tt)
-    small_told (responses.Vanished earlier uids) small = (small, tt)
-    small_told (responses.Found uids) small = (small, tt)
-    small_told responses.Other small = (small, tt)
+pub small_told : (r : Response) → IsSmall r → AllSmall (told_by r)
+small_told (responses.Done tag ending code) small = (small, tt)
+small_told (responses.Untagged ending code) small = (small, tt)
+small_told responses.Bye small = (small, tt)
+small_told (responses.Preauth code) small = (small, tt)
+small_told responses.Go small = tt
+small_told (responses.Capability words) small = (small, tt)
+small_told (responses.Enabled words) small = (small, tt)
+small_told (responses.Exists count) small = (small, tt)
+small_told (responses.Fetch fetched) small = (small, tt)
+small_told (responses.Vanished earlier uids) small = (small, tt)
+small_told (responses.Found uids) small = (small, tt)
+small_told responses.Other small = (small, tt)
 
 -- the completion's code is small
 pub small_code : (r : Response) (tag : Tag) (e : Ending) (k : Code) → r ≡ responses.Done tag e k → IsSmall r → IsSmallCode k
 small_code r tag e k is small = subst IsSmall is small
 
--- the replies that were read are small
-pub small_replies : (r : Replies) (rows : List Response) (e : Ending) (k : Code) → r ≡ read_as rows e k → AllSmall rows → IsSmallCode k → AreSmall r
-small_replies r rows e k is all small = subst AreSmall (sym is) (record { untagged = all; code = small })
-
 -- no more was received than may come
-pub done_within : (heard before rows : List Response) (tag : Tag) (ending : Ending) (code : Code) (parts : ℕ) (had : List ℕ) (left : ℕ)
+pub done_within : (heard told : List Response) (tag : Tag) (ending : Ending) (code : Code) (parts : ℕ) (had : List ℕ) (left : ℕ)
     (c : Option Connection) (feed : Stream)
-    → HeardDone heard before rows tag ending code parts had 268435456 left c feed → ReceivedAtMost had c
-done_within heard before rows tag ending code parts had left c feed h = at_most _ had left c feed h.reads
+    → HeardDone heard told tag ending code parts had 268435456 left c feed → ReceivedAtMost had c
+done_within heard told tag ending code parts had left c feed h = at_most _ had left c feed h.reads

@@ -36,7 +36,7 @@ use Rattle.imap_session.specs.Hearing.{Hears}
 use Rattle.imap_session.specs.Knowing.{Went, Tells, Denies, AllGo, IsEnd}
 use Rattle.imap_session.specs.Session.{Stands, Sending, Begun, Asked, Answered, IsReady, HalfSent, IsAsked, KeepsSelection, waiting_of}
 use Rattle.imap_session.specs.Replying.{read_as}
-use Rattle.imap_session.specs.declared.asking.Completion.{Completion}
+use Rattle.imap_model.specs.declared.listen.Last.{Last}
 use Rattle.imap_session.specs.Hearing.{all_told_by}
 use Rattle.imap_session.proofs.Reading.{Honest, left_empty}
 use Rattle.imap_session.proofs.Replying.{TurnedTo, plain_told}
@@ -302,7 +302,7 @@ module _ (w : Waiting) (before : List (List ℕ)) (part : List ℕ) (old k l : C
     (told rows : List Response) (last : Response) (half : HalfSent w before part old k c feed) (since : Linked Answering k l)
     (h : Hears (half.told ++ (told ++ last ∷ [])) d after) (honest : Honest l.now.outside d) (keeps : KeepsSelection w.command)
     (same : rows ≡ all_told_by told) where
-  abbrev pub WentOn : Option Completion → Type 0
+  abbrev pub WentOn : Option Last → Type 0
   WentOn o = MatchOption o ((rows ≡ []) × Sending w (before ++ part ∷ []) old l d after)
       (λ x. Answered w (read_as rows x.ending x.code) old l d after)
 
@@ -315,14 +315,10 @@ module _ (w : Waiting) (before : List (List ℕ)) (part : List ℕ) (old k l : C
       w.selected half.partly go in
       same ∙ ap all_told_by (went_alone half.told told last half.at l all_since d after h honest arriving w.selected half.partly go went).0
 
-  one_turned : (o : Option Completion) → TurnedTo last w.tag o → WentOn o
+  pub one_turned : (o : Option Last) → TurnedTo last w.tag o → WentOn o
   one_turned None go = (went_silent go, half_went w before part old k l c d feed after told last half since h honest go)
   one_turned (Some x) is = concluded_as w told rows x.ending x.code old l d after same
       (half_refused w before part old k l c d feed after told last half since h honest keeps w.tag x.ending x.code is)
-
-  pub turned_went : {E : Type 0} (res : Result (Option Completion) E) → IfOk res (TurnedTo last w.tag) → IfOk res WentOn
-  turned_went (Ok o) is = one_turned o is
-  turned_went (Err e) is = tt
 
 pub on_ok_always : {T E P : Type 0} (r : Result T E) → P → OnOk r P
 on_ok_always (Ok x) p = p
@@ -387,8 +383,11 @@ asked_keeps commands.FetchAll a = tt
 asked_keeps (commands.FetchRow uid) a = tt
 asked_keeps (commands.Search from id) a = tt
 asked_keeps (commands.FetchIds uids) a = tt
+asked_keeps (commands.FetchText uid) a = tt
 asked_keeps (commands.Store uid since add flags) a = tt
 asked_keeps (commands.Shift uid to) a = tt
+asked_keeps (commands.Copy uid to) a = tt
+asked_keeps (commands.Expunge uid) a = tt
 asked_keeps (commands.Append to flags text) a = tt
 asked_keeps commands.Logout a = tt
 

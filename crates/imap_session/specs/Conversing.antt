@@ -1,5 +1,5 @@
 -- A dialogue that is held: what a call says that asks its questions.
-use Rattle.std.specs.Prelude.{ℕ, List, None, Some, Result, IsErrOf}
+use Rattle.std.specs.Prelude.{◌≡◌, ℕ, List, None, Some, Result, IsErrOf}
 use Rattle.literal_feed.specs.Stream.{Stream}
 use Rattle.imap_model.specs.declared.item.Item.{Item}
 use Rattle.imap_model.specs.declared.response.Response.{Response}
@@ -25,6 +25,7 @@ pub record Converses {Self T : Type 0} (L : Ghosts Self) (d : Dialogue) (asked :
       → (fault : SessionFault) → IsErrOf result fault
       → BrokeOff d asked (L.link old).sent h.connection.received heard (L.link new) fault
   pub honest : L.tells_server → (at : ℕ) → IsErrOf result (faults.BadReply at) → ⊥
+  pub earlier : L.tells_files → (L.link new).earlier ≡ (L.link old).earlier
   pub blames : Blames L old new result
 
 -- The dialogue came to its end, and this is known then. Each question was answered at one moment of the call, these bytes

@@ -14,11 +14,12 @@ use Rattle.imap_session.specs.Blame.{Blames}
 use Rattle.imap_session.specs.Causes.{FailsBehind}
 use Rattle.imap_session.specs.Faults.{IsCount}
 use Rattle.imap_session.specs.Hearing.{Hears}
-use Rattle.imap_session.specs.Replying.{AreSmall, Came, ReceivedAtMost}
+use Rattle.imap_session.specs.Replying.{AreSmall, Came, ReceivedAtMost, read_as}
 use Rattle.imap_session.specs.Sent.{joined, SentFront}
 use Rattle.imap_session.specs.Session.{Answered, Stands, waiting_of}
 use Rattle.imap_session.specs.declared.fault.SessionFault.{SessionFault}
 use Rattle.imap_session.specs.declared.fault.SessionFault.TheVariants as faults
+use Rattle.imap_model.specs.declared.listen.Last.{Last}
 
 -- However the call ends: the files stay as they were, the server does what it may while this command is sent and answered
 -- once, a front of the command's text was sent and nothing more, and no honest server's reply is called bad.
@@ -29,6 +30,7 @@ pub record Talks {Self T : Type 0} (L : Ghosts Self) (tag : Tag) (command : Comm
       → Linked (Asking (L.clock old).now.outside.talk.told tag command) (L.clock old) (L.clock new)
   pub sent : L.tells_files → SentFront (joined (parts_of tag command)) (L.link old).sent (L.link new).sent
   pub honest : L.tells_server → (at : ℕ) → IsErrOf result (faults.BadReply at) → ⊥
+  pub earlier : L.tells_files → (L.link new).earlier ≡ (L.link old).earlier
   pub blames : Blames L old new result
 
 -- These are the replies. Whatever was selected, they are the server's answer to this command at one moment of the call; to
@@ -46,6 +48,12 @@ pub record HasReply {Self : Type 0} (L : Ghosts Self) (tag : Tag) (command : Com
       → ReceivedAtMost h.connection.received (L.link new).connection
   pub whole : L.tells_files → r.ending ≡ endings.Ok
       → (L.link new).sent ≡ (L.link old).sent ++ joined (parts_of tag command)
+
+-- A listener took these untagged responses behind what it stood for, and with how the reply ended they are the replies.
+pub record IsHeard {Self H : Type 0} (L : Ghosts Self) (Holds : H → List Response → Type 0) (tag : Tag) (command : Command)
+    (old new : Self) (before after : Stream) (was is : H) (told : List Response) (last : Last) : Type 0 where
+  pub taken : (list : List Response) → Holds was list → Holds is (list ++ told)
+  pub reply : HasReply L tag command old new before after (read_as told last.ending last.code)
 
 -- Why there are none: the fault's cause stands in the bytes that were received after what was heard before.
 pub record FailsFor {Self T : Type 0} (L : Ghosts Self) (tag : Tag) (command : Command) (old new : Self) (before : Stream)

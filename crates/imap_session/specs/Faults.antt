@@ -49,6 +49,7 @@ LineBad frame (faults.TooLarge limit number) = PassesLimit frame limit number
 -- the tag of a question
 abbrev pub IsCount : Tag → Type 0
 IsCount (tags.Play n) = ⊥
+IsCount (tags.Again id turn) = ⊥
 IsCount (tags.Count n) = Unit {0}
 IsCount tags.Strange = ⊥
 

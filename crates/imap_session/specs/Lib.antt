@@ -19,3 +19,4 @@ pub mod Receiving
 pub mod Exchange
 pub mod Conversing
 pub mod Sending
+pub mod Taken

@@ -14,19 +14,23 @@ use Rattle.world_traits.specs.Moments.{Clock}
 use Rattle.imap_session.specs.Dialogue.{Dialogue}
 use Rattle.imap_session.specs.Dialogue.Dialogue.{Ends, Lacks, Asks}
 use Rattle.imap_session.specs.Enabled.{is_enabled}
-use Rattle.imap_session.specs.Offers.{offers}
+use Rattle.imap_session.specs.Offers.{offer_of}
 use Rattle.imap_session.specs.Session.{Answered, waiting_of}
 use Rattle.imap_session.specs.declared.fault.SessionFault.{SessionFault}
+use Rattle.imap_session.specs.declared.offer.Offer.{Offer}
 use Rattle.imap_session.specs.declared.fault.SessionFault.TheVariants as faults
 
 -- This client can use a server that offers QRESYNC, and either IMAP4rev2, which has UIDPLUS and MOVE in it, or both of them.
 -- The first of these names that is missing is told.
-abbrev pub fitness : Replies → Dialogue
-fitness r =
-    if offers r (codes "QRESYNC") then
-    (if offers r (codes "IMAP4rev2") then Ends true
-    else (if offers r (codes "UIDPLUS") then (if offers r (codes "MOVE") then Ends false else Lacks items.Move) else Lacks items.Uidplus))
+abbrev pub fitness_of : Offer → Dialogue
+fitness_of offer =
+    if offer.qresync then
+    (if offer.rev2 then Ends true
+    else (if offer.uidplus then (if offer.moves then Ends false else Lacks items.Move) else Lacks items.Uidplus))
     else Lacks items.Qresync
+
+abbrev pub fitness : Replies → Dialogue
+fitness r = fitness_of (offer_of r)
 
 -- once the user is logged in, what is offered then is asked for
 abbrev pub logged_in : Dialogue
@@ -34,15 +38,18 @@ logged_in = Asks commands.Capability fitness
 
 -- The user's name and password are sent by AUTHENTICATE PLAIN where that is offered, else by LOGIN, which LOGINDISABLED
 -- forbids.
+abbrev pub way_by : Credentials → Offer → Dialogue
+way_by account offer =
+    if offer.plain then Asks (commands.Plain account) (λ s. logged_in)
+    else (if offer.no_login then Lacks items.Login else Asks (commands.Login account) (λ s. logged_in))
+
 abbrev pub way_in : Credentials → Replies → Dialogue
-way_in account r =
-    if offers r (codes "AUTH=PLAIN") then Asks (commands.Plain account) (λ s. logged_in)
-    else (if offers r (codes "LOGINDISABLED") then Lacks items.Login else Asks (commands.Login account) (λ s. logged_in))
+way_in account r = way_by account (offer_of r)
 
 -- Why no command logs the user in: there is none that the server allows, or memory is wanting for it.
-abbrev pub NoWay : Credentials → Replies → SessionFault → Type 0
-NoWay account r fault = ((fault ≡ faults.Lacking items.Login) × (way_in account r ≡ Lacks items.Login))
-    ⊎ ((fault ≡ faults.Memory) × ((command : Command) × (way_in account r ≡ Asks command (λ s. logged_in))))
+abbrev pub NoWay : Credentials → Offer → SessionFault → Type 0
+NoWay account offer fault = ((fault ≡ faults.Lacking items.Login) × (way_by account offer ≡ Lacks items.Login))
+    ⊎ ((fault ≡ faults.Memory) × ((command : Command) × (way_by account offer ≡ Asks command (λ s. logged_in))))
 
 -- behind what is offered at first: a user who is logged in already isn't logged in again
 abbrev pub behind_offer : Bool → Credentials → Replies → Dialogue

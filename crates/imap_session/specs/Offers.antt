@@ -1,5 +1,5 @@
 -- What a server offers, as its reply to CAPABILITY tells (RFC 9051, sections 6.1.1, 7.1 and 7.2.2).
-use Rattle.std.specs.Prelude.{ℕ, Bool, List, [], ◌∷◌, Option, Some, None}
+use Rattle.std.specs.Prelude.{ℕ, Bool, codes, List, [], ◌∷◌, Option, Some, None}
 use Rattle.std.specs.List.{list_any}
 use Rattle.std.specs.Str.{str_eq_ignore_ascii_case}
 use Rattle.imap_model.specs.declared.code.Code.{Code}
@@ -7,6 +7,7 @@ use Rattle.imap_model.specs.declared.code.Code.TheVariants as codings
 use Rattle.imap_model.specs.declared.replies.Replies.{Replies}
 use Rattle.imap_model.specs.declared.response.Response.{Response}
 use Rattle.imap_model.specs.declared.response.Response.TheVariants as responses
+use Rattle.imap_session.specs.declared.offer.Offer.{Offer}
 
 -- the name is one of the words, whatever the case of its letters
 abbrev pub names : List (List ℕ) → List ℕ → Bool
@@ -61,3 +62,18 @@ offered r = newer (code_words r.code) (last_words [] r.untagged)
 -- the server offers this
 abbrev pub offers : Replies → List ℕ → Bool
 offers r name = names (offered r) name
+
+-- of the capabilities that this client asks about, those that a list names
+abbrev pub named_in : List (List ℕ) → Offer
+named_in words = record {
+  qresync = names words (codes "QRESYNC");
+  rev2 = names words (codes "IMAP4rev2");
+  uidplus = names words (codes "UIDPLUS");
+  moves = names words (codes "MOVE");
+  plain = names words (codes "AUTH=PLAIN");
+  no_login = names words (codes "LOGINDISABLED");
+}
+
+-- those that the server offers
+abbrev pub offer_of : Replies → Offer
+offer_of r = named_in (offered r)

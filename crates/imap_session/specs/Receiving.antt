@@ -11,4 +11,5 @@ pub record Receives {Self T : Type 0} (L : Ghosts Self) (old new : Self) (result
   pub files : L.tells_files → Linked AnyStep (L.clock old) (L.clock new)
   pub told : L.tells_server → Linked Answering (L.clock old) (L.clock new)
   pub sent : L.tells_files → (L.link new).sent ≡ (L.link old).sent
+  pub earlier : L.tells_files → (L.link new).earlier ≡ (L.link old).earlier
   pub blames : Blames L old new result

@@ -20,37 +20,31 @@ use Rattle.imap_session.specs.Hearing.{Hears, Reads, ReadsLast, all_told_by}
 use Rattle.imap_session.specs.Knowing.{NoEnd, requests}
 use Rattle.imap_session.specs.Sent.{joined}
 
--- Since the first of these lists of rows the second one was heard, and nothing that ends the reply; so many parts were asked for.
-pub record HeardOn (part : Bool) (heard before rows : List Response) (parts : ℕ) (had : List ℕ) (most left : ℕ) (c : Option Connection)
-    (feed : Stream) : Type 0 where
-  pub told : List Response
-  pub none : NoEnd part told
-  pub grown : rows ≡ before ++ all_told_by told
+-- Behind what was heard before this was heard, and nothing that ends the reply; so many parts were asked for.
+pub record HeardOn (heard told : List Response) (parts : ℕ) (had : List ℕ) (most left : ℕ) (c : Option Connection) (feed : Stream)
+    : Type 0 where
+  pub none : NoEnd false told
   pub asked : requests told ≡ parts
   pub reads : Reads (heard ++ told) had most left c feed
 
 -- The same, and then this response, read from this frame.
-pub record HeardTo (part : Bool) (heard before rows : List Response) (frame : Frame) (last : Response) (had : List ℕ) (most left : ℕ)
+pub record HeardTo (part : Bool) (heard told : List Response) (frame : Frame) (last : Response) (had : List ℕ) (most left : ℕ)
     (c : Option Connection) (feed : Stream) : Type 0 where
-  pub told : List Response
   pub none : NoEnd part told
-  pub grown : rows ≡ before ++ all_told_by told
   pub reads : ReadsLast (heard ++ (told ++ last ∷ [])) frame had most left c feed
 
 -- The same, and then the completion.
-pub record HeardDone (heard before rows : List Response) (tag : Tag) (ending : Ending) (code : Code) (parts : ℕ) (had : List ℕ)
+pub record HeardDone (heard told : List Response) (tag : Tag) (ending : Ending) (code : Code) (parts : ℕ) (had : List ℕ)
     (most left : ℕ) (c : Option Connection) (feed : Stream) : Type 0 where
-  pub told : List Response
   pub none : NoEnd false told
-  pub grown : rows ≡ before ++ all_told_by told
   pub asked : requests told ≡ parts
   pub reads : Reads (heard ++ (told ++ responses.Done tag ending code ∷ [])) had most left c feed
 
 -- So it was before the last part was sent: one part was sent, and one more for each that was asked for.
-pub record HeardEarly (heard before rows : List Response) (tag : Tag) (ending : Ending) (code : Code) (texts : List (List ℕ))
+pub record HeardEarly (heard told : List Response) (tag : Tag) (ending : Ending) (code : Code) (texts : List (List ℕ))
     (had : List ℕ) (most left : ℕ) (old new : LinkState) (feed : Stream) : Type 0 where
   pub parts : ℕ
-  pub done : HeardDone heard before rows tag ending code parts had most left new.connection feed
+  pub done : HeardDone heard told tag ending code parts had most left new.connection feed
   pub sent : new.sent ≡ old.sent ++ joined (take (parts + 1) texts)
 
 -- The replies are all that came behind what was heard before: neither a BYE nor another completion is among it. One part of the

@@ -1,21 +1,16 @@
 -- The parts of a command (RFC 9051, section 4.3): what a call says that sends some of them.
-use Rattle.std.specs.Prelude.{◌≡◌, ◌≢◌, ℕ, List, [], ◌∷◌, ◌++◌, Option, Result, IfOk, OnOk, IsErrOf, MatchOption}
+use Rattle.std.specs.Prelude.{◌≡◌, ◌≢◌, ℕ, List, ◌++◌, Result, OnOk, IsErrOf}
 use Rattle.mail_base.specs.declared.tag.Tag.{Tag}
-use Rattle.literal_feed.specs.Stream.{Stream}
 use Rattle.imap_model.specs.Carrying.{Waiting}
 use Rattle.imap_model.specs.declared.ending.Ending.{Ending}
 use Rattle.imap_model.specs.declared.ending.Ending.TheVariants as endings
-use Rattle.imap_model.specs.declared.response.Response.{Response}
 use Rattle.world_traits.specs.Asking.{Asking}
 use Rattle.world_traits.specs.Links.{Linked, AnyStep}
 use Rattle.world_traits.specs.Moments.{Clock}
 use Rattle.world_traits.specs.declared.clocked.Clocked.{Ghosts}
 use Rattle.imap_session.specs.Blame.{Blames}
 use Rattle.imap_session.specs.Faults.{IsCount}
-use Rattle.imap_session.specs.Replying.{read_as}
 use Rattle.imap_session.specs.Sent.{SentFront}
-use Rattle.imap_session.specs.Session.{Answered, Sending}
-use Rattle.imap_session.specs.declared.asking.Completion.{Completion}
 use Rattle.imap_session.specs.declared.fault.SessionFault.{SessionFault}
 use Rattle.imap_session.specs.declared.fault.SessionFault.TheVariants as faults
 
@@ -26,6 +21,7 @@ pub record Sends {Self T : Type 0} (L : Ghosts Self) (text : List ℕ) (old new 
   pub files : L.tells_files → Linked AnyStep (L.clock old) (L.clock new)
   pub sent : L.tells_files → SentFront text (L.link old).sent (L.link new).sent
   pub whole : L.tells_files → OnOk result ((L.link new).sent ≡ (L.link old).sent ++ text)
+  pub earlier : L.tells_files → (L.link new).earlier ≡ (L.link old).earlier
   pub blames : Blames L old new result
 
 -- A completion that came while a part was still to be sent: it isn't OK, and a question has none.
@@ -33,12 +29,9 @@ pub record IsEarly (tag : Tag) (ending : Ending) : Type 0 where
   pub accepted : IsCount tag → ending ≡ endings.Ok
   pub refused : ending ≢ endings.Ok
 
--- A part was sent that isn't the last, since the command was begun at this start. The server does what it may meanwhile. It
--- asks for the next part, and tells nothing else, or it answers; and no honest server's reply is called bad.
-pub record GoesOn {Self : Type 0} (L : Ghosts Self) (w : Waiting) (before : List (List ℕ)) (part : List ℕ) (start : Clock)
-    (old new : Self) (after : Stream) (rows : List Response) (result : Result (Option Completion) SessionFault) : Type 0 where
+-- A part was sent that isn't the last, since the command was begun at this start. The server does what it may meanwhile, and no
+-- honest server's reply is called bad.
+pub record GoesOn {Self T : Type 0} (L : Ghosts Self) (w : Waiting) (start : Clock) (old new : Self) (result : Result T SessionFault)
+    : Type 0 where
   pub told : Linked (Asking start.now.outside.talk.told w.tag w.command) (L.clock old) (L.clock new)
-  pub went : IfOk result (λ o. MatchOption o
-      ((rows ≡ []) × Sending w (before ++ part ∷ []) start (L.clock new) (L.link new).connection after)
-      (λ d. Answered w (read_as rows d.ending d.code) start (L.clock new) (L.link new).connection after))
   pub honest : (at : ℕ) → IsErrOf result (faults.BadReply at) → ⊥

@@ -74,8 +74,11 @@ KeepsSelection commands.FetchAll = Unit {0}
 KeepsSelection (commands.FetchRow uid) = Unit {0}
 KeepsSelection (commands.Search from id) = Unit {0}
 KeepsSelection (commands.FetchIds uids) = Unit {0}
+KeepsSelection (commands.FetchText uid) = Unit {0}
 KeepsSelection (commands.Store uid since add flags) = Unit {0}
 KeepsSelection (commands.Shift uid to) = Unit {0}
+KeepsSelection (commands.Copy uid to) = Unit {0}
+KeepsSelection (commands.Expunge uid) = Unit {0}
 KeepsSelection (commands.Append to flags text) = Unit {0}
 KeepsSelection commands.Logout = Unit {0}
 
@@ -126,8 +129,11 @@ IsAsked commands.FetchAll = Unit {0}
 IsAsked (commands.FetchRow uid) = Unit {0}
 IsAsked (commands.Search from id) = Unit {0}
 IsAsked (commands.FetchIds uids) = Unit {0}
+IsAsked (commands.FetchText uid) = Unit {0}
 IsAsked (commands.Store uid since add flags) = Unit {0}
 IsAsked (commands.Shift uid to) = Unit {0}
+IsAsked (commands.Copy uid to) = Unit {0}
+IsAsked (commands.Expunge uid) = Unit {0}
 IsAsked (commands.Append to flags text) = Unit {0}
 IsAsked commands.Logout = ⊥
 

@@ -1,6 +1,6 @@
 //! A connection that was just made (RFC 9051, sections 3 and 7.1).
 
-ghost use Rattle.std.specs.Prelude.{◌≡◌, ◌⊎◌, ℕ, [], None, IfOk, OnOk, OnErr, IsErrOf};
+ghost use Rattle.std.specs.Prelude.{◌≡◌, ℕ, [], ◌∷◌, None, IfOk, OnOk, OnErr, IsErrOf};
 ghost use Rattle.imap_model.specs.Talking.{Connecting};
 ghost use Rattle.world_traits.specs.Connected.{IsGreeted, WasConnected};
 ghost use Rattle.world_traits.specs.Links.{Linked, AnyStep};
@@ -28,7 +28,8 @@ pub struct Fresh {
 }
 
 impl Fresh {
-    /// Makes a new connection. What was sent before is forgotten with the old one.
+    /// Makes a new connection. What was sent up to now stands in front of what was sent earlier; after a fault both are as they
+    /// were.
     pub fn connect<L: Link>(alloc: Global, link: &mut L) -> Result<Fresh, SessionFault>
         ensures files { L.tells_files → Linked AnyStep (L.clock link.old) (L.clock link.new) }
         ensures told { L.tells_server → Linked Connecting (L.clock link.old) (L.clock link.new) }
@@ -40,8 +41,11 @@ impl Fresh {
         ensures counted { IfOk result (λ s. s.conversation.count ≡ 0) }
         ensures sent { L.tells_files → OnOk result ((L.link link.new).sent ≡ []) }
         ensures unsent { L.tells_files
-            → OnErr result (((L.link link.new).sent ≡ []) ⊎
-            ((L.link link.new).sent ≡ (L.link link.old).sent)) }
+            → OnErr result ((L.link link.new).sent ≡ (L.link link.old).sent) }
+        ensures earlier { L.tells_files → OnOk result
+            ((L.link link.new).earlier ≡ (L.link link.old).sent ∷ (L.link link.old).earlier) }
+        ensures unmade { L.tells_files
+            → OnErr result ((L.link link.new).earlier ≡ (L.link link.old).earlier) }
         ensures only { (fault : SessionFault) → IsErrOf result fault → fault ≡ faults.Link }
         ensures blames { Blames L.Clocked link.old link.new result }
     {

@@ -7,12 +7,10 @@ ghost use Rattle.imap_session.specs.LogIn.{SwitchedOn, enabling, entering};
 ghost use Rattle.imap_session.specs.Session.{Follows, Stands};
 ghost use Rattle.imap_session.specs.declared.fault.SessionFault.{SessionFault};
 
-use crate::asking::converse;
 use crate::conversation::Conversation;
-use crate::login::{check_enabled, check_offer, log_in};
+use crate::login::{ask_enabled, ask_offer, check_enabled, check_offer, log_in};
 use crate::{Ready, SessionFault};
-use imap_model::Command;
-use mail_base::{Account, Tag};
+use mail_base::Account;
 use world_traits::{Clocked, Link};
 
 /// A connection whose greeting was read. The user is known where the greeting was PREAUTH, or once `authenticate` was
@@ -63,13 +61,7 @@ impl Greeted {
             preauth,
             ..
         } = self;
-        let offer = converse(
-            alloc,
-            &mut feed,
-            link,
-            Tag::Count(count + 1),
-            &Command::Capability,
-        )?;
+        let offer = ask_offer(alloc, &mut feed, link, count)?;
         if preauth {
             let rev2 = check_offer(alloc, &mut feed, link, count + 1)?;
             let conversation = Conversation {
@@ -83,7 +75,7 @@ impl Greeted {
                 rev2,
             });
         }
-        let rev2 = log_in(alloc, &mut feed, link, count + 1, account, &offer)?;
+        let rev2 = log_in(alloc, &mut feed, link, count + 1, account, offer)?;
         let conversation = Conversation {
             alloc,
             feed,
@@ -126,14 +118,8 @@ impl Greeted {
             rev2,
             ..
         } = self;
-        let replies = converse(
-            alloc,
-            &mut feed,
-            link,
-            Tag::Count(count + 1),
-            &Command::Enable { rev2 },
-        )?;
-        check_enabled(&replies)?;
+        let enabled = ask_enabled(alloc, &mut feed, link, count, rev2)?;
+        check_enabled(enabled)?;
         let conversation = Conversation {
             alloc,
             feed,

@@ -14,7 +14,7 @@ ghost use Rattle.imap_session.specs.declared.fault.SessionFault.{SessionFault};
 
 use crate::asking::finish;
 use crate::conversation::Conversation;
-use crate::listener::Listener;
+use crate::discard::Discard;
 use crate::listening::{Line, MOST, listen};
 use crate::{Chosen, Ready, SessionFault};
 use imap_command::write;
@@ -94,8 +94,17 @@ fn log_out<L: Link>(
     let parts = write(alloc, tag, &Command::Logout)?;
     link.send(only_part(parts.as_slice()))?;
     let mut left = MOST;
-    let mut listener = Listener::new(alloc, None);
-    let line = listen(alloc, feed, &mut left, link, &mut listener, false)?;
+    let mut discard = Discard;
+    let mut permits = None;
+    let line = listen(
+        alloc,
+        feed,
+        &mut left,
+        link,
+        &mut discard,
+        &mut permits,
+        false,
+    )?;
     farewell(line, tag)
 }
 

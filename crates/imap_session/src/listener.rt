@@ -1,44 +1,32 @@
-//! What is kept of a reply while it comes.
+//! What is heard of a reply while it comes.
 
-ghost use Rattle.std.specs.Prelude.{◌≡◌, ◌++◌, [], OnOk};
+ghost use Rattle.std.specs.Prelude.{◌≡◌, ◌++◌, List, OnOk, OnErr};
+ghost use Rattle.imap_model.specs.Small.{IsSmall};
+ghost use Rattle.imap_model.specs.declared.response.Response.{Response};
 ghost use Rattle.imap_session.specs.Permanent.{behind};
 ghost use Rattle.imap_session.specs.Hearing.{told_by};
 
 use crate::permits::{Permits, behind};
-use imap_model::Response;
-use mail_base::List;
-use std::alloc::{AllocError, Global};
+use imap_model::{Listen, Response};
+use std::alloc::AllocError;
 
-/// The untagged responses of a reply so far, and the PERMANENTFLAGS that counts behind them.
-#[derive(Drop)]
-pub struct Listener {
-    pub rows: List<Response>,
-    pub permits: Option<Permits>,
-}
-
-impl Listener {
-    /// Nothing was heard of the reply, and this counts in front of it.
-    pub fn new(alloc: Global, permits: Option<Permits>) -> Listener
-        ensures rows { result.rows ≡ [] }
-        ensures permits { result.permits ≡ permits }
-    {
-        Listener {
-            rows: List::new(alloc),
-            permits,
-        }
+/// Hands the next response of a reply to the listener, and keeps the PERMANENTFLAGS that counts behind it. A `+` asks for
+/// a part of the command, and tells nothing.
+pub fn hear<H: Listen>(
+    heard: &mut H,
+    permits: &mut Option<Permits>,
+    response: Response,
+) -> Result<(), AllocError>
+    requires small { IsSmall response }
+    ensures stands { (list : List Response) → H.Stands heard.old list
+        → OnOk result (H.Stands heard.new (list ++ told_by response)) }
+    ensures permits { OnOk result (permits.new ≡ behind permits.old response) }
+    ensures kept { OnErr result (heard.new ≡ heard.old) }
+{
+    if let Response::Go = response {
+        return Ok(());
     }
-
-    /// Takes the next response. A `+` asks for a part of the command, and tells nothing.
-    pub fn hear(&mut self, response: Response) -> Result<(), AllocError>
-        ensures rows { OnOk result (self.new.rows ≡ self.old.rows ++ told_by response) }
-        ensures permits { OnOk result (self.new.permits ≡ behind self.old.permits response) }
-    {
-        if let Response::Go = response {
-            return Ok(());
-        }
-        let before = self.permits.take();
-        self.permits = behind(before, &response)?;
-        self.rows.push(response)?;
-        Ok(())
-    }
+    let before = permits.take();
+    *permits = behind(before, &response)?;
+    heard.take(response)
 }

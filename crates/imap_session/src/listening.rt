@@ -1,6 +1,6 @@
 //! Reads responses.
 
-ghost use Rattle.std.specs.Prelude.{◌≡◌, ◌≢◌, ◌<◌, ◌++◌, ◌+◌, [], ◌∷◌, ℕ, List, Option, Some, IfOk, OnOk, IsErrOf, IsTrue, ◌↔◌, length};
+ghost use Rattle.std.specs.Prelude.{◌≡◌, ◌≢◌, ◌<◌, ◌++◌, ◌+◌, [], ◌∷◌, ℕ, List, Option, Some, IfOk, OnOk, OnErr, IsErrOf, IsTrue, ◌↔◌, length};
 ghost use Rattle.mail_base.specs.Frames.{FirstFault, NoWhole};
 ghost use Rattle.mail_base.specs.declared.frame.FeedFault.{FeedFault};
 ghost use Rattle.mail_base.specs.declared.frame.FeedFault.TheVariants as feeds;
@@ -15,16 +15,15 @@ ghost use Rattle.imap_session.specs.Causes.{ReadingFails};
 ghost use Rattle.imap_session.specs.Hearing.{Reads, ReadsLast};
 ghost use Rattle.imap_session.specs.Faults.{Reading, LineBad, of_feed};
 ghost use Rattle.imap_session.specs.Knowing.{IsEnd};
-ghost use Rattle.imap_session.specs.Permanent.{behind_all};
-ghost use Rattle.imap_session.specs.Replying.{AllSmall, HeardTo};
+ghost use Rattle.imap_session.specs.Taken.{HeardLine, TookSome};
 ghost use Rattle.imap_session.specs.Session.{Listening, Asked};
-ghost use Rattle.imap_session.specs.declared.permits.Permits.{Permits};
 ghost use Rattle.imap_session.specs.declared.fault.SessionFault.{SessionFault};
 ghost use Rattle.imap_session.specs.declared.fault.SessionFault.TheVariants as faults;
 
 use crate::SessionFault;
-use crate::listener::Listener;
-use imap_model::{Limit, Response};
+use crate::listener::hear;
+use crate::permits::Permits;
+use imap_model::{Limit, Listen, Response};
 use imap_response::{ResponseFault, read};
 use literal_feed::Feed;
 use mail_base::{FeedFault, Frame};
@@ -183,27 +182,23 @@ fn ends(part: bool, response: &Response) -> bool
 }
 
 /// Reads up to a response that ends the reply, and hands each one before it to the listener as it comes.
-pub fn listen<L: Link>(
+pub fn listen<L: Link, H: Listen>(
     alloc: Global,
     feed: &mut Feed,
     left: &mut u64,
     link: &mut L,
-    listener: &mut Listener,
+    heard: &mut H,
+    permits: &mut Option<Permits>,
     part: bool,
 ) -> Result<Line, SessionFault>
     requires asked { L.tells_server → Asked part (L.clock link.old) (L.link link.old).connection feed.old }
     ensures receives { Receives L.Clocked link.old link.new result }
-    ensures reads { L.tells_files → (heard : List Response) (had : List ℕ) (most : ℕ)
-        → Reads heard had most left.old (L.link link.old).connection feed.old
-        → IfOk result
-        (λ line. HeardTo part heard listener.old.rows listener.new.rows line.frame line.response had most
-        left.new (L.link link.new).connection feed.new) }
+    ensures heard { IfOk result (HeardLine L.Clocked H.Stands part link.old link.new left.old left.new
+        feed.old feed.new heard.old heard.new permits.old permits.new) }
     ensures ends { IfOk result (λ line. IsEnd part line.response) }
     ensures spells { IfOk result (λ line. Spells line.frame line.response) }
-    ensures small { AllSmall listener.old.rows
-        → IfOk result (λ line. IsSmall line.response × AllSmall listener.new.rows) }
-    ensures permits { (start : Option Permits) → listener.old.permits ≡ behind_all start listener.old.rows
-        → OnOk result (listener.new.permits ≡ behind_all start listener.new.rows) }
+    ensures small { IfOk result (λ line. IsSmall line.response) }
+    ensures some { OnErr result (TookSome H.Stands heard.old heard.new) }
     ensures why { L.tells_files → (heard : List Response) (had : List ℕ) (most : ℕ)
         → Reads heard had most left.old (L.link link.old).connection feed.old
         → (fault : SessionFault) → IsErrOf result fault
@@ -214,6 +209,6 @@ pub fn listen<L: Link>(
         if ends(part, &line.response) {
             return Ok(line);
         }
-        listener.hear(line.response)?;
+        hear(heard, permits, line.response)?;
     }
 }

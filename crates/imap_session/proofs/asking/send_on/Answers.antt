@@ -1,18 +1,14 @@
-use Rattle.std.proofs.Common.{IfSome, List, ◌++◌, ◌∷◌, ◌∙◌, rules, ap, inl, inr, true, IsTrue}
+use Rattle.std.proofs.Common.{List, ◌++◌, ◌∷◌, ◌∙◌, rules, inl, inr, refl, true, IsTrue}
 use Rattle.world_traits.specs.Links.{AnyStep}
 use Rattle.imap_session.specs.Session.{waiting_of}
 use Rattle.imap_session.specs.declared.fault.SessionFault.TheVariants as faults
-use Rattle.imap_model.specs.declared.response.Response.{Response}
-use Rattle.imap_session.specs.Hearing.{all_told_by}
 use Rattle.imap_session.proofs.Hearing.{as_reads, reads_at}
-use Rattle.imap_model.specs.Small.{IsSmallCode}
-use Rattle.imap_session.proofs.Outcomes.{if_ok_more}
 use Rattle.imap_session.proofs.NoReply.{link_fails, part_fails, unfit_part}
-use Rattle.imap_session.proofs.Replying.{turned_reads}
+use Rattle.imap_session.proofs.Replying.{none_weaker}
 use Rattle.imap_session.proofs.Sent.{sent_all}
-use Rattle.imap_session.proofs.Sending.{half_sent, half_asked, ready_arrives, ready_failed, turned_went, on_ok_always}
-use Rattle.imap_session.proofs.Sending.{half_fit}
+use Rattle.imap_session.proofs.Sending.{half_asked, half_fit, half_sent, on_ok_always, one_turned, ready_arrives, ready_failed}
 use Rattle.imap_session.proofs.Spelled.{all_spelled}
+use Rattle.imap_session.proofs.Taken.{on_err_always, some_none, some_of, turned_heard}
 use Rattle.imap_session.proofs.Talking.{linked_then, answers_asking, asking_then}
 use Rattle.imap_session.proofs.asking.send_on.Goals as goal
 
@@ -36,6 +32,7 @@ returns-in_err-send-clause-sends g c = record {
   files = search rules;
   sent = λ t. let f = c.in_err-send.ensures.front t in record { n = f.0; is = f.1 };
   whole = search rules;
+  earlier = search rules;
   blames = search rules;
 }
 
@@ -45,7 +42,6 @@ returns-in_err-send-clause-goes_on g c = λ t selected before next behind start 
     record {
       told = ready_failed w before c.args.part.now (next ∷ behind) start _ _ _ _ ready
           (c.in_err-send.ensures.told t c.args.tag c.args.command.now before (next ∷ behind) ready.part_of ready.sending.awaits).failed;
-      went = search rules;
       honest = search rules;
     }
 
@@ -54,6 +50,7 @@ returns-in_err-line-clause-sends g c = record {
   files = λ t. linked_then AnyStep _ _ _ (c.send.ensures.files t) (c.listen.ensures.receives.files t);
   sent = λ t. sent_all c.args.part.now _ _ (c.listen.ensures.receives.sent t ∙ c.in_ok-send.ensures.sent t);
   whole = search rules;
+  earlier = search rules;
   blames = search rules;
 }
 
@@ -67,7 +64,6 @@ returns-in_err-line-clause-goes_on g c = λ t selected before next behind start 
       told = asking_then _ c.args.tag c.args.command.now _ _ _
           (ready_arrives w before c.args.part.now (next ∷ behind) start _ _ _ _ ready sent)
           (answers_asking _ c.args.tag c.args.command.now _ _ (c.listen.ensures.receives.told t));
-      went = search rules;
       honest = λ at is. all_spelled _ at _ (g.L.Clocked.clock c.listen.new.link).now.outside _
           (c.listen.ensures.why (g.L.Clocked.server_with_files t) half.told _ _ (as_reads half.told c.args.left.now _ _ half.hears)
           (faults.BadReply at) (search rules)).reading (g.met.L.Link.honest c.listen.new.link t);
@@ -78,10 +74,12 @@ returns-clause-sends g c = record {
   files = λ t. linked_then AnyStep _ _ _ (c.send.ensures.files t) (c.listen.ensures.receives.files t);
   sent = λ t. sent_all c.args.part.now _ _ (c.listen.ensures.receives.sent t ∙ c.in_ok-send.ensures.sent t);
   whole = λ t. on_ok_always c.turned.result (c.listen.ensures.receives.sent t ∙ c.in_ok-send.ensures.sent t);
+  earlier = search rules;
   blames = record {
     disk = search rules;
     count = search rules;
     cause = λ is. absurd (c.turned.ensures.why faults.Link is);
+    unfailed = search rules;
   };
 }
 
@@ -91,18 +89,38 @@ returns-clause-goes_on g c = λ t selected before next behind start ready.
     let sent = (c.in_ok-send.ensures.told t c.args.tag c.args.command.now before (next ∷ behind) ready.part_of ready.sending.awaits).done in
     let half = half_sent w before c.args.part.now start _ _ _ _ _ ready.sending (c.in_ok-send.ensures.received (g.L.Clocked.server_with_files t)) next
     behind ready.part_of sent in
-    let h = c.in_ok-line.ensures.reads (g.L.Clocked.server_with_files t) half.told _ _ (as_reads half.told c.args.left.now _ _ half.hears) in
+    let h = c.in_ok-line.ensures.heard.reads (g.L.Clocked.server_with_files t) half.told _ _ (as_reads half.told c.args.left.now _ _ half.hears) in
     record {
       told = asking_then _ c.args.tag c.args.command.now _ _ _
           (ready_arrives w before c.args.part.now (next ∷ behind) start _ _ _ _ ready sent)
           (answers_asking _ c.args.tag c.args.command.now _ _ (c.listen.ensures.receives.told t));
-      went = turned_went w before c.args.part.now start _ _ _ _ _ _ h.told _ c.in_ok-line.line.response half (c.listen.ensures.receives.told t)
-          h.reads.reads.hears (g.met.L.Link.honest c.listen.new.link t) c.requires.keeps
-          (h.grown ∙ ap (λ (rows : List Response). rows ++ all_told_by h.told) (c.requires.silent t)) c.turned.result c.turned.ensures.value;
-      honest = λ at is. half_fit w before c.args.part.now start _ _ _ _ _ _ h.told c.in_ok-line.line.response half
+      honest = λ at is. half_fit w before c.args.part.now start _ _ _ _ _ _ c.in_ok-line.ensures.heard.told c.in_ok-line.line.response half
           (c.listen.ensures.receives.told t) h.reads.reads.hears (g.met.L.Link.honest c.listen.new.link t) c.requires.keeps (IsTrue true)
           c.in_ok-line.line.frame at (c.turned.ensures.why (faults.BadReply at) is);
     }
+
+pub returns-clause-heard : goal.returns-clause-heard
+returns-clause-heard g c =
+    let h = c.in_ok-line.ensures.heard in
+    turned_heard g.L.Clocked g.H.Listen.Stands c.args.tag c.args.command.now c.args.part.now _ _ _ _ _ _ _ _ _ _ _ c.in_ok-line.line h
+    (λ t. c.in_ok-send.ensures.received t)
+    (λ t selected before next behind start ready o is.
+    let w = waiting_of selected c.args.tag c.args.command.now in
+    let sent = (c.in_ok-send.ensures.told t c.args.tag c.args.command.now before (next ∷ behind) ready.part_of ready.sending.awaits).done in
+    let half = half_sent w before c.args.part.now start _ _ _ _ _ ready.sending
+    (c.in_ok-send.ensures.received (g.L.Clocked.server_with_files t)) next behind ready.part_of sent in
+    let to = h.reads (g.L.Clocked.server_with_files t) half.told _ _ (as_reads half.told c.args.left.now _ _ half.hears) in
+    one_turned w before c.args.part.now start _ _ _ _ _ _ h.told _ c.in_ok-line.line.response half (c.listen.ensures.receives.told t)
+    to.reads.reads.hears (g.met.L.Link.honest c.listen.new.link t) c.requires.keeps refl o is)
+    c.turned.result c.turned.ensures.value
+
+pub returns-in_err-send-clause-some : goal.returns-in_err-send-clause-some
+returns-in_err-send-clause-some g c = on_err_always _ (some_none g.H.Listen.Stands _ _ refl)
+
+pub returns-clause-some : goal.returns-clause-some
+returns-clause-some g c =
+    let h = c.in_ok-line.ensures.heard in
+    on_err_always c.turned.result (some_of g.H.Listen.Stands h.told _ _ _ _ (none_weaker h.told h.none) h.takes)
 
 pub returns-in_err-send-clause-why : goal.returns-in_err-send-clause-why
 returns-in_err-send-clause-why g c = λ t heard had most r fault is. inl (link_fails _ heard _ _ _ fault (search rules))
@@ -112,21 +130,11 @@ returns-in_err-line-clause-why g c = λ t heard had most r fault is.
     inl (part_fails heard had most _ fault
     (c.listen.ensures.why t heard had most (reads_at heard had most _ _ _ _ (c.in_ok-send.ensures.received t) r) fault (search rules)))
 
-pub returns-clause-reads : goal.returns-clause-reads
-returns-clause-reads g c = λ t heard had most r.
-    turned_reads heard _ _ c.in_ok-line.line.frame c.in_ok-line.line.response had most _ _ _ c.turned.result c.args.tag c.turned.ensures.value
-    (c.in_ok-line.ensures.reads t heard had most (reads_at heard had most _ _ _ _ (c.in_ok-send.ensures.received t) r))
-
-pub returns-clause-permits : goal.returns-clause-permits
-returns-clause-permits g c = λ start is. on_ok_always c.turned.result (c.in_ok-line.ensures.permits start is)
-
 pub returns-clause-why : goal.returns-clause-why
 returns-clause-why g c = λ t heard had most r fault is.
-    inr (unfit_part heard _ _ c.in_ok-line.line.frame c.in_ok-line.line.response had most _ _ _ c.args.tag fault
-    (c.in_ok-line.ensures.reads t heard had most (reads_at heard had most _ _ _ _ (c.in_ok-send.ensures.received t) r))
+    inr (unfit_part heard _ c.in_ok-line.line.frame c.in_ok-line.line.response had most _ _ _ c.args.tag fault
+    (c.in_ok-line.ensures.heard.reads t heard had most (reads_at heard had most _ _ _ _ (c.in_ok-send.ensures.received t) r))
     c.in_ok-line.ensures.spells (c.turned.ensures.why fault is))
 
 pub returns-clause-small : goal.returns-clause-small
-returns-clause-small g c = λ all.
-    let s = c.in_ok-line.ensures.small all in
-    if_ok_more c.turned.result (λ o. IfSome o (λ d. IsSmallCode d.code)) _ (λ o small. (s.1, small)) (c.turned.ensures.small s.0)
+returns-clause-small g c = c.turned.ensures.small c.in_ok-line.ensures.small

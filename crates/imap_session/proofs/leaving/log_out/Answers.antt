@@ -38,6 +38,7 @@ returns-in_err-parts-clause-talks g c = record {
   told = search rules;
   sent = λ t. sent_none _ _ _ refl;
   honest = search rules;
+  earlier = search rules;
   blames = search rules;
 }
 
@@ -61,6 +62,7 @@ returns-in_err-send-clause-talks g c = record {
       sent_as c.only_part.result.now _ _ _ (logout_sent (next_tag c.args.count) _ _ (c.as_slice.ensures
       ∙ c.in_ok-parts.ensures.text) c.only_part.ensures) (record { n = f.0; is = f.1 });
   honest = search rules;
+  earlier = search rules;
   blames = search rules;
 }
 
@@ -97,6 +99,7 @@ returns-in_err-line-clause-talks g c = record {
       all_spelled _ at _ (g.L.Clocked.clock c.listen.new.link).now.outside _
       (c.listen.ensures.why f _ _ _ (reads_at _ _ _ _ _ _ _ (c.in_ok-send.ensures.received f) (as_reads _ 268435456 _ _ s.1.hears))
       (faults.BadReply at) (search rules)).reading (g.met.L.Link.honest c.listen.new.link t);
+  earlier = search rules;
   blames = search rules;
 }
 
@@ -133,26 +136,28 @@ returns-clause-talks g c = record {
       (c.as_slice.ensures ∙ c.in_ok-parts.ensures.text) c.only_part.ensures in
       let started = begun w [] c.only_part.result.now _ _ _ _ _ _ ready.sending (c.in_ok-send.ensures.received f) ready.part_of
       (c.in_ok-send.ensures.told t (next_tag c.args.count) commands.Logout [] [] ready.part_of ready.sending.awaits).done in
-      let reads = c.in_ok-line.ensures.reads f started.told _ _ (as_reads started.told 268435456 _ _ started.hears) in
-      begun_fit w _ _ _ _ _ _ _ reads.told c.in_ok-line.line.response started (c.listen.ensures.receives.told t) reads.reads.reads.hears
+      let reads = c.in_ok-line.ensures.heard.reads f started.told _ _ (as_reads started.told 268435456 _ _ started.hears) in
+      begun_fit w _ _ _ _ _ _ _ c.in_ok-line.ensures.heard.told c.in_ok-line.line.response started (c.listen.ensures.receives.told t) reads.reads.reads.hears
       (g.met.L.Link.honest c.listen.new.link t) ⊥ c.in_ok-line.line.frame at (λ no. no) (c.farewell.ensures.why (faults.BadReply at) is).0;
+  earlier = search rules;
   blames = record {
     disk = search rules;
     count = search rules;
     cause = λ is. absurd (c.farewell.ensures.why faults.Link is).0;
+    unfailed = search rules;
   };
 }
 
 pub returns-clause-leaves : goal.returns-clause-leaves
 returns-clause-leaves g c = record {
   left = λ t heard h.
-      let r = c.in_ok-line.ensures.reads t heard _ _
+      let r = c.in_ok-line.ensures.heard.reads t heard _ _
       (reads_at heard _ _ _ _ _ _ (c.in_ok-send.ensures.received t) (as_reads heard 268435456 _ _ h)) in
       on_ok_then c.farewell.result (IsFarewell (next_tag c.args.count) c.in_ok-line.line.response) _
-      (λ f. left_so heard r.told c.in_ok-line.line.response (next_tag c.args.count) _ _ r.reads.reads.hears r.none f)
+      (λ f. left_so heard c.in_ok-line.ensures.heard.told c.in_ok-line.line.response (next_tag c.args.count) _ _ r.reads.reads.hears r.none f)
       c.farewell.ensures.farewell;
   within = λ t heard h.
-      let r = c.in_ok-line.ensures.reads t heard _ _
+      let r = c.in_ok-line.ensures.heard.reads t heard _ _
       (reads_at heard _ _ _ _ _ _ (c.in_ok-send.ensures.received t) (as_reads heard 268435456 _ _ h)) in
       on_ok_always c.farewell.result (at_most _ _ _ _ _ r.reads.reads);
   whole = λ t.
@@ -161,8 +166,8 @@ returns-clause-leaves g c = record {
       ∙ ap (λ (x : List ℕ). (g.L.Clocked.link c.args.link.now).sent ++ x)
       (logout_sent (next_tag c.args.count) _ _ (c.as_slice.ensures ∙ c.in_ok-parts.ensures.text) c.only_part.ensures));
   why = λ t heard h fault is.
-      let r = c.in_ok-line.ensures.reads t heard _ _
+      let r = c.in_ok-line.ensures.heard.reads t heard _ _
       (reads_at heard _ _ _ _ _ _ (c.in_ok-send.ensures.received t) (as_reads heard 268435456 _ _ h)) in
       stays_so heard (next_tag c.args.count) _ _ c.in_ok-line.line.frame c.in_ok-line.line.response fault
-      (last_whole heard _ _ c.in_ok-line.line.frame c.in_ok-line.line.response _ _ _ _ _ r c.in_ok-line.ensures.spells) (c.farewell.ensures.why fault is);
+      (last_whole heard _ c.in_ok-line.line.frame c.in_ok-line.line.response _ _ _ _ _ r c.in_ok-line.ensures.spells) (c.farewell.ensures.why fault is);
 }

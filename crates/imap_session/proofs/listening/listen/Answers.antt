@@ -6,7 +6,8 @@ use Rattle.imap_session.specs.Knowing.{IsEnd}
 use Rattle.imap_session.proofs.Hearing.{as_reads, reads_as, reads_last_as}
 use Rattle.imap_session.proofs.NoReply.{memory_fails}
 use Rattle.imap_session.proofs.Reading.{asked_listens, no_end_more}
-use Rattle.imap_session.proofs.Replying.{told_more, permits_on, small_on}
+use Rattle.imap_session.proofs.Replying.{none_part}
+use Rattle.imap_session.proofs.Taken.{on_err_always, some_none, some_of, some_then, takes_nothing, takes_one, takes_then}
 use Rattle.imap_session.proofs.Talking.{linked_start, linked_then}
 use Rattle.imap_session.proofs.listening.listen.Goals as goal
 
@@ -14,12 +15,11 @@ pub loop-line-init : goal.loop-line-init
 loop-line-init g c = record {
   files = λ t. linked_start AnyStep _;
   told = λ t. linked_start Answering _;
-  heard = ([], sym (append-nil _), tt, λ t heard had most r. reads_as heard _ had most _ _ _ (sym (append-nil heard)) r);
-  permits = λ start is. is;
-  small = λ all. all;
+  heard = ([], tt, takes_nothing g.H.Listen.Stands _ _, λ t heard had most r. reads_as heard _ had most _ _ _ (sym (append-nil heard)) r);
   sent = λ t. refl;
+  earlier = λ t. refl;
   disk = refl;
-  count = omega arith;
+  count = refl;
 }
 
 pub next-requires : goal.next-requires
@@ -28,7 +28,7 @@ next-requires g c = record {
       let asked = c.requires.asked t in
       let i = c.loop-line.invariant.heard in
       let r = i.3 (g.L.Clocked.server_with_files t) asked.told _ _ (as_reads asked.told c.args.left.now _ _ asked.hears) in
-      asked_listens c.args.part _ _ _ _ _ _ i.0 asked (c.loop-line.invariant.told t) r.hears i.2 (g.met.L.Link.honest c.loop-line.link t);
+      asked_listens c.args.part _ _ _ _ _ _ i.0 asked (c.loop-line.invariant.told t) r.hears i.1 (g.met.L.Link.honest c.loop-line.link t);
 }
 
 pub returns-in_err-line-clause-receives : goal.returns-in_err-line-clause-receives
@@ -36,13 +36,14 @@ returns-in_err-line-clause-receives g c = record {
   files = λ t. linked_then AnyStep _ _ _ (c.loop-line.invariant.files t) (c.next.ensures.receives.files t);
   told = λ t. linked_then Answering _ _ _ (c.loop-line.invariant.told t) (c.next.ensures.receives.told t);
   sent = search rules;
+  earlier = search rules;
   blames = search rules;
 }
 
 pub returns-in_err-line-clause-why : goal.returns-in_err-line-clause-why
 returns-in_err-line-clause-why g c = λ t heard had most r fault is.
     let i = c.loop-line.invariant.heard in
-    record { told = i.0; none = i.2; reading = c.next.ensures.why t (heard ++ i.0) had most (i.3 t heard had most r) fault (search rules) }
+    record { told = i.0; none = i.1; reading = c.next.ensures.why t (heard ++ i.0) had most (i.3 t heard had most r) fault (search rules) }
 
 pub returns-in_err-hear-clause-why : goal.returns-in_err-hear-clause-why
 returns-in_err-hear-clause-why g c = λ t heard had most r fault is. memory_fails _ heard _ _ _ fault (search rules)
@@ -52,25 +53,41 @@ returns-then-ends-clause-receives g c = record {
   files = λ t. linked_then AnyStep _ _ _ (c.loop-line.invariant.files t) (c.next.ensures.receives.files t);
   told = λ t. linked_then Answering _ _ _ (c.loop-line.invariant.told t) (c.next.ensures.receives.told t);
   sent = search rules;
+  earlier = search rules;
   blames = search rules;
 }
 
-pub returns-then-ends-clause-reads : goal.returns-then-ends-clause-reads
-returns-then-ends-clause-reads g c = λ t heard had most r.
+pub returns-then-ends-clause-heard : goal.returns-then-ends-clause-heard
+returns-then-ends-clause-heard g c =
     let i = c.loop-line.invariant.heard in
     record {
       told = i.0;
-      none = i.2;
-      grown = i.1;
-      reads = reads_last_as _ _ c.in_ok-line.line.frame had most _ _ _ (append_assoc heard i.0 (c.in_ok-line.line.response ∷ []))
-          (c.in_ok-line.ensures.reads t (heard ++ i.0) had most (i.3 t heard had most r));
+      none = i.1;
+      takes = i.2;
+      reads = λ t heard had most r. record {
+        none = i.1;
+        reads = reads_last_as _ _ c.in_ok-line.line.frame had most _ _ _ (append_assoc heard i.0 (c.in_ok-line.line.response ∷ []))
+            (c.in_ok-line.ensures.reads t (heard ++ i.0) had most (i.3 t heard had most r));
+      };
     }
+
+pub returns-in_err-line-clause-some : goal.returns-in_err-line-clause-some
+returns-in_err-line-clause-some g c =
+    let i = c.loop-line.invariant.heard in
+    on_err_always _ (some_of g.H.Listen.Stands i.0 _ _ _ _ (none_part c.args.part i.0 i.1) i.2)
+
+pub returns-in_err-hear-clause-some : goal.returns-in_err-hear-clause-some
+returns-in_err-hear-clause-some g c =
+    let i = c.loop-line.invariant.heard in
+    on_err_always _ (some_then g.H.Listen.Stands i.0 _ _ _ _ _ (none_part c.args.part i.0 i.1) i.2
+    (some_none g.H.Listen.Stands _ _ c.in_err-hear.ensures.kept))
 
 pub returns-in_err-hear-clause-receives : goal.returns-in_err-hear-clause-receives
 returns-in_err-hear-clause-receives g c = record {
   files = λ t. linked_then AnyStep _ _ _ (c.loop-line.invariant.files t) (c.next.ensures.receives.files t);
   told = λ t. linked_then Answering _ _ _ (c.loop-line.invariant.told t) (c.next.ensures.receives.told t);
   sent = search rules;
+  earlier = search rules;
   blames = search rules;
 }
 
@@ -84,15 +101,15 @@ loop-line-preserved g c =
       told = λ t. linked_then Answering _ _ _ (c.loop-line.invariant.told t) (c.next.ensures.receives.told t);
       heard = (
         i.0 ++ r ∷ [],
-        told_more _ _ _ i.0 r i.1 c.in_ok-hear.ensures.rows,
-        no_end_more c.args.part i.0 r i.2 not,
+        no_end_more c.args.part i.0 r i.1 not,
+        takes_then g.H.Listen.Stands i.0 (r ∷ []) _ _ _ _ _ _ i.2
+            (takes_one g.H.Listen.Stands r _ _ _ _ (λ list s. c.in_ok-hear.ensures.stands list s) c.in_ok-hear.ensures.permits
+            c.in_ok-line.ensures.small),
         λ t heard had most x. reads_as _ _ had most _ _ _ (append_assoc heard i.0 (r ∷ []))
             (c.in_ok-line.ensures.reads t (heard ++ i.0) had most (i.3 t heard had most x)).reads,
       );
-      permits = λ start is. permits_on start _ _ _ _ r (c.loop-line.invariant.permits start is) c.in_ok-hear.ensures.permits
-          c.in_ok-hear.ensures.rows;
-      small = λ all. small_on _ _ r (c.loop-line.invariant.small all) c.in_ok-line.ensures.small c.in_ok-hear.ensures.rows;
       sent = λ t. c.next.ensures.receives.sent t ∙ c.loop-line.invariant.sent t;
+      earlier = λ t. c.next.ensures.receives.earlier t ∙ c.loop-line.invariant.earlier t;
       disk = c.next.ensures.receives.blames.disk ∙ c.loop-line.invariant.disk;
-      count = omega (arith, c.next.ensures.receives.blames.count, c.loop-line.invariant.count);
+      count = c.next.ensures.receives.blames.unfailed (search rules) ∙ c.loop-line.invariant.count;
     }

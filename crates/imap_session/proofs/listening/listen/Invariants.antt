@@ -1,12 +1,10 @@
-use Rattle.std.proofs.Common.{◌≡◌, ◌≤◌, ◌+◌, ◌++◌, ℕ, List, Option, length}
+use Rattle.std.proofs.Common.{◌≡◌, ◌+◌, ◌++◌, ℕ, List, length}
 use Rattle.imap_model.specs.Talking.{Answering}
 use Rattle.imap_model.specs.declared.response.Response.{Response}
 use Rattle.world_traits.specs.Links.{Linked, AnyStep}
-use Rattle.imap_session.specs.Hearing.{Reads, all_told_by}
+use Rattle.imap_session.specs.Hearing.{Reads}
 use Rattle.imap_session.specs.Knowing.{NoEnd}
-use Rattle.imap_session.specs.Permanent.{behind_all}
-use Rattle.imap_session.specs.Replying.{AllSmall}
-use Rattle.imap_session.specs.declared.permits.Permits.{Permits}
+use Rattle.imap_session.specs.Taken.{Takes}
 use Rattle.imap_session.proofs.listening.listen.Given as goal
 
 abbrev pub invariant-loop-line : goal.invariant-loop-line
@@ -16,15 +14,14 @@ invariant-loop-line g l =
     record {
       files : g.L.Clocked.tells_files → Linked AnyStep (clock l.fn.link) (clock l.link);
       told : g.L.Clocked.tells_server → Linked Answering (clock l.fn.link) (clock l.link);
-      heard : (told : List Response) × (l.listener.rows ≡ l.fn.listener.rows ++ all_told_by told) × NoEnd l.part told
+      heard : (told : List Response) × NoEnd l.part told
+          × Takes g.H.Listen.Stands told l.fn.heard l.heard l.fn.permits l.permits
           × (g.L.Clocked.tells_files → (heard : List Response) (had : List ℕ) (most : ℕ)
           → Reads heard had most l.fn.left (link l.fn.link).connection l.fn.feed → Reads (heard ++ told) had most l.left (link l.link).connection l.feed);
-      permits : (start : Option Permits) → l.fn.listener.permits ≡ behind_all start l.fn.listener.rows
-          → l.listener.permits ≡ behind_all start l.listener.rows;
-      small : AllSmall l.fn.listener.rows → AllSmall l.listener.rows;
       sent : g.L.Clocked.tells_files → (link l.link).sent ≡ (link l.fn.link).sent;
+      earlier : g.L.Clocked.tells_files → (link l.link).earlier ≡ (link l.fn.link).earlier;
       disk : g.L.Clocked.disk_faults l.link ≡ g.L.Clocked.disk_faults l.fn.link;
-      count : (link l.fn.link).faults ≤ (link l.link).faults;
+      count : (link l.link).faults ≡ (link l.fn.link).faults;
     }
 
 abbrev pub decreases-loop-line : goal.decreases-loop-line

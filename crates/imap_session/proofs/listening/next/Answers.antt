@@ -52,10 +52,12 @@ returns-in_err-check-clause-receives g c = record {
   files = search rules;
   told = search rules;
   sent = search rules;
+  earlier = search rules;
   blames = record {
     disk = search rules;
     count = search rules;
     cause = λ is. let bad = c.check.ensures.why faults.Link (search rules) in absurd (feed_no_link bad.0 bad.1);
+    unfailed = search rules;
   };
 }
 
@@ -81,9 +83,10 @@ loop-frame-preserved g c =
       reads = λ t heard had most r. c.in_ok-receive.ensures.reads t heard had most
           (reads_same heard had most _ _ _ _ (c.loop-frame.invariant.reads t heard had most r) same);
       sent = λ t. c.receive.ensures.receives.sent t ∙ c.loop-frame.invariant.sent t;
+      earlier = λ t. c.receive.ensures.receives.earlier t ∙ c.loop-frame.invariant.earlier t;
       sum = omega (arith, c.in_ok-receive.ensures.sum, ap (λ (s : Stream). length s.bytes) same, c.loop-frame.invariant.sum);
       disk = c.receive.ensures.receives.blames.disk ∙ c.loop-frame.invariant.disk;
-      count = omega (arith, c.receive.ensures.receives.blames.count, c.loop-frame.invariant.count);
+      count = c.receive.ensures.receives.blames.unfailed (search rules) ∙ c.loop-frame.invariant.count;
     }
 
 pub returns-in_err-receive-clause-receives : goal.returns-in_err-receive-clause-receives
@@ -91,6 +94,7 @@ returns-in_err-receive-clause-receives g c = record {
   files = λ t. linked_then AnyStep _ _ _ (c.loop-frame.invariant.files t) (c.receive.ensures.receives.files t);
   told = λ t. linked_then Answering _ _ _ (c.loop-frame.invariant.told t) (c.receive.ensures.receives.told t);
   sent = search rules;
+  earlier = search rules;
   blames = search rules;
 }
 
@@ -105,10 +109,12 @@ returns-in-Some-clause-receives g c = record {
   files = search rules;
   told = search rules;
   sent = search rules;
+  earlier = search rules;
   blames = record {
     disk = search rules;
     count = search rules;
     cause = λ is. absurd (c.line_of.ensures.why faults.Link is);
+    unfailed = search rules;
   };
 }
 

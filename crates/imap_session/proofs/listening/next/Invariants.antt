@@ -1,4 +1,4 @@
-use Rattle.std.proofs.Common.{◌≡◌, ◌≤◌, ◌+◌, ℕ, List, length}
+use Rattle.std.proofs.Common.{◌≡◌, ◌+◌, ℕ, List, length}
 use Rattle.imap_model.specs.Talking.{Answering}
 use Rattle.imap_model.specs.declared.response.Response.{Response}
 use Rattle.world_traits.specs.Links.{Linked, AnyStep}
@@ -17,9 +17,10 @@ invariant-loop-frame g l =
       reads : g.L.Clocked.tells_files → (heard : List Response) (had : List ℕ) (most : ℕ)
           → Reads heard had most l.fn.left (link l.fn.link).connection l.fn.feed → Reads heard had most l.left (link l.link).connection l.feed;
       sent : g.L.Clocked.tells_files → (link l.link).sent ≡ (link l.fn.link).sent;
+      earlier : g.L.Clocked.tells_files → (link l.link).earlier ≡ (link l.fn.link).earlier;
       sum : length l.feed.bytes + l.left ≡ length l.fn.feed.bytes + l.fn.left;
       disk : g.L.Clocked.disk_faults l.link ≡ g.L.Clocked.disk_faults l.fn.link;
-      count : (link l.fn.link).faults ≤ (link l.link).faults;
+      count : (link l.link).faults ≡ (link l.fn.link).faults;
     }
 
 abbrev pub decreases-loop-frame : goal.decreases-loop-frame

@@ -39,10 +39,12 @@ returns-clause-receives g c = record {
   files = search rules;
   told = search rules;
   sent = search rules;
+  earlier = search rules;
   blames = record {
     disk = search rules;
     count = search rules;
     cause = λ is. absurd (link_memory (c.put_in.ensures.why faults.Link is));
+    unfailed = search rules;
   };
 }
 

@@ -43,10 +43,12 @@ returns-in_err-greeting-clause-receives g c = record {
   files = search rules;
   told = search rules;
   sent = search rules;
+  earlier = search rules;
   blames = record {
     disk = search rules;
     count = search rules;
     cause = λ is. absurd (c.hello.ensures.why faults.Link (search rules));
+    unfailed = search rules;
   };
 }
 
