@@ -14,7 +14,7 @@ use Rattle.command_texts.specs.Cutting.{IsPart}
 use Rattle.server_mem.specs.Falling.{Tells}
 use Rattle.command_texts.specs.HeardParts.{IsWhole}
 use Rattle.server_mem.specs.Hearing.{Answers, carries, goes_on, refuses, says_bad, Steps, stops, hears}
-use Rattle.server_mem.specs.States.{State, turn_at, after_turn}
+use Rattle.server_mem.specs.States.{State, plain_at, turn_at, after_turn}
 use Rattle.server_mem.specs.Texts.{answer_text, steps_text}
 use Rattle.response_lines.specs.Tellable.{AreTellable, IsAtomic}
 use Rattle.response_lines.specs.Written.{WritesLines}
@@ -22,6 +22,7 @@ use Rattle.server_mem.specs.declared.outcome.Answer.{Answer}
 use Rattle.server_mem.specs.declared.outcome.Answered.{Answered}
 use Rattle.server_mem.specs.declared.outcome.Answered.TheVariants as answers
 use Rattle.response_lines.proofs.TurnTells.{told_tellable}
+use Rattle.server_mem.proofs.Muting.{muted_tellable}
 
 -- what is written behind nothing
 pub lines_alone : (told : List Response) (front bytes : List ℕ) → front ≡ [] → WritesLines told front bytes → AreLines told bytes
@@ -31,7 +32,7 @@ pub command_tellable : (s : State) (tag : Tag) (command : Command) (parts : List
     AllByRecursion IsAtomic s.choices.offers → IsWhole tag command parts
     → told ≡ told_in tag (turn_at s tag command).replies → AreTellable told
 command_tellable s tag command parts told offers whole is = subst AreTellable (sym is)
-    (told_tellable s.choices s.selected tag command s.server offers whole.sent.writable.tagged)
+    (muted_tellable s.muted tag (plain_at s tag command).replies (told_tellable s.choices s.selected tag command s.server offers whole.sent.writable.tagged))
 
 -- the state when a part is cut off
 abbrev pub cut_at : ℕ → State → State

@@ -5,14 +5,17 @@ use Rattle.std.specs.Str.{bytes_eq}
 use Rattle.std.proofs.lemmas.Bool.{ltb-true, ltb-false}
 use Rattle.std.proofs.lemmas.Option.{same_Some}
 use Rattle.std.proofs.lemmas.Slice.Eq.{bytes_eq-Decides}
+use Rattle.flag_set.specs.FlagSet.{has}
 use Rattle.imap_model.specs.CarriedOut.{only}
+use Rattle.imap_model.specs.Carrying.{deleted}
 use Rattle.imap_model.specs.Lawful.{broken_rule}
 use Rattle.imap_model.specs.Lookups.{box_at, message_at, validity_of}
 use Rattle.imap_model.specs.Mutating.{is_mutating}
 use Rattle.imap_model.specs.PlainChanges.{with_change}
 use Rattle.imap_model.specs.PlainServer.{Choices, Turn, answered, accepted, coded, copied_code, denied, row_in, stored_flags, turn_of}
 use Rattle.imap_model.specs.PlainServer.{is_closed, append_turn, change_turn, select_turn, question_turn, store_in, store_message}
-use Rattle.imap_model.specs.PlainServer.{store_turn, move_in, move_message, move_turn}
+use Rattle.imap_model.specs.PlainServer.{store_turn, move_in, move_message, move_turn, copy_in, copy_message, copy_turn}
+use Rattle.imap_model.specs.PlainServer.{expunge_in, expunge_message, expunge_turn}
 use Rattle.imap_model.specs.Remarks.{selected_box}
 use Rattle.imap_model.specs.declared.code.Code.TheVariants as codings
 use Rattle.imap_model.specs.declared.command.Command.{Command}
@@ -28,7 +31,7 @@ use Rattle.imap_model.specs.declared.server.Mailbox.{Mailbox}
 use Rattle.imap_model.specs.declared.server.Message.{Message}
 use Rattle.imap_model.specs.declared.server.Server.{Server}
 use Rattle.mail_base.specs.declared.tag.Tag.{Tag}
-use Rattle.server_mem.specs.Denied.{named, wants_selected, IsHere, Makes, sets, shifts, adds, IsDenied, missing, unselected, forbidden}
+use Rattle.server_mem.specs.Denied.{named, wants_selected, IsHere, Makes, sets, shifts, copies, drops, adds, IsDenied, missing, unselected, forbidden}
 use Rattle.server_mem.specs.Denied.{modified, closed, Says, DeniesExactly}
 
 some_none : {A : Type 0} (x : A) → ◌≡◌ {A = Option A} (Some x) None → ⊥
@@ -39,6 +42,8 @@ makes_changes : (selected : Option (List ℕ)) (s : Server) (command : Command) 
     Makes selected s command name change → is_mutating command ≡ true
 makes_changes selected s _ _ _ (sets name uid since add flags m here old) = refl
 makes_changes selected s _ _ _ (shifts name uid to m target here there) = refl
+makes_changes selected s _ _ _ (copies name uid to m target here there) = refl
+makes_changes selected s _ _ _ (drops name uid m here marked) = refl
 makes_changes selected s _ _ _ (adds to flags text target there) = refl
 
 no_change : (selected : Option (List ℕ)) (s : Server) (command : Command) → is_mutating command ≡ false →
@@ -221,6 +226,99 @@ move_says : (c : Choices) (selected : Option (List ℕ)) (tag : Tag) (uid : ℕ)
 move_says c None tag uid to s = inl (refl, unselected refl refl)
 move_says c (Some name) tag uid to s = move_in_says c name tag uid to s (box_at name s.boxes) (box_at to s.boxes) refl refl
 
+-- COPY
+copy_never : (c : Choices) (selected : Option (List ℕ)) (name : List ℕ) (uid : ℕ) (to : List ℕ) (s : Server) (b target : Mailbox) (o : Option Message)
+    → selected ≡ Some name → box_at name s.boxes ≡ Some b → box_at to s.boxes ≡ Some target → message_at uid b.messages ≡ o
+    → ((m : Message) (rule : ℕ) → o ≡ Some m → broken_rule s.boxes to (changes.Add m.flags m.text target.uidnext) ≡ Some rule → ⊥)
+    → IsDenied c selected s (commands.Copy uid to) → ⊥
+copy_never c selected name uid to s b target o is there comes found free (missing other same gone) =
+    some_none target (sym comes ∙ ap (λ x. box_at x s.boxes) (same_Some to other same) ∙ gone)
+copy_never c selected name uid to s b target o is there comes found free (unselected wants gone) =
+    some_none b (sym there ∙ ap (λ x. selected_box x s.boxes) (sym is) ∙ gone)
+copy_never c selected name uid to s b target o is there comes found free (forbidden other change rule made broken) = breaks other change made broken where
+  breaks : (other : List ℕ) (change : Change) → Makes selected s (commands.Copy uid to) other change → broken_rule s.boxes other change ≡ Some rule → ⊥
+  breaks _ _ (copies other uid to m target' here comes') broken =
+      free m rule (sym found ∙ same_here selected s name other b uid m is there here)
+      (ap (λ x. broken_rule s.boxes to (changes.Add m.flags m.text x.uidnext)) (same_Some target target' (sym comes ∙ comes')) ∙ broken)
+copy_never c selected name uid to s b target o is there comes found free (modified other uid' since add flags m same here new) = cc same
+copy_never c selected name uid to s b target o is there comes found free (closed other flags text same shut) = cc same
+
+copied_says : (c : Choices) (name : List ℕ) (tag : Tag) (uid : ℕ) (to : List ℕ) (s : Server) (b target : Mailbox) (o : Option Message)
+    → box_at name s.boxes ≡ Some b → box_at to s.boxes ≡ Some target → message_at uid b.messages ≡ o
+    → Says c (Some name) s (commands.Copy uid to) (copy_message name tag uid to s target o).replies.ending
+copied_says c name tag uid to s b target None there comes found =
+    inr (refl, copy_never c (Some name) name uid to s b target None refl there comes found (λ m rule e. absurd (some_none m (sym e))))
+copied_says c name tag uid to s b target (Some m) there comes found =
+    change_says c (Some name) (Some name) tag (commands.Copy uid to) to (changes.Add m.flags m.text target.uidnext) s
+    (λ t. accepted [] (copied_code uid to target.uidnext t)) (broken_rule s.boxes to (changes.Add m.flags m.text target.uidnext)) refl
+    (copies name uid to m target (record { selection = refl; box = b; there = there; found = found }) comes) (λ t. refl)
+    (λ free. copy_never c (Some name) name uid to s b target (Some m) refl there comes found
+    (λ other rule e broken. some_none rule (sym broken ∙ ap (λ x. broken_rule s.boxes to (changes.Add x.flags x.text target.uidnext))
+    (sym (same_Some m other e)) ∙ free)))
+
+copy_in_says : (c : Choices) (name : List ℕ) (tag : Tag) (uid : ℕ) (to : List ℕ) (s : Server) (o p : Option Mailbox) →
+    box_at name s.boxes ≡ o → box_at to s.boxes ≡ p
+    → Says c (Some name) s (commands.Copy uid to) (copy_in name tag uid to s o p).replies.ending
+copy_in_says c name tag uid to s None p is comes = inl (refl, unselected refl is)
+copy_in_says c name tag uid to s (Some b) None is comes = inl (refl, missing to refl comes)
+copy_in_says c name tag uid to s (Some b) (Some target) is comes = copied_says c name tag uid to s b target (message_at uid b.messages) is comes refl
+
+copy_says : (c : Choices) (selected : Option (List ℕ)) (tag : Tag) (uid : ℕ) (to : List ℕ) (s : Server) →
+    Says c selected s (commands.Copy uid to) (copy_turn selected tag uid to s).replies.ending
+copy_says c None tag uid to s = inl (refl, unselected refl refl)
+copy_says c (Some name) tag uid to s = copy_in_says c name tag uid to s (box_at name s.boxes) (box_at to s.boxes) refl refl
+
+-- EXPUNGE
+expunge_never : (c : Choices) (selected : Option (List ℕ)) (name : List ℕ) (uid : ℕ) (s : Server) (b : Mailbox) (o : Option Message)
+    → selected ≡ Some name → box_at name s.boxes ≡ Some b → message_at uid b.messages ≡ o
+    → ((m : Message) (rule : ℕ) → o ≡ Some m → has m.flags deleted ≡ true → broken_rule s.boxes name (changes.Drop uid) ≡ Some rule → ⊥)
+    → IsDenied c selected s (commands.Expunge uid) → ⊥
+expunge_never c selected name uid s b o is there found free (missing other same gone) = cc same
+expunge_never c selected name uid s b o is there found free (unselected wants gone) =
+    some_none b (sym there ∙ ap (λ x. selected_box x s.boxes) (sym is) ∙ gone)
+expunge_never c selected name uid s b o is there found free (forbidden other change rule made broken) = breaks other change made broken where
+  breaks : (other : List ℕ) (change : Change) → Makes selected s (commands.Expunge uid) other change → broken_rule s.boxes other change ≡ Some rule → ⊥
+  breaks _ _ (drops other uid m here marked) broken =
+      free m rule (sym found ∙ same_here selected s name other b uid m is there here) marked
+      (ap (λ x. broken_rule s.boxes x (changes.Drop uid)) (same_Some name other (sym is ∙ here.selection)) ∙ broken)
+expunge_never c selected name uid s b o is there found free (modified other uid' since add flags m same here new) = cc same
+expunge_never c selected name uid s b o is there found free (closed other flags text same shut) = cc same
+
+expunged_says : (c : Choices) (name : List ℕ) (tag : Tag) (uid : ℕ) (s : Server) (b : Mailbox) (o : Option Message)
+    → box_at name s.boxes ≡ Some b → message_at uid b.messages ≡ o
+    → Says c (Some name) s (commands.Expunge uid) (expunge_message name tag uid s o).replies.ending
+expunged_says c name tag uid s b None there found =
+    inr (refl, expunge_never c (Some name) name uid s b None refl there found (λ m rule e. absurd (some_none m (sym e))))
+expunged_says c name tag uid s b (Some m) there found = by (has m.flags deleted) refl where
+  turn_if : Bool → Turn
+  turn_if t = if t then
+      change_turn (Some name) tag name (changes.Drop uid) s (λ t. accepted (responses.Vanished false (only uid) ∷ []) codings.None)
+      else answered (Some name) s (accepted [] codings.None)
+
+  by : (t : Bool) → has m.flags deleted ≡ t → Says c (Some name) s (commands.Expunge uid) (expunge_message name tag uid s (Some m)).replies.ending
+  by true marked =
+      subst (λ t. Says c (Some name) s (commands.Expunge uid) (turn_if t).replies.ending) (sym marked)
+      (change_says c (Some name) (Some name) tag (commands.Expunge uid) name (changes.Drop uid) s
+      (λ t. accepted (responses.Vanished false (only uid) ∷ []) codings.None) (broken_rule s.boxes name (changes.Drop uid)) refl
+      (drops name uid m (record { selection = refl; box = b; there = there; found = found }) marked) (λ t. refl)
+      (λ free. expunge_never c (Some name) name uid s b (Some m) refl there found (λ other rule e is broken. some_none rule (sym broken ∙ free))))
+  by false kept =
+      inr (
+        ap (λ t. (turn_if t).replies.ending) kept,
+        expunge_never c (Some name) name uid s b (Some m) refl there found
+            (λ other rule e is broken. cc (ap (λ x. has x.flags deleted) (same_Some m other e), is, kept)),
+      )
+
+expunge_in_says : (c : Choices) (name : List ℕ) (tag : Tag) (uid : ℕ) (s : Server) (o : Option Mailbox) → box_at name s.boxes ≡ o
+    → Says c (Some name) s (commands.Expunge uid) (expunge_in name tag uid s o).replies.ending
+expunge_in_says c name tag uid s None is = inl (refl, unselected refl is)
+expunge_in_says c name tag uid s (Some b) is = expunged_says c name tag uid s b (message_at uid b.messages) is refl
+
+expunge_says : (c : Choices) (selected : Option (List ℕ)) (tag : Tag) (uid : ℕ) (s : Server) →
+    Says c selected s (commands.Expunge uid) (expunge_turn selected tag uid s).replies.ending
+expunge_says c None tag uid s = inl (refl, unselected refl refl)
+expunge_says c (Some name) tag uid s = expunge_in_says c name tag uid s (box_at name s.boxes) refl
+
 -- APPEND
 append_never : (c : Choices) (selected : Option (List ℕ)) (to : List ℕ) (flags : List (List ℕ)) (text : List ℕ) (s : Server) (target : Mailbox)
     → box_at to s.boxes ≡ Some target → (c.closed ≡ Some to → ⊥) → broken_rule s.boxes to (changes.Add flags text target.uidnext) ≡ None
@@ -305,7 +403,12 @@ denies_exactly c selected tag (commands.Search from id) s =
 denies_exactly c selected tag (commands.FetchIds uids) s =
     question_says c selected (commands.FetchIds uids) s _ (selected_box selected s.boxes) refl refl refl
     (no_change selected s (commands.FetchIds uids) refl) (no_store (commands.FetchIds uids) refl) (λ b. refl)
+denies_exactly c selected tag (commands.FetchText uid) s =
+    question_says c selected (commands.FetchText uid) s _ (selected_box selected s.boxes) refl refl refl
+    (no_change selected s (commands.FetchText uid) refl) (no_store (commands.FetchText uid) refl) (λ b. refl)
 denies_exactly c selected tag (commands.Store uid since add flags) s = store_says c selected tag uid since add flags s
 denies_exactly c selected tag (commands.Shift uid to) s = move_says c selected tag uid to s
+denies_exactly c selected tag (commands.Copy uid to) s = copy_says c selected tag uid to s
+denies_exactly c selected tag (commands.Expunge uid) s = expunge_says c selected tag uid s
 denies_exactly c selected tag (commands.Append to flags text) s = append_says c selected tag to flags text s
 denies_exactly c selected tag commands.Logout s = open_says c selected s commands.Logout refl refl refl

@@ -11,8 +11,10 @@ pub mod Lasting
 pub mod Leaving
 pub mod Making
 pub mod MessagePlacing
+pub mod Muting
 pub mod Pieces
 pub mod Placing
+pub mod Renewing
 pub mod Ruling
 pub mod Setting
 pub mod StepTexts

@@ -37,17 +37,19 @@ module _ (boxes : List Mailbox) (name : List ℕ) (change : Change) (w : Well bo
 
 -- the mailboxes of a change are there
 pub named_there : (boxes : List Mailbox) (name : List ℕ) (change : Change) → broken_rule boxes name change ≡ None → is_some (box_at name boxes) ≡ true
-named_there boxes name (changes.Add flags text uid) lawful = (rules_hold boxes name (changes.Add flags text uid) lawful).first
-named_there boxes name (changes.SetFlags uid flags) lawful = (rules_hold boxes name (changes.SetFlags uid flags) lawful).first
-named_there boxes name (changes.Drop uid) lawful = (rules_hold boxes name (changes.Drop uid) lawful).first
+named_there boxes name (changes.Add flags text uid) lawful = (rules_hold boxes name (changes.Add flags text uid) lawful).0
+named_there boxes name (changes.SetFlags uid flags) lawful = (rules_hold boxes name (changes.SetFlags uid flags) lawful).0
+named_there boxes name (changes.Drop uid) lawful = (rules_hold boxes name (changes.Drop uid) lawful).0
 named_there boxes name (changes.Shift uid to new) lawful = (both_there boxes name uid to new lawful).0
+named_there boxes name (changes.Reset validity uids uidnext highest) lawful = (rules_hold boxes name (changes.Reset validity uids uidnext highest) lawful).0
 
 pub receiver_there : (boxes : List Mailbox) (name : List ℕ) (change : Change) → broken_rule boxes name change ≡ None →
     is_some (box_at (receiver name change) boxes) ≡ true
-receiver_there boxes name (changes.Add flags text uid) lawful = (rules_hold boxes name (changes.Add flags text uid) lawful).first
-receiver_there boxes name (changes.SetFlags uid flags) lawful = (rules_hold boxes name (changes.SetFlags uid flags) lawful).first
-receiver_there boxes name (changes.Drop uid) lawful = (rules_hold boxes name (changes.Drop uid) lawful).first
+receiver_there boxes name (changes.Add flags text uid) lawful = (rules_hold boxes name (changes.Add flags text uid) lawful).0
+receiver_there boxes name (changes.SetFlags uid flags) lawful = (rules_hold boxes name (changes.SetFlags uid flags) lawful).0
+receiver_there boxes name (changes.Drop uid) lawful = (rules_hold boxes name (changes.Drop uid) lawful).0
 receiver_there boxes name (changes.Shift uid to new) lawful = (both_there boxes name uid to new lawful).1
+receiver_there boxes name (changes.Reset validity uids uidnext highest) lawful = (rules_hold boxes name (changes.Reset validity uids uidnext highest) lawful).0
 
 pub is_a_change : (author : Author) (name : List ℕ) (change : Change) (s : Server) → Well s.boxes →
     broken_rule s.boxes name change ≡ None → Changes s.boxes author name change s (with_change author name change s)

@@ -1,5 +1,7 @@
 -- Where the server in memory answers NO (RFC 9051, section 7.1.2): it answers every other command by OK.
 use Rattle.std.specs.Prelude.{◌≡◌, ◌⊎◌, ℕ, ◌<◌, ◌≤◌, Bool, true, false, List, Option, Some, None}
+use Rattle.flag_set.specs.FlagSet.{has}
+use Rattle.imap_model.specs.Carrying.{deleted}
 use Rattle.imap_model.specs.Lawful.{broken_rule}
 use Rattle.imap_model.specs.Lookups.{box_at, message_at}
 use Rattle.imap_model.specs.PlainServer.{Choices, stored_flags, turn_of}
@@ -26,8 +28,11 @@ named commands.FetchAll = None
 named (commands.FetchRow uid) = None
 named (commands.Search from id) = None
 named (commands.FetchIds uids) = None
+named (commands.FetchText uid) = None
 named (commands.Store uid since add flags) = None
 named (commands.Shift uid to) = Some to
+named (commands.Copy uid to) = Some to
+named (commands.Expunge uid) = None
 named (commands.Append to flags octets) = Some to
 named commands.Logout = None
 
@@ -42,8 +47,11 @@ wants_selected commands.FetchAll = true
 wants_selected (commands.FetchRow uid) = true
 wants_selected (commands.Search from id) = true
 wants_selected (commands.FetchIds uids) = true
+wants_selected (commands.FetchText uid) = true
 wants_selected (commands.Store uid since add flags) = true
 wants_selected (commands.Shift uid to) = true
+wants_selected (commands.Copy uid to) = true
+wants_selected (commands.Expunge uid) = true
 wants_selected (commands.Append to flags octets) = false
 wants_selected commands.Logout = false
 
@@ -60,6 +68,10 @@ pub data Makes (selected : Option (List ℕ)) (s : Server) : Command → List �
       → Makes selected s (commands.Store uid since add flags) name (changes.SetFlags uid (stored_flags add flags m.flags))
   shifts : (name : List ℕ) (uid : ℕ) (to : List ℕ) (m : Message) (target : Mailbox) → IsHere selected s name uid m → box_at to s.boxes ≡ Some target
       → Makes selected s (commands.Shift uid to) name (changes.Shift uid to target.uidnext)
+  copies : (name : List ℕ) (uid : ℕ) (to : List ℕ) (m : Message) (target : Mailbox) → IsHere selected s name uid m → box_at to s.boxes ≡ Some target
+      → Makes selected s (commands.Copy uid to) to (changes.Add m.flags m.text target.uidnext)
+  drops : (name : List ℕ) (uid : ℕ) (m : Message) → IsHere selected s name uid m → has m.flags deleted ≡ true
+      → Makes selected s (commands.Expunge uid) name (changes.Drop uid)
   adds : (to : List ℕ) (flags : List (List ℕ)) (text : List ℕ) (target : Mailbox) → box_at to s.boxes ≡ Some target
       → Makes selected s (commands.Append to flags text) to (changes.Add flags text target.uidnext)
 

@@ -6,7 +6,7 @@ ghost use Rattle.imap_model.specs.Lookups.{box_at, validity_of};
 ghost use Rattle.imap_model.specs.PlainServer as plain;
 ghost use Rattle.imap_model.specs.declared.code.Code.TheVariants as codings;
 ghost use Rattle.imap_model.specs.declared.command.Command.TheVariants as commands;
-ghost use Rattle.server_mem.specs.States.{turn_at};
+ghost use Rattle.server_mem.specs.States.{plain_at};
 ghost use Rattle.server_mem.specs.Turns.{comes_to};
 
 use crate::MemServer;
@@ -40,7 +40,7 @@ impl MemServer {
         flags: &FlagSet,
         text: &Bytes,
     ) -> Result<Turn, AllocError>
-        ensures { IfOk result (λ turn. comes_to turn self.now.server ≡ turn_at self.now tag (commands.Append to.now flags.now text.now)) }
+        ensures { IfOk result (λ turn. comes_to turn self.now.server ≡ plain_at self.now tag (commands.Append to.now flags.now text.now)) }
     {
         if self.is_closed(to) {
             return Ok(self.answered(denied(self.alloc, Code::Other)));

@@ -1,26 +1,35 @@
 //! Carrying out a command (RFC 9051, section 6).
 
-ghost use Rattle.std.specs.Prelude.{◌≡◌, IfOk, OnOk, OnErr};
+ghost use Rattle.std.specs.Prelude.{◌≡◌, IfOk, OnOk, OnErr, false};
 ghost use Rattle.imap_model.specs.CarriedOut.{CarriesOut, told_in};
-ghost use Rattle.server_mem.specs.States.{turn_at, after_turn};
+ghost use Rattle.server_mem.specs.States.{turn_at, after_turn, muted_code};
 ghost use Rattle.server_mem.specs.Turns.{after};
 ghost use Rattle.server_mem.specs.Well.{Well};
 
 use crate::MemServer;
 use crate::turn::{Made, Turn};
-use imap_model::{Command, Mailbox, Replies, Response};
+use imap_model::{Code, Command, Mailbox, Replies, Response};
 use mail_base::{BoxName, Tag};
 use std::alloc::AllocError;
 
-// All that is told in a reply.
-fn told_in(tag: Tag, replies: Replies) -> Result<Vec<Response>, AllocError>
-    ensures { IfOk result (λ told. told.items ≡ told_in tag replies) }
+// The code that is told in place of one: a muted server leaves APPENDUID out.
+fn muted_code(muted: bool, code: Code) -> Code
+    ensures { result ≡ muted_code muted code }
+{
+    let left_out = muted && matches!(&code, Code::AppendUid { .. });
+    if left_out { Code::None } else { code }
+}
+
+// All that is told in a reply, by a server that is muted or not.
+fn told_in(muted: bool, tag: Tag, replies: Replies) -> Result<Vec<Response>, AllocError>
+    ensures { IfOk result (λ told. told.items ≡ told_in tag (record replies { code = muted_code muted replies.code })) }
 {
     let Replies {
         untagged,
         ending,
         code,
     } = replies;
+    let code = muted_code(muted, code);
     let mut told = untagged.into_vec();
     told.push(Response::Done { tag, ending, code })?;
     Ok(told)
@@ -50,7 +59,7 @@ impl MemServer {
             made,
             selected,
         } = self.turn(tag, command)?;
-        let told = told_in(tag, replies)?;
+        let told = told_in(self.muted, tag, replies)?;
         Ok(Outcome {
             told,
             made,
@@ -86,13 +95,13 @@ impl MemServer {
     }
 
     /// Carries out one command, and gives what is told: the untagged responses, and the completion. Any account is accepted,
-    /// and no order of commands is asked for.
+    /// and no order of commands is asked for. A server that is muted isn't lawful.
     ///
     /// Fails for want of memory alone, and then nothing changes.
     pub fn carry(&mut self, tag: Tag, command: &Command) -> Result<Vec<Response>, AllocError>
         ensures told { IfOk result (λ told. told.items ≡ told_in tag (turn_at self.old tag command.now).replies) }
         ensures done { OnOk result (self.new ≡ after_turn self.old (turn_at self.old tag command.now)) }
-        ensures lawful { OnOk result (CarriesOut (record { selected = self.old.selected; tag = tag; command = command.now }) self.old.server
+        ensures lawful { self.old.muted ≡ false → OnOk result (CarriesOut (record { selected = self.old.selected; tag = tag; command = command.now }) self.old.server
             (turn_at self.old tag command.now).replies self.new.server self.new.selected) }
         ensures kept { OnErr result (self.new ≡ self.old) }
     {

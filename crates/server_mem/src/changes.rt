@@ -2,7 +2,7 @@
 //! nothing has changed where memory is wanting.
 
 ghost use Rattle.std.specs.Prelude.{◌≡◌, ◌+◌, ◌-◌, ◌<◌, ◌^◌, ◌≢◌, ℕ, Some, None, IfOk, OnOk, OnErr, length, slice_set};
-ghost use Rattle.imap_model.specs.Lookups.{box_at, put_box, without_message};
+ghost use Rattle.imap_model.specs.Lookups.{box_at, put_box, renumbered, without_message};
 ghost use Rattle.imap_model.specs.Lawful.{broken_rule};
 ghost use Rattle.imap_model.specs.PlainChanges as plain;
 ghost use Rattle.imap_model.specs.declared.server.Mailbox.{Mailbox};
@@ -11,7 +11,7 @@ ghost use Rattle.imap_model.specs.declared.deed.Change.TheVariants as changes;
 use crate::lookups::{box_of, message_of};
 use flag_set::FlagSet;
 use imap_model::{Change, Gone, Mailbox, Message};
-use mail_base::{BoxName, Bytes, List, ModSeq};
+use mail_base::{BoxName, Bytes, List, ModSeq, Validity};
 use std::alloc::{AllocError, Global};
 use uid_sets::Uid;
 
@@ -115,6 +115,60 @@ fn dropped(alloc: Global, mailbox: &Mailbox, uid: Uid) -> Result<Mailbox, AllocE
     Ok(new)
 }
 
+// A message under another UID, with another mod-sequence.
+fn under(message: &Message, uid: Uid, modseq: ModSeq) -> Result<Message, AllocError>
+    ensures { IfOk result (λ new. new ≡ record message.now { uid = uid; modseq = modseq }) }
+{
+    Ok(Message {
+        uid,
+        flags: message.flags.copy()?,
+        modseq,
+        text: message.text.copy()?,
+    })
+}
+
+// The messages under new UIDs, in their order, all with one mod-sequence.
+fn renumbered(
+    alloc: Global,
+    uids: &[Uid],
+    highest: ModSeq,
+    messages: &[Message],
+) -> Result<List<Message>, AllocError>
+    ensures { IfOk result (λ new. new ≡ renumbered uids.now highest messages.now) }
+{
+    let mut new = List::new(alloc);
+    let mut left = uids;
+    for message in messages {
+        let Some((uid, later)) = left.split_first() else {
+            return Ok(new);
+        };
+        new.push(under(message, *uid, highest)?)?;
+        left = later;
+    }
+    Ok(new)
+}
+
+// A mailbox that is renewed.
+fn renewed(
+    alloc: Global,
+    mailbox: &Mailbox,
+    validity: Validity,
+    uids: &[Uid],
+    uidnext: Uid,
+    highest: ModSeq,
+) -> Result<Mailbox, AllocError>
+    ensures { IfOk result (λ new. new ≡ plain.renewed validity uids.now uidnext highest mailbox.now) }
+{
+    Ok(Mailbox {
+        name: mailbox.name.copy(),
+        validity,
+        uidnext,
+        highest,
+        messages: renumbered(alloc, uids, highest, mailbox.messages.as_slice())?,
+        gone: List::new(alloc),
+    })
+}
+
 // The same mailboxes once more.
 fn copied(alloc: Global, boxes: &[Mailbox]) -> Result<List<Mailbox>, AllocError>
     ensures { IfOk result (λ copies. copies ≡ boxes.now) }
@@ -200,6 +254,26 @@ fn with_dropped(
     Ok(changed)
 }
 
+// The mailboxes, of which that of a name is renewed.
+fn with_renewed(
+    alloc: Global,
+    boxes: &[Mailbox],
+    name: &BoxName,
+    validity: Validity,
+    uids: &[Uid],
+    uidnext: Uid,
+    highest: ModSeq,
+) -> Result<List<Mailbox>, AllocError>
+    ensures { IfOk result (λ new. new ≡ plain.with_box (plain.renewed validity uids.now uidnext highest) name.now boxes.now) }
+{
+    let Some((at, mailbox)) = box_of(boxes, name) else {
+        return copied(alloc, boxes);
+    };
+    let new = renewed(alloc, mailbox, validity, uids, uidnext, highest)?;
+    let changed = with_put(alloc, boxes, at, new)?;
+    Ok(changed)
+}
+
 // The mailboxes after a message went from one to another.
 fn shifted(
     alloc: Global,
@@ -245,5 +319,19 @@ pub fn changed(
         Change::SetFlags { uid, flags } => with_flags(alloc, boxes, name, *uid, flags),
         Change::Drop { uid } => with_dropped(alloc, boxes, name, *uid),
         Change::Shift { uid, to, new } => shifted(alloc, boxes, name, *uid, to, *new),
+        Change::Reset {
+            validity,
+            uids,
+            uidnext,
+            highest,
+        } => with_renewed(
+            alloc,
+            boxes,
+            name,
+            *validity,
+            uids.as_slice(),
+            *uidnext,
+            *highest,
+        ),
     }
 }

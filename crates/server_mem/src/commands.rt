@@ -5,7 +5,8 @@ ghost use Rattle.imap_model.specs.Lawful.{broken_rule};
 ghost use Rattle.imap_model.specs.PlainChanges.{with_change};
 ghost use Rattle.imap_model.specs.CarriedOut.{only};
 ghost use Rattle.imap_model.specs.PlainServer as plain;
-ghost use Rattle.server_mem.specs.States.{turn_at};
+ghost use Rattle.imap_model.specs.declared.code.Code.TheVariants as codings;
+ghost use Rattle.server_mem.specs.States.{plain_at};
 ghost use Rattle.server_mem.specs.Turns.{after, comes_to, is_general};
 ghost use Rattle.mail_base.specs.declared.tag.Tag.{Tag};
 
@@ -16,7 +17,7 @@ use crate::replies::is_offered;
 use crate::sets::set_of;
 use crate::turn::{Made, Turn, accepted};
 use imap_model::{Author, Change, Code, Command, Replies, Response};
-use mail_base::{BoxName, Bytes, List, Tag, Words};
+use mail_base::{BoxName, Bytes, List, Tag, Validity, Words};
 use std::alloc::AllocError;
 use uid_sets::{Uid, UidSet};
 
@@ -73,6 +74,22 @@ impl MemServer {
         set_of(self.alloc, &[uid])
     }
 
+    /// COPYUID of one message: its UID, and the new one under this UIDVALIDITY.
+    pub(crate) fn copied_code(
+        &self,
+        validity: Validity,
+        uid: Uid,
+        new: Uid,
+    ) -> Result<Code, AllocError>
+        ensures { IfOk result (λ code. code ≡ codings.CopyUid validity (only uid) (only new)) }
+    {
+        Ok(Code::CopyUid {
+            validity,
+            source: self.only(uid)?,
+            target: self.only(new)?,
+        })
+    }
+
     // What is offered, where anything is.
     fn offers_told(&self) -> Result<List<Response>, AllocError>
         ensures { IfOk result (λ told. told ≡ plain.offers_told self.now.choices.offers) }
@@ -109,7 +126,7 @@ impl MemServer {
     // The replies to the commands that no mailbox is asked for.
     fn general(&self, command: &Command) -> Result<Replies, AllocError>
         requires { is_general command.now ≡ true }
-        ensures { IfOk result (λ replies. (tag : Tag) → turn_at self.now tag command.now ≡ plain.answered self.now.selected self.now.server replies) }
+        ensures { IfOk result (λ replies. (tag : Tag) → plain_at self.now tag command.now ≡ plain.answered self.now.selected self.now.server replies) }
     {
         let told = match command {
             Command::Capability => self.offers_told()?,
@@ -123,7 +140,7 @@ impl MemServer {
 
     /// What a command comes to. Nothing changes yet.
     pub(crate) fn turn(&self, tag: Tag, command: &Command) -> Result<Turn, AllocError>
-        ensures { IfOk result (λ turn. comes_to turn self.now.server ≡ turn_at self.now tag command.now) }
+        ensures { IfOk result (λ turn. comes_to turn self.now.server ≡ plain_at self.now tag command.now) }
     {
         match command {
             Command::Capability
@@ -138,7 +155,8 @@ impl MemServer {
             Command::FetchAll
             | Command::FetchRow { .. }
             | Command::Search { .. }
-            | Command::FetchIds { .. } => {
+            | Command::FetchIds { .. }
+            | Command::FetchText { .. } => {
                 let replies = self.question(command)?;
                 Ok(self.answered(replies))
             }
@@ -149,6 +167,8 @@ impl MemServer {
                 flags,
             } => self.store(tag, *uid, *since, *add, flags),
             Command::Shift { uid, to } => self.shift(tag, *uid, to),
+            Command::Copy { uid, to } => self.copy(tag, *uid, to),
+            Command::Expunge { uid } => self.expunge(tag, *uid),
             Command::Append { to, flags, text } => self.append_to(tag, to, flags, text),
         }
     }

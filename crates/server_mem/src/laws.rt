@@ -1,7 +1,6 @@
 //! What holds of what is heard (RFC 9051, sections 2.2.1 and 4.3) and answered (section 7.1).
 
 ghost use Rattle.server_mem.specs.Denied.{DeniesExactly};
-ghost use Rattle.command_texts.specs.TextLaws.{FirstPartsTellTags, NoTextIsAFront, TextsAreCut};
 ghost use Rattle.server_mem.specs.TwoPieces.{TwoPieces};
 
 /// What is heard in two pieces is what is heard in one.

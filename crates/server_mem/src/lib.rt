@@ -7,6 +7,8 @@ mod capabilities;
 mod carry;
 mod changes;
 mod commands;
+mod copy;
+mod expunge;
 mod headers;
 mod laws;
 mod lookups;

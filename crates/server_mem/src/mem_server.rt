@@ -6,7 +6,7 @@ ghost use Rattle.imap_model.specs.Lookups.{box_at, validity_of};
 ghost use Rattle.imap_model.specs.Lawful.{broken_rule};
 ghost use Rattle.imap_model.specs.PlainChanges.{with_change};
 ghost use Rattle.server_mem.specs.Offers.{AreAtoms, AreAtoms-prop, atoms};
-ghost use Rattle.server_mem.specs.States.{usual_flags, fresh, disconnected};
+ghost use Rattle.server_mem.specs.States.{usual_flags, fresh, disconnected, is_named};
 ghost use Rattle.server_mem.specs.Turns.{after};
 ghost use Rattle.imap_model.specs.WellFormed.{IsWellFormed};
 ghost use Rattle.server_mem.specs.Well.{Well, Well-prop};
@@ -27,7 +27,9 @@ use thiserror::Error;
 #[derive(Clone, Copy, Debug, PartialEq, Eq, Drop, Error)]
 pub enum ForeignFault {
     /// The change breaks a rule, of which this is the number of the first: 1, a mailbox is missing, or a message would go to
-    /// where it is; 2, the UID isn't free; 3, the message is missing; 4, no mod-sequence is left; 5, the text holds a NUL.
+    /// where it is; 2, the UID isn't free; 3, the message is missing; 4, no mod-sequence is left; 5, the text holds a NUL;
+    /// 7, the new UIDVALIDITY isn't above the old one; 8, the new UIDs don't rise, aren't below UIDNEXT, or aren't as many as
+    /// the messages. (No change breaks rule 6, that others alone renew a mailbox.)
     #[error("the change breaks a rule")]
     NotLawful { rule: u8 },
     /// There isn't memory enough.
@@ -56,6 +58,8 @@ pub struct MemServer {
     pub(crate) flags: FlagSet,
     pub(crate) any: bool,
     pub(crate) closed: Option<BoxName>,
+    /// APPENDUID is left out.
+    pub(crate) muted: bool,
     /// The whole parts of the text that is arriving.
     pub(crate) parts: List<Bytes>,
     /// The bytes behind them.
@@ -73,6 +77,7 @@ impl Model for MemServer {
 
     ghost view = { λ m. record {
       choices = record { offers = m.offers; flags = m.flags; any = m.any; closed = m.closed };
+      muted = m.muted;
       selected = m.selected;
       server = m.server;
       parts = m.parts;
@@ -99,9 +104,8 @@ fn received_of(boxes: &[Mailbox], name: &BoxName, change: &Change) -> Validity
 {
     match change {
         Change::Shift { to, .. } => validity_of(boxes, to),
-        Change::Add { .. } | Change::SetFlags { .. } | Change::Drop { .. } => {
-            validity_of(boxes, name)
-        }
+        Change::Add { .. } | Change::SetFlags { .. } | Change::Drop { .. } | Change::Reset { .. } =>
+            validity_of(boxes, name),
     }
 }
 
@@ -153,6 +157,7 @@ impl MemServer {
             flags: usual_flags(alloc)?,
             any: true,
             closed: None,
+            muted: false,
             parts: List::new(alloc),
             begun: Bytes::new(alloc),
             failed: false,
@@ -181,6 +186,24 @@ impl MemServer {
         ensures { self.new ≡ record self.old { choices = record self.old.choices { closed = Some name } } }
     {
         self.closed = Some(name);
+    }
+
+    /// Makes each later completion of an APPEND leave out its code APPENDUID, as no lawful server does (RFC 4315, section 3).
+    /// It takes no memory.
+    pub fn mute(&mut self)
+        ensures { self.new ≡ record self.old { muted = true } }
+    {
+        self.muted = true;
+    }
+
+    /// Whether this mailbox is selected.
+    pub fn is_selected(&self, name: &BoxName) -> bool
+        ensures { result ≡ is_named name.now self.now.selected }
+    {
+        match &self.selected {
+            None => false,
+            Some(selected) => *selected == *name,
+        }
     }
 
     /// Ends the present connection: in the next one nothing is selected, and what has come of a text that isn't complete

@@ -29,6 +29,28 @@ pub fn row_if(alloc: Global, messages: &[Message], uid: Uid) -> Result<List<Resp
     Ok(rows)
 }
 
+// A message's UID and its whole text.
+fn text_of(message: &Message) -> Result<Response, AllocError>
+    ensures { IfOk result (λ response. response ≡ responses.Fetch (told.text_of message.now)) }
+{
+    let text = message.text.copy()?;
+    let mut told = Fetched::none();
+    told.uid = Some(message.uid);
+    told.text = Some(text);
+    Ok(Response::Fetch(told))
+}
+
+/// The whole text of a UID's message, where it is there.
+pub fn text_if(alloc: Global, messages: &[Message], uid: Uid) -> Result<List<Response>, AllocError>
+    ensures { IfOk result (λ rows. rows ≡ plain.text_if (message_at uid messages.now)) }
+{
+    let mut rows = List::new(alloc);
+    if let Some((_, message)) = message_of(messages, uid) {
+        rows.push(text_of(message)?)?;
+    }
+    Ok(rows)
+}
+
 // Whether a UID is that of the last message.
 fn is_last(messages: &[Message], uid: Uid) -> bool
     ensures { result ≡ searching.is_last uid messages.now }

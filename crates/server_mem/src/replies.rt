@@ -7,12 +7,12 @@ ghost use Rattle.imap_model.specs.Remarks.{selected_box};
 ghost use Rattle.imap_model.specs.declared.command.Command.TheVariants as commands;
 ghost use Rattle.imap_model.specs.declared.server.Server.{Server};
 ghost use Rattle.mail_base.specs.declared.tag.Tag.{Tag};
-ghost use Rattle.server_mem.specs.States.{turn_at};
+ghost use Rattle.server_mem.specs.States.{plain_at};
 ghost use Rattle.server_mem.specs.Turns.{comes_to, reply_of, is_question};
 
 use crate::MemServer;
 use crate::lookups::box_of;
-use crate::questions::{found, ids_in, row_if};
+use crate::questions::{found, ids_in, row_if, text_if};
 use crate::rows::all_rows;
 use crate::turn::{accepted, denied};
 use imap_model::{Code, Command, Ending, Mailbox, Replies, Response};
@@ -71,6 +71,10 @@ impl MemServer {
                 let ids = ids_in(self.alloc, uids, messages)?;
                 Ok(accepted(ids, self.fetch_code(mailbox)))
             }
+            Command::FetchText { uid } => {
+                let rows = text_if(self.alloc, messages, *uid)?;
+                Ok(accepted(rows, self.fetch_code(mailbox)))
+            }
             _ => unreachable!(),
         }
     }
@@ -92,7 +96,7 @@ impl MemServer {
     /// The answer to a question.
     pub(crate) fn question(&self, command: &Command) -> Result<Replies, AllocError>
         requires { is_question command.now ≡ true }
-        ensures { IfOk result (λ replies. (tag : Tag) → turn_at self.now tag command.now ≡ plain.answered self.now.selected self.now.server replies) }
+        ensures { IfOk result (λ replies. (tag : Tag) → plain_at self.now tag command.now ≡ plain.answered self.now.selected self.now.server replies) }
     {
         match self.selected_box() {
             None => Ok(denied(self.alloc, Code::Other)),

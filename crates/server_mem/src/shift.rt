@@ -16,7 +16,7 @@ use crate::replies::coded;
 use crate::rules::broken_rule;
 use crate::turn::{Turn, accepted, denied};
 use imap_model::{Author, Change, Code, Response};
-use mail_base::{BoxName, List, Tag};
+use mail_base::{BoxName, List, Tag, Validity};
 use std::alloc::AllocError;
 use uid_sets::Uid;
 
@@ -62,19 +62,30 @@ impl MemServer {
             return Ok(self.answered(denied(self.alloc, Code::Other)));
         }
         let made = self.made(Author::Ours(tag), name, &change)?;
-        let mut told = self.one(coded(Code::CopyUid {
-            validity: validity_of(made.boxes.as_slice(), to),
-            source: self.only(uid)?,
-            target: self.only(new)?,
-        }))?;
-        told.push(Response::Vanished {
-            earlier: false,
-            uids: self.only(uid)?,
-        })?;
+        let validity = validity_of(made.boxes.as_slice(), to);
+        let told = self.moved_told(validity, uid, new)?;
         Ok(Turn {
             replies: accepted(told, Code::None),
             made: Some(made),
             selected: copied(&self.selected),
         })
+    }
+
+    // What is told of a message that moved.
+    fn moved_told(
+        &self,
+        validity: Validity,
+        uid: Uid,
+        new: Uid,
+    ) -> Result<List<Response>, AllocError>
+        ensures { IfOk result (λ told. told ≡ plain.coded (codings.CopyUid validity (only uid) (only new)) ∷ responses.Vanished false (only uid) ∷ []) }
+    {
+        let code = self.copied_code(validity, uid, new)?;
+        let mut told = self.one(coded(code))?;
+        told.push(Response::Vanished {
+            earlier: false,
+            uids: self.only(uid)?,
+        })?;
+        Ok(told)
     }
 }

@@ -1,7 +1,7 @@
 -- What a server in memory does is what a server may do.
 use Rattle.std.proofs.Common.{◌≡◌, ℕ, List, [], ◌∷◌, refl, sym, ◌∙◌, subst}
 use Rattle.imap_model.specs.Changes.{Changes, Batch, none, more}
-use Rattle.imap_model.specs.Talking.{Peer, Answering, others, Connecting, begins, as_before, IsGreeting}
+use Rattle.imap_model.specs.Talking.{Peer, Answering, others, Connecting, begins, ends, as_before, IsGreeting}
 use Rattle.imap_model.specs.declared.deed.Author.TheVariants.{Other}
 use Rattle.imap_model.specs.declared.deed.Change.{Change}
 use Rattle.imap_model.specs.declared.server.Server.{Server}
@@ -11,7 +11,7 @@ use Rattle.world_traits.proofs.Passing.{since_start, since_tick, since_then, sin
 use Rattle.world_mem.specs.Others.{OthersChange}
 use Rattle.server_mem.specs.Greeting.{greeting}
 use Rattle.world_traits.specs.Connected.{IsGreeted, WasConnected}
-use Rattle.world_mem.specs.Running.{Run, step, begins_with}
+use Rattle.world_mem.specs.Running.{Run, step, at_end, begins_with}
 use Rattle.world_mem.specs.declared.did.Did.TheVariants as did
 
 -- one step
@@ -45,6 +45,10 @@ more_changes old mid new a b = record {
 greets : (offers : List (List ℕ)) → IsGreeting (greeting offers)
 greets [] = tt
 greets (word ∷ words) = tt
+
+-- the end of a connection
+pub one_end : (r : Run) → Linked Connecting r.clock (step did.Ended r).clock
+one_end r = one_step Connecting at_end r.clock ends
 
 pub one_greeting : (r : Run) → Linked Connecting r.clock (step did.Greeted r).clock
 one_greeting r = one_step Connecting (begins_with (greeting r.state.choices.offers)) r.clock

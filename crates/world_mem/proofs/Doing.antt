@@ -1,5 +1,5 @@
 -- What a world in memory holds goes on with what is done in it.
-use Rattle.std.proofs.Common.{◌≡◌, ◌≤◌, ◌==◌, ℕ, true, false, List, [], ◌∷◌, ◌++◌, length, Vec, Option, Some, None, refl, sym, ◌∙◌, ap, subst, arith}
+use Rattle.std.proofs.Common.{◌≡◌, ◌≤◌, ◌==◌, ℕ, Bool, true, false, List, [], ◌∷◌, ◌++◌, length, Vec, Option, Some, None, refl, sym, ◌∙◌, ap, subst, arith}
 use Rattle.std.specs.declared.alloc.Global.{Global}
 use Rattle.imap_model.specs.Lines.{AreLines}
 use Rattle.imap_model.specs.PlainChanges.{with_change}
@@ -16,7 +16,8 @@ use Rattle.world_traits.proofs.Sides.{outside_written, outside_settled}
 use Rattle.std.proofs.lemmas.Bool.{eqb-true}
 use Rattle.world_mem.specs.Both.{Both, torn_at}
 use Rattle.world_mem.specs.Running.{Run, run, start, step, waiting_of}
-use Rattle.world_mem.specs.Standing.{Stands, TellsIn, seen_in, held_in, is_on, came, came_in, failed_in, phase_of, counted_in, WholeIn, IsComplete}
+use Rattle.world_mem.specs.Standing.{Stands, TellsIn, seen_in, held_in, is_on, came, came_in, failed_in, phase_of, counted_in, selected_in, in_use, lost_phase}
+use Rattle.world_mem.specs.Standing.{rested_phase, coming, WholeIn, IsComplete}
 use Rattle.world_mem.specs.declared.course.Phase.{Phase}
 use Rattle.world_mem.specs.declared.course.Phase.TheVariants as phases
 use Rattle.world_mem.specs.declared.did.Did.{Did}
@@ -30,6 +31,10 @@ one_more (x ∷ log) d s = one_more log d (step x s)
 -- one thing more was done
 pub one_did : (log after : List Did) (d : Did) (s : Run) → after ≡ log ++ d ∷ [] → run after s ≡ step d (run log s)
 one_did log after d s is = ap (λ (l : List Did). run l s) is ∙ one_more log d s
+
+-- two things more were
+pub two_did : (log after : List Did) (d e : Did) (s : Run) → after ≡ (log ++ d ∷ []) ++ e ∷ [] → run after s ≡ step e (step d (run log s))
+two_did log after d e s is = one_did (log ++ d ∷ []) after e s is ∙ ap (step e) (one_more log d s)
 
 -- what is known of the server by how the connection stands
 pub server_same : (phase : Phase) (s t : State) → seen_in phase s ≡ seen_in phase t → s.server ≡ t.server
@@ -57,11 +62,79 @@ seen_change phases.On x s t is = ap (λ (u : State). record u { server = x }) is
 seen_change phases.Hearing x s t is = ap (λ (u : State). record u { server = x }) is
 seen_change phases.Waiting x s t is = ap (λ (u : State). record u { server = x }) is
 
-none_held : (phase : Phase) (held other : Option Held) → is_on phase ≡ true → held_in phase held ≡ other → None ≡ other
-none_held phases.Off held other on is = is
-none_held phases.On held other on is = is
-none_held phases.Hearing held other on is = absurd (cc on)
-none_held phases.Waiting held other on is = absurd (cc on)
+pub hearing_is : (phase : Phase) → phase ≡ phases.Hearing → phase ≡ phases.Waiting → ⊥
+hearing_is phase hearing waits = absurd (cc (sym hearing ∙ waits))
+
+-- the same, where no command waits
+pub none_waiting : (phase : Phase) (held other : Option Held) → (phase ≡ phases.Waiting → ⊥) → held_in phase held ≡ other → None ≡ other
+none_waiting phases.Off held other none is = is
+none_waiting phases.On held other none is = is
+none_waiting phases.Hearing held other none is = is
+none_waiting phases.Waiting held other none is = absurd (none refl)
+
+-- without a connection nothing is told of what is selected, and of what arrives
+none_selected : (phase : Phase) (selected : Option (List ℕ)) → lost_phase phase ≡ phase → selected_in phase None ≡ selected_in phase selected
+none_selected phases.Off selected lost = refl
+none_selected phases.On selected lost = absurd (cc lost)
+none_selected phases.Hearing selected lost = absurd (cc lost)
+none_selected phases.Waiting selected lost = refl
+
+none_comes : (phase : Phase) (text : Option (Bool × List (List ℕ))) → lost_phase phase ≡ phase → came_in phase None ≡ came_in phase text
+none_comes phases.Off text lost = refl
+none_comes phases.On text lost = absurd (cc lost)
+none_comes phases.Hearing text lost = absurd (cc lost)
+none_comes phases.Waiting text lost = refl
+
+-- what is in use is known of the server
+pub used_same : (phase : Phase) (s t : State) → seen_in phase s ≡ seen_in phase t → in_use phase s ≡ in_use phase t
+used_same phases.Off s t is = refl
+used_same phases.On s t is = ap (λ (u : State). u.selected) is
+used_same phases.Hearing s t is = refl
+used_same phases.Waiting s t is = ap (λ (u : State). u.selected) is
+
+-- a server that isn't muted
+pub lawful_server : (phase : Phase) (s t : State) → seen_in phase s ≡ seen_in phase t → t.muted ≡ false → s.muted ≡ false
+lawful_server phases.Off s t is lawful = ap (λ (u : State). u.muted) is ∙ lawful
+lawful_server phases.On s t is lawful = ap (λ (u : State). u.muted) is ∙ lawful
+lawful_server phases.Hearing s t is lawful = ap (λ (u : State). u.muted) is ∙ lawful
+lawful_server phases.Waiting s t is lawful = ap (λ (u : State). u.muted) is ∙ lawful
+
+-- how it stands where it is lost
+pub lost_twice : (phase : Phase) → lost_phase (lost_phase phase) ≡ lost_phase phase
+lost_twice phases.Off = refl
+lost_twice phases.On = refl
+lost_twice phases.Hearing = refl
+lost_twice phases.Waiting = refl
+
+pub lost_off : (phase : Phase) → lost_phase phase ≡ phase → is_on phase ≡ false
+lost_off phases.Off lost = refl
+lost_off phases.On lost = absurd (cc lost)
+lost_off phases.Hearing lost = absurd (cc lost)
+lost_off phases.Waiting lost = refl
+
+pub rested_twice : (phase : Phase) → rested_phase (rested_phase phase) ≡ rested_phase phase
+rested_twice phases.Off = refl
+rested_twice phases.On = refl
+rested_twice phases.Hearing = refl
+rested_twice phases.Waiting = refl
+
+pub on_rested : (phase : Phase) → is_on (rested_phase phase) ≡ is_on phase
+on_rested phases.Off = refl
+on_rested phases.On = refl
+on_rested phases.Hearing = refl
+on_rested phases.Waiting = refl
+
+pub used_rested : (phase : Phase) (s : State) → in_use (rested_phase phase) s ≡ in_use phase s
+used_rested phases.Off s = refl
+used_rested phases.On s = refl
+used_rested phases.Hearing s = refl
+used_rested phases.Waiting s = refl
+
+pub not_hearing : (phase : Phase) → rested_phase phase ≡ phase → is_on phase ≡ false → lost_phase phase ≡ phase
+not_hearing phases.Off rests off = refl
+not_hearing phases.On rests off = absurd (cc off)
+not_hearing phases.Hearing rests off = absurd (cc rests)
+not_hearing phases.Waiting rests off = refl
 
 waiting_same : (held : Option Held) (s t : State) → s.selected ≡ t.selected → waiting_of s held ≡ waiting_of t held
 waiting_same None s t is = refl
@@ -84,10 +157,11 @@ module _ (files : Both) (server : State) (phase : Phase) (held : Option Held) (p
     whole = h.whole;
     within = h.within;
     server_fits = ap (λ (p : Peer). p.server) (outside_written side at own.items r.clock.now) ∙ h.server_fits;
-    selected_fits = ap (λ (p : Peer). p.talk.selected) (outside_written side at own.items r.clock.now) ∙ h.selected_fits;
+    selected_fits = ap (λ (p : Peer). selected_in phase p.talk.selected) (outside_written side at own.items r.clock.now) ∙ h.selected_fits;
     waits = ap (λ (p : Peer). p.waiting) (outside_written side at own.items r.clock.now) ∙ h.waits;
     comes = ap (λ (p : Peer). came_in phase (came p.talk.arriving)) (outside_written side at own.items r.clock.now) ∙ h.comes;
     sound = h.sound;
+    lawful = h.lawful;
   }
 
   pub synced_stands : (side : Side) (files' : Both) → files' ≡ torn_at (settled side (file_of side r.seen) r.clock.now) r.seen
@@ -103,10 +177,11 @@ module _ (files : Both) (server : State) (phase : Phase) (held : Option Held) (p
     whole = h.whole;
     within = h.within;
     server_fits = ap (λ (p : Peer). p.server) (outside_settled side (file_of side r.seen) r.clock.now) ∙ h.server_fits;
-    selected_fits = ap (λ (p : Peer). p.talk.selected) (outside_settled side (file_of side r.seen) r.clock.now) ∙ h.selected_fits;
+    selected_fits = ap (λ (p : Peer). selected_in phase p.talk.selected) (outside_settled side (file_of side r.seen) r.clock.now) ∙ h.selected_fits;
     waits = ap (λ (p : Peer). p.waiting) (outside_settled side (file_of side r.seen) r.clock.now) ∙ h.waits;
     comes = ap (λ (p : Peer). came_in phase (came p.talk.arriving)) (outside_settled side (file_of side r.seen) r.clock.now) ∙ h.comes;
     sound = h.sound;
+    lawful = h.lawful;
   }
 
   -- a change by another client
@@ -129,6 +204,7 @@ module _ (files : Both) (server : State) (phase : Phase) (held : Option Held) (p
     waits = h.waits ∙ waiting_same r.held r.state (record r.state { server = with_change Other name change r.state.server }) refl;
     comes = h.comes;
     sound = h.sound;
+    lawful = h.lawful;
   }
 
   -- a connection
@@ -150,14 +226,15 @@ module _ (files : Both) (server : State) (phase : Phase) (held : Option Held) (p
     waits = refl;
     comes = refl;
     sound = refl;
+    lawful = h.lawful;
   }
 
   -- the connection is lost
-  pub lost_stands : is_on phase ≡ true → Stands files server phases.Off held parts unfinished lines received r
-  lost_stands on = record {
+  pub lost_stands : (phase ≡ phases.Waiting → ⊥) → Stands files server phases.Off held parts unfinished lines received r
+  lost_stands none = record {
     files_are = h.files_are;
     server_is = cut_same phase server r.state h.server_is;
-    held_is = none_held phase held r.held on h.held_is;
+    held_is = none_waiting phase held r.held none h.held_is;
     parts_are = refl;
     counted = refl;
     rested = refl;
@@ -165,10 +242,31 @@ module _ (files : Both) (server : State) (phase : Phase) (held : Option Held) (p
     whole = ∣ tt ∣₁;
     within = h.within;
     server_fits = h.server_fits;
-    selected_fits = h.selected_fits;
+    selected_fits = refl;
     waits = h.waits;
     comes = refl;
     sound = refl;
+    lawful = h.lawful;
+  }
+
+  -- it is told that it is at its end
+  pub ended_stands : lost_phase phase ≡ phase → Stands files server phase held parts unfinished lines received (step did.Ended r)
+  ended_stands none = record {
+    files_are = h.files_are;
+    server_is = h.server_is;
+    held_is = h.held_is;
+    parts_are = h.parts_are;
+    counted = h.counted;
+    rested = h.rested;
+    told = h.told;
+    whole = h.whole;
+    within = h.within;
+    server_fits = h.server_fits;
+    selected_fits = none_selected phase r.state.selected none;
+    waits = h.waits;
+    comes = none_comes phase (coming r.begun r.state.parts) none;
+    sound = h.sound;
+    lawful = h.lawful;
   }
 
   -- bytes are received
@@ -188,6 +286,7 @@ module _ (files : Both) (server : State) (phase : Phase) (held : Option Held) (p
     waits = h.waits;
     comes = h.comes;
     sound = h.sound;
+    lawful = h.lawful;
   }
 
 -- a server in which memory wasn't wanting
@@ -201,9 +300,9 @@ sound_server phases.Waiting s t on is sound = absurd (cc on)
 pub begun_stands : (files : Both) (given : Files) (server : State) (phase : Phase) (held : Option Held) (parts : List (List ℕ))
     (lines : List ℕ) (log : List Did)
     → files ≡ torn_at (start given server held).clock.now given → phase ≡ phase_of held → server.begun ≡ [] → server.failed ≡ false →
-    ∥ WholeIn (phase_of held) held server.parts ∥₁ → log ≡ []
+    ∥ WholeIn (phase_of held) held server.parts ∥₁ → server.muted ≡ false → log ≡ []
     → Stands files server phase held parts 0 lines 0 (run log (start given server held))
-begun_stands files given server phase held parts lines log is by whole sound ends none =
+begun_stands files given server phase held parts lines log is by whole sound ends lawful none =
     subst (λ (l : List Did). Stands files server phase held parts 0 lines 0 (run l (start given server held))) (sym none)
     (subst (λ (p : Phase). Stands files server p held parts 0 lines 0 (start given server held)) (sym by) (at_first held is ends))
   where
@@ -224,6 +323,7 @@ begun_stands files given server phase held parts lines log is by whole sound end
       waits = refl;
       sound = refl;
       comes = refl;
+      lawful = lawful;
     }
     at_first (Some h) is complete = record {
       files_are = is;
@@ -240,6 +340,7 @@ begun_stands files given server phase held parts lines log is by whole sound end
       waits = refl;
       sound = sound;
       comes = refl;
+      lawful = lawful;
     }
 
 pub none_long : (bytes : List ℕ) → length bytes ≡ 0 → bytes ≡ []

@@ -57,6 +57,12 @@ after_failed (answers.Asked tag) s parts = refl
 after_failed (answers.Refused tag) s parts = refl
 after_failed (answers.Bad tag) s parts = refl
 
+after_muted : (a : Answered) (s : State) (parts : List (List ℕ)) → (after_as s parts a).muted ≡ s.muted
+after_muted (answers.Carried tag command) s parts = refl
+after_muted (answers.Asked tag) s parts = refl
+after_muted (answers.Refused tag) s parts = refl
+after_muted (answers.Bad tag) s parts = refl
+
 told_seen : (a : Answered) (s t : State) → quiet s ≡ quiet t → told_as s a ≡ told_as t a
 told_seen (answers.Carried tag command) s t is = ap (λ (x : State). told_as x (answers.Carried tag command)) is
 told_seen (answers.Asked tag) s t is = refl
@@ -140,6 +146,7 @@ module _ (files : Both) (server : State) (held : Option Held) (parts : List (Lis
     waits = answer_waits a r.state now p (h.waits ∙ none_waits r.held r.state h.held_is) ∙ sym (none_waits r.held (after_as r.state now a) h.held_is);
     comes = answer_comes a r.state r.state.parts answer.part p;
     sound = after_failed a r.state now ∙ h.sound;
+    lawful = after_muted a r.state now ∙ h.lawful;
   }
     where
       a : Answered
@@ -183,10 +190,11 @@ module _ (files : Both) (server : State) (held : Option Held) (parts : List (Lis
         told = ∣ tt ∣₁;
         within = omega arith;
         server_fits = whole.server_fits;
-        selected_fits = whole.selected_fits;
+        selected_fits = refl;
         waits = whole.waits;
         sound = refl;
         comes = refl;
+        lawful = whole.lawful;
       }
 
 -- what is left behind a part
@@ -231,4 +239,5 @@ began_stands files server held parts unfinished lines received r h = record {
   waits = h.waits;
   sound = h.sound;
   comes = refl;
+  lawful = h.lawful;
 }

@@ -1,8 +1,8 @@
 mod Drawing
 mod Tearing
 pub mod Answering
-pub mod Changing
 pub mod Doing
+pub mod Changing
 pub mod Faults
 pub mod Hearing
 pub mod Lines

@@ -55,6 +55,14 @@ pub on_ok : {T E : Type 0} (r : Result T E) (P : Type 0) → is_err r ≡ false 
 on_ok (Ok x) P done h = h
 on_ok (Err e) P done h = absurd (cc done)
 
+pub more_ok : {T E A C : Type 0} (r : Result T E) → (A → C) → OnOk r A → OnOk r C
+more_ok (Ok x) f h = f h
+more_ok (Err e) f h = tt
+
+pub more_err : {T E A C : Type 0} (r : Result T E) → (A → C) → OnErr r A → OnErr r C
+more_err (Ok x) f h = tt
+more_err (Err e) f h = f h
+
 -- no loss is planned for the last call
 pub no_loss : (s t : Planned) (o : Option Loss) (loss : Loss) → is_some o ≡ false → o ≡ loss_in s.plan.link_fails s.link → t ≡ s →
     loss_in t.plan.link_fails t.link ≡ Some loss → ⊥

@@ -24,6 +24,7 @@ past_more (did.Heard part answered) s = omega arith
 past_more did.Began s = omega arith
 past_more (did.Waited held) s = omega arith
 past_more did.Settled s = omega arith
+past_more did.Ended s = omega arith
 
 past_all : (log : List Did) (s : Run) → length (run log s).clock.past ≡ length s.clock.past + sum_by added_by log
 past_all [] s = omega arith
@@ -59,6 +60,7 @@ step_early (did.Heard part answered) s m i le =
 step_early did.Began s m i le = tick_early s.clock (step did.Began s).clock.now m i le
 step_early (did.Waited held) s m i le = tick_early s.clock (step (did.Waited held) s).clock.now m i le
 step_early did.Settled s m i le = tick_early s.clock (step did.Settled s).clock.now m i le
+step_early did.Ended s m i le = tick_early s.clock (step did.Ended s).clock.now m i le
 
 -- what was is the same whatever is done later
 early : (log : List Did) (s : Run) (m : Moment) (i : ℕ) → i ≤ length s.clock.past → get_or (moments (run log s).clock) i m ≡ get_or (moments s.clock) i m
@@ -90,6 +92,7 @@ before (did.Heard part answered) s m i k is lt =
 before did.Began s m i k is lt = by_one did.Began s m (step did.Began s).clock.now i k refl is lt
 before (did.Waited held) s m i k is lt = by_one (did.Waited held) s m (step (did.Waited held) s).clock.now i k refl is lt
 before did.Settled s m i k is lt = by_one did.Settled s m (step did.Settled s).clock.now i k refl is lt
+before did.Ended s m i k is lt = by_one did.Ended s m (step did.Ended s).clock.now i k refl is lt
 
 -- the files found for a number are those of the moment with it
 abbrev pub Finds : List Did → Run → Moment → ℕ → ℕ → Type 0

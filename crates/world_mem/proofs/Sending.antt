@@ -37,7 +37,7 @@ use Rattle.world_mem.proofs.Answering.{one_step, linked_start, linked_then}
 use Rattle.world_mem.proofs.Doing.{none_long, zero_is, server_same}
 use Rattle.world_mem.proofs.Hearing.{after_begun, phase_stands}
 use Rattle.world_mem.proofs.OnePart.{one_part, some_part}
-use Rattle.world_mem.proofs.Settling.{one_whole}
+use Rattle.world_mem.proofs.Settling.{one_whole, plain_turn}
 
 -- whatever is heard, the files stay
 pub any_heard : (server u : State) (old new : Run) → HearsOne server old u new → Linked AnyStep old.clock new.clock
@@ -159,7 +159,7 @@ module _ (no_front : NoTextIsAFront) (tag : Tag) (command : Command) (before : L
       (no_front other tag command' command with_part whole (front_of tag command before part next behind is))
 
   module _ (one_tag : FirstPartsTellTags) (s : State) (old : Clock) (server_is : old.now.outside.server ≡ s.server)
-      (selected_is : old.now.outside.talk.selected ≡ s.selected) (well : IsWellFormed s.server.boxes) where
+      (selected_is : old.now.outside.talk.selected ≡ s.selected) (lawful : s.muted ≡ false) (well : IsWellFormed s.server.boxes) where
     -- its answer
     abbrev pub Answers : List (List ℕ) → Answered → Type 0
     Answers behind a = Arrives tag command before part behind old (becomes (answers_as s with_part a) (becomes (comes_as with_part a) old))
@@ -179,7 +179,7 @@ module _ (no_front : NoTextIsAFront) (tag : Tag) (command : Command) (before : L
                 command =
                     command;
               }) x t.replies t.server t.selected) (sym server_is)
-              (plain_case tag s.server well s.choices s.selected command)));
+              (plain_turn s tag command lawful (plain_case tag s.server well s.choices s.selected command))));
         }
 
     asked_arrives : (next : List ℕ) (behind : List (List ℕ)) → Answers (next ∷ behind) (answers.Asked tag)
@@ -296,8 +296,9 @@ waited_stands files server held parts unfinished lines received r h x none whole
   whole = ∣ subst (λ (b : List (List ℕ)). IsWhole x.tag x.command (b ++ x.part ∷ [])) h.parts_are whole ∣₁;
   within = h.within;
   server_fits = h.server_fits;
-  selected_fits = h.selected_fits;
+  selected_fits = refl;
   sound = h.sound;
+  lawful = h.lawful;
   comes = refl;
   waits = ap (λ (s : Option (List ℕ)). Some (record { selected = s; tag = x.tag; command = x.command })) h.selected_fits;
 }
@@ -357,7 +358,7 @@ module _ (w : Course) (on : w.phase ≡ phases.On) (tag : Tag) (command : Comman
         (server_same phases.Hearing mid.server (run_of mid).state there.server_is ∙ ap (λ (x : Run). x.state.server) run) heard.well in
         let may : IsAnswered mid.server (before ++ part ∷ []) heard.answered =
         subst (λ (b : List (List ℕ)). IsAnswered mid.server (b ++ part ∷ []) heard.answered) (same_parts ∙ parts_before) heard.may in
-        let arrives = answer_arrives no_front tag command before part one_tag r.state r.clock now.server_fits now.selected_fits well
+        let arrives = answer_arrives no_front tag command before part one_tag r.state r.clock now.server_fits now.selected_fits now.lawful well
         mid.server behind is heard.answered may in
         subst (λ (x : Run). Arrives tag command before part behind r.clock x.clock) (sym (heard.run ∙ ap (step (did.Heard part heard.answered)) run))
         (subst (λ (b : List (List ℕ)). Arrives tag command before part behind r.clock

@@ -1,5 +1,5 @@
 -- A command that waited, as the next connection is made.
-use Rattle.std.proofs.Common.{◌≡◌, inl, inr, ℕ, true, false, List, [], ◌∷◌, ◌++◌, Option, Some, None, refl, sym, ◌∙◌, ap, subst}
+use Rattle.std.proofs.Common.{◌≡◌, inl, inr, ℕ, Bool, true, false, List, [], ◌∷◌, ◌++◌, Option, Some, None, refl, sym, ◌∙◌, ap, subst}
 use Rattle.std.proofs.Math.Logic.{∥∥₁_elim}
 use Rattle.std.proofs.lemmas.Bool.{true≢false}
 use Rattle.std.proofs.lemmas.Option.{same_Some}
@@ -24,7 +24,7 @@ use Rattle.server_mem.specs.Answered.{after_as, IsAnswered}
 use Rattle.command_texts.specs.TextLaws.{NoTextIsAFront, TextsAreCut}
 use Rattle.command_texts.specs.HeardParts.{IsWhole}
 use Rattle.server_mem.specs.Hearing.{with_bytes}
-use Rattle.server_mem.specs.States.{State, turn_at, after_turn, disconnected}
+use Rattle.server_mem.specs.States.{State, turn_at, plain_at, muted_code, after_turn, disconnected}
 use Rattle.server_mem.specs.declared.outcome.Answered.{Answered}
 use Rattle.server_mem.specs.declared.outcome.Answered.TheVariants as answers
 use Rattle.world_traits.specs.Links.{Linked}
@@ -56,8 +56,11 @@ held_kept commands.FetchAll held = tt
 held_kept (commands.FetchRow uid) held = held.fits
 held_kept (commands.Search from id) held = (held.0.fits, held.1)
 held_kept (commands.FetchIds uids) held = held
+held_kept (commands.FetchText uid) held = held.fits
 held_kept (commands.Store uid since add flags) held = (held.0.fits, held.1.fits, held.2)
 held_kept (commands.Shift uid to) held = (held.0.fits, held.1)
+held_kept (commands.Copy uid to) held = (held.0.fits, held.1)
+held_kept (commands.Expunge uid) held = held.fits
 held_kept (commands.Append to flags octets) held = held
 held_kept commands.Logout held = tt
 
@@ -68,6 +71,17 @@ sent_written tag c sent = record { writable = sent.writable; kept_tag = sent.tag
 pub one_whole : (one other : Tag) (left right : Command) (parts : List (List ℕ)) → IsWhole one left parts → IsWhole other right parts →
     (one ≡ other) × (left ≡ right)
 one_whole one other left right parts a b = one_text one other left right (sent_written one left a.sent) (sent_written other right b.sent) (a.text ∙ sym b.text)
+
+-- a server that isn't muted tells what it did
+pub plain_turn : (s : State) (tag : Tag) (command : Command) → s.muted ≡ false →
+    CarriesOut (record { selected = s.selected; tag = tag; command = command }) s.server
+    (plain_at s tag command).replies (plain_at s tag command).server (plain_at s tag command).selected →
+    CarriesOut (record { selected = s.selected; tag = tag; command = command }) s.server
+    (turn_at s tag command).replies (turn_at s tag command).server (turn_at s tag command).selected
+plain_turn s tag command lawful does =
+    let t = plain_at s tag command in
+    subst (λ (muted : Bool). CarriesOut (record { selected = s.selected; tag = tag; command = command }) s.server
+    (record t.replies { code = muted_code muted t.replies.code }) t.server t.selected) (sym lawful) does
 
 module _ (files : Both) (server : State) (phase : Phase) (held : Option Held) (parts : List (List ℕ)) (unfinished : ℕ) (lines : List ℕ)
     (received : ℕ) (r : Run) (h : Stands files server phase held parts unfinished lines received r) where
@@ -88,6 +102,7 @@ module _ (files : Both) (server : State) (phase : Phase) (held : Option Held) (p
     waits = refl;
     sound = refl;
     comes = refl;
+    lawful = h.lawful;
   }
 
   module _ (waits : phase ≡ phases.Waiting) (x : Held) (is : held ≡ Some x) where
@@ -112,8 +127,8 @@ module _ (files : Both) (server : State) (phase : Phase) (held : Option Held) (p
         let w : Waiting = record { selected = r.state.selected; tag = x.tag; command = x.command } in
         let same : server.server ≡ r.state.server = server_same phases.Waiting server r.state now.server_is in
         let lawful : CarriesOut w r.state.server t.replies t.server t.selected =
-        plain_case x.tag r.state.server (subst (λ
-        (s : Server). IsWellFormed s.boxes) same well) r.state.choices r.state.selected x.command in
+        plain_turn r.state x.tag x.command h.lawful (plain_case x.tag r.state.server
+        (subst (λ (s : Server). IsWellFormed s.boxes) same well) r.state.choices r.state.selected x.command) in
         subst (λ (o : Option Held). Linked Connecting r.clock (carried_out o r).clock) (sym held_now)
         (one_step Connecting (answers_as r.state [] (answers.Carried x.tag x.command)) r.clock
         (as_before (carries w t.replies t.server t.selected (now.waits ∙ ap (waiting_of r.state) held_now)
@@ -138,6 +153,7 @@ module _ (files : Both) (server : State) (phase : Phase) (held : Option Held) (p
           waits = refl;
           sound = refl;
           comes = refl;
+          lawful = h.lawful;
         })
       where
         same_parts : server.parts ≡ r.state.parts

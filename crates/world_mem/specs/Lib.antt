@@ -14,7 +14,14 @@ pub mod Others
 pub mod Heard
 pub mod Losing
 pub mod Worlds
+pub mod Lines
 pub mod Honest
 pub mod Scripts
 pub mod Scripted
 pub mod ScriptWorlds
+pub mod Failing
+pub mod Calling
+pub mod Connecting
+pub mod Downed
+pub mod Tally
+pub mod Arriving

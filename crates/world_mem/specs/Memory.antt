@@ -1,5 +1,5 @@
 -- A world in memory as contracts see it.
-use Rattle.std.specs.Prelude.{◌≡◌, ℕ, List, [], ◌++◌, Option, take, drop, if◌then◌else◌}
+use Rattle.std.specs.Prelude.{◌≡◌, ℕ, List, [], ◌++◌, Option, take, drop, reverse, if◌then◌else◌}
 use Rattle.world_traits.specs.LinkState.{Connection}
 use Rattle.world_mem.specs.Image.{bytes_of}
 use Rattle.world_mem.specs.Running.{Run, run, start}
@@ -15,15 +15,30 @@ start_of course = start (bytes_of course.given) course.began.value course.began_
 abbrev pub run_of : Course → Run
 run_of course = run course.log.items (start_of course)
 
--- the connection: how it stands, what was sent, the lines that were told in it, and how many bytes of them were received
+-- the connection: how it stands, what was sent, the lines that were told in it, how many bytes of them were received, and what was sent
+-- before each connection that was made, since the one before it, the latest first
 pub record Line : Type 0 where
   pub phase : Phase
   pub sent : List ℕ
   pub lines : List ℕ
   pub received : ℕ
+  pub earlier : List (List ℕ)
+
+abbrev pub earlier_of : Course → List (List ℕ)
+earlier_of course = reverse course.earlier.items
 
 abbrev pub line_of : Course → Line
-line_of course = record { phase = course.phase; sent = course.sent.items; lines = course.lines.items; received = course.received }
+line_of course = record {
+  phase = course.phase;
+  sent = course.sent.items;
+  lines = course.lines.items;
+  received = course.received;
+  earlier = earlier_of course;
+}
+
+-- no connection was made
+abbrev pub unmade : Phase → Line
+unmade phase = record { phase = phase; sent = []; lines = []; received = 0; earlier = [] }
 
 -- what was sent, and what was received
 pub record Had : Type 0 where

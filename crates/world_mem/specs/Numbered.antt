@@ -25,6 +25,7 @@ added_by did.Greeted = 1
 added_by did.Began = 1
 added_by (did.Waited held) = 1
 added_by did.Settled = 1
+added_by did.Ended = 1
 
 -- the files so many moments behind this one, where these things were done since
 abbrev pub files_at : List Did → Run → ℕ → Both

@@ -1,8 +1,9 @@
--- A world after a stop: it goes on from files that the stop left, with the same server and without a connection.
+-- A world after a stop: it goes on from files that the stop left, with the same server and without a connection, so that nothing is
+-- selected and no text arrives.
 use Rattle.std.specs.Prelude.{[], Option, Some, None}
 use Rattle.server_mem.specs.States.{State, disconnected}
 use Rattle.world_traits.specs.Files.{Files}
-use Rattle.world_mem.specs.Memory.{Line}
+use Rattle.world_mem.specs.Memory.{Line, unmade}
 use Rattle.world_mem.specs.Running.{Run, start}
 use Rattle.world_mem.specs.Standing.{phase_of}
 use Rattle.world_mem.specs.declared.did.Held.{Held}
@@ -18,4 +19,4 @@ goes_on_from files r = start files (left_of r.held r.state) r.held
 
 -- no connection was made since
 abbrev pub no_line : Option Held → Line
-no_line held = record { phase = phase_of held; sent = []; lines = []; received = 0 }
+no_line held = unmade (phase_of held)

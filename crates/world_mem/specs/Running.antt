@@ -36,7 +36,7 @@ abbrev pub waiting_of : State → Option Held → Option Waiting
 waiting_of s None = None
 waiting_of s (Some held) = Some (record { selected = s.selected; tag = held.tag; command = held.command })
 
--- at first both files are on the disk, no connection was made, and a command may wait
+-- at first both files are on the disk, no connection was made, so that nothing is selected, and a command may wait
 abbrev pub start : Files → State → Option Held → Run
 start files s held = record {
   clock = record {
@@ -46,7 +46,7 @@ start files s held = record {
       outside = record {
         server = s.server;
         waiting = waiting_of s held;
-        talk = record { told = []; selected = s.selected; arriving = None };
+        talk = record { told = []; selected = None; arriving = None };
       };
     };
     past = [];
@@ -101,6 +101,10 @@ abbrev pub state_settled : Option Held → State → State
 state_settled None s = s
 state_settled (Some held) s = after_as s [] (answers.Carried held.tag held.command)
 
+-- a connection is at its end: nothing is selected, and no text arrives; what waits stays
+abbrev pub at_end : Peer → Peer
+at_end p = record p { talk = record p.talk { selected = None; arriving = None } }
+
 abbrev pub carried_out : Option Held → Run → Run
 carried_out held s = record s { clock = becomes (peer_settled held s.state) s.clock; state = state_settled held s.state; held = None }
 
@@ -129,6 +133,7 @@ step (did.Heard part answered) s = record s {
 step did.Began s = record s { clock = becomes (with_front unfinished) s.clock; begun = true }
 step (did.Waited held) s = record s { clock = becomes (arrived held.tag held.command [] [] []) s.clock; held = Some held }
 step did.Settled s = carried_out s.held s
+step did.Ended s = record s { clock = becomes at_end s.clock }
 
 -- all that was done, the first of it first
 abbrev pub run : List Did → Run → Run

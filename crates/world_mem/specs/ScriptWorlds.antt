@@ -1,5 +1,5 @@
 -- What contracts see of a world over whose link a script comes.
-use Rattle.std.specs.Prelude.{ℕ}
+use Rattle.std.specs.Prelude.{◌≡◌, ℕ}
 use Rattle.world_traits.specs.LinkState.{LinkState}
 use Rattle.world_traits.specs.Memory as memory
 use Rattle.world_traits.specs.Moments.{MayLeave}
@@ -29,8 +29,20 @@ link_of world = record {
   faults = (scripted_of world).faults;
   connection = connection_of (scripted_of world);
   sent = (scripted_of world).sent;
+  earlier = (scripted_of world).earlier;
 }
 
 -- what it reads as is one of the images of its moment
 pub seen_sound : (world : ScriptWorld) → MayLeave (disk_of world).clock.now (disk_of world).files
 seen_sound world = sound world.disk.calls.items world.disk.files.given.left world.disk.files.given.right
+
+-- A call only looked at the disk, and all is as it was.
+pub record LooksOnly (old new : ScriptWorld) : Type 0 where
+  pub same : new.disk ≡ old.disk
+  pub link : scripted_of new ≡ scripted_of old
+  pub refused : refused_of new ≡ refused_of old
+
+-- A call of the link left the disk as it was, and was not refused room.
+pub record LeavesDisk (old new : ScriptWorld) : Type 0 where
+  pub disk : new.disk ≡ old.disk
+  pub refused : refused_of new ≡ refused_of old

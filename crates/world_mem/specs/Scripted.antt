@@ -5,7 +5,7 @@ use Rattle.world_mem.specs.Scripts.{next_of, coming}
 use Rattle.world_mem.specs.declared.script.Script.{Script}
 
 -- The script, how many of its bytes were given, how many as the present or last connection began, whether there is one, what was
--- sent in it, and how often the link failed.
+-- sent in it, how often the link failed, and what was sent before each connection, since the one before it, the latest first.
 pub record Scripted : Type 0 where
   pub script : List Script
   pub given : ℕ
@@ -13,10 +13,11 @@ pub record Scripted : Type 0 where
   pub on : Bool
   pub sent : List ℕ
   pub faults : ℕ
+  pub earlier : List (List ℕ)
 
 -- nothing was given, and nothing sent
 abbrev pub at_front : List Script → Scripted
-at_front script = record { script = script; given = 0; began = 0; on = false; sent = []; faults = 0 }
+at_front script = record { script = script; given = 0; began = 0; on = false; sent = []; faults = 0; earlier = [] }
 
 -- what the next call that receives gives from, at its front
 abbrev pub coming_in : Scripted → List ℕ

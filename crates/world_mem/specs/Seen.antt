@@ -25,6 +25,7 @@ step_seen (did.Heard part answered) s h = record { left = h.left; right = h.righ
 step_seen did.Began s h = record { left = h.left; right = h.right }
 step_seen (did.Waited held) s h = record { left = h.left; right = h.right }
 step_seen did.Settled s h = record { left = h.left; right = h.right }
+step_seen did.Ended s h = record { left = h.left; right = h.right }
 
 steps_seen : (ds : List Did) (s : Run) → IsSound s → IsSound (run ds s)
 steps_seen [] s h = h

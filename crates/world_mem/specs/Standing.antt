@@ -40,6 +40,35 @@ is_on phases.On = true
 is_on phases.Hearing = false
 is_on phases.Waiting = false
 
+-- behind the end of a connection: only a command that waits is left of it
+abbrev pub lost_phase : Phase → Phase
+lost_phase phases.Off = phases.Off
+lost_phase phases.On = phases.Off
+lost_phase phases.Hearing = phases.Off
+lost_phase phases.Waiting = phases.Waiting
+
+-- where a call in whose midst memory was wanting has lost the connection, nothing is left of it
+abbrev pub rested_phase : Phase → Phase
+rested_phase phases.Off = phases.Off
+rested_phase phases.On = phases.On
+rested_phase phases.Hearing = phases.Off
+rested_phase phases.Waiting = phases.Waiting
+
+-- of what is selected that is told of a connection
+abbrev pub selected_in : Phase → Option (List ℕ) → Option (List ℕ)
+selected_in phases.Off selected = None
+selected_in phases.On selected = selected
+selected_in phases.Hearing selected = selected
+selected_in phases.Waiting selected = None
+
+-- the mailbox that others don't renew now: the one that is selected in a connection, or was selected as the connection of the command
+-- that waits was lost
+abbrev pub in_use : Phase → State → Option (List ℕ)
+in_use phases.Off s = None
+in_use phases.On s = s.selected
+in_use phases.Hearing s = None
+in_use phases.Waiting s = s.selected
+
 -- the parts of the text that is arriving, in a connection
 abbrev pub parts_in : Phase → List (List ℕ) → List (List ℕ)
 parts_in phases.Off parts = []
@@ -129,7 +158,8 @@ pub record Stands (files : Both) (server : State) (phase : Phase) (held : Option
   pub whole : ∥ WholeIn phase held r.state.parts ∥₁
   pub within : received ≤ length lines
   pub server_fits : r.clock.now.outside.server ≡ r.state.server
-  pub selected_fits : r.clock.now.outside.talk.selected ≡ r.state.selected
+  pub selected_fits : selected_in phase r.clock.now.outside.talk.selected ≡ selected_in phase r.state.selected
   pub waits : r.clock.now.outside.waiting ≡ waiting_of r.state r.held
   pub sound : failed_in phase r.state.failed ≡ false
+  pub lawful : r.state.muted ≡ false
   pub comes : came_in phase (came r.clock.now.outside.talk.arriving) ≡ came_in phase (coming r.begun r.state.parts)

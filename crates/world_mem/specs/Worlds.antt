@@ -6,13 +6,15 @@ use Rattle.world_traits.specs.LinkState.{Connection, LinkState}
 use Rattle.world_traits.specs.Moments.{Moment, MayLeave}
 use Rattle.world_mem.specs.Both.{Both}
 use Rattle.world_mem.specs.Image.{bytes_of}
-use Rattle.world_mem.specs.Memory.{Line, run_of, line_of, connection_of, sent_of}
+use Rattle.world_mem.specs.Memory.{Line, run_of, line_of, connection_of, earlier_of, sent_of}
 use Rattle.world_mem.specs.Numbered.{moments_of, files_of}
 use Rattle.world_mem.specs.Others.{OthersSome, others_in}
 use Rattle.world_mem.specs.Planned.{Planned, IsStopped, loss_in}
-use Rattle.world_mem.specs.Running.{Run}
+use Rattle.world_mem.specs.Running.{Run, step}
 use Rattle.world_mem.specs.Seen.{run_seen}
+use Rattle.world_mem.specs.Standing.{in_use, lost_phase}
 use Rattle.world_mem.specs.declared.course.Course.{Course}
+use Rattle.world_mem.specs.declared.did.Did.TheVariants as did
 use Rattle.world_mem.specs.declared.mem_world.MemWorld.{MemWorld}
 use Rattle.world_mem.specs.declared.plan.Loss.{Loss}
 
@@ -41,6 +43,16 @@ connection_at world = connection_of (course_of world)
 abbrev pub sent_in : MemWorld → List ℕ
 sent_in world = sent_of (course_of world)
 
+abbrev pub earlier_in : MemWorld → List (List ℕ)
+earlier_in world = earlier_of (course_of world)
+
+-- the mailbox that others don't renew now, and the one that they don't as the next connection is made
+abbrev pub used_in : MemWorld → Option (List ℕ)
+used_in world = in_use (line_in world).phase (run_in world).state
+
+abbrev pub used_anew : MemWorld → Option (List ℕ)
+used_anew world = in_use (lost_phase (line_in world).phase) (run_in world).state
+
 -- its server, as the connection has it
 abbrev pub server_of : MemWorld → State
 server_of world = world.course.server
@@ -65,7 +77,12 @@ link_faults_of world = world.link_faults
 
 -- its link
 abbrev pub link_of : MemWorld → LinkState
-link_of world = record { faults = world.link_faults; connection = connection_of world.course; sent = sent_of world.course }
+link_of world = record {
+  faults = world.link_faults;
+  connection = connection_of world.course;
+  sent = sent_of world.course;
+  earlier = earlier_of world.course;
+}
 
 -- one growth was refused in the call
 abbrev pub Refuses : MemWorld → MemWorld → Type 0
@@ -77,10 +94,18 @@ loss_by world = loss_in (planned_of world).plan.link_fails (planned_of world).li
 
 -- what others make of the old world as the call begins, and some of it, from the front
 abbrev pub entered : MemWorld → MemWorld → Run
-entered old new = others_in (planned_of new) (run_in old)
+entered old new = others_in (planned_of new) (used_in old) (run_in old)
 
 abbrev pub EntersSome : MemWorld → MemWorld → Type 0
-EntersSome old new = OthersSome (planned_of new) (run_in old) (run_in new)
+EntersSome old new = OthersSome (planned_of new) (used_in old) (run_in old) (run_in new)
+
+-- The same as a connection is made: first it is told that the old one is at its end. Where memory was wanting for that, nothing is done.
+abbrev pub entered_anew : MemWorld → MemWorld → Run
+entered_anew old new = others_in (planned_of new) (used_anew old) (step did.Ended (run_in old))
+
+abbrev pub EntersSomeAnew : MemWorld → MemWorld → Type 0
+EntersSomeAnew old new =
+    (run_in new ≡ run_in old) ⊎ OthersSome (planned_of new) (used_anew old) (step did.Ended (run_in old)) (run_in new)
 
 -- A call fails for this reason, and else exactly where it was refused room.
 pub record FailsExactly {T E : Type 0} (reason : Type 0) (result : Result T E) (before after : ℕ) : Type 0 where

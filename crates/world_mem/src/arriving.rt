@@ -11,9 +11,10 @@ ghost use Rattle.server_mem.specs.Hearing.{with_bytes};
 ghost use Rattle.server_mem.specs.States.{State, disconnected};
 ghost use Rattle.world_traits.specs.Links.{Linked, AnyStep};
 ghost use Rattle.world_traits.specs.Sends.{Sent, Arrives};
-ghost use Rattle.world_mem.specs.Memory.{run_of, line_of, had_in, sending, sent_of, SentSome};
+ghost use Rattle.world_mem.specs.Arriving.{ArrivesSome, Listens, TakesIn};
+ghost use Rattle.world_mem.specs.Memory.{run_of, line_of, had_in, sending, sent_of, earlier_of, SentSome};
 ghost use Rattle.world_mem.specs.Heard.{HearsOne, HearsOnly, CarriesOne, CarriesNone, is_carried};
-ghost use Rattle.world_mem.specs.Heard.{HearsAll, HearsBytes, HearsParts, HearsSome, left_over};
+ghost use Rattle.world_mem.specs.Heard.{HearsAll, HearsBytes, HearsParts, left_over};
 ghost use Rattle.world_mem.specs.Losing.{CompletesNone, HearsLast, Loses};
 ghost use Rattle.world_mem.specs.Planned.{IsShort, arriving};
 ghost use Rattle.world_mem.specs.Running.{step};
@@ -33,13 +34,11 @@ impl Course {
     fn take_in(&mut self, bytes: &[u8]) -> Result<(), AllocError>
         requires { self.old.phase ≡ phases.On }
         ensures run { run_of self.new ≡ run_of self.old }
-        ensures phase { OnOk result (self.new.phase ≡ phases.Hearing) }
-        ensures server { OnOk result (self.new.server ≡ with_bytes bytes.now self.old.server) }
-        ensures begun { OnOk result (self.new.server.begun ≡ self.old.server.begun ++ bytes.now) }
-        ensures sent { OnOk result (sent_of self.new ≡ sent_of self.old ++ bytes.now) }
+        ensures taken { OnOk result (TakesIn bytes.now self.old self.new) }
         ensures front { OnErr result (SentSome bytes.now (sent_of self.old) (sent_of self.new)) }
         ensures received { self.new.received ≡ self.old.received }
         ensures lines { self.new.lines.items ≡ self.old.lines.items }
+        ensures earlier { earlier_of self.new ≡ earlier_of self.old }
         ensures kept { OnErr result (self.new.phase ≡ phases.On) }
     {
         let Some(unfinished) = self.unfinished.checked_add(bytes.len()) else {
@@ -60,11 +59,9 @@ impl Course {
         ensures same { IfOk result (λ more. more ≡ false → run_of self.new ≡ run_of self.old) }
         ensures server { IfOk result (λ more. more ≡ false → self.new.server ≡ self.old.server) }
         ensures less { IfOk result (λ more. more ≡ true → self.new.unfinished < self.old.unfinished) }
-        ensures phase { OnOk result (self.new.phase ≡ phases.Hearing) }
+        ensures listens { Listens self.old self.new result }
         ensures broken { OnErr result ((run_of self.new ≡ run_of self.old) ⊎ HearsOne self.old.server (run_of self.old) self.new.server (run_of self.new)) }
-        ensures sent { sent_of self.new ≡ sent_of self.old }
         ensures received { OnOk result (self.new.received ≡ self.old.received) }
-        ensures had { OnOk result (had_in (line_of self.new) ≡ had_in (line_of self.old)) }
     {
         // What is carried out is lawful where the server is well formed.
         let _ = self.server.server();
@@ -112,6 +109,7 @@ impl Course {
         ensures on { OnOk result (self.new.phase ≡ phases.On) }
         ensures failed { OnErr result (run_of self.new ≡ run_of self.old) }
         ensures sent { sent_of self.new ≡ sent_of self.old }
+        ensures earlier { earlier_of self.new ≡ earlier_of self.old }
         ensures received { self.new.received ≡ self.old.received }
         ensures lines { self.new.lines.items ≡ self.old.lines.items }
     {
@@ -133,9 +131,7 @@ impl Course {
         ensures files { Linked AnyStep (run_of self.old).clock (run_of self.new).clock }
         ensures none { self.old.server.begun ≡ [] → run_of self.new ≡ run_of self.old }
         ensures ended { self.old.server.begun ≡ [] → OnOk result (self.new.server.begun ≡ []) }
-        ensures sent { sent_of self.new ≡ sent_of self.old }
-        ensures phase { OnOk result (self.new.phase ≡ phases.Hearing) }
-        ensures had { OnOk result (had_in (line_of self.new) ≡ had_in (line_of self.old)) }
+        ensures listens { Listens self.old self.new result }
     {
         while self.hear_next()? {}
         Ok(())
@@ -151,9 +147,7 @@ impl Course {
             → HearsOnly part self.old.server (run_of self.old) (run_of self.new) result }
         ensures ended { IsPart self.old.server.parts self.old.server.begun → OnOk result (self.new.server.begun ≡ []) }
         ensures none { NoPart self.old.server.parts self.old.server.begun → run_of self.new ≡ run_of self.old }
-        ensures sent { sent_of self.new ≡ sent_of self.old }
-        ensures phase { OnOk result (self.new.phase ≡ phases.Hearing) }
-        ensures had { OnOk result (had_in (line_of self.new) ≡ had_in (line_of self.old)) }
+        ensures listens { Listens self.old self.new result }
     {
         if !self.hear_next()? {
             return Ok(());
@@ -166,14 +160,12 @@ impl Course {
     pub fn arrive(&mut self, bytes: &[u8]) -> Result<(), AllocError>
         requires { self.old.phase ≡ phases.On }
         ensures hears { OnOk result (HearsBytes bytes.now self.old.server (run_of self.old) self.new.server (run_of self.new)) }
-        ensures some { OnErr result (HearsSome bytes.now self.old.server (run_of self.old) (run_of self.new)) }
-        ensures files { Linked AnyStep (run_of self.old).clock (run_of self.new).clock }
+        ensures arrives { ArrivesSome bytes.now self.old self.new result }
         ensures told { (tag : Tag) (command : Command) (before behind : List (List ℕ))
             → IsPartOf tag command before bytes.now behind → Awaits tag before (run_of self.old).clock.now.outside
             → Sent tag command before bytes.now behind (run_of self.old).clock (run_of self.new).clock result }
         ensures on { OnOk result (self.new.phase ≡ phases.On) }
         ensures had { OnOk result (had_in (line_of self.new) ≡ sending bytes.now (had_in (line_of self.old))) }
-        ensures front { OnErr result (SentSome bytes.now (sent_of self.old) (sent_of self.new)) }
     {
         // Such a part is cut off as one, and is answered as what it is.
         texts_are_cut();
@@ -189,14 +181,12 @@ impl Course {
     fn arrive_last(&mut self, bytes: &[u8]) -> Result<(), AllocError>
         requires { self.old.phase ≡ phases.On }
         ensures last { OnOk result (HearsLast bytes.now self.old.server (run_of self.old) (run_of self.new)) }
-        ensures some { OnErr result (HearsSome bytes.now self.old.server (run_of self.old) (run_of self.new)) }
-        ensures files { Linked AnyStep (run_of self.old).clock (run_of self.new).clock }
+        ensures arrives { ArrivesSome bytes.now self.old self.new result }
         ensures told { (tag : Tag) (command : Command) (before behind : List (List ℕ))
             → IsPartOf tag command before bytes.now behind → Awaits tag before (run_of self.old).clock.now.outside
             → Sent tag command before bytes.now behind (run_of self.old).clock (run_of self.new).clock result }
         ensures none { NoPart self.old.server.parts (self.old.server.begun ++ bytes.now) → run_of self.new ≡ run_of self.old }
         ensures sent { OnOk result (sent_of self.new ≡ sent_of self.old ++ bytes.now) }
-        ensures front { OnErr result (SentSome bytes.now (sent_of self.old) (sent_of self.new)) }
     {
         // Such a part is cut off as one, and is answered as what it is.
         texts_are_cut();
@@ -212,13 +202,11 @@ impl Course {
         requires on { self.old.phase ≡ phases.On }
         requires less { count < length bytes.now }
         ensures last { OnOk result (HearsLast (take count bytes.now) self.old.server (run_of self.old) (run_of self.new)) }
-        ensures some { OnErr result (HearsSome bytes.now self.old.server (run_of self.old) (run_of self.new)) }
-        ensures files { Linked AnyStep (run_of self.old).clock (run_of self.new).clock }
+        ensures arrives { ArrivesSome bytes.now self.old self.new result }
         ensures told { (tag : Tag) (command : Command) (before behind : List (List ℕ))
             → IsPartOf tag command before bytes.now behind → Awaits tag before (run_of self.old).clock.now.outside
             → run_of self.new ≡ run_of self.old }
         ensures sent { OnOk result (sent_of self.new ≡ sent_of self.old ++ take count bytes.now) }
-        ensures front { OnErr result (SentSome bytes.now (sent_of self.old) (sent_of self.new)) }
     {
         // Such a part is cut off as one, so that its front is none.
         texts_are_cut();
@@ -257,13 +245,11 @@ impl Course {
     fn arrive_waiting(&mut self, bytes: &[u8], carried: bool) -> Result<(), AllocError>
         requires { self.old.phase ≡ phases.On }
         ensures waits { OnOk result (Loses (Loss.Waits carried) bytes.now self.old.server (run_of self.old) (run_of self.new)) }
-        ensures some { OnErr result (HearsSome bytes.now self.old.server (run_of self.old) (run_of self.new)) }
-        ensures files { Linked AnyStep (run_of self.old).clock (run_of self.new).clock }
+        ensures arrives { ArrivesSome bytes.now self.old self.new result }
         ensures told { (tag : Tag) (command : Command) (before behind : List (List ℕ))
             → IsPartOf tag command before bytes.now behind → Awaits tag before (run_of self.old).clock.now.outside
             → Sent tag command before bytes.now behind (run_of self.old).clock (run_of self.new).clock result }
         ensures sent { OnOk result (sent_of self.new ≡ sent_of self.old ++ bytes.now) }
-        ensures front { OnErr result (SentSome bytes.now (sent_of self.old) (sent_of self.new)) }
     {
         // Parts that complete a command are no front of another.
         no_text_is_a_front();
@@ -285,8 +271,7 @@ impl Course {
     pub fn arrive_by(&mut self, loss: Loss, bytes: &[u8]) -> Result<(), AllocError>
         requires { self.old.phase ≡ phases.On }
         ensures loses { OnOk result (Loses loss bytes.now self.old.server (run_of self.old) (run_of self.new)) }
-        ensures some { OnErr result (HearsSome bytes.now self.old.server (run_of self.old) (run_of self.new)) }
-        ensures files { Linked AnyStep (run_of self.old).clock (run_of self.new).clock }
+        ensures arrives { ArrivesSome bytes.now self.old self.new result }
         ensures told { (tag : Tag) (command : Command) (before behind : List (List ℕ))
             → IsPartOf tag command before bytes.now behind → Awaits tag before (run_of self.old).clock.now.outside
             → Arrives tag command before bytes.now behind (run_of self.old).clock (run_of self.new).clock
@@ -298,7 +283,6 @@ impl Course {
             → IsPartOf tag command before bytes.now behind → Awaits tag before (run_of self.old).clock.now.outside
             → Sent tag command before bytes.now behind (run_of self.old).clock (run_of self.new).clock result }
         ensures sent { OnOk result (sent_of self.new ≡ sent_of self.old ++ arriving loss bytes.now) }
-        ensures front { OnErr result (SentSome bytes.now (sent_of self.old) (sent_of self.new)) }
     {
         match loss {
             Loss::Nothing => Ok(()),
@@ -323,6 +307,7 @@ impl Course {
             → OnOk result (run_of self.new ≡ step did.Settled (run_of self.old)) }
         ensures off { is_on self.new.phase ≡ false }
         ensures sent { sent_of self.new ≡ sent_of self.old }
+        ensures earlier { earlier_of self.new ≡ earlier_of self.old }
     {
         if self.phase != Phase::Waiting {
             return Ok(());

@@ -11,6 +11,7 @@ use imap_model::{Change, Server};
 use mail_base::{BoxName, Bytes, List};
 use server_mem::{Answer, Answered, ForeignFault, MemServer};
 use std::alloc::{AllocError, Global};
+use std::mem;
 use std::snapshot::Snapshot;
 use world_traits::Side;
 
@@ -70,6 +71,8 @@ pub(crate) struct Course {
     pub(crate) sent: Vec<u8>,
     pub(crate) lines: Vec<u8>,
     pub(crate) received: usize,
+    // What was sent before each connection, since the one before it, the first first.
+    pub(crate) earlier: Vec<Bytes>,
     pub(crate) log: Vec<Did>,
     ghost stands: { Stands files server phase held parts unfinished lines.items received
         (run log.items (start (bytes_of given) began.value began_held.value)) },
@@ -77,27 +80,27 @@ pub(crate) struct Course {
 
 impl Course {
     ghost use Rattle.std.specs.Prelude.{OnOk, OnErr};
-    ghost use Rattle.std.specs.Prelude.{Some, None, [], ℕ, take, drop, min, IfOk, IsTrue, true, false, is_some, ◌&&◌, nat_lt, ◌↔◌, IsErrOf};
+    ghost use Rattle.std.specs.Prelude.{Some, None, [], ◌∷◌, ℕ, take, drop, min, IfOk, IsTrue, true, false, is_some, ◌&&◌, nat_lt, ◌↔◌, IsErrOf};
     ghost use Rattle.imap_model.specs.Lawful.{broken_rule};
     ghost use Rattle.imap_model.specs.Talking.{Answering, Connecting};
     ghost use Rattle.imap_model.specs.WellFormed.{IsWellFormed};
-    ghost use Rattle.server_mem.specs.States.{disconnected};
+    ghost use Rattle.server_mem.specs.States.{disconnected, is_named};
     ghost use Rattle.world_traits.specs.Files.{file_of};
     ghost use Rattle.world_traits.specs.Connected.{IsGreeted};
     ghost use Rattle.world_traits.specs.Links.{Linked};
-    ghost use Rattle.world_mem.specs.Others.{OthersChange};
-    ghost use Rattle.world_mem.specs.Memory.{run_of, line_of, sent_of, waits_in};
+    ghost use Rattle.world_mem.specs.Others.{OthersChange, alone, renews};
+    ghost use Rattle.world_mem.specs.Memory.{run_of, line_of, sent_of, earlier_of, unmade, waits_in};
     ghost use Rattle.world_mem.specs.Restarting.{goes_on_from, no_line};
     ghost use Rattle.world_mem.specs.Running.{step, run, start};
-    ghost use Rattle.world_mem.specs.Standing.{is_on, phase_of};
+    ghost use Rattle.world_mem.specs.Standing.{is_on, phase_of, in_use, lost_phase, rested_phase};
     ghost use Rattle.world_mem.specs.declared.course.Phase.TheVariants as phases;
     ghost use Rattle.world_mem.specs.declared.did.Did.TheVariants as did;
 
     /// A world of these files and this server, in which nothing has happened.
     pub fn new(alloc: Global, server: MemServer, files: Files) -> Result<Course, AllocError>
+        requires { server.muted ≡ false }
         ensures run { IfOk result (λ course. run_of course ≡ start (bytes_of files) (disconnected server) None) }
-        ensures line { IfOk result (λ course. line_of course
-            ≡ record { phase = phases.Off; sent = []; lines = []; received = 0 }) }
+        ensures line { IfOk result (λ course. line_of course ≡ unmade phases.Off) }
     {
         let mut server = server;
         server.lose();
@@ -114,9 +117,9 @@ impl Course {
         requires whole { server.begun ≡ [] }
         requires sound { server.failed ≡ false }
         requires ends { ∥ WholeIn (phase_of held) held server.parts ∥₁ }
+        requires lawful { server.muted ≡ false }
         ensures run { IfOk result (λ course. run_of course ≡ start (bytes_of files) server held) }
-        ensures line { IfOk result (λ course. line_of course
-            ≡ record { phase = phase_of held; sent = []; lines = []; received = 0 }) }
+        ensures line { IfOk result (λ course. line_of course ≡ unmade (phase_of held)) }
     {
         Ok(Course {
             alloc,
@@ -132,6 +135,7 @@ impl Course {
             sent: Vec::new(alloc),
             lines: Vec::new(alloc),
             received: 0,
+            earlier: Vec::new(alloc),
             log: Vec::new(alloc),
         })
     }
@@ -240,6 +244,100 @@ impl Course {
         Ok(())
     }
 
+    // Whether this mailbox is in use.
+    fn uses(&self, name: &BoxName) -> bool
+        ensures { result ≡ is_named name.now (in_use self.now.phase (run_of self.now).state) }
+    {
+        match self.phase {
+            Phase::On | Phase::Waiting => self.server.is_selected(name),
+            Phase::Off | Phase::Hearing => false,
+        }
+    }
+
+    /// Whether the mailbox that is in use would be renewed by the change.
+    pub fn renews(&self, name: &BoxName, change: &Change) -> bool
+        ensures { result ≡ renews (in_use self.now.phase (run_of self.now).state) name.now change.now }
+    {
+        match change {
+            Change::Reset { .. } => self.uses(name),
+            Change::Add { .. }
+            | Change::SetFlags { .. }
+            | Change::Drop { .. }
+            | Change::Shift { .. } => false,
+        }
+    }
+
+    // Makes a change by another client where there is no connection, or leaves all as it was. First it is told that the last
+    // connection is at its end.
+    fn change_between(&mut self, name: &BoxName, change: &Change) -> Result<(), ForeignFault>
+        requires { lost_phase self.old.phase ≡ self.old.phase }
+        ensures done { OnOk result (run_of self.new ≡ step (did.Changed name.now change.now) (step did.Ended (run_of self.old))) }
+        ensures told { Linked Connecting (run_of self.old).clock (run_of self.new).clock }
+        ensures lawful { OnOk result (broken_rule (run_of self.old).state.server.boxes name.now change.now ≡ None) }
+        ensures rule { (number : ℕ) → IsErrOf result (ForeignFault.NotLawful number)
+            → broken_rule (run_of self.old).state.server.boxes name.now change.now ≡ Some number }
+        ensures line { line_of self.new ≡ line_of self.old }
+        ensures failed { OnErr result (run_of self.new ≡ run_of self.old) }
+    {
+        let own = change.copy()?;
+        self.log.reserve(2)?;
+        self.server.foreign(name, change)?;
+        self.log.push_reserved(Did::Ended);
+        self.log.push_reserved(Did::Changed {
+            name: name.copy(),
+            change: own,
+        });
+        Ok(())
+    }
+
+    // A connection that was lost in a call in whose midst memory was wanting is no more.
+    fn let_go(&mut self)
+        ensures run { run_of self.new ≡ run_of self.old }
+        ensures phase { self.new.phase ≡ rested_phase self.old.phase }
+        ensures line { line_of self.new ≡ record (line_of self.old) { phase = rested_phase self.old.phase } }
+    {
+        if self.phase == Phase::Hearing {
+            self.phase = Phase::Off;
+        }
+    }
+
+    /// Makes a change by another client at a moment of its own, or leaves all as it was. Where there is no connection, it is
+    /// told first that the last one is at its end. A change that would renew the mailbox that is in use is passed over.
+    pub fn change_alone(&mut self, name: &BoxName, change: &Change) -> Result<(), ForeignFault>
+        ensures done { OnOk result (run_of self.new ≡ alone (is_on self.old.phase)
+            (in_use self.old.phase (run_of self.old).state) name.now change.now (run_of self.old)) }
+        ensures told { Linked Connecting (run_of self.old).clock (run_of self.new).clock }
+        ensures others { is_on self.old.phase ≡ true → OthersChange (run_of self.old) (run_of self.new) }
+        ensures lawful { OnOk result (renews (in_use self.old.phase (run_of self.old).state) name.now change.now ≡ false
+            → broken_rule (run_of self.old).state.server.boxes name.now change.now ≡ None) }
+        ensures rule { (number : ℕ) → IsErrOf result (ForeignFault.NotLawful number)
+            → broken_rule (run_of self.old).state.server.boxes name.now change.now ≡ Some number }
+        ensures line { line_of self.new ≡ record (line_of self.old) { phase = rested_phase self.old.phase } }
+        ensures failed { OnErr result (run_of self.new ≡ run_of self.old) }
+    {
+        self.let_go();
+        if self.renews(name, change) {
+            return Ok(());
+        }
+        if self.is_connected() {
+            return self.change(name, change);
+        }
+        self.change_between(name, change)
+    }
+
+    /// Tells that the last connection is at its end, or leaves all as it was. What waits stays.
+    pub fn end(&mut self) -> Result<(), AllocError>
+        requires { lost_phase self.old.phase ≡ self.old.phase }
+        ensures done { OnOk result (run_of self.new ≡ step did.Ended (run_of self.old)) }
+        ensures told { Linked Connecting (run_of self.old).clock (run_of self.new).clock }
+        ensures line { line_of self.new ≡ line_of self.old }
+        ensures failed { OnErr result (run_of self.new ≡ run_of self.old) }
+    {
+        self.log.reserve(1)?;
+        self.log.push_reserved(Did::Ended);
+        Ok(())
+    }
+
     /// Begins a connection, or leaves all as it was.
     pub fn greet(&mut self) -> Result<(), AllocError>
         ensures done { OnOk result (run_of self.new ≡ step did.Greeted (run_of self.old)) }
@@ -247,19 +345,22 @@ impl Course {
         ensures greets { OnOk result (IsGreeted (run_of self.new).clock.now.outside) }
         ensures begins { OnOk result (self.new.phase ≡ phases.On) }
         ensures sent { OnOk result (self.new.sent.items ≡ []) }
+        ensures earlier { OnOk result (earlier_of self.new ≡ sent_of self.old ∷ earlier_of self.old) }
         ensures received { OnOk result (self.new.received ≡ 0) }
         ensures failed { OnErr result (run_of self.new ≡ run_of self.old) }
         ensures line { OnErr result (line_of self.new ≡ line_of self.old) }
     {
         self.log.reserve(1)?;
+        self.earlier.reserve(1)?;
         let lines = self.server.greet()?;
         self.phase = Phase::On;
         self.parts = List::new(self.alloc);
         self.unfinished = 0;
-        self.sent = Vec::new(self.alloc);
+        let sent = mem::replace(&mut self.sent, Vec::new(self.alloc));
         self.lines = lines;
         self.received = 0;
         self.log.push_reserved(Did::Greeted);
+        self.earlier.push_reserved(Bytes::of(sent));
         Ok(())
     }
 
@@ -267,9 +368,11 @@ impl Course {
     pub fn lose(&mut self)
         ensures run { run_of self.new ≡ run_of self.old }
         ensures lost { is_on self.new.phase ≡ false }
+        ensures phase { self.new.phase ≡ lost_phase self.old.phase }
         ensures sent { sent_of self.new ≡ sent_of self.old }
+        ensures earlier { earlier_of self.new ≡ earlier_of self.old }
     {
-        if self.is_connected() {
+        if self.phase != Phase::Waiting {
             self.phase = Phase::Off;
         }
     }

@@ -27,6 +27,8 @@ pub enum Did {
     Waited { held: Held },
     /// The command that waited was carried out.
     Settled,
+    /// It was told that the connection is at its end: nothing is selected, and no text arrives.
+    Ended,
 }
 
 /// A command that waits: its connection was lost as its last part had arrived.

@@ -1,26 +1,31 @@
 //! The world in memory.
 
-ghost use Rattle.std.specs.Prelude.{◌≡◌, ◌⊎◌, ◌≤◌, ◌<◌, ◌+◌, ◌-◌, ◌^◌, ◌↔◌, ℕ, [], true, false, Some, None};
+ghost use Rattle.std.specs.Prelude.{◌≡◌, ◌⊎◌, ◌≤◌, ◌<◌, ◌+◌, ◌-◌, ◌^◌, ◌↔◌, ℕ, [], Some, None, true, false};
 ghost use Rattle.std.specs.Prelude.{min, length, take, drop, slice_get};
 ghost use Rattle.std.specs.Prelude.{OnOk, OnErr, IfOk, IfErr, IfSome, IsErr, IsErrOf};
 ghost use Rattle.imap_model.specs.Lawful.{broken_rule};
+ghost use Rattle.imap_model.specs.Talking.{Connecting};
 ghost use Rattle.server_mem.specs.States.{disconnected};
 ghost use Rattle.world_traits.specs.Calls.{Rose, Wrote, Synced};
 ghost use Rattle.world_traits.specs.Counts.{counted};
 ghost use Rattle.world_traits.specs.Files.{file_of};
+ghost use Rattle.world_traits.specs.Links.{Linked};
 ghost use Rattle.world_traits.specs.Moments.{Moment, MayLeave};
 ghost use Rattle.world_mem.specs.Both.{torn_at};
+ghost use Rattle.world_mem.specs.Calling.{BreaksOff, BreaksOffAnew, CallsDisk, Enters, EntersAnew, GoesOn, GoesOnAnew};
+ghost use Rattle.world_mem.specs.Failing.{DiskFails, LinkFails};
 ghost use Rattle.world_mem.specs.Image.{bytes_of, image_of};
-ghost use Rattle.world_mem.specs.Memory.{run_of, line_of, waits_in, told_line, SentSome};
-ghost use Rattle.world_mem.specs.Others.{OthersChange, changed, changes};
-ghost use Rattle.world_mem.specs.Planned.{unbegun, next_disk, next_link, DiskIsToFail, IsStopped};
+ghost use Rattle.world_mem.specs.Memory.{run_of, line_of, unmade, waits_in, told_line};
+ghost use Rattle.world_mem.specs.Others.{OthersChange, alone, changed, changes, renews};
+ghost use Rattle.world_mem.specs.Planned.{unbegun, next_link, IsStopped};
 ghost use Rattle.world_mem.specs.Restarting.{goes_on_from, no_line};
-ghost use Rattle.world_mem.specs.Running.{step, start};
-ghost use Rattle.world_mem.specs.Standing.{is_on};
-ghost use Rattle.world_mem.specs.Worlds.{course_of, run_in, line_in, sent_in, moments_in, files_in};
+ghost use Rattle.world_mem.specs.Running.{start};
+ghost use Rattle.world_mem.specs.Standing.{in_use, is_on, lost_phase, rested_phase};
+ghost use Rattle.world_mem.specs.Tally.{CountsStay, IsUncalled};
+ghost use Rattle.world_mem.specs.Worlds.{course_of, run_in, line_in, sent_in, earlier_in, used_in, moments_in, files_in};
 ghost use Rattle.world_mem.specs.Worlds.{server_of, served_by};
 ghost use Rattle.world_mem.specs.Worlds.{planned_of, refused_of, disk_faults_of, link_faults_of};
-ghost use Rattle.world_mem.specs.Worlds.{entered, EntersSome, FailsExactly, LinkIsToFail};
+ghost use Rattle.world_mem.specs.Worlds.{entered, entered_anew, EntersSome, EntersSomeAnew, FailsExactly, LinkIsToFail};
 ghost use Rattle.world_mem.specs.declared.course.Phase.TheVariants as phases;
 ghost use Rattle.world_mem.specs.declared.did.Did.TheVariants as did;
 
@@ -71,22 +76,19 @@ pub struct MemWorld {
 }
 
 impl MemWorld {
-    /// A world of this server and these files, which count as synced. There is one moment, and no
-    /// connection.
+    /// A world of this server, which isn't muted, and these files, which count as synced. There is
+    /// one moment, and no connection.
     pub fn new(
         alloc: Global,
         server: MemServer,
         files: Files,
         plan: Plan,
     ) -> Result<MemWorld, AllocError>
+        requires { server.muted ≡ false }
         ensures run { IfOk result (λ world. run_in world
             ≡ start (bytes_of files) (disconnected server) None) }
-        ensures line { IfOk result (λ world. line_in world
-            ≡ record { phase = phases.Off; sent = []; lines = []; received = 0 }) }
-        ensures plan { IfOk result (λ world. planned_of world ≡ unbegun plan) }
-        ensures refused { IfOk result (λ world. refused_of world ≡ 0) }
-        ensures faults { IfOk result (λ world. disk_faults_of world ≡ 0) }
-        ensures link { IfOk result (λ world. link_faults_of world ≡ 0) }
+        ensures line { IfOk result (λ world. line_in world ≡ unmade phases.Off) }
+        ensures uncalled { IfOk result (IsUncalled plan) }
     {
         Ok(MemWorld::over(Course::new(alloc, server, files)?, plan))
     }
@@ -94,10 +96,7 @@ impl MemWorld {
     // A world of this course that no call has failed in.
     fn over(course: Course, plan: Plan) -> MemWorld
         ensures course { course_of result ≡ course }
-        ensures plan { planned_of result ≡ unbegun plan }
-        ensures refused { refused_of result ≡ 0 }
-        ensures faults { disk_faults_of result ≡ 0 }
-        ensures link { link_faults_of result ≡ 0 }
+        ensures uncalled { IsUncalled plan result }
     {
         MemWorld {
             course,
@@ -110,17 +109,14 @@ impl MemWorld {
 
     /// Stops the world, and goes on from one of the images that the stop may leave: the one that
     /// the pick takes. The server keeps its mailboxes, its history and its choices, nothing is
-    /// connected, and a command that waits waits on. There is one moment.
+    /// connected or selected, and a command that waits waits on. There is one moment.
     pub fn restart(self, pick: u64, plan: Plan) -> Result<MemWorld, AllocError>
         ensures run { IfOk result (λ world. run_in world
             ≡ goes_on_from (image_of pick (torn_at (run_in self).clock.now (run_in self).seen))
             (run_in self)) }
         ensures lawful { IfOk result (λ world. MayLeave (run_in self).clock.now (run_in world).seen) }
         ensures line { IfOk result (λ world. line_in world ≡ no_line (run_in self).held) }
-        ensures plan { IfOk result (λ world. planned_of world ≡ unbegun plan) }
-        ensures refused { IfOk result (λ world. refused_of world ≡ 0) }
-        ensures faults { IfOk result (λ world. disk_faults_of world ≡ 0) }
-        ensures link { IfOk result (λ world. link_faults_of world ≡ 0) }
+        ensures uncalled { IfOk result (IsUncalled plan) }
     {
         let files = self.course.image(pick)?;
         Ok(MemWorld::over(self.course.restarted(files)?, plan))
@@ -130,31 +126,33 @@ impl MemWorld {
     pub fn plan(&mut self, plan: Plan)
         ensures plan { planned_of self.new ≡ unbegun plan }
         ensures course { course_of self.new ≡ course_of self.old }
-        ensures refused { refused_of self.new ≡ refused_of self.old }
-        ensures faults { disk_faults_of self.new ≡ disk_faults_of self.old }
-        ensures link { link_faults_of self.new ≡ link_faults_of self.old }
+        ensures counts { CountsStay self.old self.new }
     {
         self.schedule = Schedule::new(plan);
     }
 
-    /// Makes a change by another client, at a moment of its own. Refuses one that breaks a rule,
-    /// and then nothing changes, as for want of memory.
+    /// Makes a change by another client, at a moment of its own. Where there is no connection, it is
+    /// told first that the last one is at its end: nothing is selected, and no text arrives. Refuses
+    /// a change that breaks a rule, and then nothing changes, as for want of memory. Passes over one
+    /// that would renew the mailbox that is selected in a connection that is there, or was selected
+    /// as the connection of the command that waits was lost.
     pub fn foreign(&mut self, name: &BoxName, change: &Change) -> Result<(), ForeignFault>
-        ensures done { OnOk result (run_in self.new
-            ≡ step (did.Changed name.now change.now) (run_in self.old)) }
-        ensures told { OthersChange (run_in self.old) (run_in self.new) }
+        ensures done { OnOk result (run_in self.new ≡ alone (is_on (line_in self.old).phase)
+            (used_in self.old) name.now change.now (run_in self.old)) }
+        ensures told { Linked Connecting (run_in self.old).clock (run_in self.new).clock }
+        ensures others { is_on (line_in self.old).phase ≡ true
+            → OthersChange (run_in self.old) (run_in self.new) }
         ensures rule { (number : ℕ) → IsErrOf result (ForeignFault.NotLawful number)
             → broken_rule (run_in self.old).state.server.boxes name.now change.now ≡ Some number }
-        ensures lawful { OnOk result
-            (broken_rule (run_in self.old).state.server.boxes name.now change.now ≡ None) }
+        ensures lawful { OnOk result (renews (used_in self.old) name.now change.now ≡ false
+            → broken_rule (run_in self.old).state.server.boxes name.now change.now ≡ None) }
         ensures kept { OnErr result (run_in self.new ≡ run_in self.old) }
-        ensures line { line_in self.new ≡ line_in self.old }
+        ensures line { line_in self.new
+            ≡ record (line_in self.old) { phase = rested_phase (line_in self.old).phase } }
         ensures plan { planned_of self.new ≡ planned_of self.old }
-        ensures refused { refused_of self.new ≡ refused_of self.old }
-        ensures faults { disk_faults_of self.new ≡ disk_faults_of self.old }
-        ensures link { link_faults_of self.new ≡ link_faults_of self.old }
+        ensures counts { CountsStay self.old self.new }
     {
-        self.course.change(name, change)
+        self.course.change_alone(name, change)
     }
 
     /// The server.
@@ -201,13 +199,8 @@ impl MemWorld {
 
     // A call of the disk failed.
     fn fail_disk(&mut self) -> DiskFailed
-        ensures course { self.new.course ≡ self.old.course }
-        ensures planned { planned_of self.new ≡ planned_of self.old }
-        ensures faults { disk_faults_of self.new ≡ counted (disk_faults_of self.old) }
+        ensures fails { DiskFails self.old self.new }
         ensures refused { refused_of self.new ≡ refused_of self.old }
-        ensures link { self.new.link_faults ≡ self.old.link_faults }
-        ensures count { disk_faults_of self.old ≤ disk_faults_of self.new }
-        ensures rose { Rose (disk_faults_of self.old) (disk_faults_of self.new) }
     {
         self.disk_faults = self.disk_faults.saturating_add(1);
         DiskFailed
@@ -215,13 +208,8 @@ impl MemWorld {
 
     // A growth was refused in a call of the disk.
     fn refuse_disk(&mut self) -> DiskFailed
-        ensures course { self.new.course ≡ self.old.course }
-        ensures planned { planned_of self.new ≡ planned_of self.old }
-        ensures faults { disk_faults_of self.new ≡ counted (disk_faults_of self.old) }
+        ensures fails { DiskFails self.old self.new }
         ensures refused { refused_of self.new ≡ counted (refused_of self.old) }
-        ensures link { self.new.link_faults ≡ self.old.link_faults }
-        ensures count { disk_faults_of self.old ≤ disk_faults_of self.new }
-        ensures rose { Rose (disk_faults_of self.old) (disk_faults_of self.new) }
     {
         self.refused = self.refused.saturating_add(1);
         self.fail_disk()
@@ -229,15 +217,8 @@ impl MemWorld {
 
     // A call of the link failed: the connection is lost.
     fn fail_link(&mut self) -> LinkFailed
-        ensures run { run_in self.new ≡ run_in self.old }
-        ensures lost { is_on (course_of self.new).phase ≡ false }
-        ensures sent { sent_in self.new ≡ sent_in self.old }
-        ensures planned { planned_of self.new ≡ planned_of self.old }
-        ensures faults { link_faults_of self.new ≡ counted (link_faults_of self.old) }
+        ensures fails { LinkFails self.old self.new }
         ensures refused { refused_of self.new ≡ refused_of self.old }
-        ensures disk { disk_faults_of self.new ≡ disk_faults_of self.old }
-        ensures count { link_faults_of self.old ≤ link_faults_of self.new }
-        ensures rose { Rose (link_faults_of self.old) (link_faults_of self.new) }
     {
         self.course.lose();
         self.link_faults = self.link_faults.saturating_add(1);
@@ -246,15 +227,8 @@ impl MemWorld {
 
     // A growth was refused in a call of the link.
     fn refuse_link(&mut self) -> LinkFailed
-        ensures run { run_in self.new ≡ run_in self.old }
-        ensures lost { is_on (course_of self.new).phase ≡ false }
-        ensures sent { sent_in self.new ≡ sent_in self.old }
-        ensures planned { planned_of self.new ≡ planned_of self.old }
-        ensures faults { link_faults_of self.new ≡ counted (link_faults_of self.old) }
+        ensures fails { LinkFails self.old self.new }
         ensures refused { refused_of self.new ≡ counted (refused_of self.old) }
-        ensures disk { disk_faults_of self.new ≡ disk_faults_of self.old }
-        ensures count { link_faults_of self.old ≤ link_faults_of self.new }
-        ensures rose { Rose (link_faults_of self.old) (link_faults_of self.new) }
     {
         self.refused = self.refused.saturating_add(1);
         self.fail_link()
@@ -262,21 +236,11 @@ impl MemWorld {
 
     // A call of the link begins, with what others change then.
     fn enter(&mut self) -> Result<(), LinkFailed>
-        ensures next { planned_of self.new ≡ next_link (planned_of self.old) }
+        ensures enters { Enters self.old self.new }
         ensures exact { FailsExactly (IsStopped (planned_of self.new)) result
             (refused_of self.old) (refused_of self.new) }
-        ensures told { OthersChange (run_in self.old) (run_in self.new) }
-        ensures done { OnOk result (run_in self.new ≡ entered self.old self.new) }
-        ensures some { OnErr result (EntersSome self.old self.new) }
-        ensures stopped { IsStopped (planned_of self.new) → run_in self.new ≡ run_in self.old }
-        ensures server { OnOk result (server_of self.new ≡ served_by self.old (run_in self.new)) }
-        ensures sent { sent_in self.new ≡ sent_in self.old }
-        ensures line { OnOk result (line_in self.new ≡ line_in self.old) }
-        ensures faults { OnOk result (link_faults_of self.new ≡ link_faults_of self.old) }
-        ensures lost { OnErr result (is_on (course_of self.new).phase ≡ false) }
-        ensures disk { disk_faults_of self.new ≡ disk_faults_of self.old }
-        ensures count { link_faults_of self.old ≤ link_faults_of self.new }
-        ensures cause { OnErr result (Rose (link_faults_of self.old) (link_faults_of self.new)) }
+        ensures goes_on { OnOk result (GoesOn self.old self.new) }
+        ensures breaks_off { OnErr result (BreaksOff self.old self.new) }
     {
         if self.schedule.next_link() {
             return Err(self.fail_link());
@@ -287,18 +251,42 @@ impl MemWorld {
         }
         Ok(())
     }
+
+    // The same as a connection is made: it is told first that the old one is at its end.
+    fn enter_anew(&mut self) -> Result<(), LinkFailed>
+        requires { lost_phase (line_in self.old).phase ≡ (line_in self.old).phase }
+        ensures enters { EntersAnew self.old self.new }
+        ensures exact { FailsExactly (IsStopped (planned_of self.new)) result
+            (refused_of self.old) (refused_of self.new) }
+        ensures goes_on { OnOk result (GoesOnAnew self.old self.new) }
+        ensures breaks_off { OnErr result (BreaksOffAnew self.old self.new) }
+    {
+        if self.schedule.next_link() {
+            return Err(self.fail_link());
+        }
+        if self.course.end().is_err() {
+            return Err(self.refuse_link());
+        }
+        let call = self.schedule.link();
+        if change_all(&mut self.course, self.schedule.foreign(), call).is_err() {
+            return Err(self.refuse_link());
+        }
+        Ok(())
+    }
 }
 
-// Makes the changes of this call, and passes over those that break a rule.
+// Makes the changes of this call, and passes over those that break a rule or renew the mailbox that
+// is in use.
 fn change_all(
     course: &mut Course,
     foreign: &[(u64, BoxName, Change)],
     call: u64,
 ) -> Result<(), AllocError>
     ensures told { OthersChange (run_of course.old) (run_of course.new) }
-    ensures done { OnOk result (run_of course.new ≡ changes foreign.now call (run_of course.old)) }
-    ensures some { OnErr result
-        ((n : ℕ) × (run_of course.new ≡ changes (take n foreign.now) call (run_of course.old))) }
+    ensures done { OnOk result (run_of course.new ≡ changes foreign.now call
+        (in_use course.old.phase (run_of course.old).state) (run_of course.old)) }
+    ensures some { OnErr result ((n : ℕ) × (run_of course.new ≡ changes (take n foreign.now) call
+        (in_use course.old.phase (run_of course.old).state) (run_of course.old))) }
     ensures server { course.new.server
         ≡ record course.old.server { server = (run_of course.new).state.server } }
     ensures line { line_of course.new ≡ line_of course.old }
@@ -311,15 +299,19 @@ fn change_all(
     Ok(())
 }
 
-// Makes one of them, unless it breaks a rule.
+// Makes one of them, unless it breaks a rule or renews the mailbox that is in use.
 fn change_one(course: &mut Course, name: &BoxName, change: &Change) -> Result<(), AllocError>
     ensures told { OthersChange (run_of course.old) (run_of course.new) }
-    ensures done { OnOk result (run_of course.new ≡ changed name.now change.now (run_of course.old)) }
+    ensures done { OnOk result (run_of course.new ≡ changed
+        (in_use course.old.phase (run_of course.old).state) name.now change.now (run_of course.old)) }
     ensures failed { OnErr result (run_of course.new ≡ run_of course.old) }
     ensures server { course.new.server
         ≡ record course.old.server { server = (run_of course.new).state.server } }
     ensures line { line_of course.new ≡ line_of course.old }
 {
+    if course.renews(name, change) {
+        return Ok(());
+    }
     match course.change(name, change) {
         Ok(()) => Ok(()),
         Err(ForeignFault::NotLawful { .. }) => Ok(()),
@@ -354,13 +346,10 @@ impl Disk for MemWorld {
     fn length(&mut self, side: Side) -> Result<u64, DiskFailed>
         ensures value { IfOk result (λ n. n ≡ length (file_of side (run_in self.old).seen)) }
         ensures same { run_in self.new ≡ run_in self.old }
-        ensures next { planned_of self.new ≡ next_disk (planned_of self.old) }
-        ensures exact { FailsExactly (DiskIsToFail (planned_of self.new)) result
-            (refused_of self.old) (refused_of self.new) }
+        ensures called { CallsDisk self.old self.new result }
         ensures count { disk_faults_of self.old ≤ disk_faults_of self.new }
         ensures cause { OnErr result (Rose (disk_faults_of self.old) (disk_faults_of self.new)) }
-        ensures line { line_in self.new ≡ line_in self.old }
-        ensures link { self.new.link_faults ≡ self.old.link_faults }
+        ensures unfailed { OnOk result (disk_faults_of self.new ≡ disk_faults_of self.old) }
     {
         if self.schedule.next_disk() {
             return Err(self.fail_disk());
@@ -376,13 +365,10 @@ impl Disk for MemWorld {
         ensures bytes { IfOk result (λ n.
             take n into.new ≡ take n (drop at (file_of side (run_in self.old).seen))) }
         ensures same { run_in self.new ≡ run_in self.old }
-        ensures next { planned_of self.new ≡ next_disk (planned_of self.old) }
-        ensures exact { FailsExactly (DiskIsToFail (planned_of self.new)) result
-            (refused_of self.old) (refused_of self.new) }
+        ensures called { CallsDisk self.old self.new result }
         ensures count { disk_faults_of self.old ≤ disk_faults_of self.new }
         ensures cause { OnErr result (Rose (disk_faults_of self.old) (disk_faults_of self.new)) }
-        ensures line { line_in self.new ≡ line_in self.old }
-        ensures link { self.new.link_faults ≡ self.old.link_faults }
+        ensures unfailed { OnOk result (disk_faults_of self.new ≡ disk_faults_of self.old) }
     {
         if self.schedule.next_disk() {
             return Err(self.fail_disk());
@@ -404,13 +390,10 @@ impl Disk for MemWorld {
         ensures told { Wrote side at bytes.now (run_in self.old).clock (run_in self.new).clock
             (run_in self.old).seen (run_in self.new).seen result }
         ensures failed { OnErr result (run_in self.new ≡ run_in self.old) }
-        ensures next { planned_of self.new ≡ next_disk (planned_of self.old) }
-        ensures exact { FailsExactly (DiskIsToFail (planned_of self.new)) result
-            (refused_of self.old) (refused_of self.new) }
+        ensures called { CallsDisk self.old self.new result }
         ensures count { disk_faults_of self.old ≤ disk_faults_of self.new }
         ensures cause { OnErr result (Rose (disk_faults_of self.old) (disk_faults_of self.new)) }
-        ensures line { line_in self.new ≡ line_in self.old }
-        ensures link { self.new.link_faults ≡ self.old.link_faults }
+        ensures unfailed { OnOk result (disk_faults_of self.new ≡ disk_faults_of self.old) }
     {
         if self.schedule.next_disk() {
             return Err(self.fail_disk());
@@ -427,13 +410,10 @@ impl Disk for MemWorld {
         ensures told { Synced side (run_in self.old).clock (run_in self.new).clock
             (run_in self.old).seen (run_in self.new).seen result }
         ensures failed { OnErr result (run_in self.new ≡ run_in self.old) }
-        ensures next { planned_of self.new ≡ next_disk (planned_of self.old) }
-        ensures exact { FailsExactly (DiskIsToFail (planned_of self.new)) result
-            (refused_of self.old) (refused_of self.new) }
+        ensures called { CallsDisk self.old self.new result }
         ensures count { disk_faults_of self.old ≤ disk_faults_of self.new }
         ensures cause { OnErr result (Rose (disk_faults_of self.old) (disk_faults_of self.new)) }
-        ensures line { line_in self.new ≡ line_in self.old }
-        ensures link { self.new.link_faults ≡ self.old.link_faults }
+        ensures unfailed { OnOk result (disk_faults_of self.new ≡ disk_faults_of self.old) }
     {
         if self.schedule.next_disk() {
             return Err(self.fail_disk());
@@ -447,55 +427,42 @@ impl Disk for MemWorld {
 
 impl Link for MemWorld {
     ghost use Rattle.std.specs.Prelude.{◌++◌, List};
-    ghost use Rattle.imap_model.specs.Talking.{Answering, Connecting, Awaits, IsPartOf};
+    ghost use Rattle.imap_model.specs.Talking.{Answering, Awaits, IsPartOf};
     ghost use Rattle.imap_model.specs.declared.command.Command.{Command};
     ghost use Rattle.mail_base.specs.declared.tag.Tag.{Tag};
     ghost use Rattle.world_traits.specs.Connected.{IsGreeted, WasConnected};
-    ghost use Rattle.world_traits.specs.LinkState.{fresh};
-    ghost use Rattle.world_traits.specs.Links.{AnyStep, Linked};
-    ghost use Rattle.world_traits.specs.Sends.{Sent, Arrives};
-    ghost use Rattle.world_mem.specs.Planned.{IsShort, arriving};
-    ghost use Rattle.world_mem.specs.declared.did.Held.{Held};
+    ghost use Rattle.world_traits.specs.Links.{AnyStep};
+    ghost use Rattle.world_traits.specs.Sends.{Sent};
+    ghost use Rattle.world_mem.specs.Planned.{IsShort};
     ghost use Rattle.world_mem.specs.declared.plan.Loss.{Loss};
     ghost use Rattle.world_mem.specs.Heard.{HearsBytes};
-    ghost use Rattle.world_mem.specs.Losing.{Loses};
+    ghost use Rattle.world_mem.specs.Calling.{CallsLink};
+    ghost use Rattle.world_mem.specs.Connecting.{Connects};
+    ghost use Rattle.world_mem.specs.Downed.{Downed};
     ghost use Rattle.world_mem.specs.Honest.{honest};
+    ghost use Rattle.world_mem.specs.Lines.{BeginsLine, GivesLine, SendsLine};
     ghost use Rattle.world_mem.specs.Worlds.{connection_at, loss_by, Refuses};
 
     ghost honest = { λ world tells c is. honest (course_of world) c is };
 
-    /// Begins a new connection and ends an old one. What waits is carried out before the greeting,
-    /// or dropped, as its loss says. It fails exactly where it is planned to, the world has
-    /// stopped, or it is refused room.
+    /// Begins a new connection and ends an old one: that is told first, before others change
+    /// anything. What waits is carried out before the greeting, or dropped, as its loss says. It
+    /// fails exactly where it is planned to, the world has stopped, or it is refused room.
     fn connect(&mut self) -> Result<(), LinkFailed>
         ensures files { Linked AnyStep (run_in self.old).clock (run_in self.new).clock }
         ensures told { Linked Connecting (run_in self.old).clock (run_in self.new).clock }
-        ensures begins { OnOk result (connection_at self.new ≡ Some fresh) }
         ensures anew { OnOk result (WasConnected (run_in self.old).clock (run_in self.new).clock) }
         ensures greets { OnOk result (IsGreeted (run_in self.new).clock.now.outside) }
-        ensures free { (run_in self.old).held ≡ None
-            → OnOk result (run_in self.new ≡ step did.Greeted (entered self.old self.new)) }
-        ensures dropped { (held : Held) → (run_in self.old).held ≡ Some held → held.carried ≡ false
-            → OnOk result (run_in self.new ≡ step did.Greeted (entered self.old self.new)) }
-        ensures carried { (held : Held) → (run_in self.old).held ≡ Some held → held.carried ≡ true
-            → OnOk result (run_in self.new ≡ step did.Greeted (step did.Settled (entered self.old self.new))) }
+        ensures connects { OnOk result (Connects self.old self.new) }
         ensures loses { (IsStopped (planned_of self.new) → ⊥) → (loss : Loss)
             → loss_by self.new ≡ Some loss
-            → (run_in self.new ≡ entered self.old self.new)
-            ⊎ (EntersSome self.old self.new × Refuses self.old self.new) }
-        ensures sent { OnOk result (sent_in self.new ≡ []) }
-        ensures unsent { OnErr result (sent_in self.new ≡ sent_in self.old) }
-        ensures next { planned_of self.new ≡ next_link (planned_of self.old) }
-        ensures exact { FailsExactly (LinkIsToFail (planned_of self.new)) result
-            (refused_of self.old) (refused_of self.new) }
-        ensures lost { OnErr result (connection_at self.new ≡ None) }
-        ensures disk { disk_faults_of self.new ≡ disk_faults_of self.old }
-        ensures count { link_faults_of self.old ≤ link_faults_of self.new }
-        ensures cause { OnErr result (Rose (link_faults_of self.old) (link_faults_of self.new)) }
-        ensures stopped { IsStopped (planned_of self.new) → run_in self.new ≡ run_in self.old }
+            → (run_in self.new ≡ entered_anew self.old self.new)
+            ⊎ (EntersSomeAnew self.old self.new × Refuses self.old self.new) }
+        ensures line { BeginsLine self.old self.new result }
+        ensures called { CallsLink (LinkIsToFail (planned_of self.new)) self.old self.new result }
     {
         self.course.lose();
-        self.enter()?;
+        self.enter_anew()?;
         if self.schedule.loss().is_some() {
             return Err(self.fail_link());
         }
@@ -524,43 +491,20 @@ impl Link for MemWorld {
             → IsPartOf tag command before bytes.now behind
             → Awaits tag before (run_in self.old).clock.now.outside
             → OthersChange (run_in self.old) (run_in self.new) }
-        ensures whole { (IsStopped (planned_of self.new) → ⊥) → (connection_at self.old ≡ None → ⊥)
+        ensures downed { (IsStopped (planned_of self.new) → ⊥) → (connection_at self.old ≡ None → ⊥)
             → (loss : Loss) → loss_by self.new ≡ Some loss
-            → (IsShort loss (length bytes.now) → ⊥)
-            → (tag : Tag) (command : Command) (before behind : List (List ℕ))
-            → IsPartOf tag command before bytes.now behind
-            → Awaits tag before (run_in self.old).clock.now.outside
-            → Arrives tag command before bytes.now behind (run_in self.old).clock (run_in self.new).clock
-            ⊎ Refuses self.old self.new }
-        ensures sent { OnOk result (sent_in self.new ≡ sent_in self.old ++ bytes.now) }
-        ensures arrived { (IsStopped (planned_of self.new) → ⊥) → (connection_at self.old ≡ None → ⊥)
-            → (loss : Loss) → loss_by self.new ≡ Some loss
-            → (sent_in self.new ≡ sent_in self.old ++ arriving loss bytes.now)
-            ⊎ Refuses self.old self.new }
-        ensures front { OnErr result (SentSome bytes.now (sent_in self.old) (sent_in self.new)) }
+            → Downed loss bytes.now self.old self.new }
+        ensures line { SendsLine bytes.now self.old self.new result }
         ensures hears { OnOk result (HearsBytes bytes.now
             (served_by self.old (entered self.old self.new)) (entered self.old self.new)
             (server_of self.new) (run_in self.new)) }
-        ensures loses { (IsStopped (planned_of self.new) → ⊥) → (connection_at self.old ≡ None → ⊥)
-            → (loss : Loss) → loss_by self.new ≡ Some loss
-            → Loses loss bytes.now (served_by self.old (entered self.old self.new))
-            (entered self.old self.new) (run_in self.new)
-            ⊎ Refuses self.old self.new }
-        ensures unsent { IsStopped (planned_of self.new) ⊎ (connection_at self.old ≡ None)
-            → sent_in self.new ≡ sent_in self.old }
         ensures unheard { (IsStopped (planned_of self.new) → ⊥) → connection_at self.old ≡ None
             → ((run_in self.new ≡ entered self.old self.new)
             × (refused_of self.new ≡ refused_of self.old))
             ⊎ (EntersSome self.old self.new × Refuses self.old self.new) }
-        ensures received { OnOk result (connection_at self.new ≡ connection_at self.old) }
-        ensures next { planned_of self.new ≡ next_link (planned_of self.old) }
-        ensures exact { FailsExactly (LinkIsToFail (planned_of self.new) ⊎ (connection_at self.old ≡ None))
-            result (refused_of self.old) (refused_of self.new) }
-        ensures lost { OnErr result (connection_at self.new ≡ None) }
-        ensures disk { disk_faults_of self.new ≡ disk_faults_of self.old }
-        ensures count { link_faults_of self.old ≤ link_faults_of self.new }
-        ensures cause { OnErr result (Rose (link_faults_of self.old) (link_faults_of self.new)) }
-        ensures stopped { IsStopped (planned_of self.new) → run_in self.new ≡ run_in self.old }
+        ensures called { CallsLink
+            (LinkIsToFail (planned_of self.new) ⊎ (connection_at self.old ≡ None))
+            self.old self.new result }
     {
         self.enter()?;
         if !self.course.is_connected() {
@@ -589,21 +533,14 @@ impl Link for MemWorld {
         ensures bytes { IfOk result (λ n. take n into.new ≡ take n (waits_in (line_in self.old))) }
         ensures files { Linked AnyStep (run_in self.old).clock (run_in self.new).clock }
         ensures told { Linked Answering (run_in self.old).clock (run_in self.new).clock }
-        ensures sent { sent_in self.new ≡ sent_in self.old }
         ensures run { OnOk result (run_in self.new ≡ entered self.old self.new) }
         ensures loses { (IsStopped (planned_of self.new) → ⊥) → OnErr result
             ((run_in self.new ≡ entered self.old self.new)
             ⊎ (EntersSome self.old self.new × Refuses self.old self.new)) }
-        ensures received { IfOk result (λ n. IfSome (connection_at self.old) (λ c.
-            connection_at self.new ≡ Some (record c { received = c.received ++ take n into.new }))) }
-        ensures next { planned_of self.new ≡ next_link (planned_of self.old) }
-        ensures exact { FailsExactly (LinkIsToFail (planned_of self.new) ⊎ (waits_in (line_in self.old) ≡ []))
-            result (refused_of self.old) (refused_of self.new) }
-        ensures lost { OnErr result (connection_at self.new ≡ None) }
-        ensures disk { disk_faults_of self.new ≡ disk_faults_of self.old }
-        ensures count { link_faults_of self.old ≤ link_faults_of self.new }
-        ensures cause { OnErr result (Rose (link_faults_of self.old) (link_faults_of self.new)) }
-        ensures stopped { IsStopped (planned_of self.new) → run_in self.new ≡ run_in self.old }
+        ensures line { GivesLine into.new self.old self.new result }
+        ensures called { CallsLink
+            (LinkIsToFail (planned_of self.new) ⊎ (waits_in (line_in self.old) ≡ []))
+            self.old self.new result }
     {
         self.enter()?;
         if self.schedule.loss().is_some() {
@@ -622,6 +559,7 @@ impl Link for MemWorld {
         ensures told { Linked Answering (run_in self.old).clock (run_in self.new).clock }
         ensures ended { connection_at self.new ≡ None }
         ensures sent { sent_in self.new ≡ sent_in self.old }
+        ensures earlier { earlier_in self.new ≡ earlier_in self.old }
         ensures run { (IsStopped (planned_of self.new) → ⊥)
             → ((run_in self.new ≡ entered self.old self.new)
             × (refused_of self.new ≡ refused_of self.old))
@@ -632,12 +570,14 @@ impl Link for MemWorld {
         ensures disk { disk_faults_of self.new ≡ disk_faults_of self.old }
         ensures count { link_faults_of self.new ≡ link_faults_of self.old }
     {
-        self.course.lose();
         if self.schedule.next_link() {
+            self.course.lose();
             return;
         }
         let call = self.schedule.link();
-        if change_all(&mut self.course, self.schedule.foreign(), call).is_err() {
+        let done = change_all(&mut self.course, self.schedule.foreign(), call);
+        self.course.lose();
+        if done.is_err() {
             self.refused = self.refused.saturating_add(1);
         }
     }

@@ -29,7 +29,8 @@ pub struct Plan {
     /// The numbers of the calls of the link in which the connection is lost. Of two losses with one number the first counts.
     pub link_fails: List<(u64, Loss)>,
     /// Changes by other clients, in order, each with the number of the call of the link as which begins it takes place. A change that
-    /// breaks a rule then is passed over.
+    /// breaks a rule then is passed over, and so is one that would renew the mailbox that is selected in a connection that is there, or
+    /// was selected as the connection of the command that waits was lost.
     pub foreign: List<(u64, BoxName, Change)>,
     /// After so many calls, of the disk and of the link, every call fails and changes nothing.
     pub stop_after: Option<u64>,

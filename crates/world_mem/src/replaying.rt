@@ -26,7 +26,8 @@ impl Did {
             | Did::Greeted
             | Did::Began
             | Did::Waited { .. }
-            | Did::Settled => 1,
+            | Did::Settled
+            | Did::Ended => 1,
         }
     }
 }
@@ -47,7 +48,8 @@ fn redo(files: &mut TornFiles, did: &Did) -> Result<(), AllocError>
         | Did::Heard { .. }
         | Did::Began
         | Did::Waited { .. }
-        | Did::Settled => Ok(()),
+        | Did::Settled
+        | Did::Ended => Ok(()),
     }
 }
 

@@ -1,6 +1,6 @@
 //! A link over which a script comes.
 
-ghost use Rattle.std.specs.Prelude.{◌≡◌, ◌≤◌, ◌<◌, ◌+◌, ◌++◌, ◌↔◌, ◌-◌, ◌^◌, [], Some, true, false, min, length, take};
+ghost use Rattle.std.specs.Prelude.{◌≡◌, ◌≤◌, ◌<◌, ◌+◌, ◌++◌, ◌↔◌, ◌-◌, ◌^◌, [], ◌∷◌, Some, true, false, min, length, take};
 ghost use Rattle.std.specs.Prelude.{OnOk, OnErr, IfOk, IfSome, IsErr};
 ghost use Rattle.world_traits.specs.Calls.{Rose};
 ghost use Rattle.world_traits.specs.Counts.{counted};
@@ -9,8 +9,10 @@ ghost use Rattle.world_traits.specs.LinkState.{fresh};
 
 use crate::Script;
 use crate::script_rest::rest_at;
+use mail_base::Bytes;
 use std::alloc::{AllocError, Global};
 use std::marker::Model;
+use std::mem;
 use world_traits::LinkFailed;
 
 /// A script, how many of its bytes were given, and the connection in which the last of them were.
@@ -23,10 +25,12 @@ pub(crate) struct ScriptLink {
     on: bool,
     sent: Vec<u8>,
     faults: u64,
+    // What was sent before each connection, since the one before it, the first first.
+    earlier: Vec<Bytes>,
 }
 
 impl Model for ScriptLink {
-    ghost use Rattle.std.specs.Prelude.{◌≡◌, ◌≤◌, length};
+    ghost use Rattle.std.specs.Prelude.{◌≡◌, ◌≤◌, length, reverse};
     ghost use Rattle.world_mem.specs.Scripts.{next_of};
     ghost use Rattle.world_mem.specs.Scripted.{Scripted};
 
@@ -39,6 +43,7 @@ impl Model for ScriptLink {
       on = link.on;
       sent = link.sent.items;
       faults = link.faults;
+      earlier = reverse link.earlier.items;
     } };
 
     ghost invariant = { λ link.
@@ -57,6 +62,7 @@ impl ScriptLink {
             on: false,
             sent: Vec::new(alloc),
             faults: 0,
+            earlier: Vec::new(alloc),
         }
     }
 
@@ -67,14 +73,24 @@ impl ScriptLink {
         &self.sent
     }
 
-    /// Begins a connection.
-    pub fn connect(&mut self)
-        ensures now { self.new ≡ record self.old { began = self.old.given; on = true; sent = [] } }
-        ensures begins { connection_of self.new ≡ Some fresh }
+    /// Begins a connection, or leaves all as it was.
+    pub fn connect(&mut self) -> Result<(), AllocError>
+        ensures done { OnOk result (self.new ≡ record self.old {
+          began = self.old.given;
+          on = true;
+          sent = [];
+          earlier = self.old.sent ∷ self.old.earlier;
+        }) }
+        ensures begins { OnOk result (connection_of self.new ≡ Some fresh) }
+        ensures kept { OnErr result (self.new ≡ self.old) }
     {
+        self.earlier.reserve(1)?;
+        let alloc: Global = *self.sent.allocator();
+        let sent = mem::replace(&mut self.sent, Vec::new(alloc));
+        self.earlier.push_reserved(Bytes::of(sent));
         self.began = self.given;
         self.on = true;
-        self.sent.clear();
+        Ok(())
     }
 
     /// Remembers what is sent, or leaves all as it was.

@@ -17,8 +17,8 @@ use world_traits::{Clocked, Disk, DiskFailed, Link, LinkFailed, MemDisk, Side, W
 /// its end is a fault; else a call of the link fails only where a growth is refused, whether there
 /// is a connection or not. A call of the disk fails only where it is refused room.
 ///
-/// It tells its files and its connection, and no server. It grows by what is written and sent, and
-/// not by what is received.
+/// It tells its files and its connection, and no server. It grows by what is written and sent, and by
+/// each connection, and not by what is received.
 #[derive(Drop)]
 pub struct ScriptWorld {
     disk: MemDisk,
@@ -94,7 +94,7 @@ impl Disk for ScriptWorld {
     ghost use Rattle.world_traits.specs.Files.{file_of};
     ghost use Rattle.world_traits.specs.Calls.{Rose, Wrote, Synced};
     ghost use Rattle.world_traits.specs.Counts.{CountsFailure};
-    ghost use Rattle.world_mem.specs.ScriptWorlds.{disk_of, scripted_of, refused_of, disk_faults_of, seen_sound};
+    ghost use Rattle.world_mem.specs.ScriptWorlds.{disk_of, scripted_of, refused_of, disk_faults_of, seen_sound, LooksOnly};
 
     ghost seen = { λ world. (disk_of world).files };
 
@@ -103,9 +103,7 @@ impl Disk for ScriptWorld {
     /// The file's length in bytes. It never fails, and changes nothing.
     fn length(&mut self, side: Side) -> Result<u64, DiskFailed>
         ensures value { result ≡ Ok (length (file_of side (disk_of self.old).files)) }
-        ensures same { self.new.disk ≡ self.old.disk }
-        ensures link { scripted_of self.new ≡ scripted_of self.old }
-        ensures refused { refused_of self.new ≡ refused_of self.old }
+        ensures looks { LooksOnly self.old self.new }
     {
         self.disk.length(side)
     }
@@ -117,9 +115,7 @@ impl Disk for ScriptWorld {
             (length (file_of side (disk_of self.old).files) - at)) }
         ensures bytes { IfOk result (λ n.
             take n into.new ≡ take n (drop at (file_of side (disk_of self.old).files))) }
-        ensures same { self.new.disk ≡ self.old.disk }
-        ensures link { scripted_of self.new ≡ scripted_of self.old }
-        ensures refused { refused_of self.new ≡ refused_of self.old }
+        ensures looks { LooksOnly self.old self.new }
     {
         self.disk.read(side, at, into)
     }
@@ -165,30 +161,40 @@ impl Disk for ScriptWorld {
 }
 
 impl Link for ScriptWorld {
-    ghost use Rattle.std.specs.Prelude.{◌<◌, ◌++◌, ◌↔◌, [], Some, true, false, OnOk, OnErr, IfSome, IsOk, IsErr};
+    ghost use Rattle.std.specs.Prelude.{◌<◌, ◌++◌, ◌↔◌, [], ◌∷◌, Some, true, false, OnOk, OnErr, IfSome, IsErr};
     ghost use Rattle.world_traits.specs.Calls.{Rose};
     ghost use Rattle.world_traits.specs.Counts.{CountsFailure};
     ghost use Rattle.world_traits.specs.LinkState.{fresh};
     ghost use Rattle.world_mem.specs.Memory.{SentSome};
     ghost use Rattle.world_mem.specs.Scripted.{coming_in, connection_of};
-    ghost use Rattle.world_mem.specs.ScriptWorlds.{disk_of, scripted_of, refused_of};
+    ghost use Rattle.world_mem.specs.ScriptWorlds.{disk_of, scripted_of, refused_of, LeavesDisk};
 
     ghost honest = { λ world tells c is. absurd tells };
 
-    /// Begins a new connection and ends an old one. It never fails. The script goes on from where
-    /// it was.
+    /// Begins a new connection and ends an old one. It fails exactly where it is refused room. The
+    /// script goes on from where it was.
     fn connect(&mut self) -> Result<(), LinkFailed>
-        ensures done { IsOk result }
-        ensures now { scripted_of self.new ≡ record (scripted_of self.old) {
+        ensures done { OnOk result (scripted_of self.new ≡ record (scripted_of self.old) {
           began = (scripted_of self.old).given;
           on = true;
           sent = [];
-        } }
-        ensures begins { connection_of (scripted_of self.new) ≡ Some fresh }
+          earlier = (scripted_of self.old).sent ∷ (scripted_of self.old).earlier;
+        }) }
+        ensures begins { OnOk result (connection_of (scripted_of self.new) ≡ Some fresh) }
+        ensures failed { OnErr result (scripted_of self.new ≡ record (scripted_of self.old) {
+          on = false;
+          faults = counted (scripted_of self.old).faults;
+        }) }
+        ensures exact { CountsFailure result (refused_of self.old) (refused_of self.new) }
         ensures disk { self.new.disk ≡ self.old.disk }
-        ensures refused { refused_of self.new ≡ refused_of self.old }
+        ensures count { (scripted_of self.old).faults ≤ (scripted_of self.new).faults }
+        ensures cause { OnErr result
+            (Rose (scripted_of self.old).faults (scripted_of self.new).faults) }
     {
-        self.link.connect();
+        if self.link.connect().is_err() {
+            self.refuse();
+            return Err(self.link.fail());
+        }
         Ok(())
     }
 
@@ -239,8 +245,7 @@ impl Link for ScriptWorld {
         }) }
         ensures sent { (scripted_of self.new).sent ≡ (scripted_of self.old).sent }
         ensures exact { IsErr result ↔ (coming_in (scripted_of self.old) ≡ []) }
-        ensures disk { self.new.disk ≡ self.old.disk }
-        ensures refused { refused_of self.new ≡ refused_of self.old }
+        ensures leaves { LeavesDisk self.old self.new }
         ensures count { (scripted_of self.old).faults ≤ (scripted_of self.new).faults }
         ensures cause { OnErr result
             (Rose (scripted_of self.old).faults (scripted_of self.new).faults) }
@@ -251,8 +256,7 @@ impl Link for ScriptWorld {
     /// Ends the connection, where there is one.
     fn close(&mut self)
         ensures now { scripted_of self.new ≡ record (scripted_of self.old) { on = false } }
-        ensures disk { self.new.disk ≡ self.old.disk }
-        ensures refused { refused_of self.new ≡ refused_of self.old }
+        ensures leaves { LeavesDisk self.old self.new }
     {
         self.link.close();
     }

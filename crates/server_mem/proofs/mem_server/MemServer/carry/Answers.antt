@@ -12,10 +12,10 @@ enter-requires c = subst (λ (t : Server). Well t.boxes) (sym c.in_ok-told.ensur
     (turn_well c.args.self.now c.args.tag c.args.command.now c.in_ok-told.ensures.well)
 
 pub returns-clause-lawful : goal.returns-clause-lawful
-returns-clause-lawful c =
+returns-clause-lawful c = λ loud.
     let turned : c.enter.new.self ≡ after_turn c.args.self.now (turn_at c.args.self.now c.args.tag c.args.command.now) =
     entered c.args.self.now c.enter.new.self _ _ (turn_at c.args.self.now c.args.tag c.args.command.now) c.in_ok-told.ensures.server
     c.in_ok-told.ensures.selected c.in_ok-enter.ensures.done in
     subst (λ (t : State). CarriesOut (record { selected = c.args.self.now.selected; tag = c.args.tag; command = c.args.command.now }) c.args.self.now.server
     (turn_at c.args.self.now c.args.tag c.args.command.now).replies t.server t.selected) (sym turned)
-    (turn_lawful c.args.self.now c.args.tag c.args.command.now c.in_ok-told.ensures.well)
+    (turn_lawful c.args.self.now c.args.tag c.args.command.now c.in_ok-told.ensures.well loud)

@@ -1,4 +1,4 @@
-use Rattle.std.proofs.Common.{take, sym, subst}
+use Rattle.std.proofs.Common.{rules, take, sym, subst}
 use Rattle.command_texts.specs.Cutting.{NoPart}
 use Rattle.world_mem.specs.Memory.{run_of, sent_of}
 use Rattle.world_mem.proofs.Parts.{some_of_front, sent_front}
@@ -24,12 +24,14 @@ returns-clause-told c = λ tag command before behind is awaits.
     (no_front_part w.server.parts bytes c.args.count (cut_there w c.requires.on tag command before bytes behind is awaits
     c.texts_are_cut.ensures) c.requires.less))
 
-pub returns-in_err-arrive_last-clause-some : goal.returns-in_err-arrive_last-clause-some
-returns-in_err-arrive_last-clause-some c =
-    let w = c.args.self.now in anyway c.from_residual.result (some_of_front c.args.count c.args.bytes.now w.server (run_of w)
-    (run_of c.arrive_last.new.self) c.in_err-arrive_last.ensures.some)
-
-pub returns-in_err-arrive_last-clause-front : goal.returns-in_err-arrive_last-clause-front
-returns-in_err-arrive_last-clause-front c =
-    anyway c.from_residual.result (sent_front c.args.count c.args.bytes.now (sent_of c.args.self.now)
-    (sent_of c.arrive_last.new.self) c.in_err-arrive_last.ensures.front)
+pub returns-in_err-arrive_last-clause-arrives : goal.returns-in_err-arrive_last-clause-arrives
+returns-in_err-arrive_last-clause-arrives c = record {
+  earlier = search rules;
+  files = search rules;
+  some =
+      let w = c.args.self.now in anyway c.from_residual.result (some_of_front c.args.count c.args.bytes.now w.server (run_of w)
+      (run_of c.arrive_last.new.self) c.in_err-arrive_last.ensures.arrives.some);
+  front =
+      anyway c.from_residual.result (sent_front c.args.count c.args.bytes.now (sent_of c.args.self.now)
+      (sent_of c.arrive_last.new.self) c.in_err-arrive_last.ensures.arrives.front);
+}

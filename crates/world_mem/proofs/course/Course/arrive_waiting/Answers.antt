@@ -44,19 +44,24 @@ invariant_of-self-2 c =
           (subst (λ (b : List ℕ). IsWhole found.tag found.command (w.parts ++ b ∷ [])) (sym part) whole));
     }
 
-pub returns-clause-files : goal.returns-clause-files
-returns-clause-files c =
-    let w = c.args.self.now in
-    let found = c.in-Some.held in
-    let x : Held = record { part = found.part; tag = found.tag; command = found.command; carried = c.args.carried } in
-    let own : c.in_ok-own.own ≡ x = c.in_ok-own.ensures in
-    let log : c.push_reserved.new.self.items ≡ w.log.items ++ did.Waited x ∷ [] =
-    c.push_reserved.ensures.items ∙ ap (λ (l : List Did). l ++ did.Waited c.in_ok-own.own ∷ []) c.reserve.ensures.items
-    ∙ ap (λ (h : Held). w.log.items ++ did.Waited h ∷ []) own in
-    subst (λ (y : Run). Linked AnyStep (run_of w).clock y.clock)
-    (sym (one_did w.log.items c.push_reserved.new.self.items (did.Waited x)
-    (start (bytes_of w.given) w.began.value w.began_held.value) log))
-    (one_step AnyStep (arrived x.tag x.command [] [] []) (run_of w).clock tt)
+pub returns-clause-arrives : goal.returns-clause-arrives
+returns-clause-arrives c = record {
+  earlier = search rules;
+  files =
+      let w = c.args.self.now in
+      let found = c.in-Some.held in
+      let x : Held = record { part = found.part; tag = found.tag; command = found.command; carried = c.args.carried } in
+      let own : c.in_ok-own.own ≡ x = c.in_ok-own.ensures in
+      let log : c.push_reserved.new.self.items ≡ w.log.items ++ did.Waited x ∷ [] =
+      c.push_reserved.ensures.items ∙ ap (λ (l : List Did). l ++ did.Waited c.in_ok-own.own ∷ []) c.reserve.ensures.items
+      ∙ ap (λ (h : Held). w.log.items ++ did.Waited h ∷ []) own in
+      subst (λ (y : Run). Linked AnyStep (run_of w).clock y.clock)
+      (sym (one_did w.log.items c.push_reserved.new.self.items (did.Waited x)
+      (start (bytes_of w.given) w.began.value w.began_held.value) log))
+      (one_step AnyStep (arrived x.tag x.command [] [] []) (run_of w).clock tt);
+  some = search rules;
+  front = search rules;
+}
 
 pub returns-clause-told : goal.returns-clause-told
 returns-clause-told c = λ tag command before behind is awaits.
@@ -104,42 +109,45 @@ returns-in_default-clause-waits c =
       c.in_ok-arrive_last.ensures.last,
     )
 
-pub returns-in_err-held-clause-some : goal.returns-in_err-held-clause-some
-returns-in_err-held-clause-some c =
-    let w = c.args.self.now in anyway c.from_residual.result (none_of_some c.args.bytes.now w.server (run_of w) (run_of w) refl)
+pub returns-in_err-held-clause-arrives : goal.returns-in_err-held-clause-arrives
+returns-in_err-held-clause-arrives c = record {
+  earlier = search rules;
+  files = search rules;
+  some = let w = c.args.self.now in anyway c.from_residual.result (none_of_some c.args.bytes.now w.server (run_of w) (run_of w) refl);
+  front = anyway c.from_residual.result (sent_none c.args.bytes.now (sent_of c.args.self.now) (sent_of c.args.self.now) refl);
+}
 
-pub returns-in_err-own-clause-some : goal.returns-in_err-own-clause-some
-returns-in_err-own-clause-some c =
-    let w = c.args.self.now in anyway c.from_residual-in_err-own.result (none_of_some c.args.bytes.now w.server (run_of w) (run_of w) refl)
+pub returns-in_err-own-clause-arrives : goal.returns-in_err-own-clause-arrives
+returns-in_err-own-clause-arrives c = record {
+  earlier = search rules;
+  files = search rules;
+  some = let w = c.args.self.now in anyway c.from_residual-in_err-own.result (none_of_some c.args.bytes.now w.server (run_of w) (run_of w) refl);
+  front = anyway c.from_residual-in_err-own.result (sent_none c.args.bytes.now (sent_of c.args.self.now) (sent_of c.args.self.now) refl);
+}
 
-pub returns-in_err-reserve-clause-some : goal.returns-in_err-reserve-clause-some
-returns-in_err-reserve-clause-some c =
-    let w = c.args.self.now in
-    anyway c.from_residual-in_err-reserve.result
-    (none_of_some c.args.bytes.now w.server (run_of w) (run c.reserve.new.self.items (start (bytes_of w.given) w.began.value w.began_held.value))
-    (ap (λ (l : List Did). run l (start (bytes_of w.given) w.began.value w.began_held.value)) c.reserve.ensures.items))
+pub returns-in_err-reserve-clause-arrives : goal.returns-in_err-reserve-clause-arrives
+returns-in_err-reserve-clause-arrives c = record {
+  earlier = search rules;
+  files = search rules;
+  some =
+      let w = c.args.self.now in
+      anyway c.from_residual-in_err-reserve.result
+      (none_of_some c.args.bytes.now w.server (run_of w) (run c.reserve.new.self.items (start (bytes_of w.given) w.began.value w.began_held.value))
+      (ap (λ (l : List Did). run l (start (bytes_of w.given) w.began.value w.began_held.value)) c.reserve.ensures.items));
+  front = anyway c.from_residual-in_err-reserve.result (sent_none c.args.bytes.now (sent_of c.args.self.now) (sent_of c.args.self.now) refl);
+}
 
-pub returns-in_err-extend_from_slice-clause-some : goal.returns-in_err-extend_from_slice-clause-some
-returns-in_err-extend_from_slice-clause-some c =
-    let w = c.args.self.now in
-    anyway c.from_residual-in_err-extend_from_slice.result
-    (none_of_some c.args.bytes.now w.server (run_of w) (run c.reserve.new.self.items (start (bytes_of w.given) w.began.value w.began_held.value))
-    (ap (λ (l : List Did). run l (start (bytes_of w.given) w.began.value w.began_held.value)) c.reserve.ensures.items))
-
-pub returns-in_err-held-clause-front : goal.returns-in_err-held-clause-front
-returns-in_err-held-clause-front c =
-    anyway c.from_residual.result (sent_none c.args.bytes.now (sent_of c.args.self.now) (sent_of c.args.self.now) refl)
-
-pub returns-in_err-own-clause-front : goal.returns-in_err-own-clause-front
-returns-in_err-own-clause-front c =
-    anyway c.from_residual-in_err-own.result (sent_none c.args.bytes.now (sent_of c.args.self.now) (sent_of c.args.self.now) refl)
-
-pub returns-in_err-reserve-clause-front : goal.returns-in_err-reserve-clause-front
-returns-in_err-reserve-clause-front c =
-    anyway c.from_residual-in_err-reserve.result (sent_none c.args.bytes.now (sent_of c.args.self.now) (sent_of c.args.self.now) refl)
-
-pub returns-in_err-extend_from_slice-clause-front : goal.returns-in_err-extend_from_slice-clause-front
-returns-in_err-extend_from_slice-clause-front c =
-    let same : c.extend_from_slice.new.self.items ≡ sent_of c.args.self.now = search rules in
-    anyway c.from_residual-in_err-extend_from_slice.result
-    (sent_none c.args.bytes.now (sent_of c.args.self.now) c.extend_from_slice.new.self.items same)
+pub returns-in_err-extend_from_slice-clause-arrives : goal.returns-in_err-extend_from_slice-clause-arrives
+returns-in_err-extend_from_slice-clause-arrives c = record {
+  earlier = search rules;
+  files = search rules;
+  some =
+      let w = c.args.self.now in
+      anyway c.from_residual-in_err-extend_from_slice.result
+      (none_of_some c.args.bytes.now w.server (run_of w) (run c.reserve.new.self.items (start (bytes_of w.given) w.began.value w.began_held.value))
+      (ap (λ (l : List Did). run l (start (bytes_of w.given) w.began.value w.began_held.value)) c.reserve.ensures.items));
+  front =
+      let same : c.extend_from_slice.new.self.items ≡ sent_of c.args.self.now = search rules in
+      anyway c.from_residual-in_err-extend_from_slice.result
+      (sent_none c.args.bytes.now (sent_of c.args.self.now) c.extend_from_slice.new.self.items same);
+}

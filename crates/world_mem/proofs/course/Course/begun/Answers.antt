@@ -15,9 +15,9 @@ invariant_of-result c =
     let files : c.new.result ≡ torn_at (start given a.server a.held).clock.now given = search rules in
     record {
       stands = subst (λ s. Stands c.new.result a.server c.phase_of.result a.held c.new-2.result 0 c.new-4.result.items 0
-          (run c.new-5.result.items (start given s c.of-2.result.value))) (sym same)
+          (run c.new-6.result.items (start given s c.of-2.result.value))) (sym same)
           (subst (λ h. Stands c.new.result a.server c.phase_of.result a.held c.new-2.result 0 c.new-4.result.items 0
-          (run c.new-5.result.items (start given a.server h))) (sym same_held)
-          (begun_stands c.new.result given a.server c.phase_of.result a.held c.new-2.result c.new-4.result.items c.new-5.result.items files
-          c.phase_of.ensures c.requires.whole c.requires.sound c.requires.ends c.new-5.ensures.items));
+          (run c.new-6.result.items (start given a.server h))) (sym same_held)
+          (begun_stands c.new.result given a.server c.phase_of.result a.held c.new-2.result c.new-4.result.items c.new-6.result.items files
+          c.phase_of.ensures c.requires.whole c.requires.sound c.requires.ends c.requires.lawful c.new-6.ensures.items));
     }

@@ -1,4 +1,5 @@
-use Rattle.std.proofs.Common.{◌≡◌, List, [], ◌∷◌, ◌++◌, sym, ◌∙◌, ap, subst}
+use Rattle.std.proofs.Common.{◌≡◌, ℕ, List, [], ◌∷◌, ◌++◌, reverse, sym, ◌∙◌, ap, subst}
+use Rattle.std.proofs.lemmas.List.{reverse-append}
 use Rattle.world_mem.specs.Image.{bytes_of}
 use Rattle.world_mem.specs.Running.{Run, start}
 use Rattle.world_mem.specs.Standing.{Stands}
@@ -50,3 +51,11 @@ returns-clause-greets c =
     c.push_reserved.ensures.items ∙ ap (λ (l : List Did). l ++ did.Greeted ∷ []) c.reserve.ensures.items in
     subst (λ (x : Run). IsGreeted x.clock.now.outside) (sym (one_did w.log.items c.push_reserved.new.self.items did.Greeted
     (start (bytes_of w.given) w.began.value w.began_held.value) is)) (greeted_now (run_of w))
+
+pub returns-clause-earlier : goal.returns-clause-earlier
+returns-clause-earlier c =
+    let w = c.args.self.now in
+    let sent : c.of.result ≡ w.sent.items = c.of.ensures ∙ ap (λ v. v.items) c.replace-sent.ensures.value in
+    ap reverse (c.push_reserved-2.ensures.items ∙ ap (λ (l : List (List ℕ)). l ++ c.of.result ∷ []) c.reserve-2.ensures.items)
+    ∙ reverse-append w.earlier.items (c.of.result ∷ [])
+    ∙ ap (λ (b : List ℕ). b ∷ reverse w.earlier.items) sent

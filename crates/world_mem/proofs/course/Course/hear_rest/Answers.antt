@@ -18,16 +18,17 @@ pub loop-preserved : goal.loop-preserved
 loop-preserved c =
     let l = c.loop.self in
     let one = c.in_ok-hear_next.ensures.more c.if-branch.true in (
-      c.in_ok-hear_next.ensures.phase,
+      c.in_ok-hear_next.ensures.listens.phase,
       linked_then AnyStep (run_of c.args.self.now).clock (run_of l).clock (run_of c.hear_next.new.self).clock c.loop.invariant.1
           (any_heard l.server c.hear_next.new.self.server (run_of l) (run_of c.hear_next.new.self) one),
       (λ none. absurd (none_heard l.server c.hear_next.new.self.server (run_of l) (run_of c.hear_next.new.self) (c.loop.invariant.2 none).1 one)),
-      c.in_ok-hear_next.ensures.had ∙ c.loop.invariant.3,
+      c.in_ok-hear_next.ensures.listens.had ∙ c.loop.invariant.3,
       hears c.loop.invariant.4 one,
+      c.hear_next.ensures.listens.earlier ∙ c.loop.invariant.5,
     )
 
 pub loop-init : goal.loop-init
-loop-init c = (c.requires, linked_start AnyStep (run_of c.args.self.now).clock, (λ none. (refl, none)), refl, stops)
+loop-init c = (c.requires, linked_start AnyStep (run_of c.args.self.now).clock, (λ none. (refl, none)), refl, stops, refl)
 
 pub returns-in_err-hear_next-clause-some : goal.returns-in_err-hear_next-clause-some
 returns-in_err-hear_next-clause-some c =
@@ -37,8 +38,13 @@ returns-in_err-hear_next-clause-some c =
     (parts_or_not w.server l.server c.hear_next.new.self.server (run_of w) (run_of l)
     (run_of c.hear_next.new.self) c.loop.invariant.4 c.in_err-hear_next.ensures.broken)
 
-pub returns-in_err-hear_next-clause-sent : goal.returns-in_err-hear_next-clause-sent
-returns-in_err-hear_next-clause-sent c = c.hear_next.ensures.sent ∙ ap (λ (h : Had). h.sent) c.loop.invariant.3
+pub returns-in_err-hear_next-clause-listens : goal.returns-in_err-hear_next-clause-listens
+returns-in_err-hear_next-clause-listens c = record {
+  sent = c.hear_next.ensures.listens.sent ∙ ap (λ (h : Had). h.sent) c.loop.invariant.3;
+  earlier = c.hear_next.ensures.listens.earlier ∙ c.loop.invariant.5;
+  phase = search rules;
+  had = search rules;
+}
 
 pub returns-clause-all : goal.returns-clause-all
 returns-clause-all c =
@@ -48,5 +54,10 @@ returns-clause-all c =
     all_heard w.server l.server c.hear_next.new.self.server (run_of w) (run_of l) (run_of c.hear_next.new.self) c.loop.invariant.4
     (c.in_ok-hear_next.ensures.server none) (c.in_ok-hear_next.ensures.same none) (c.in_ok-hear_next.ensures.rest none)
 
-pub returns-clause-sent : goal.returns-clause-sent
-returns-clause-sent c = c.hear_next.ensures.sent ∙ ap (λ (h : Had). h.sent) c.loop.invariant.3
+pub returns-clause-listens : goal.returns-clause-listens
+returns-clause-listens c = record {
+  sent = c.hear_next.ensures.listens.sent ∙ ap (λ (h : Had). h.sent) c.loop.invariant.3;
+  earlier = c.hear_next.ensures.listens.earlier ∙ c.loop.invariant.5;
+  phase = search rules;
+  had = search rules;
+}

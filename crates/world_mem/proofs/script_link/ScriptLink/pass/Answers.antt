@@ -1,4 +1,4 @@
-use Rattle.std.proofs.Common.{◌≡◌, ◌+◌, ◌≤◌, ◌++◌, Some, IfSome, arith, sym, subst, length, take}
+use Rattle.std.proofs.Common.{◌≡◌, ◌+◌, ◌≤◌, ◌++◌, Some, IfSome, arith, sym, subst, length, reverse, take}
 use Rattle.world_mem.specs.Scripted.{Scripted, connection_of, coming_in}
 use Rattle.world_mem.proofs.Stepping.{gives_more, receives_more}
 use Rattle.world_mem.proofs.script_link.ScriptLink.pass.Goals as goal
@@ -18,6 +18,7 @@ returns-clause-received c =
       on = c.self.inside.on;
       sent = c.self.inside.sent.items;
       faults = c.self.inside.faults;
+      earlier = reverse c.self.inside.earlier.items;
     } in
     subst (λ (p : Scripted). IfSome (connection_of p) (λ k. connection_of (record fields { given = fields.given + c.args.count })
     ≡ Some (record k { received = k.received ++ take c.args.count (coming_in p) }))) c.self.view_is
