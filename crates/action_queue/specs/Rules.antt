@@ -1,6 +1,7 @@
 -- The rules of the book (this client's profile): each as a test of its own, and the first one that an event breaks.
 use Rattle.std.specs.Prelude.{ℕ, ◌+◌, Bool, true, false, not, ◌&&◌, ◌||◌, ◌==◌, cond, nat_lt, nat_le, List, [], ◌∷◌, length, bytes_eq}
 use Rattle.std.specs.Prelude.{Option, Some, None, is_some, is_none}
+use Rattle.mail_base.specs.declared.limits.TheConstants.{MAX_ACTIONS, MAX_ROWS}
 use Rattle.mailbox_cache.specs.declared.cache.Cache.{Cache}
 use Rattle.mailbox_cache.specs.declared.delta.Delta.{Delta}
 use Rattle.action_queue.specs.declared.target.Target.{Target}
@@ -216,7 +217,7 @@ is_lower_mark (Some cache) delta = nat_lt delta.highest cache.highest
 abbrev pub delta_of : Option Cache → Delta → Option Rule
 delta_of cache delta =
     cond (is_wrong_whole cache delta) (Some rule.WrongWhole) (cond (is_wrong_validity cache delta) (Some rule.WrongValidity)
-    (cond (is_lower_mark cache delta) (Some rule.LowerMark) (cond (nat_lt 200000 (length (learned cache delta).rows)) (Some rule.TooManyRows) None)))
+    (cond (is_lower_mark cache delta) (Some rule.LowerMark) (cond (nat_lt MAX_ROWS (length (learned cache delta).rows)) (Some rule.TooManyRows) None)))
 
 -- whether an event breaks a rule that speaks of accepted actions
 abbrev pub breaks_accept : Meaning → ℕ → Action → Rule → Bool
@@ -224,7 +225,7 @@ breaks_accept b id action rule.BeginAgain = false
 breaks_accept b id action rule.WrongNumber = not (id == length b.queue + 1)
 breaks_accept b id action rule.UnknownBox = is_unknown_action b.boxes action
 breaks_accept b id action rule.BadTarget = is_bad_action b.queue action
-breaks_accept b id action rule.TooMany = nat_le 1000000 (length b.queue)
+breaks_accept b id action rule.TooMany = nat_le MAX_ACTIONS (length b.queue)
 breaks_accept b id action rule.PendingAlready = false
 breaks_accept b id action rule.NothingWaiting = false
 breaks_accept b id action rule.WrongAction = false
@@ -296,7 +297,7 @@ breaks_learn b name delta rule.WrongKind = false
 breaks_learn b name delta rule.WrongWhole = is_wrong_whole (cache_at name b.boxes) delta
 breaks_learn b name delta rule.WrongValidity = is_wrong_validity (cache_at name b.boxes) delta
 breaks_learn b name delta rule.LowerMark = is_lower_mark (cache_at name b.boxes) delta
-breaks_learn b name delta rule.TooManyRows = nat_lt 200000 (length (learned (cache_at name b.boxes) delta).rows)
+breaks_learn b name delta rule.TooManyRows = nat_lt MAX_ROWS (length (learned (cache_at name b.boxes) delta).rows)
 
 -- a book has begun, so it never begins again
 abbrev pub breaks_begin : Rule → Bool

@@ -1,5 +1,6 @@
 -- Which events have a record: what the types don't say (this client's profile; RFC 5322, section 3.6.4, for the Message-ID).
 use Rattle.std.specs.Prelude.{ℕ, ◌≤◌, List, [], ◌∷◌, length, ⊤}
+use Rattle.mail_base.specs.declared.limits.TheConstants.{MAX_ROWS}
 use Rattle.mail_header.specs.Identifier.{HasMessageId}
 use Rattle.mailbox_cache.specs.declared.row.Row.{Row}
 use Rattle.action_queue.specs.declared.action.Action.{Action}
@@ -25,4 +26,4 @@ IsWritable (events.Begin names) = AreNames names
 IsWritable (events.Accept id action) = IsWritableAction action
 IsWritable (events.Intend id intent) = ⊤
 IsWritable (events.Settle id outcome) = ⊤
-IsWritable (events.Learn name delta) = (length delta.rows ≤ 200000) × HaveFewFlags delta.rows
+IsWritable (events.Learn name delta) = (length delta.rows ≤ MAX_ROWS) × HaveFewFlags delta.rows

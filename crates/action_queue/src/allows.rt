@@ -4,10 +4,8 @@ ghost use Rattle.std.specs.Prelude.{◌≡◌};
 ghost use Rattle.action_queue.specs.Book.{meaning};
 ghost use Rattle.action_queue.specs.Rules as spec;
 
-use crate::{
-    Action, Book, Event, Intent, Kind, MAX_ACTIONS, MAX_ROWS, Outcome, Place, Rule, Target, Version,
-};
-use mail_base::{ActionId, BoxName, ModSeq};
+use crate::{Action, Book, Event, Intent, Kind, Outcome, Place, Rule, Target, Version};
+use mail_base::{ActionId, BoxName, MAX_ACTIONS, MAX_ROWS, ModSeq};
 use mailbox_cache::{Cache, Delta};
 
 impl Book {

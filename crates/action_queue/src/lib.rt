@@ -24,5 +24,5 @@ pub use outcome::{Kind, Outcome, Place};
 pub use queue::Queue;
 pub use queued::Queued;
 pub use ready::Ready;
-pub use rule::{MAX_ACTIONS, MAX_ROWS, Rule, Version};
+pub use rule::{Rule, Version};
 pub use target::Target;

@@ -4,7 +4,8 @@ ghost use Rattle.std.specs.Prelude.{◌≡◌, ◌≤◌, ◌<◌, ◌∷◌, �
 ghost use Rattle.std.specs.Option.{option_copied};
 ghost use Rattle.action_queue.specs.Queues.{due, due_action, accepted, settled, change_first};
 
-use crate::{Action, MAX_ACTIONS, Outcome, Queued};
+use crate::{Action, Outcome, Queued};
+use mail_base::MAX_ACTIONS;
 use std::alloc::{AllocError, Global};
 use std::marker::Model;
 
@@ -17,6 +18,7 @@ pub struct Queue {
 }
 
 impl Model for Queue {
+    ghost use Rattle.mail_base.specs.declared.limits.TheConstants.{MAX_ACTIONS};
     ghost use Rattle.std.specs.Prelude.{◌≡◌, ◌≤◌, ◌-◌, length, vec_len, vec_capacity};
     ghost use Rattle.action_queue.specs.Queues.{Entries, due, IsInOrder};
 
@@ -24,7 +26,7 @@ impl Model for Queue {
 
     ghost view = { λ queue. record { items = queue.items.items; spare = vec_capacity queue.items - vec_len queue.items } };
 
-    ghost invariant = { λ queue. (queue.settled ≡ due queue.items.items) × IsInOrder queue.items.items × (length queue.items.items ≤ 1000000) };
+    ghost invariant = { λ queue. (queue.settled ≡ due queue.items.items) × IsInOrder queue.items.items × (length queue.items.items ≤ MAX_ACTIONS) };
 }
 
 impl Queue {
@@ -48,7 +50,7 @@ impl Queue {
     /// How many actions there are.
     pub fn len(&self) -> usize
         ensures value { result ≡ length self.now.items }
-        ensures most { result ≤ 1000000 }
+        ensures most { result ≤ MAX_ACTIONS }
     {
         self.items.len()
     }
@@ -57,7 +59,7 @@ impl Queue {
     pub fn settled(&self) -> usize
         ensures value { result ≡ due self.now.items }
         ensures within { result ≤ length self.now.items }
-        ensures most { result ≤ 1000000 }
+        ensures most { result ≤ MAX_ACTIONS }
     {
         self.settled
     }
@@ -85,7 +87,7 @@ impl Queue {
     // Accepts an action.
     pub(crate) fn accept(&mut self, action: Action)
         requires room { 1 ≤ self.old.spare }
-        requires few { length self.old.items < 1000000 }
+        requires few { length self.old.items < MAX_ACTIONS }
         ensures { self.new.items ≡ self.old.items ++ accepted action ∷ [] }
     {
         self.items.push_reserved(Queued {

@@ -11,7 +11,7 @@ ghost use Rattle.action_queue.specs.Rules.{delta_of};
 ghost use Rattle.action_queue.specs.declared.event.Event.TheVariants as events;
 
 use crate::{Action, Book, Event, Known, Outcome};
-use mail_base::{ActionId, BoxName, List};
+use mail_base::{ActionId, BoxName, List, MAX_ACTIONS};
 use mailbox_cache::{Cache, Delta, Room};
 use std::alloc::{AllocError, Global};
 use std::mem;
@@ -118,7 +118,7 @@ impl Book {
 
     // Puts an action behind the others.
     fn follow_action(&mut self, action: Action) -> Result<(), AllocError>
-        requires few { length self.old.queue.items < 1000000 }
+        requires few { length self.old.queue.items < MAX_ACTIONS }
         ensures queue { OnOk result (self.new.queue.items ≡ self.old.queue.items ++ accepted action ∷ []) }
         ensures boxes { self.new.boxes ≡ self.old.boxes }
         ensures pending { self.new.pending ≡ self.old.pending }

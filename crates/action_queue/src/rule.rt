@@ -1,11 +1,5 @@
 //! The rules of the book, which say which events may come.
 
-/// The most actions of a queue (this client's profile).
-pub const MAX_ACTIONS: usize = 1_000_000;
-
-/// The most rows of a mailbox's cache (this client's profile).
-pub const MAX_ROWS: usize = 200_000;
-
 /// The version of a journal. Both have the same rules so far.
 #[derive(Clone, Copy, Debug, PartialEq, Eq)]
 pub enum Version {

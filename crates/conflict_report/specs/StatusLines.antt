@@ -43,6 +43,7 @@ item_name items.AppendUid = codes "APPENDUID"
 item_name items.Flags = codes "FLAGS"
 item_name items.ModSeq = codes "MODSEQ"
 item_name items.Row = codes "ROW"
+item_name items.Body = codes "BODY"
 
 -- the bytes that came in the connection don't go on as a reply at this place
 abbrev pub error_reply_at : ℕ → List ℕ
@@ -74,6 +75,7 @@ limit_name limits.Flags = codes "flags"
 limit_name limits.Flag = codes "flag"
 limit_name limits.Journal = codes "journal"
 limit_name limits.Actions = codes "actions"
+limit_name limits.Generation = codes "generation"
 
 -- a limit is passed by this number
 abbrev pub error_limit : Limit → ℕ → List ℕ

@@ -238,13 +238,14 @@ fn item_name(item: Item) -> &'static [u8]
         Item::Flags => b"FLAGS",
         Item::ModSeq => b"MODSEQ",
         Item::Row => b"ROW",
+        Item::Body => b"BODY",
     }
 }
 
 // The name of a limit.
 fn limit_name(which: Limit) -> &'static [u8]
     ensures value { result.now ≡ limit_name which }
-    ensures few { length result.now ≤ 7 }
+    ensures few { length result.now ≤ 10 }
 {
     match which {
         Limit::Literal => b"literal",
@@ -255,5 +256,6 @@ fn limit_name(which: Limit) -> &'static [u8]
         Limit::Flag => b"flag",
         Limit::Journal => b"journal",
         Limit::Actions => b"actions",
+        Limit::Generation => b"generation",
     }
 }

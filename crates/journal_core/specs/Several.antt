@@ -61,7 +61,8 @@ GoesFew journal after next =
     × (after.failed ≡ journal.failed)
     × (after.version ≡ journal.version)
 
--- the link stays, and a fault of the disk is told only where its count rose
+-- the link stays; a fault of the disk is told only where its count rose, and the count stays where none is told
 abbrev pub CountsFaults : {T : Type 0} → LinkState → LinkState → ℕ → ℕ → Result T OpenFault → Type 0
 CountsFaults link link_after count count_after result =
     (link_after ≡ link) × (count ≤ count_after) × (IsErrOf result faults.Disk → Rose count count_after)
+    × ((IsErrOf result faults.Disk → ⊥) → count_after ≡ count)

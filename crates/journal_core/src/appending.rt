@@ -67,6 +67,8 @@ impl Journal {
         ensures count { D.disk_faults disk.old ≤ D.disk_faults disk.new }
         ensures cause { IsErrOf result faults.Disk →
             Rose (D.disk_faults disk.old) (D.disk_faults disk.new) }
+        ensures unfailed { (IsErrOf result faults.Disk → ⊥) →
+            D.disk_faults disk.new ≡ D.disk_faults disk.old }
     {
         let end = self.place.saturating_add(1);
         let wanted = end.saturating_add(frame.len() as u64);

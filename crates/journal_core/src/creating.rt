@@ -97,6 +97,8 @@ impl Journal {
         ensures count { D.disk_faults disk.old ≤ D.disk_faults disk.new }
         ensures cause { IsErrOf result faults.Disk →
             Rose (D.disk_faults disk.old) (D.disk_faults disk.new) }
+        ensures unfailed { (IsErrOf result faults.Disk → ⊥) →
+            D.disk_faults disk.new ≡ D.disk_faults disk.old }
     {
         let (left, right) = match read_sides(disk) {
             Ok(heads) => heads,

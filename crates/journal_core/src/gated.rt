@@ -1,6 +1,6 @@
 //! Bytes are put behind a closed gate, and count once it is open.
 
-ghost use Rattle.std.specs.Prelude.{◌≡◌, ◌≤◌, ◌+◌, ◌^◌, length, OnErr};
+ghost use Rattle.std.specs.Prelude.{◌≡◌, ◌≤◌, ◌+◌, ◌^◌, length, OnErr, OnOk};
 ghost use Rattle.world_traits.specs.Calls.{Rose};
 ghost use Rattle.world_traits.specs.Files.{other};
 ghost use Rattle.world_traits.specs.Moments.{stored};
@@ -34,6 +34,7 @@ pub fn write_gated<D: Disk>(
     ensures link { D.link disk.new ≡ D.link disk.old }
     ensures count { D.disk_faults disk.old ≤ D.disk_faults disk.new }
     ensures cause { OnErr result (Rose (D.disk_faults disk.old) (D.disk_faults disk.new)) }
+    ensures unfailed { OnOk result (D.disk_faults disk.new ≡ D.disk_faults disk.old) }
 {
     disk.write_at(side, place + 1, fresh)?;
     disk.sync(side)?;

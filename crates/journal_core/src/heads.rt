@@ -1,6 +1,6 @@
 //! The head of a side is read: a gate, a magic word of 8 bytes and a generation of 4.
 
-ghost use Rattle.std.specs.Prelude.{◌≡◌, ◌≤◌, take, length, IfOk, OnErr};
+ghost use Rattle.std.specs.Prelude.{◌≡◌, ◌≤◌, take, length, IfOk, OnOk, OnErr};
 ghost use Rattle.world_traits.specs.Calls.{Rose};
 ghost use Rattle.world_traits.specs.Files.{file_of};
 ghost use Rattle.journal_core.specs.Heads.{HeadIs};
@@ -61,6 +61,7 @@ pub fn read_head<D: Disk>(disk: &mut D, side: Side) -> Result<Head, DiskFailed>
     ensures link { D.link disk.new ≡ D.link disk.old }
     ensures count { D.disk_faults disk.old ≤ D.disk_faults disk.new }
     ensures cause { OnErr result (Rose (D.disk_faults disk.old) (D.disk_faults disk.new)) }
+    ensures unfailed { OnOk result (D.disk_faults disk.new ≡ D.disk_faults disk.old) }
 {
     let mut front = [0; HEAD];
     let count = disk.read(side, 0, &mut front)?;

@@ -47,6 +47,8 @@ impl Journal {
         ensures count { D.disk_faults disk.old ≤ D.disk_faults disk.new }
         ensures cause { IsErrOf result faults.Disk →
             Rose (D.disk_faults disk.old) (D.disk_faults disk.new) }
+        ensures unfailed { (IsErrOf result faults.Disk → ⊥) →
+            D.disk_faults disk.new ≡ D.disk_faults disk.old }
     {
         let (left, right) = match read_sides(disk) {
             Ok(heads) => heads,
@@ -71,6 +73,7 @@ pub fn read_sides<D: Disk>(disk: &mut D) -> Result<(Head, Head), DiskFailed>
     ensures link { D.link disk.new ≡ D.link disk.old }
     ensures count { D.disk_faults disk.old ≤ D.disk_faults disk.new }
     ensures cause { OnErr result (Rose (D.disk_faults disk.old) (D.disk_faults disk.new)) }
+    ensures unfailed { OnOk result (D.disk_faults disk.new ≡ D.disk_faults disk.old) }
 {
     settle_both(disk)?;
     let left = read_head(disk, Side::Left)?;

@@ -1,6 +1,6 @@
 //! The records of an open journal are read one by one.
 
-ghost use Rattle.std.specs.Prelude.{◌≡◌, ◌≤◌, ◌+◌, ◌-◌, ◌^◌, ◌++◌, List, ℕ, min, take, drop, length};
+ghost use Rattle.std.specs.Prelude.{◌≡◌, ◌≤◌, ◌+◌, ◌-◌, ◌^◌, ◌++◌, List, ℕ, min, take, drop, length, OnOk};
 ghost use Rattle.std.specs.Prelude.{◌<◌, IfNone, IfOk, IsErrOf, IsTrue, OnErr, OnSome};
 ghost use Rattle.world_traits.specs.Calls.{Rose};
 ghost use Rattle.world_traits.specs.Files.{file_of};
@@ -71,6 +71,8 @@ impl Journal {
         ensures count { D.disk_faults disk.old ≤ D.disk_faults disk.new }
         ensures cause { IsErrOf result faults.Disk →
             Rose (D.disk_faults disk.old) (D.disk_faults disk.new) }
+        ensures unfailed { (IsErrOf result faults.Disk → ⊥) →
+            D.disk_faults disk.new ≡ D.disk_faults disk.old }
     {
         match read_front(disk, self.side, self.place) {
             Err(_failed) => Err(OpenFault::Disk),
@@ -100,6 +102,7 @@ fn read_front<D: Disk>(disk: &mut D, side: Side, place: u64) -> Result<Front, Di
     ensures link { D.link disk.new ≡ D.link disk.old }
     ensures count { D.disk_faults disk.old ≤ D.disk_faults disk.new }
     ensures cause { OnErr result (Rose (D.disk_faults disk.old) (D.disk_faults disk.new)) }
+    ensures unfailed { OnOk result (D.disk_faults disk.new ≡ D.disk_faults disk.old) }
 {
     let mut bytes = [0; 5];
     let count = disk.read(side, place, &mut bytes)?;
@@ -144,6 +147,8 @@ pub fn read_up_to<D: Disk>(
     ensures count { D.disk_faults disk.old ≤ D.disk_faults disk.new }
     ensures cause { IsErrOf result faults.Disk →
         Rose (D.disk_faults disk.old) (D.disk_faults disk.new) }
+    ensures unfailed { (IsErrOf result faults.Disk → ⊥) →
+        D.disk_faults disk.new ≡ D.disk_faults disk.old }
 {
     let mut body = Vec::new(alloc);
     body.resize(size as usize, 0)?;
@@ -171,6 +176,8 @@ pub fn read_there<D: Disk>(
     ensures count { D.disk_faults disk.old ≤ D.disk_faults disk.new }
     ensures cause { IsErrOf result faults.Disk →
         Rose (D.disk_faults disk.old) (D.disk_faults disk.new) }
+    ensures unfailed { (IsErrOf result faults.Disk → ⊥) →
+        D.disk_faults disk.new ≡ D.disk_faults disk.old }
 {
     read_up_to(alloc, disk, side, at, size)
 }

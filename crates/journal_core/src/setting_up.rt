@@ -1,6 +1,6 @@
 //! A side of the journal is set up, so that a stop leaves it not begun or with all its records.
 
-ghost use Rattle.std.specs.Prelude.{◌≡◌, ◌≤◌, ◌+◌, ◌^◌, ℕ, List, length, OnErr};
+ghost use Rattle.std.specs.Prelude.{◌≡◌, ◌≤◌, ◌+◌, ◌^◌, ℕ, List, length, OnOk, OnErr};
 ghost use Rattle.world_traits.specs.Calls.{Rose};
 ghost use Rattle.world_traits.specs.Files.{other};
 ghost use Rattle.world_traits.specs.Moments.{stored};
@@ -27,6 +27,7 @@ pub fn set_up<D: Disk>(disk: &mut D, side: Side, fresh: &[u8]) -> Result<(), Dis
     ensures link { D.link disk.new ≡ D.link disk.old }
     ensures count { D.disk_faults disk.old ≤ D.disk_faults disk.new }
     ensures cause { OnErr result (Rose (D.disk_faults disk.old) (D.disk_faults disk.new)) }
+    ensures unfailed { OnOk result (D.disk_faults disk.new ≡ D.disk_faults disk.old) }
 {
     close_head(disk, side)?;
     write_gated(disk, side, 0, fresh)
@@ -43,6 +44,7 @@ fn close_head<D: Disk>(disk: &mut D, side: Side) -> Result<(), DiskFailed>
     ensures link { D.link disk.new ≡ D.link disk.old }
     ensures count { D.disk_faults disk.old ≤ D.disk_faults disk.new }
     ensures cause { OnErr result (Rose (D.disk_faults disk.old) (D.disk_faults disk.new)) }
+    ensures unfailed { OnOk result (D.disk_faults disk.new ≡ D.disk_faults disk.old) }
 {
     let mut front = [0; HEAD];
     let count = disk.read(side, 0, &mut front)?;

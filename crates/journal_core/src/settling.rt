@@ -18,6 +18,7 @@ pub fn settle_both<D: Disk>(disk: &mut D) -> Result<(), DiskFailed>
     ensures link { D.link disk.new ≡ D.link disk.old }
     ensures count { D.disk_faults disk.old ≤ D.disk_faults disk.new }
     ensures cause { OnErr result (Rose (D.disk_faults disk.old) (D.disk_faults disk.new)) }
+    ensures unfailed { OnOk result (D.disk_faults disk.new ≡ D.disk_faults disk.old) }
 {
     disk.sync(Side::Left)?;
     disk.sync(Side::Right)

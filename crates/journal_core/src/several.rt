@@ -1,6 +1,6 @@
 //! Several records of an open journal are read by one call of the disk.
 
-ghost use Rattle.std.specs.Prelude.{◌≡◌, ◌≤◌, ◌+◌, ◌-◌, ◌<◌, ◌++◌, [], List, ℕ, drop, length, unwrap_or};
+ghost use Rattle.std.specs.Prelude.{◌≡◌, ◌≤◌, ◌+◌, ◌-◌, ◌<◌, ◌++◌, [], List, ℕ, drop, length, unwrap_or, OnOk};
 ghost use Rattle.std.specs.Prelude.{IfNone, IfOk, IfSome, IsErrOf, IsTrue, OnErr};
 ghost use Rattle.world_traits.specs.Calls.{Rose};
 ghost use Rattle.world_traits.specs.Files.{file_of};
@@ -60,6 +60,8 @@ impl Journal {
         ensures count { D.disk_faults disk.old ≤ D.disk_faults disk.new }
         ensures cause { IsErrOf result faults.Disk →
             Rose (D.disk_faults disk.old) (D.disk_faults disk.new) }
+        ensures unfailed { (IsErrOf result faults.Disk → ⊥) →
+            D.disk_faults disk.new ≡ D.disk_faults disk.old }
     {
         self.next_within(alloc, disk, PIECE)
     }
@@ -175,6 +177,7 @@ fn missing_there<D: Disk>(
     ensures link { D.link disk.new ≡ D.link disk.old }
     ensures count { D.disk_faults disk.old ≤ D.disk_faults disk.new }
     ensures cause { OnErr result (Rose (D.disk_faults disk.old) (D.disk_faults disk.new)) }
+    ensures unfailed { OnOk result (D.disk_faults disk.new ≡ D.disk_faults disk.old) }
 {
     let missing = missing_in(piece);
     if missing == 0 {

@@ -3,7 +3,7 @@ use Rattle.std.proofs.Common.{◌≡◌, ℕ, List, [], ◌∷◌, sym, subst}
 use Rattle.imap_model.specs.Changes.{Batch}
 use Rattle.imap_model.specs.Talking.{Peer, Answering, Connecting}
 use Rattle.imap_model.specs.Talking.Answering.{stays, others, goes_on, refuses, carries}
-use Rattle.imap_model.specs.Talking.Connecting.{as_before, begins}
+use Rattle.imap_model.specs.Talking.Connecting.{as_before, begins, ends}
 use Rattle.imap_model.specs.WellFormed.{IsWellFormed}
 use Rattle.imap_model.specs.declared.server.Server.{Server}
 use Rattle.imap_model.proofs.Evolution.{batches_stay}
@@ -40,6 +40,7 @@ module _ (name : List ℕ) (P : Server → Type 0)
 
   connecting_held : (p q : Peer) → Connecting p q → Spared p q → Held p → Held q
   connecting_held p q (as_before step) fair h = answering_held p q step fair h
+  connecting_held p q ends fair h = (record { well = h.0.well; no_change = h.0.no_change }, h.1)
   connecting_held p q (begins greeting is) fair h = (record { well = h.0.well; no_change = tt }, h.1)
 
   enquiring_held : (p q : Peer) → Enquiring p q → Spared p q → Held p → Held q

@@ -4,6 +4,7 @@ use Rattle.imap_model.specs.declared.command.Command.{Command}
 use Rattle.imap_model.specs.declared.item.Item.{Item}
 use Rattle.imap_model.specs.declared.replies.Replies.{Replies}
 use Rattle.imap_model.specs.declared.response.Response.{Response}
+use Rattle.imap_model.specs.declared.server.Server.{Server}
 use Rattle.imap_session.specs.Causes.{FailsBehind}
 use Rattle.imap_session.specs.Dialogue.{BrokeOff, next_tag, next_text}
 use Rattle.imap_session.specs.Dialogue.Dialogue.{Asks, Ends}
@@ -16,6 +17,7 @@ use Rattle.play_driver.proofs.Learned.{learns_faultless}
 use Rattle.play_driver.specs.Faults.{IsReplyFault, of_resync, of_session, of_unheard}
 use Rattle.play_driver.specs.Joining.{AllFair}
 use Rattle.play_driver.specs.KnownAt.{HeardAt, StandsKept}
+use Rattle.play_driver.specs.Levelling.{IsOutdated}
 use Rattle.play_driver.specs.Played.{played}
 use Rattle.play_driver.specs.Resynchronising.{Resyncs, fetches, resync, select_of}
 use Rattle.play_driver.specs.declared.fault.PlayFault.{PlayFault}
@@ -27,7 +29,8 @@ use Rattle.playback.specs.Worlds.{World}
 use Rattle.playback.specs.declared.need.Unheard.{Unheard}
 use Rattle.playback.specs.declared.player.Player.{Player}
 use Rattle.qresync_core.specs.declared.fault.ResyncFault.{ResyncFault}
-use Rattle.std.proofs.Common.{Bool, Err, List, Option, Result, false, inl, inr, refl, subst, sym, true, ℕ, ◌++◌, ◌+◌, ◌≡◌, ◌≢◌}
+use Rattle.qresync_core.specs.declared.fault.ResyncFault.TheVariants as resync_faults
+use Rattle.std.proofs.Common.{Bool, Err, List, None, Option, Result, Some, false, inl, inr, refl, subst, sym, true, ℕ, ⊎_elim, ◌++◌, ◌+◌, ◌≡◌, ◌≢◌}
 use Rattle.std.specs.Prelude.{IsErrOf, if◌then◌else◌}
 use Rattle.store_core.specs.Mail.{mail}
 use Rattle.world_traits.specs.LinkState.{Connection, LinkState}
@@ -94,15 +97,22 @@ module _ (p : Player) (b : Meaning) (permits : Option Permits) (permitted : Bool
       fault ≡ of_unheard name unheard → IsReplyFault fault → ⊥
   heard_faultless unheard fault lacking honest told is = none_unheard unheard lacking honest (subst IsReplyFault told is)
 
+-- that a mailbox was made anew is no fault of the reply
+none_outdated : (s : Server) (name : List ℕ) (kept : Option Cache) (fault : ResyncFault) → IsOutdated s name kept fault →
+    IsReplyFault (of_resync name fault) → ⊥
+none_outdated s name None fault outdated is = outdated
+none_outdated s name (Some cache) fault outdated is = subst (λ (f : ResyncFault). IsReplyFault (of_resync name f)) outdated.1 is
+
 -- what was told of a mailbox, where the player doesn't take it
 module _ (b : Meaning) (old new : Clock) (stands : StandsKept b old) (fair : AllFair mail played old new) (name : List ℕ) (kept : Option Cache)
     (same_cache : kept ≡ cache_at name b.boxes) (told : Result Delta ResyncFault) (selected : Option (List ℕ)) (count after : ℕ)
     (permits : Option Permits) (resyncs : Resyncs selected count after name kept told permits old new) (p : Player) where
   none_resynced : (fault : ResyncFault) → told ≡ Err fault → IsReplyFault (of_resync name fault) → ⊥
   none_resynced fault failed is =
-      subst (λ (f : ResyncFault). IsReplyFault (of_resync name f))
+      ⊎_elim (λ (memory : fault ≡ resync_faults.Memory). subst (λ (f : ResyncFault). IsReplyFault (of_resync name f)) memory is)
+      (λ (outdated : IsOutdated old.now.outside.server name kept fault). none_outdated old.now.outside.server name kept fault outdated is)
       (learns_faultless b name kept fault selected count after permits old new (sym same_cache) stands fair
-      (subst (λ (d : Result Delta ResyncFault). Resyncs selected count after name kept d permits old new) failed resyncs)) is
+      (subst (λ (d : Result Delta ResyncFault). Resyncs selected count after name kept d permits old new) failed resyncs))
 
   none_untaken : (unheard : Unheard) → WhyNotChosen unheard told p b → IsReplyFault (of_unheard name unheard) → ⊥
   none_untaken unheards.Memory why is = is

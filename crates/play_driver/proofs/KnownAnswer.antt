@@ -21,9 +21,10 @@ use Rattle.play_driver.proofs.Links.{books_there, fair_books}
 use Rattle.play_driver.proofs.Parts.{grows, grows_then, since_first, since_second}
 use Rattle.play_driver.specs.Joining.{AllFair, Grows, IsFair}
 use Rattle.play_driver.specs.KnownAt.{KnownAt, StandsKept, TellsOf}
-use Rattle.play_driver.specs.Played.{played}
+use Rattle.play_driver.specs.Played.{SameValidities, played}
 use Rattle.play_driver.specs.SentOnce.{Behind, MayAsk}
 use Rattle.playback.proofs.Carrying.{carries_book}
+use Rattle.play_driver.proofs.PlayedKept.{keeps_box}
 use Rattle.playback.proofs.Foreign.{of_after}
 use Rattle.playback.proofs.Keeping.{asked_quiet, quiet_keeps, sent}
 use Rattle.playback.proofs.Onward.{IsIdle, idle}
@@ -47,9 +48,10 @@ use Rattle.world_traits.specs.Moments.{Clock, Moment, Since, tick}
 use Rattle.imap_model.specs.declared.response.Response.TheVariants as responses
 
 -- a command that may be asked may be asked still, as others change something
-may_still : (b : Meaning) (s t : Server) (w : Waiting) → Batch s.boxes s t → MayAsk mail played b s w → MayAsk mail played b t w
-may_still b s t w batch (inl question) = inl question
-may_still b s t w batch (inr of) = inr (of_after b s t w batch of)
+may_still : (b : Meaning) (s t : Server) (w : Waiting) → Batch s.boxes s t → SameValidities s.boxes t.boxes → MayAsk mail played b s w →
+    MayAsk mail played b t w
+may_still b s t w batch same (inl question) = inl question
+may_still b s t w batch same (inr of) = inr (of_after b s t w batch (keeps_box s.boxes t.boxes same w.selected) of)
 
 -- a book is kept as it waits, and behind it
 pub kept_asked : (b : Meaning) (s : Server) (w : Waiting) → MayAsk mail played b s w → KeptBook b s None → KeptBook b s (Some w)
@@ -80,9 +82,10 @@ module _ (p : Player) (b : Meaning) (made old : Clock) (w : Waiting) (selected :
   abbrev FollowsNow : Clock → Type 0
   FollowsNow k = Follows p b made selected owed rest k
 
-  may_on : (s t : Server) → (t ≡ s) ⊎ Batch s.boxes s t → MayAsk mail played b s w → MayAsk mail played b t w
-  may_on s t (inl same) may = subst (λ (x : Server). MayAsk mail played b x w) (sym same) may
-  may_on s t (inr batch) may = may_still b s t w batch may
+  may_on : (s t : Server) → (Batch s.boxes s t → SameValidities s.boxes t.boxes) → (t ≡ s) ⊎ Batch s.boxes s t → MayAsk mail played b s w →
+      MayAsk mail played b t w
+  may_on s t renews (inl same) may = subst (λ (x : Server). MayAsk mail played b x w) (sym same) may
+  may_on s t renews (inr batch) may = may_still b s t w batch (renews batch) may
 
   -- before the answer requests to go on alone were told, and the command may be asked; or a reply was told
   pub record Still (k : Clock) : Type 0 where
@@ -135,7 +138,8 @@ module _ (p : Player) (b : Meaning) (made old : Clock) (w : Waiting) (selected :
       as_told = told;
       all_go = all;
       one = asking_one Told w.tag w.command k.now.outside m.outside step.outside h.one;
-      may = may_on k.now.outside.server m.outside.server so h.may;
+      may = may_on k.now.outside.server m.outside.server
+          (λ batch. (fair_books mail played (Firm (Some b)) k.now m h.follows.books fair batch).1) so h.may;
       follows = others_at_most so h.follows;
     }
 

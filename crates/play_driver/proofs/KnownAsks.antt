@@ -44,8 +44,11 @@ keeps_selection commands.FetchAll isnt = tt
 keeps_selection (commands.FetchRow uid) isnt = tt
 keeps_selection (commands.Search from id) isnt = tt
 keeps_selection (commands.FetchIds uids) isnt = tt
+keeps_selection (commands.FetchText uid) isnt = tt
 keeps_selection (commands.Store uid since add flags) isnt = tt
 keeps_selection (commands.Shift uid to) isnt = tt
+keeps_selection (commands.Copy uid to) isnt = tt
+keeps_selection (commands.Expunge uid) isnt = tt
 keeps_selection (commands.Append to flags text) isnt = tt
 keeps_selection commands.Logout isnt = tt
 
@@ -60,8 +63,11 @@ selected_still commands.FetchAll r selected keeps = refl
 selected_still (commands.FetchRow uid) r selected keeps = refl
 selected_still (commands.Search from id) r selected keeps = refl
 selected_still (commands.FetchIds uids) r selected keeps = refl
+selected_still (commands.FetchText uid) r selected keeps = refl
 selected_still (commands.Store uid since add flags) r selected keeps = refl
 selected_still (commands.Shift uid to) r selected keeps = refl
+selected_still (commands.Copy uid to) r selected keeps = refl
+selected_still (commands.Expunge uid) r selected keeps = refl
 selected_still (commands.Append to flags text) r selected keeps = refl
 selected_still commands.Logout r selected keeps = refl
 

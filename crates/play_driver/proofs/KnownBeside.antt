@@ -13,9 +13,11 @@ use Rattle.imap_session.specs.Knowing.{AllGo, Tells}
 use Rattle.mail_base.specs.declared.tag.Tag.{Tag}
 use Rattle.play_driver.proofs.KnownWalk.{AreAnswered, AreServers, answered_later, grows_tick, servers_grow, servers_later, servers_time}
 use Rattle.play_driver.proofs.Parts.{grows_start}
+use Rattle.play_driver.proofs.PlayedKept.{keeps_box}
 use Rattle.play_driver.proofs.Questions.{awaits_quiet}
 use Rattle.play_driver.specs.Joining.{Grows}
 use Rattle.play_driver.specs.KnownAt.{WasAnswered}
+use Rattle.play_driver.specs.Played.{SameValidities}
 use Rattle.play_driver.specs.SentOnce.{Behind}
 use Rattle.playback.proofs.Foreign.{others_keep}
 use Rattle.playback.proofs.Moments.{grows_carried, grows_moved}
@@ -24,7 +26,7 @@ use Rattle.playback.specs.Course.{Course, IsOneOf, Said}
 use Rattle.playback.specs.Kept.{KeptBook}
 use Rattle.playback.specs.Knows.{Knows}
 use Rattle.playback.specs.Polite.{Spares}
-use Rattle.playback.specs.Worlds.{World, answered_course, carried, moved, selected_after}
+use Rattle.playback.specs.Worlds.{World, answered_course, carried, moved, name_of, selected_after}
 use Rattle.playback.specs.declared.finding.Selected.{Selected}
 use Rattle.playback.specs.declared.player.Player.{Player}
 use Rattle.std.proofs.Common.{List, None, Option, Some, [], ap, arith, inl, inr, length, refl, subst, sym, true, ℕ, ◌++◌, ◌∙◌}
@@ -78,12 +80,14 @@ module _ (p : Player) (b : Meaning) (made : Clock) (selected : Option Selected) 
   -- others change something
   pub others_follow : (k : Clock) (m : Moment) → HasBooks mail (Firm (Some b)) m →
       Batch k.now.outside.server.boxes k.now.outside.server m.outside.server →
-      Spares b k.now.outside.server.boxes m.outside.server.boxes → Now k → Now (tick k m)
+      Spares b k.now.outside.server.boxes m.outside.server.boxes × SameValidities k.now.outside.server.boxes m.outside.server.boxes →
+      Now k → Now (tick k m)
   others_follow k m has batch spares h =
       let t : Server = m.outside.server in
       let w : World = world_of h.course selected owed in
       let foreign : Batch h.course.now.boxes h.course.now t = subst (λ (s : Server). Batch s.boxes s t) (sym h.server) batch in
-      let spared : Spares b h.course.now.boxes t.boxes = subst (λ (s : Server). Spares b s.boxes t.boxes) (sym h.server) spares in
+      let spared : Spares b h.course.now.boxes t.boxes = subst (λ (s : Server). Spares b s.boxes t.boxes) (sym h.server) spares.0 in
+      let same : SameValidities h.course.now.boxes t.boxes = subst (λ (s : Server). SameValidities s.boxes t.boxes) (sym h.server) spares.1 in
       record {
         course = record h.course { now = t; past = h.course.now ∷ h.course.past };
         books = has;
@@ -92,8 +96,8 @@ module _ (p : Player) (b : Meaning) (made : Clock) (selected : Option Selected) 
         each = servers_grow w (moved t w) made k m (grows_moved t w) refl h.each;
         is_said = h.is_said;
         answered = answered_later said made k (tick k m) (grows_tick k m) h.answered;
-        kept = others_keep b h.course.now t None h.kept foreign spared;
-        knows = others_know p b w t h.kept foreign spared h.knows;
+        kept = others_keep b h.course.now t None h.kept foreign spared tt;
+        knows = others_know p b w t h.kept foreign spared (keeps_box h.course.now.boxes t.boxes same (name_of selected)) tt h.knows;
       }
 
   -- what was said last was answered at this moment

@@ -4,7 +4,7 @@ use Rattle.action_queue.specs.Book.{Meaning}
 use Rattle.imap_model.specs.Changes.{Batch}
 use Rattle.imap_model.specs.Talking.{Peer, Answering, Connecting}
 use Rattle.imap_model.specs.Talking.Answering.{stays, others, goes_on, refuses, carries}
-use Rattle.imap_model.specs.Talking.Connecting.{as_before, begins}
+use Rattle.imap_model.specs.Talking.Connecting.{as_before, begins, ends}
 use Rattle.imap_model.specs.declared.server.Server.{Server}
 use Rattle.imap_session.specs.Enquiring.{Enquiring, connecting, asking}
 use Rattle.imap_session.specs.declared.permits.Permits.{Permits}
@@ -13,11 +13,11 @@ use Rattle.play_driver.proofs.KnownWalk.{AreServers, Beside, GoesTo, Reaches, be
 use Rattle.play_driver.proofs.KnownWalk.{was_now, world_walked}
 use Rattle.play_driver.proofs.KnownPermits.{unselected_permits}
 use Rattle.play_driver.proofs.Parts.{grows, grows_start}
-use Rattle.play_driver.proofs.PlayedKept.{withstood}
+use Rattle.play_driver.proofs.PlayedKept.{keeps_box, keeps_waiting, withstood}
 use Rattle.play_driver.proofs.QuestionsStay.{question_stays}
 use Rattle.play_driver.specs.Joining.{AllFair}
 use Rattle.play_driver.specs.KnownAt.{KnownAt, StandsKept, WasServer}
-use Rattle.play_driver.specs.Played.{played}
+use Rattle.play_driver.specs.Played.{SameValidities, played}
 use Rattle.play_driver.specs.Calm.{NoChangeWaits}
 use Rattle.playback.proofs.Carrying.{nothing_waits}
 use Rattle.playback.proofs.Keeping.{quiet_keeps}
@@ -56,7 +56,7 @@ module _ (p : Player) (b : Meaning) where
   At = IsFirst p b
 
   abbrev Spared : Peer → Peer → Type 0
-  Spared q r = Batch q.server.boxes q.server r.server → Spares b q.server.boxes r.server.boxes
+  Spared q r = Batch q.server.boxes q.server r.server → Spares b q.server.boxes r.server.boxes × SameValidities q.server.boxes r.server.boxes
 
   -- the server stays
   same_server : (q r : Peer) (w : World) → r.server ≡ q.server → NoChangeWaits r.waiting → At w q → GoesTo At w r
@@ -75,14 +75,16 @@ module _ (p : Player) (b : Meaning) where
   }
 
   -- others change something
-  others_first : (q : Peer) (t : Server) (w : World) → Batch q.server.boxes q.server t → Spares b q.server.boxes t.boxes →
+  others_first : (q : Peer) (t : Server) (w : World) → Batch q.server.boxes q.server t →
+      Spares b q.server.boxes t.boxes × SameValidities q.server.boxes t.boxes →
       KeptBook b q.server q.waiting → At w q → GoesTo At w (record q { server = t })
   others_first q t w batch spares kept h =
       let quiet : KeptBook b q.server w.waiting =
       quiet_keeps (Some b) q.server q.waiting w.waiting (λ m. nothing_waits (subst MutatingWaits h.waiting m)) kept in
       let here : KeptBook b w.course.now w.waiting = subst (λ (s : Server). KeptBook b s w.waiting) (sym h.server) quiet in
       let batched : Batch w.course.now.boxes w.course.now t = subst (λ (s : Server). Batch s.boxes s t) (sym h.server) batch in
-      let spared : Spares b w.course.now.boxes t.boxes = subst (λ (s : Server). Spares b s.boxes t.boxes) (sym h.server) spares in
+      let spared : Spares b w.course.now.boxes t.boxes = subst (λ (s : Server). Spares b s.boxes t.boxes) (sym h.server) spares.0 in
+      let same : SameValidities w.course.now.boxes t.boxes = subst (λ (s : Server). SameValidities s.boxes t.boxes) (sym h.server) spares.1 in
       record {
         world = moved t w;
         grown = grows_moved t w;
@@ -93,7 +95,8 @@ module _ (p : Player) (b : Meaning) where
           owed = h.owed;
           no_change = h.no_change;
           unsaid = h.unsaid;
-          knows = others_know p b w t here batched spared h.knows;
+          knows = others_know p b w t here batched spared (keeps_box w.course.now.boxes t.boxes same (name_of w.selected))
+              (keeps_waiting w.course.now.boxes t.boxes same w.waiting) h.knows;
         };
       }
 
@@ -107,6 +110,7 @@ module _ (p : Player) (b : Meaning) where
 
   connecting_first : (q r : Peer) (w : World) → Connecting q r → KeptBook b q.server q.waiting → Spared q r → At w q → GoesTo At w r
   connecting_first q r w (as_before step) kept spares h = answering_first q r w step kept spares h
+  connecting_first q r w ends kept spares h = same_server q r w refl h.no_change h
   connecting_first q r w (begins greeting is) kept spares h = same_server q r w refl tt h
 
   enquiring_first : (q r : Peer) (w : World) → Enquiring q r → KeptBook b q.server q.waiting → Spared q r → At w q → GoesTo At w r

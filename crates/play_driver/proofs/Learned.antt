@@ -1,5 +1,8 @@
 -- What a resynchronisation tells makes the cache the server's at a moment of it, and fresh from then on.
-use Rattle.std.proofs.Common.{◌≡◌, inl, inr, ◌≤◌, ℕ, ◌+◌, Bool, true, false, not, List, Option, Some, None, is_some, Ok, Err, Result, refl, sym, ◌∙◌, ap, subst, arith}
+use Rattle.std.proofs.Common.{◌≡◌, ◌≢◌, ◌⊎◌, ⊎_elim, inl, inr, ◌≤◌, ℕ, ◌+◌, Bool, true, false, not, List, Option, Some, None, is_some, Ok, Err, Result}
+use Rattle.std.proofs.Common.{refl, sym, ◌∙◌, ap, subst, arith}
+use Rattle.std.specs.Prelude.{◌==◌, cond, nat_lt}
+use Rattle.std.proofs.lemmas.Bool.{cases_eq, eqb-true, false_from_ne_true}
 use Rattle.std.proofs.lemmas.Option.{same_Some}
 use Rattle.mail_base.specs.declared.tag.Tag.{Tag}
 use Rattle.imap_model.specs.CarriedOut.{CarriesOut, Decides, Selects}
@@ -21,31 +24,43 @@ use Rattle.mailbox_cache.specs.declared.delta.Delta.{Delta}
 use Rattle.action_queue.specs.Book.{Meaning, cache_at, learned}
 use Rattle.qresync_core.specs.Fresh.{IsFresh}
 use Rattle.qresync_core.specs.Laws.{AnswersSelect, AnswersFetch, Faultless, Mirrors, codes_of_box}
-use Rattle.qresync_core.specs.Resync.{is_told_empty, TellsDelta}
+use Rattle.qresync_core.specs.Marking.{mark_of}
+use Rattle.qresync_core.specs.Resync.{HasFault, TellsDelta, bare_fault, bare_in, is_told_empty, judged, judged_by, kept_fault, read_for_rows, unless}
+use Rattle.qresync_core.specs.ToldCodes.{told_codes}
+use Rattle.qresync_core.specs.declared.codes.Codes.{Codes}
 use Rattle.qresync_core.specs.declared.fault.ResyncFault.{ResyncFault}
-use Rattle.qresync_core.proofs.Judging.{memory_alone}
+use Rattle.qresync_core.specs.declared.fault.ResyncFault.TheVariants as resyncs
+use Rattle.qresync_core.proofs.Judging.{memory_alone, no_fault}
 use Rattle.qresync_core.proofs.Leveling.{kept_judged, kept_levels, first_judged, first_mirrors, empty_judged, empty_mirrors, fresh_later as still_fresh}
-use Rattle.qresync_core.proofs.Replying.{select_box, fetch_box}
+use Rattle.qresync_core.proofs.Replying.{codes_true, fetch_box, select_box, selecting}
 use Rattle.world_traits.specs.Links.{Any, LinkStep, Linked}
 use Rattle.world_traits.specs.Moments.{Moment, Clock, tick}
 use Rattle.world_traits.proofs.Passing.{since_then, since_weaker}
+use Rattle.world_traits.proofs.Traces.{since_both, since_carry}
 use Rattle.imap_session.specs.Dialogue.{next_tag}
 use Rattle.imap_session.specs.Enquiring.{Enquiring}
 use Rattle.imap_session.specs.Session.{waiting_of}
 use Rattle.imap_session.specs.declared.permits.Permits.{Permits}
 use Rattle.playback.specs.Kept.{KeptBook}
-use Rattle.playback.proofs.Staying.{batch_validity}
+use Rattle.playback.specs.Fresh.{IsFreshFor}
+use Rattle.store_core.specs.Mail.{mail}
+use Rattle.store_core.specs.Steps.{Firm}
+use Rattle.store_core.specs.Taking.{HasBooks}
 use Rattle.play_driver.specs.Exchanges.{Exchange, AnsweredAll, IsAnswered}
 use Rattle.play_driver.specs.Resynchronising.{exchanged, fetches, mark_kept, select_of, Resyncs}
 use Rattle.play_driver.specs.Calm.{IsCalm, IsFreshAt, NoChangeWaits}
+use Rattle.play_driver.specs.Joining.{AllFair, IsFair}
 use Rattle.play_driver.specs.KnownAt.{StandsKept}
-use Rattle.play_driver.specs.Levelling.{IsKeptFresh, IsLevelled, LeavesValidity, LinkFaultless, LinkLevels, ResyncsFaultless, ResyncsLevel}
+use Rattle.play_driver.specs.Levelling.{IsKeptFresh, IsLevelled, IsOutdated, LeavesValidity, LinkFaultless, LinkLevels, ResyncsFaultless, ResyncsLevel}
 use Rattle.play_driver.specs.Levelling.{SameValidity, ValidityStays}
+use Rattle.play_driver.specs.Played.{played}
 use Rattle.play_driver.specs.Synced.{IsLevel, IsReadAt}
 use Rattle.play_driver.proofs.Answering.{AnsweredAt, answered_at, answered_through}
 use Rattle.play_driver.proofs.Calm.{calm_now, held_now, stays_first, stays_second}
 use Rattle.play_driver.proofs.KnownWalk.{kept_here}
+use Rattle.play_driver.proofs.Links.{books_there, fair_books}
 use Rattle.play_driver.proofs.Parts.{grows}
+use Rattle.play_driver.proofs.PlayedKept.{validity_same}
 
 -- a mailbox goes on through changes by others that leave its UIDVALIDITY
 record GoneOn (name : List ℕ) (box : Mailbox) (t : Server) : Type 0 where
@@ -285,37 +300,159 @@ link_faultless name kept fault selected count after permits old new calm fresh f
     memory_alone kept r.gathered.selected r.gathered.all fault
     (by_exchanges name kept r.gathered.selected r.gathered.all selected count old new calm fresh fair r.makes.fetched r.answered).0 r.makes.fault
 
--- no change by others touches a UIDVALIDITY
-validity_stays : (name : List ℕ) (old new : Clock) → Linked Enquiring old new → ValidityStays name old new
-validity_stays name old new linked =
-    since_weaker Any Any (LinkStep Enquiring) (LeavesValidity name) (λ m any. any)
-    (λ m n step. record { same = λ batch. batch_validity m.outside.server.boxes m.outside.server n.outside.server name batch }) old new linked
+-- Others renew no mailbox, as long as they are fair beside a book that a stop leaves.
+module _ (b : Meaning) (name : List ℕ) (old new : Clock) (has : HasBooks mail (Firm (Some b)) old.now) (linked : Linked Enquiring old new)
+    (fair : AllFair mail played old new) where
+  abbrev Fairly : Moment → Moment → Type 0
+  Fairly m n = LinkStep Enquiring m n × IsFair mail played m n
+
+  leaves_it : (m n : Moment) → HasBooks mail (Firm (Some b)) m × Fairly m n → LeavesValidity name m n
+  leaves_it m n s = record {
+    same = λ batch. validity_same m.outside.server.boxes n.outside.server.boxes (fair_books mail played (Firm (Some b)) m n s.0 s.1.1 batch).1 name;
+  }
+
+  pub validity_stays : ValidityStays name old new
+  validity_stays =
+      since_weaker (λ m. (Any m × Any m) × HasBooks mail (Firm (Some b)) m) Any (λ m n. HasBooks mail (Firm (Some b)) m × Fairly m n)
+      (LeavesValidity name) (λ m p. tt) leaves_it old new
+      (since_carry (λ m. Any m × Any m) (HasBooks mail (Firm (Some b))) Fairly
+      (λ m n any s has. books_there Enquiring m n s.0 mail (Firm (Some b)) has) old has new
+      (since_both Any Any (LinkStep Enquiring) (IsFair mail played) old new linked fair))
+
+-- a cache of another UIDVALIDITY than was told
+kept_other : (cache : Cache) (codes : Codes) → cache.validity ≢ codes.validity →
+    kept_fault (Some cache) codes ≡ Some (resyncs.Validity cache.validity codes.validity)
+kept_other cache codes other =
+    ap
+    (λ (t : Bool). cond (not t) (Some (resyncs.Validity cache.validity codes.validity))
+    (cond (nat_lt codes.highest cache.highest) (Some (resyncs.Unfit cache.highest codes.highest)) None))
+    (false_from_ne_true (cache.validity == codes.validity) (λ t. other (eqb-true cache.validity codes.validity t)))
+
+module _ (kept : Option Cache) (r : Replies) (all : Option Replies) where
+  judged_other : (codes : Codes) (fault : ResyncFault) → told_codes r ≡ Ok codes → kept_fault kept codes ≡ Some fault → judged kept r all ≡ Err fault
+  judged_other codes fault told is =
+      ap (judged_by kept (bare_in (read_for_rows r all))) told
+      ∙ ap (λ (o : Option ResyncFault). unless o (bare_fault (bare_in (read_for_rows r all))) codes) is
+
+  one_fault : (judges : Result Codes ResyncFault) (f g : ResyncFault) → judges ≡ Err f → judges ≡ Err g → g ≡ f
+  one_fault judges f g first second = cc
+
+  no_delta : (judges : Result Codes ResyncFault) (codes : Codes) (f : ResyncFault) → judges ≡ Ok codes → judges ≡ Err f → ⊥
+  no_delta judges codes f first second = cc
+
+  -- where the replies have one fault, that is it, or memory is wanting
+  memory_or : (first fault : ResyncFault) → judged kept r all ≡ Err first → HasFault kept r all fault →
+      (fault ≡ resyncs.Memory) ⊎ (fault ≡ first)
+  memory_or first resyncs.Memory is has = inl refl
+  memory_or first resyncs.NoModSeq is has = inr (one_fault (judged kept r all) first resyncs.NoModSeq is has)
+  memory_or first resyncs.NotSticky is has = inr (one_fault (judged kept r all) first resyncs.NotSticky is has)
+  memory_or first (resyncs.NoCode which) is has = inr (one_fault (judged kept r all) first (resyncs.NoCode which) is has)
+  memory_or first (resyncs.Validity was now) is has = inr (one_fault (judged kept r all) first (resyncs.Validity was now) is has)
+  memory_or first (resyncs.Unfit mark highest) is has = inr (one_fault (judged kept r all) first (resyncs.Unfit mark highest) is has)
+  memory_or first (resyncs.BareRow index) is has = inr (one_fault (judged kept r all) first (resyncs.BareRow index) is has)
+
+  -- and there is no delta
+  none_told : (first : ResyncFault) (delta : Delta) → judged kept r all ≡ Err first → TellsDelta kept r all delta → ⊥
+  none_told first delta is tells =
+      no_delta (judged kept r all) tells.codes first (no_fault kept r all tells.codes tells.told tells.fits tells.none_bare) is
+
+-- a mailbox keeps its UIDVALIDITY
+pub under_on : (name : List ℕ) (validity : ℕ) (old new : Clock) → IsCalm old.now.outside → Linked Enquiring old new → ValidityStays name old new →
+    validity_of (box_at name old.now.outside.server.boxes) ≡ validity → validity_of (box_at name new.now.outside.server.boxes) ≡ validity
+under_on name validity old new calm linked stays under =
+    (held_now name (λ s. validity_of (box_at name s.boxes) ≡ validity) (λ s t well batch same under. same ∙ under) old new linked stays (calm, under)).1
+
+-- what is told of a mailbox that was made anew since it was cached
+module _ (name : List ℕ) (cache : Cache) (old new : Clock) (calm : IsCalm old.now.outside)
+    (other : cache.validity ≢ validity_of (box_at name old.now.outside.server.boxes)) (fair : ValidityStays name old new) where
+  abbrev Outdated : ResyncFault
+  Outdated = resyncs.Validity cache.validity (validity_of (box_at name old.now.outside.server.boxes))
+
+  told_other : (selected : Option (List ℕ)) (tag : Tag) (r : Replies) → r.ending ≡ endings.Ok →
+      AnsweredAt selected tag (record { asked = select_of name (Some cache); replies = r }) old new → judged (Some cache) r None ≡ Err Outdated
+  told_other selected tag r ok a =
+      let s = selects name (Some cache) selected tag r old new ok a in
+      let codes = codes_of_box s.0 in
+      let now : s.0.validity ≡ validity_of (box_at name old.now.outside.server.boxes) =
+      sym (ap validity_of s.1)
+      ∙ under_on name (validity_of (box_at name old.now.outside.server.boxes)) old a.at calm a.before (stays_first name old a.at new a.before a.after fair) refl in
+      subst (λ (v : ℕ). judged (Some cache) r None ≡ Err (resyncs.Validity cache.validity v)) now
+      (judged_other (Some cache) r None codes (resyncs.Validity cache.validity s.0.validity)
+      (codes_true (Some (mark_of cache)) s.0 r (selecting name (Some (mark_of cache)) s.0 r s.2))
+      (kept_other cache codes (λ same. other (same ∙ now))))
+
+  by_exchange : (r : Replies) (all : Option Replies) (selected : Option (List ℕ)) (count : ℕ) → is_some all ≡ fetches (Some cache) r →
+      AnsweredAll (exchanged name (Some cache) (record { selected = r; all = all })) selected count old new → judged (Some cache) r all ≡ Err Outdated
+  by_exchange r None selected count due a =
+      let x : Exchange = record { asked = select_of name (Some cache); replies = r } in
+      told_other selected (next_tag count) r a.1.accepted
+      (answered_at selected (next_tag count) x old new refl (ends_at name selected (next_tag count) x old a.0 new a.2 a.1))
+  by_exchange r (Some all) selected count due a = absurd cc
 
 -- Beside a book that is kept, where nothing waits.
 module _ (b : Meaning) (old : Clock) (stands : StandsKept b old) where
   kept : KeptBook b old.now.outside.server old.now.outside.waiting
   kept = kept_here b old.now stands.kept stands.books
 
-  calm : IsCalm old.now.outside
+  pub calm : IsCalm old.now.outside
   calm = record { well = kept.well; no_change = subst NoChangeWaits (sym stands.none_waits) tt }
 
-  fresh_in : (name : List ℕ) (cache : Option Cache) → cache_at name b.boxes ≡ cache → IsKeptFresh old.now.outside.server name cache
-  fresh_in name None is = tt
-  fresh_in name (Some cache) is =
-      let f = kept.fresh name cache is in
-      record { box = f.box; there = f.there; fresh = record { validity = sym f.same; facts = f.facts } }
+  -- a cache is fresh, or its mailbox was made anew
+  abbrev IsRenewed : List ℕ → Option Cache → Type 0
+  IsRenewed name None = ⊥
+  IsRenewed name (Some cache) = cache.validity ≢ validity_of (box_at name old.now.outside.server.boxes)
 
-  stays : (name : List ℕ) (cache : Option Cache) (delta : Result Delta ResyncFault) (selected : Option (List ℕ)) (count after : ℕ)
-      (permits : Option Permits) (new : Clock) → Resyncs selected count after name cache delta permits old new → ValidityStays name old new
-  stays name cache delta selected count after permits new r =
-      validity_stays name old new (asked_through name cache r.gathered.selected r.gathered.all selected count old new r.answered)
+  by_number : (name : List ℕ) (cache : Cache) (f : IsFreshFor name cache old.now.outside.server.boxes) →
+      (◌≡◌ {A = ℕ} f.box.validity cache.validity) ⊎ (f.box.validity ≢ cache.validity) →
+      IsFreshAt old.now.outside.server name cache ⊎ IsRenewed name (Some cache)
+  by_number name cache f (inl same) = inl (record { box = f.box; there = f.there; fresh = record { validity = sym same; facts = f.facts same } })
+  by_number name cache f (inr other) = inr (λ same. other (sym (ap validity_of f.there) ∙ sym same))
+
+  fresh_or : (name : List ℕ) (cache : Option Cache) → cache_at name b.boxes ≡ cache →
+      IsKeptFresh old.now.outside.server name cache ⊎ IsRenewed name cache
+  fresh_or name None is = inl tt
+  fresh_or name (Some cache) is =
+      let f = kept.fresh name cache is in
+      by_number name cache f (cases_eq f.box.validity cache.validity)
+
+  pub stays : (name : List ℕ) (cache : Option Cache) (delta : Result Delta ResyncFault) (selected : Option (List ℕ)) (count after : ℕ)
+      (permits : Option Permits) (new : Clock) → AllFair mail played old new → Resyncs selected count after name cache delta permits old new →
+      ValidityStays name old new
+  stays name cache delta selected count after permits new fair r =
+      validity_stays b name old new stands.books (asked_through name cache r.gathered.selected r.gathered.all selected count old new r.answered) fair
+
+  module _ (name : List ℕ) (selected : Option (List ℕ)) (count after : ℕ) (permits : Option Permits) (new : Clock) (fair : AllFair mail played old new)
+    where
+      levels : (cache : Option Cache) (delta : Delta) → IsKeptFresh old.now.outside.server name cache ⊎ IsRenewed name cache →
+          Resyncs selected count after name cache (Ok delta) permits old new → IsLevelled name (learned cache delta) old new
+      levels cache delta (inl fresh) r =
+          link_levels name cache delta selected count after permits old new calm fresh
+          (stays name cache (Ok delta) selected count after permits new fair r) r
+      levels None delta (inr renewed) r = absurd renewed
+      levels (Some cache) delta (inr renewed) r =
+          absurd (none_told (Some cache) r.gathered.selected r.gathered.all (Outdated name cache old new calm renewed (stays name (Some cache) (Ok delta) selected count after permits new fair r)) delta
+          (by_exchange name cache old new calm renewed (stays name (Some cache) (Ok delta) selected count after permits new fair r)
+          r.gathered.selected r.gathered.all selected count r.makes.fetched r.answered) r.makes.value)
+
+      faultless : (cache : Option Cache) (fault : ResyncFault) → IsKeptFresh old.now.outside.server name cache ⊎ IsRenewed name cache →
+          Resyncs selected count after name cache (Err fault) permits old new →
+          (fault ≡ resyncs.Memory) ⊎ IsOutdated old.now.outside.server name cache fault
+      faultless cache fault (inl fresh) r =
+          inl (link_faultless name cache fault selected count after permits old new calm fresh
+          (stays name cache (Err fault) selected count after permits new fair r) r)
+      faultless None fault (inr renewed) r = absurd renewed
+      faultless (Some cache) fault (inr renewed) r =
+          let fair_on = stays name (Some cache) (Err fault) selected count after permits new fair r in
+          ⊎_elim (λ (memory : fault ≡ resyncs.Memory). inl memory)
+          (λ (is : fault ≡ Outdated name cache old new calm renewed fair_on). inr (renewed, is))
+          (memory_or (Some cache) r.gathered.selected r.gathered.all (Outdated name cache old new calm renewed fair_on) fault
+          (by_exchange name cache old new calm renewed fair_on r.gathered.selected r.gathered.all selected count r.makes.fetched r.answered)
+          r.makes.fault)
 
 pub learns_level : ResyncsLevel
 learns_level b name cache delta selected count after permits old new is stands fair r =
-    link_levels name cache delta selected count after permits old new (calm b old stands) (fresh_in b old stands name cache is)
-    (stays b old stands name cache (Ok delta) selected count after permits new r) r
+    levels b old stands name selected count after permits new fair cache delta (fresh_or b old stands name cache is) r
 
 pub learns_faultless : ResyncsFaultless
 learns_faultless b name cache fault selected count after permits old new is stands fair r =
-    link_faultless name cache fault selected count after permits old new (calm b old stands) (fresh_in b old stands name cache is)
-    (stays b old stands name cache (Err fault) selected count after permits new r) r
+    faultless b old stands name selected count after permits new fair cache fault (fresh_or b old stands name cache is) r

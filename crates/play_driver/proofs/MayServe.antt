@@ -23,8 +23,7 @@ use Rattle.imap_model.specs.declared.response.Response.TheVariants as responses
 use Rattle.imap_model.specs.declared.server.Mailbox.{Mailbox}
 use Rattle.imap_model.specs.declared.server.Message.{Message}
 use Rattle.imap_model.specs.declared.server.Server.{Server}
-use Rattle.playback.specs.Polite.{SparesBook}
-use Rattle.playback.proofs.Foreign.{spared_same}
+use Rattle.play_driver.proofs.PlayedKept.{withstood}
 use Rattle.store_core.specs.Mail.{mail}
 use Rattle.world_traits.specs.Asking.{Asking}
 use Rattle.world_traits.specs.Asking.Asking.{arrives}
@@ -33,7 +32,7 @@ use Rattle.world_traits.specs.Moments.{Clock, Moment, Since}
 use Rattle.world_traits.proofs.Passing.{since_start, since_then}
 use Rattle.play_driver.specs.Joining.{IsFair}
 use Rattle.play_driver.specs.MayServe.{MayBeServed, MayServe, bye, enabled, of_empty, offer, says}
-use Rattle.play_driver.specs.Played.{played}
+use Rattle.play_driver.specs.Played.{SparesFrom, played}
 use Rattle.play_driver.specs.Questioning.{RunStep}
 use Rattle.play_driver.specs.Questioning.Conversing.{answering, sending}
 use Rattle.play_driver.specs.Serving.{IsServing, Serves, ServesOn, begins_preauth}
@@ -104,8 +103,7 @@ record IsGoing (made now : Clock) : Type 0 where
 
 fair_step : (m n : Moment) → n.outside.server ≡ m.outside.server → IsFair mail played m n
 fair_step m n same = record {
-  each = λ files b leaves holds batch. subst (λ (s : Server). SparesBook m.outside.server.boxes s.boxes b) (sym same)
-      (spared_same b m.outside.server);
+  each = λ files b leaves holds batch. subst (λ (s : Server). SparesFrom b m.outside s) (sym same) (withstood.spared b m.outside);
 }
 
 module _ (c : Clock) (still : IsQuiet c.now.outside) (tag : Tag) (command : Command) (part : List ℕ) (text : IsPartOf tag command [] part [])

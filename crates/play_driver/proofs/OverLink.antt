@@ -17,7 +17,7 @@ use Rattle.play_driver.specs.declared.fault.PlayFault.{PlayFault}
 use Rattle.play_driver.specs.declared.session.Session.{Session}
 use Rattle.playback.specs.Kept.{Kept}
 use Rattle.playback.specs.declared.player.Player.{Player}
-use Rattle.std.proofs.Common.{IfOk, Result}
+use Rattle.std.proofs.Common.{IfOk, Result, ◌≡◌}
 use Rattle.store_core.specs.Holding.{Holding, IsAsLeft}
 use Rattle.store_core.specs.Mail.{mail}
 use Rattle.world_traits.specs.Files.{Files}
@@ -36,13 +36,15 @@ module _ {Self : Type 0} (W : Ghosts Self) (old new : Self) (session : Session) 
       StaysJoined mail Kept played (W.clock old) (W.clock new)) →
       (W.tells_server → (made : Clock) → StandsKept s.book (W.clock old) → KnownAt made (W.clock old) (permits_in session) p s.book →
       AllFair mail played (W.clock old) (W.clock new) → IfOk r (λ next. KnownAt made (W.clock new) (permits_in next) q s.book)) →
-      (W.tells_server → Since Any TalkStep (W.clock old) (W.clock new)) → GoesOn W old new session p q s.book s.book r
-  goes_over q r joins knows talks = record {
+      (W.tells_server → Since Any TalkStep (W.clock old) (W.clock new)) → (W.tells_files → (W.link new).earlier ≡ (W.link old).earlier) →
+      GoesOn W old new session p q s.book s.book r
+  goes_over q r joins knows talks earlier = record {
     progress = λ t. linked_progress s.book AnyStep _ _ (firm_left s (W.clock old) _ (left t)) (files t);
     joined = λ t made kept known. joins t made (stands_over t kept) known;
     known = λ t made kept known fair. knows t made (stands_over t kept) known fair;
     each_one_side = λ t. linked_sides AnyStep _ _ (rests_left s (W.clock old) _ (left t)) (files t);
     talks = talks;
+    earlier = earlier;
   }
 
   -- nothing was recorded

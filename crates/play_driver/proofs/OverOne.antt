@@ -1,5 +1,6 @@
 -- A session's calls, as questions over the connection that it has.
-use Rattle.std.proofs.Common.{◌≡◌, ◌≢◌, inl, inr, ℕ, ◌+◌, false, Bool, List, ◌++◌, Option, Some, refl, sym, subst}
+use Rattle.std.proofs.Common.{◌≡◌, ◌≢◌, inl, inr, ℕ, ◌+◌, false, Bool, List, ◌++◌, Option, Some, refl, sym, subst, ◌∙◌}
+use Rattle.play_driver.specs.Accuses.{ConnectsOnce}
 use Rattle.mail_base.specs.Account.{Credentials}
 use Rattle.mail_base.specs.declared.tag.Tag.{Tag}
 use Rattle.imap_model.specs.Mutating.{is_mutating}
@@ -130,3 +131,8 @@ leave_run told tag old new linked =
     since_weaker Any Any (LinkStep (Asking told tag commands.Logout)) RunStep (λ m p. p)
     (λ m n step. inr (record { left = step.left; right = step.right; outside = record { told = told; tag = tag; asks = step.outside } })) old new
     linked
+
+-- one connection, and none behind it
+pub once_then : (old mid new : LinkState) → ConnectsOnce old mid → new.earlier ≡ mid.earlier → ConnectsOnce old new
+once_then old mid new (inl same) stays = inl (stays ∙ same)
+once_then old mid new (inr one) stays = inr (stays ∙ one)

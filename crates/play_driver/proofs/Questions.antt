@@ -3,7 +3,7 @@ use Rattle.std.proofs.Common.{◌≡◌, ℕ, List, [], ◌∷◌, None, refl}
 use Rattle.mail_base.specs.declared.tag.Tag.{Tag}
 use Rattle.imap_model.specs.Talking.{Peer, Answering, Connecting, Awaits}
 use Rattle.imap_model.specs.Talking.Answering.{stays, others, goes_on, refuses, carries}
-use Rattle.imap_model.specs.Talking.Connecting.{as_before, begins}
+use Rattle.imap_model.specs.Talking.Connecting.{as_before, begins, ends}
 use Rattle.world_traits.specs.Asking.Asking.{answers, arrives}
 use Rattle.store_core.specs.Keeping.{Keeping}
 use Rattle.store_core.specs.Steps.{Books}
@@ -29,6 +29,7 @@ module _ (K : Keeping) (M : Machine K) (x : Books K) where
   -- making a connection
   pub connecting_steps : (p q : Peer) → Connecting p q → SparesAt K M x p q → Step K M (state_of K x p) (state_of K x q)
   connecting_steps p q (as_before step) spares = answering_steps p q step spares
+  connecting_steps p q ends spares = rests
   connecting_steps p q (begins greeting is) spares = connects
 
   -- and asking a question

@@ -22,8 +22,11 @@ asked_stays selected tag commands.FetchAll s t question is = is
 asked_stays selected tag (commands.FetchRow uid) s t question is = is
 asked_stays selected tag (commands.Search from id) s t question is = is
 asked_stays selected tag (commands.FetchIds uids) s t question is = is
+asked_stays selected tag (commands.FetchText uid) s t question is = is
 asked_stays selected tag (commands.Store uid since add flags) s t question is = absurd cc
 asked_stays selected tag (commands.Shift uid to) s t question is = absurd cc
+asked_stays selected tag (commands.Copy uid to) s t question is = absurd cc
+asked_stays selected tag (commands.Expunge uid) s t question is = absurd cc
 asked_stays selected tag (commands.Append to flags octets) s t question is = absurd cc
 asked_stays selected tag commands.Logout s t question is = is
 

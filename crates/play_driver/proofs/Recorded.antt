@@ -29,7 +29,7 @@ use Rattle.store_core.specs.Holding.{Holding, IsAsLeft}
 use Rattle.store_core.specs.Mail.{MayCome, mail}
 use Rattle.store_core.specs.Taking.{Takes}
 use Rattle.world_traits.specs.Files.{Files}
-use Rattle.world_traits.specs.LinkState.{Connection}
+use Rattle.world_traits.specs.LinkState.{Connection, LinkState}
 use Rattle.world_traits.specs.Moments.{Clock}
 use Rattle.world_traits.specs.declared.clocked.Clocked.{Ghosts}
 
@@ -59,8 +59,8 @@ module _ {Self : Type 0} (W : Ghosts Self) (old new : Self) (session : Session) 
   pub goes_recorded : (q : Player) (c : Meaning) (r : Result Session PlayFault) →
       (W.tells_server → (made : Clock) → StandsKept s.book (W.clock old) → KnownAt made (W.clock old) (permits_in session) p s.book →
       IfOk r (λ next. KnownAt made (W.clock new) (permits_in next) q c)) →
-      (W.tells_files → EachOneSide (W.clock old) (W.clock new)) → GoesOn W old new session p q s.book c r
-  goes_recorded q c r knows sides = record {
+      (W.tells_files → EachOneSide (W.clock old) (W.clock new)) → W.link new ≡ W.link old → GoesOn W old new session p q s.book c r
+  goes_recorded q c r knows sides link = record {
     progress = λ t. takes_progress s.book s.journal.version event (of_playback p s.book event needed) may (W.clock old) (W.clock new) (takes t);
     joined = λ t made kept known.
         takes_joined p s.book event made (W.clock old) (permits_in session) (stands t kept) known needed s.journal.version (W.clock new) may
@@ -68,6 +68,7 @@ module _ {Self : Type 0} (W : Ghosts Self) (old new : Self) (session : Session) 
     known = λ t made kept known fair. knows t made (stands t kept) known;
     each_one_side = sides;
     talks = λ t. record_talks s event (W.clock old) (W.clock new) (takes (W.server_with_files t));
+    earlier = λ t. ap (λ (l : LinkState). l.earlier) link;
   }
 
   pub truly_recorded : W.tells_server → (made : Clock) (entry : Meaning) → IsKept mail Kept (W.clock old).now →

@@ -6,7 +6,7 @@ use Rattle.imap_model.specs.CarriedOut.{told_in}
 use Rattle.imap_model.specs.Carrying.{Waiting}
 use Rattle.imap_model.specs.Talking.{Answering, Connecting, IsGreeting, Peer, Talk, arrived, greeted}
 use Rattle.imap_model.specs.Talking.Answering.{carries, goes_on, others, refuses, stays}
-use Rattle.imap_model.specs.Talking.Connecting.{as_before, begins}
+use Rattle.imap_model.specs.Talking.Connecting.{as_before, begins, ends}
 use Rattle.imap_model.specs.declared.command.Command.{Command}
 use Rattle.imap_model.specs.declared.command.Command.TheVariants as commands
 use Rattle.imap_model.specs.declared.response.Response.{Response}
@@ -116,6 +116,7 @@ served_greeting s r greets other = record {
 
 served_connecting : (p q : Peer) → Connecting p q → ServesOn p q → IsServed p → IsServed q
 served_connecting p q (as_before step) v s = served_answer p q step v s
+served_connecting p q ends v s = record { told = s.told; remains = s.remains }
 served_connecting p q (begins greeting greets) v s = served_greeting p.server greeting greets v.greets
 
 -- a connection is made, or the run goes on over it
@@ -178,6 +179,7 @@ denied_run m n (inr step) v s =
 
 denied_connecting : (p q : Peer) → Connecting p q → ServesOn p q → NeverTold DeniesQuestion p.talk.told → NeverTold DeniesQuestion q.talk.told
 denied_connecting p q (as_before step) v s = denied_answer p q step v s
+denied_connecting p q ends v s = s
 denied_connecting p q (begins greeting greets) v s = (λ d. greeting_denies greeting greets d, tt)
 
 -- a connection is made, or the run goes on over it up to its end

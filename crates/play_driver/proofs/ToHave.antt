@@ -11,7 +11,6 @@ use Rattle.action_queue.specs.declared.target.Target.{Target}
 use Rattle.imap_model.proofs.Finding.{same_name}
 use Rattle.imap_model.specs.Carrying.{Waiting}
 use Rattle.imap_model.specs.Changes.{receiver}
-use Rattle.imap_model.specs.Lookups.{validity_of}
 use Rattle.imap_model.specs.Ours.{is_number, is_ours, is_try, ours}
 use Rattle.imap_model.specs.declared.deed.Author.{Author}
 use Rattle.imap_model.specs.declared.deed.Author.TheVariants.{Other, Ours}
@@ -45,6 +44,7 @@ goes_moved queue target to name validity (changes.Shift uid other received) want
 goes_moved queue target to name validity (changes.Add flags text uid) wanted = absurd wanted
 goes_moved queue target to name validity (changes.SetFlags uid flags) wanted = absurd wanted
 goes_moved queue target to name validity (changes.Drop uid) wanted = absurd wanted
+goes_moved queue target to name validity (changes.Reset under uids uidnext highest) wanted = absurd wanted
 
 goes_appended : (queue : List Queued) (to : List ℕ) (flags : List (List ℕ)) (text id name : List ℕ) (validity : ℕ) (change : Change) →
     IsWanted queue (actions.Append to flags text id) name validity change → receiver name change ≡ to
@@ -52,6 +52,7 @@ goes_appended queue to flags text id name validity (changes.Add others content u
 goes_appended queue to flags text id name validity (changes.SetFlags uid others) wanted = absurd wanted
 goes_appended queue to flags text id name validity (changes.Drop uid) wanted = absurd wanted
 goes_appended queue to flags text id name validity (changes.Shift uid other received) wanted = absurd wanted
+goes_appended queue to flags text id name validity (changes.Reset under uids uidnext highest) wanted = absurd wanted
 
 -- a tag is of one action
 number_is : (n : ℕ) (o : Option ℕ) → is_number n o ≡ true → o ≡ Some n
@@ -150,9 +151,7 @@ module _ (b : Meaning) (s : Server) (waiting : Option Waiting) (kept : KeptBook 
         (subst (λ (a : Action). suits b.queue a (intents.Put other validity uidnext) ≡ true) (ap (λ (x : Queued). x.action) is ∙ appends) intent.suits_it)
 
     put_under : HasValidity s.boxes to validity
-    put_under =
-        let box = kept.open_intent (intents.Put other validity uidnext) pending q due_it in
-        subst (λ (n : List ℕ). HasValidity s.boxes n validity) same_box (ap validity_of box.there ∙ box.same)
+    put_under = subst (λ (n : List ℕ). HasValidity s.boxes n validity) same_box (none.pending (intents.Put other validity uidnext) pending)
 
   by_due : (q : Queued) → due_action b.queue ≡ Some q → (action : Action) → q.action ≡ action → ActionStands s action → (name : List ℕ)
       (validity : ℕ) → IsToHave name validity b action → HasValidity s.boxes name validity

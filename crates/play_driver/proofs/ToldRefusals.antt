@@ -138,7 +138,7 @@ broke_told d p link line told b honest =
 -- where a run didn't enter
 pub entry_told : (account : Credentials) (old link : LinkState) (line : List ℕ) (told : List Response) →
     NotEntered account old link (sessions.Refused line) → IsHonest told link.connection → WasTold RefusesRun told
-entry_told account old link line told (unconnected is sent) honest = absurd cc
+entry_told account old link line told (unconnected is sent made) honest = absurd cc
 entry_told account old link line told (ungreeted none sent) honest = greeting_told link.connection line told none honest
 entry_told account old link line told (not_logged_in preauth p hello b) honest = broke_told (entering preauth account) p link line told b honest
 entry_told account old link line told (not_enabled rev2 p logged b) honest = broke_told (enabling rev2) p link line told b honest

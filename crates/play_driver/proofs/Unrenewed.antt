@@ -1,33 +1,25 @@
--- No step of a server touches a UIDVALIDITY; and what this client changes comes into a mailbox as it is then (RFC 9051, section 2.3.1.1).
-use Rattle.imap_model.proofs.Effect.{carried_effect}
+-- No command of this client touches a UIDVALIDITY; and what it changes comes into a mailbox as it is then (RFC 9051, section 2.3.1.1).
 use Rattle.imap_model.specs.Carrying.{Accepted, Carries, Waiting}
 use Rattle.imap_model.specs.Changes.{Batch, Changes, deed_of, receiver}
-use Rattle.imap_model.specs.Changes.Batch.{more, none}
 use Rattle.imap_model.specs.Lookups.{box_at, validity_of}
 use Rattle.imap_model.specs.Ours.{is_ours, ours}
-use Rattle.imap_model.specs.Talking.{Answering, Peer}
-use Rattle.imap_model.specs.Talking.Answering.{carries, goes_on, others, refuses, stays}
 use Rattle.imap_model.specs.declared.command.Command.{Command}
 use Rattle.imap_model.specs.declared.deed.Author.{Author}
-use Rattle.imap_model.specs.declared.deed.Author.TheVariants.{Other, Ours}
+use Rattle.imap_model.specs.declared.deed.Author.TheVariants.{Ours}
 use Rattle.imap_model.specs.declared.deed.Change.{Change}
 use Rattle.imap_model.specs.declared.deed.Deed.{Deed}
-use Rattle.imap_model.specs.declared.response.Response.{Response}
 use Rattle.imap_model.specs.declared.server.Mailbox.{Mailbox}
 use Rattle.imap_model.specs.declared.server.Server.{Server}
 use Rattle.mail_base.specs.declared.tag.Tag.{Tag}
 use Rattle.play_driver.specs.Levelling.{SameValidity}
-use Rattle.play_driver.specs.Questioning.{Conversing, Questioning, TalkStep}
-use Rattle.play_driver.specs.Questioning.Conversing.{sending, answering as talking}
-use Rattle.play_driver.specs.Questioning.Questioning.{answering, asking}
+use Rattle.play_driver.specs.Played.{SameValidities}
 use Rattle.play_driver.specs.Renewed.{DeedStands}
-use Rattle.playback.proofs.Staying.{effect_validity}
+use Rattle.playback.proofs.Deeds.{batch_ours}
+use Rattle.playback.proofs.Staying.{added_validity, dropped_validity, set_validity, shifted_validity}
+use Rattle.play_driver.proofs.PlayedKept.{validity_same}
 use Rattle.std.proofs.Common.{Bool, List, Option, [], ap, cond, false, inl, inr, refl, subst, sym, true, ℕ, ◌++◌, ◌∙◌, ◌∷◌, ◌≡◌}
 use Rattle.std.proofs.lemmas.Bool.{cond_both}
 use Rattle.std.specs.List.{AllByRecursion}
-use Rattle.world_traits.specs.Asking.{Asking}
-use Rattle.world_traits.specs.Asking.Asking.{answers, arrives}
-use Rattle.world_traits.specs.Moments.{Moment}
 use Rattle.imap_model.specs.declared.deed.Change.TheVariants as changes
 use Rattle.imap_model.specs.declared.command.Command.TheVariants as commands
 
@@ -71,20 +63,23 @@ module _ (n : ℕ) (boxes : List Mailbox) (d : Deed) (stands : DeedStands boxes 
       (λ all. (all.0, one_more xs all.1)) (λ all. one_more xs all)
 
 changed_leaves : (base : List Mailbox) (author : Author) (name : List ℕ) (change : Change) (s t : Server) →
-    Changes base author name change s t → LeavesEach s t
-changed_leaves base author name change s t c =
-    let same = λ (n : List ℕ). effect_validity base name change s.boxes t.boxes n c.effect in
-    record {
-      validity = same;
-      deeds = λ n stand.
-          subst (λ (h : List Deed). AllByRecursion (DeedStands t.boxes) (ours n h)) (sym c.history)
-          (one_more n t.boxes (deed_of author name change t.boxes) refl s.history (all_stand s.boxes t.boxes same (ours n s.history) stand));
-    }
+    ((n : List ℕ) → SameValidity n s t) → Changes base author name change s t → LeavesEach s t
+changed_leaves base author name change s t same c = record {
+  validity = same;
+  deeds = λ n stand.
+      subst (λ (h : List Deed). AllByRecursion (DeedStands t.boxes) (ours n h)) (sym c.history)
+      (one_more n t.boxes (deed_of author name change t.boxes) refl s.history (all_stand s.boxes t.boxes same (ours n s.history) stand));
+}
 
-batch_leaves : (base : List Mailbox) (s t : Server) → Batch base s t → LeavesEach s t
-batch_leaves base s t none = leaves_same s s refl
-batch_leaves base s t (more {m = mid} name change c b) =
-    leaves_then s mid t (changed_leaves base Other name change s mid c) (batch_leaves base mid t b)
+-- others who renew no mailbox
+pub others_leave : (s t : Server) → Batch s.boxes s t → SameValidities s.boxes t.boxes → LeavesEach s t
+others_leave s t batch same =
+    let each = validity_same s.boxes t.boxes same in
+    record {
+      validity = each;
+      deeds = λ n stand.
+          subst (AllByRecursion (DeedStands t.boxes)) (sym (batch_ours n s.boxes s t batch)) (all_stand s.boxes t.boxes each (ours n s.history) stand);
+    }
 
 accepted_leaves : (selected : Option (List ℕ)) (tag : Tag) (command : Command) (s t : Server) → Accepted selected tag command s t → LeavesEach s t
 accepted_leaves selected tag commands.Capability s t e = leaves_same s t e
@@ -96,40 +91,28 @@ accepted_leaves selected tag commands.FetchAll s t e = leaves_same s t e
 accepted_leaves selected tag (commands.FetchRow uid) s t e = leaves_same s t e
 accepted_leaves selected tag (commands.Search from id) s t e = leaves_same s t e
 accepted_leaves selected tag (commands.FetchIds uids) s t e = leaves_same s t e
+accepted_leaves selected tag (commands.FetchText uid) s t e = leaves_same s t e
 accepted_leaves selected tag (commands.Store uid since add flags) s t (inl e) =
-    changed_leaves s.boxes (Ours tag) e.found.name (changes.SetFlags uid e.flags) s t e.becomes
+    changed_leaves s.boxes (Ours tag) e.found.name (changes.SetFlags uid e.flags) s t
+    (λ n. set_validity s.boxes e.found.name uid e.flags s.boxes t.boxes n e.becomes.effect) e.becomes
 accepted_leaves selected tag (commands.Store uid since add flags) s t (inr e) = leaves_same s t e.stays
 accepted_leaves selected tag (commands.Shift uid to) s t (inl e) =
-    changed_leaves s.boxes (Ours tag) e.found.name (changes.Shift uid to e.received) s t e.becomes
+    changed_leaves s.boxes (Ours tag) e.found.name (changes.Shift uid to e.received) s t
+    (λ n. shifted_validity s.boxes e.found.name uid to e.received s.boxes t.boxes n e.becomes.effect) e.becomes
 accepted_leaves selected tag (commands.Shift uid to) s t (inr e) = leaves_same s t e.stays
+accepted_leaves selected tag (commands.Copy uid to) s t (inl e) =
+    changed_leaves s.boxes (Ours tag) to (changes.Add e.found.message.flags e.found.message.text e.received) s t
+    (λ n. added_validity s.boxes to e.found.message.flags e.found.message.text e.received s.boxes t.boxes n e.becomes.effect) e.becomes
+accepted_leaves selected tag (commands.Copy uid to) s t (inr e) = leaves_same s t e.stays
+accepted_leaves selected tag (commands.Expunge uid) s t (inl e) =
+    changed_leaves s.boxes (Ours tag) e.is.found.name (changes.Drop uid) s t
+    (λ n. dropped_validity s.boxes e.is.found.name uid s.boxes t.boxes n e.becomes.effect) e.becomes
+accepted_leaves selected tag (commands.Expunge uid) s t (inr e) = leaves_same s t e.stays
 accepted_leaves selected tag (commands.Append to flags text) s t e =
-    changed_leaves s.boxes (Ours tag) to (changes.Add flags text e.uid) s t e.becomes
+    changed_leaves s.boxes (Ours tag) to (changes.Add flags text e.uid) s t
+    (λ n. added_validity s.boxes to flags text e.uid s.boxes t.boxes n e.becomes.effect) e.becomes
 accepted_leaves selected tag commands.Logout s t e = leaves_same s t e
 
-carried_leaves : (w : Waiting) (s t : Server) → Carries w s t → LeavesEach s t
+pub carried_leaves : (w : Waiting) (s t : Server) → Carries w s t → LeavesEach s t
 carried_leaves w s t (inl same) = leaves_same s t same
 carried_leaves w s t (inr does) = accepted_leaves w.selected w.tag w.command s t does
-
-pub answering_leaves : (p q : Peer) → Answering p q → LeavesEach p.server q.server
-answering_leaves p q stays = leaves_same p.server p.server refl
-answering_leaves p q (others t batch) = batch_leaves p.server.boxes p.server t batch
-answering_leaves p q (goes_on a is unasked) = leaves_same p.server p.server refl
-answering_leaves p q (refuses a r is unasked refusal) = leaves_same p.server p.server refl
-answering_leaves p q (carries w r t after is out) = carried_leaves w p.server t (carried_effect w p.server r t after out)
-
-pub asking_leaves : (told : List Response) (tag : Tag) (command : Command) (p q : Peer) → Asking told tag command p q → LeavesEach p.server q.server
-asking_leaves told tag command p q (answers step) = answering_leaves p q step
-asking_leaves told tag command p q (arrives before part [] is awaits front) = leaves_same p.server p.server refl
-asking_leaves told tag command p q (arrives before part (next ∷ behind) is awaits front) = leaves_same p.server p.server refl
-
-pub questioning_leaves : (p q : Peer) → Questioning p q → LeavesEach p.server q.server
-questioning_leaves p q (answering step) = answering_leaves p q step
-questioning_leaves p q (asking told tag command question stays_in step) = asking_leaves told tag command p q step
-
-conversing_leaves : (p q : Peer) → Conversing p q → LeavesEach p.server q.server
-conversing_leaves p q (talking step) = answering_leaves p q step
-conversing_leaves p q (sending told tag command stays_in step) = asking_leaves told tag command p q step
-
-pub talk_leaves : (m n : Moment) → TalkStep m n → LeavesEach m.outside.server n.outside.server
-talk_leaves m n (inl same) = leaves_same m.outside.server n.outside.server (ap (λ (p : Peer). p.server) same)
-talk_leaves m n (inr step) = conversing_leaves m.outside n.outside step.outside

@@ -2,6 +2,7 @@
 use Rattle.action_queue.specs.Book.{Meaning, cache_at, learned}
 use Rattle.action_queue.specs.declared.event.Event.{Event}
 use Rattle.imap_model.specs.Lookups.{validity_of}
+use Rattle.imap_model.specs.declared.server.Server.{Server}
 use Rattle.imap_model.specs.declared.command.Command.{Command}
 use Rattle.imap_model.specs.declared.replies.Replies.{Replies}
 use Rattle.imap_session.specs.declared.fault.SessionFault.{SessionFault}
@@ -10,12 +11,13 @@ use Rattle.mail_base.specs.declared.tag.Tag.{Tag}
 use Rattle.mailbox_cache.specs.declared.cache.Cache.{Cache}
 use Rattle.mailbox_cache.specs.declared.delta.Delta.{Delta}
 use Rattle.play_driver.proofs.KnownWalk.{kept_here}
-use Rattle.play_driver.proofs.Learned.{learns_faultless, learns_level}
-use Rattle.play_driver.proofs.Renewing.{under_on}
+use Rattle.play_driver.proofs.Learned.{calm, learns_faultless, learns_level, under_on, validity_stays}
+use Rattle.play_driver.proofs.Opened.{opens_enquiring}
 use Rattle.play_driver.proofs.ToHave.{to_have_stands}
 use Rattle.play_driver.specs.Faults.{of_resync, of_session, of_unheard}
 use Rattle.play_driver.specs.Joining.{AllFair}
 use Rattle.play_driver.specs.KnownAt.{StandsKept}
+use Rattle.play_driver.specs.Levelling.{IsOutdated}
 use Rattle.play_driver.specs.Played.{played}
 use Rattle.play_driver.specs.Questioning.{Questioning}
 use Rattle.play_driver.specs.Recording.{NotRecorded}
@@ -33,7 +35,7 @@ use Rattle.playback.specs.declared.need.Need.{Need}
 use Rattle.playback.specs.declared.need.Unheard.{Unheard}
 use Rattle.playback.specs.declared.player.Player.{Player}
 use Rattle.qresync_core.specs.declared.fault.ResyncFault.{ResyncFault}
-use Rattle.std.proofs.Common.{Bool, Err, List, None, Ok, Option, Result, Some, ap, false, true, refl, subst, sym, ℕ, ◌∙◌, ◌≡◌, ◌≢◌}
+use Rattle.std.proofs.Common.{Bool, Err, List, None, Ok, Option, Result, Some, ap, false, true, refl, subst, sym, ℕ, ⊎_elim, ◌∙◌, ◌≡◌, ◌≢◌}
 use Rattle.store_core.specs.Holding.{Holding}
 use Rattle.store_core.specs.Mail.{mail}
 use Rattle.world_traits.specs.LinkState.{LinkState}
@@ -41,7 +43,7 @@ use Rattle.world_traits.specs.Links.{Linked}
 use Rattle.world_traits.specs.Moments.{Clock}
 use Rattle.play_driver.specs.declared.fault.PlayFault.TheVariants as faults
 use Rattle.playback.specs.declared.need.Need.TheVariants as needs
-use Rattle.qresync_core.specs.declared.fault.ResyncFault.TheVariants as resyncs
+use Rattle.qresync_core.specs.declared.fault.ResyncFault.TheVariants as resync_faults
 use Rattle.imap_session.specs.declared.fault.SessionFault.TheVariants as sessions
 use Rattle.playback.specs.declared.need.Unheard.TheVariants as unheards
 
@@ -128,7 +130,7 @@ needs_same : (a b : List ℕ) → needs.Select a ≡ needs.Select b → a ≡ b
 needs_same a b same = cc
 
 -- a resynchronisation's want of memory doesn't say so
-resync_memory : (name : List ℕ) (fault : ResyncFault) → fault ≡ resyncs.Memory → (box : List ℕ) (was now : ℕ) →
+resync_memory : (name : List ℕ) (fault : ResyncFault) → fault ≡ resync_faults.Memory → (box : List ℕ) (was now : ℕ) →
     of_resync name fault ≡ faults.Validity box was now → ⊥
 resync_memory name fault is box was now same =
     let memory : faults.Memory ≡ faults.Validity box was now = ap (of_resync name) (sym is) ∙ same in
@@ -158,13 +160,23 @@ module _ (b : Meaning) (old new : Clock) (stands : StandsKept b old) (fair : All
       let under =
       to_have_stands b old.now.outside.server old.now.outside.waiting (kept_here b old.now stands.kept stands.books) none name before
       (subst (λ (n : List ℕ). OfDue (IsToHave n before b) b) same_box other.to_have) in
-      other.apart (sym (under_on name before old new asked under) ∙ told_under delta is ∙ other.is_told)
+      let through = opens_enquiring old new asked in
+      other.apart
+      (sym (under_on name before old new (calm b old stands) through (validity_stays b name old new stands.books through fair) under)
+      ∙ told_under delta is ∙ other.is_told)
+
+  -- the cache has its mailbox's UIDVALIDITY
+  none_outdated : (cache : Option Cache) → cache ≡ cache_at name b.boxes → (fault : ResyncFault) →
+      IsOutdated old.now.outside.server name cache fault → ⊥
+  none_outdated None same fault outdated = outdated
+  none_outdated (Some cache) same fault outdated = outdated.0 (sym (none.caches name cache (sym same)))
 
   resync_valid : (fault : ResyncFault) → told ≡ Err fault → (box : List ℕ) (was now : ℕ) → of_resync name fault ≡ faults.Validity box was now → ⊥
   resync_valid fault failed box was now same =
-      resync_memory name fault
+      ⊎_elim (λ (memory : fault ≡ resync_faults.Memory). resync_memory name fault memory box was now same)
+      (λ (outdated : IsOutdated old.now.outside.server name kept fault). none_outdated kept same_cache fault outdated)
       (learns_faultless b name kept fault selected count after permits old new (sym same_cache) stands fair
-      (subst (λ (d : Result Delta ResyncFault). Resyncs selected count after name kept d permits old new) failed resyncs)) box was now same
+      (subst (λ (d : Result Delta ResyncFault). Resyncs selected count after name kept d permits old new) failed resyncs))
 
   untaken_valid : (unheard : Unheard) → WhyNotChosen unheard told p b → (box : List ℕ) (was now : ℕ) →
       of_unheard name unheard ≡ faults.Validity box was now → ⊥

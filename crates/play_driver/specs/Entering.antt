@@ -1,6 +1,6 @@
 -- How a run enters: it connects, reads the greeting, logs the user in and enables QRESYNC (RFC 9051, sections 3, 6.2 and 6.3.1;
 -- RFC 7162, section 3.2.3).
-use Rattle.std.specs.Prelude.{◌≡◌, ◌⊎◌, ℕ, Bool, []}
+use Rattle.std.specs.Prelude.{◌≡◌, ℕ, Bool, []}
 use Rattle.mail_base.specs.Account.{Credentials}
 use Rattle.imap_model.specs.Talking.{Connecting}
 use Rattle.world_traits.specs.Connected.{IsGreeted}
@@ -38,7 +38,7 @@ pub record HasEntered (account : Credentials) (p : Stage) : Type 0 where
 -- Why a run doesn't enter, on the bytes received; and what was sent. No connection was made; or no greeting came; or the user
 -- wasn't logged in; or QRESYNC wasn't enabled.
 pub data NotEntered (account : Credentials) (old link : LinkState) (fault : SessionFault) : Type 0 where
-  unconnected : fault ≡ sessions.Link → (link.sent ≡ []) ⊎ (link.sent ≡ old.sent) → NotEntered account old link fault
+  unconnected : fault ≡ sessions.Link → link.sent ≡ old.sent → link.earlier ≡ old.earlier → NotEntered account old link fault
   ungreeted : NoHello link.connection fault → link.sent ≡ [] → NotEntered account old link fault
   not_logged_in : (preauth : Bool) (p : Stage) → HasGreeted preauth p → Broke (entering preauth account) p link fault → NotEntered account old link fault
   not_enabled : (rev2 : Bool) (p : Stage) → HasLoggedIn account rev2 p → Broke (enabling rev2) p link fault → NotEntered account old link fault

@@ -31,6 +31,7 @@ pub record Gathers {Self T : Type 0} (L : Ghosts Self) (name : List ℕ) (kept :
       → (fault : SessionFault) → IsErrOf result fault
       → BrokeOff (resync name kept next) (count_of session) (L.link old).sent h.connection.received heard (L.link new) fault
   pub honest : L.tells_server → (at : ℕ) → IsErrOf result (faults.BadReply at) → ⊥
+  pub earlier : L.tells_files → (L.link new).earlier ≡ (L.link old).earlier
   pub blames : Blames L old new result
 
 -- These are the replies: the server's answers, each at one moment of the call, and all that came. All rows were fetched exactly where they

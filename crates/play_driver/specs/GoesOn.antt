@@ -1,5 +1,5 @@
 -- How a run goes on over one turn or several.
-use Rattle.std.specs.Prelude.{Result, IfOk, OnOk}
+use Rattle.std.specs.Prelude.{◌≡◌, Result, IfOk, OnOk}
 use Rattle.action_queue.specs.Book.{Meaning}
 use Rattle.journal_core.specs.OneSide.{EachOneSide}
 use Rattle.playback.specs.Kept.{Kept}
@@ -8,6 +8,7 @@ use Rattle.store_core.specs.Mail.{mail}
 use Rattle.world_traits.specs.Links.{Any}
 use Rattle.world_traits.specs.Moments.{Clock, Since}
 use Rattle.world_traits.specs.declared.clocked.Clocked.{Ghosts}
+use Rattle.play_driver.specs.Accuses.{ConnectsOnce}
 use Rattle.play_driver.specs.Joining.{AllFair, Grows, IsKept, StaysJoined}
 use Rattle.play_driver.specs.KnownAt.{KnownAt}
 use Rattle.play_driver.specs.Played.{played}
@@ -20,7 +21,8 @@ use Rattle.play_driver.specs.declared.session.Session.{Session}
 
 -- At every moment a stop leaves the book that was, or one further on. Where the book is kept, and the player knows the connection, which was
 -- made at some clock: up to each moment to which others were fair each one is kept, and joined to the one before it; and where others were
--- fair all the time the player knows it still. One side of the journal rests, and no connection is made.
+-- fair all the time the player knows it still. One side of the journal rests, and no connection is made: what was sent in earlier ones is
+-- what it was.
 pub record GoesOn {Self : Type 0} (W : Ghosts Self) (old new : Self) (session : Session) (p q : Player) (b c : Meaning)
     (result : Result Session PlayFault) : Type 0 where
   pub progress : W.tells_files → Progresses b (W.clock old) (W.clock new)
@@ -30,6 +32,7 @@ pub record GoesOn {Self : Type 0} (W : Ghosts Self) (old new : Self) (session : 
       → AllFair mail played (W.clock old) (W.clock new) → IfOk result (λ next. KnownAt made (W.clock new) (permits_in next) q c)
   pub each_one_side : W.tells_files → EachOneSide (W.clock old) (W.clock new)
   pub talks : W.tells_server → Since Any TalkStep (W.clock old) (W.clock new)
+  pub earlier : W.tells_files → (W.link new).earlier ≡ (W.link old).earlier
 
 -- each mailbox that the player counts stays the server's
 abbrev pub SyncsOn : {Self T : Type 0} → Ghosts Self → Self → Self → Player → Player → Meaning → Meaning → Result T PlayFault → Type 0
@@ -37,9 +40,10 @@ SyncsOn W old new p q b c result =
     W.tells_server → (start : Clock) → Grows start (W.clock old) → IsKept mail Kept (W.clock old).now
     → AllFair mail played (W.clock old) (W.clock new) → IsSyncedSoFar start (W.clock old) p b → OnOk result (IsSyncedSoFar start (W.clock new) q c)
 
--- The same of a whole run, which makes no connection behind its first question.
+-- The same of a whole run, which makes at most one connection, and none behind its first question.
 pub record RunGoesOn {Self : Type 0} (W : Ghosts Self) (old new : Self) (b : Meaning) : Type 0 where
   pub progress : W.tells_files → Progresses b (W.clock old) (W.clock new)
   pub joined : W.tells_server → IsKept mail Kept (W.clock old).now → StaysJoined mail Kept played (W.clock old) (W.clock new)
   pub each_one_side : W.tells_files → EachOneSide (W.clock old) (W.clock new)
   pub once : W.tells_server → ConnectsFirst RunStep (W.clock old) (W.clock new)
+  pub one : W.tells_files → ConnectsOnce (W.link old) (W.link new)

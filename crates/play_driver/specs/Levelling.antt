@@ -1,5 +1,5 @@
 -- What a resynchronisation makes of a cache, as long as no command that changes a mailbox waits (RFC 7162, section 3.2.5).
-use Rattle.std.specs.Prelude.{◌≡◌, ℕ, List, Option, Some, None, Ok, Err, ⊤}
+use Rattle.std.specs.Prelude.{◌≡◌, ◌≢◌, ◌⊎◌, ℕ, List, Option, Some, None, Ok, Err, ⊤}
 use Rattle.imap_model.specs.Changes.{Batch}
 use Rattle.imap_model.specs.Lookups.{box_at, validity_of}
 use Rattle.imap_model.specs.declared.server.Server.{Server}
@@ -55,8 +55,14 @@ LinkFaultless = (name : List ℕ) (kept : Option Cache) (fault : ResyncFault) (s
     → IsCalm old.now.outside → IsKeptFresh old.now.outside.server name kept → ValidityStays name old new
     → Resyncs selected count after name kept (Err fault) permits old new → fault ≡ resyncs.Memory
 
--- The same beside a book: at first a stop leaves this book, which is kept, so that each of its caches is fresh, and nothing waits; and
--- others are fair.
+-- the mailbox was made anew since it was last resynchronised, and the fault says so: by the UIDVALIDITY of the cache, and by its own
+abbrev pub IsOutdated : Server → List ℕ → Option Cache → ResyncFault → Type 0
+IsOutdated s name None fault = ⊥
+IsOutdated s name (Some cache) fault = (cache.validity ≢ validity_of (box_at name s.boxes))
+    × (fault ≡ resyncs.Validity cache.validity (validity_of (box_at name s.boxes)))
+
+-- The same beside a book: at first a stop leaves this book, which is kept, and nothing waits; and others are fair. Each cache is fresh
+-- then, or its mailbox was made anew: of that a resynchronisation tells no delta.
 abbrev pub ResyncsLevel : Type 0
 ResyncsLevel = (b : Meaning) (name : List ℕ) (kept : Option Cache) (delta : Delta) (selected : Option (List ℕ)) (count after : ℕ)
     (permits : Option Permits) (old new : Clock) → cache_at name b.boxes ≡ kept → StandsKept b old → AllFair mail played old new
@@ -65,4 +71,5 @@ ResyncsLevel = (b : Meaning) (name : List ℕ) (kept : Option Cache) (delta : De
 abbrev pub ResyncsFaultless : Type 0
 ResyncsFaultless = (b : Meaning) (name : List ℕ) (kept : Option Cache) (fault : ResyncFault) (selected : Option (List ℕ)) (count after : ℕ)
     (permits : Option Permits) (old new : Clock) → cache_at name b.boxes ≡ kept → StandsKept b old → AllFair mail played old new
-    → Resyncs selected count after name kept (Err fault) permits old new → fault ≡ resyncs.Memory
+    → Resyncs selected count after name kept (Err fault) permits old new
+    → (fault ≡ resyncs.Memory) ⊎ IsOutdated old.now.outside.server name kept fault

@@ -48,8 +48,11 @@ Provides told commands.FetchAll tag r = Unit {0}
 Provides told (commands.FetchRow uid) tag r = Unit {0}
 Provides told (commands.Search from id) tag r = Unit {0}
 Provides told (commands.FetchIds uids) tag r = Unit {0}
+Provides told (commands.FetchText uid) tag r = Unit {0}
 Provides told (commands.Store uid since add flags) tag r = Unit {0}
 Provides told (commands.Shift uid to) tag r = Unit {0}
+Provides told (commands.Copy uid to) tag r = Unit {0}
+Provides told (commands.Expunge uid) tag r = Unit {0}
 Provides told (commands.Append to flags text) tag r = Unit {0}
 Provides told commands.Logout tag r = Unit {0}
 

@@ -80,7 +80,8 @@ pub fn play<W: World>(
         → OnOk result (AreSyncedBehind (W.clock world.old) (W.clock world.new) store.new.book) }
     ensures played { IfOk result (λ p. p ≡ played_since store.old.book store.new.book) }
 
-    // What was sent and received, over one connection, and what was recorded of it, by few enough SELECTs; or why it ended early.
+    // What was sent and received, over one connection, and what was recorded of it, by few enough SELECTs; or why it ended early. Where a
+    // call of the disk or of the link failed, it ends by that fault.
     ensures plays { W.tells_files
         → OnOk result (Plays account.now store.old store.new (W.link world.new)) }
     ensures why { W.tells_files → (fault : PlayFault) → IsErrOf result fault
@@ -90,8 +91,8 @@ pub fn play<W: World>(
         → AllFair mail played (W.clock world.old) (W.clock world.new)
         → (why : Why) → IsErrOf result (faults.BadReply why) → ⊥ }
 
-    // A server that serves it, with no mailbox made anew that an action waits for, ends no run: what else ends one is want of memory, the
-    // disk, the link, or a limit.
+    // A server that serves it, with no mailbox made anew of which the book knows something, ends no run: what else ends one is want of
+    // memory, the disk, the link, or a limit.
     ensures complete { W.tells_server → IsKept mail Kept (W.clock world.old).now
         → AllFair mail played (W.clock world.old) (W.clock world.new)
         → AllServing (W.clock world.old) (W.clock world.new)

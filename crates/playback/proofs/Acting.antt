@@ -28,7 +28,15 @@ stores = record { kept = kept_three; is_of = is_of; carries = carried_out; one =
 pub puts : HasEffect book_that_appends server_before server_appended append_sent (done_at 2)
 puts = record {
   kept = append_meant;
-  is_of = record { intent = intents.Put box_name 5 2; pending = refl; queued = accepted appends; there = refl; is = refl; none = refl };
+  is_of = record {
+    intent = intents.Put box_name 5 2;
+    pending = refl;
+    queued = accepted appends;
+    there = refl;
+    is = refl;
+    none = refl;
+    at = record { box = box_with [] 10; there = refl; same = refl; facts = tt };
+  };
   carries = inr (record {
     uid = 2;
     becomes = record {
@@ -103,7 +111,15 @@ move_meant =
 pub shifts : HasEffect book_that_moves server_of_two server_moved move_sent (done_at 1)
 shifts = record {
   kept = move_meant;
-  is_of = record { intent = intents.Shift box_name 5 1 other_name; pending = refl; queued = accepted moves; there = refl; is = refl; none = refl };
+  is_of = record {
+    intent = intents.Shift box_name 5 1 other_name;
+    pending = refl;
+    queued = accepted moves;
+    there = refl;
+    is = refl;
+    none = refl;
+    at = record { box = box_with [] 10; there = refl; same = refl; facts = tt };
+  };
   carries = inr (inl (record {
     found = record { name = box_name; is_selected = refl; box = box_with [] 10; named = refl; message = message_with [] 10; there = refl };
     received = 1;

@@ -11,7 +11,7 @@ use Rattle.imap_model.specs.declared.command.Command.{Command}
 use Rattle.imap_model.specs.declared.command.Command.TheVariants as commands
 use Rattle.imap_model.specs.declared.deed.Deed.{Deed}
 use Rattle.imap_model.specs.declared.server.Server.{Server}
-use Rattle.action_queue.specs.Book.{Meaning}
+use Rattle.action_queue.specs.Book.{Meaning, cache_at}
 use Rattle.action_queue.specs.Queues.{due_action}
 use Rattle.action_queue.specs.Targets.{resolved}
 use Rattle.action_queue.specs.declared.action.Action.{Action}
@@ -60,6 +60,7 @@ use Rattle.playback.proofs.Endings.{IsRight, ended_right, is_never_of, no_flag, 
 use Rattle.playback.proofs.Onward.{IsIdle, idle}
 use Rattle.playback.proofs.Queueing.{Suited}
 use Rattle.playback.proofs.Resolving.{of_flag, of_move}
+use Rattle.playback.proofs.Facts.{learned_validity, of_under}
 use Rattle.playback.proofs.RowFacts.{IsAboutSpot, IsThat, RowThere, row_again, row_intends, row_is, row_mark, row_shifts, row_still}
 use Rattle.playback.proofs.RowFacts.{row_weaker, selected_that, spot_at, under_that, was_at, was_map}
 
@@ -127,11 +128,12 @@ module _ (p : Player) (b : Meaning) (w : World) (kept : KeptBook b w.course.now 
 
   -- the command of the intent may be sent
   may_send : (intent : Intent) → b.pending ≡ Some intent → (command : Command) (name : List ℕ) → name_of w.selected ≡ Some name →
+      IsUnder (intent_name intent) (intent_validity intent) w.course.now →
       command_of (tag_of (due_id b) q) q.action intent ≡ Some
       (record { selected = Some name; tag = tag_of (due_id b) q; command = command }) →
       ours (due_id b) w.course.now.history ≡ [] → send_of (due_id b) q.action intent ≡ needs.Send (due_id b) command →
       IsGoodStep p b w steps.Send
-  may_send intent pending command name named is none sent =
+  may_send intent pending command name named at is none sent =
       let need : need_send (due_id b) (due_action b.queue) b.pending ≡ needs.Send (due_id b) command =
       ap (λ (o : Option Queued). need_send (due_id b) o b.pending) e ∙ ap (λ (o : Option Intent). send_meant (due_id b) q.action o) pending
       ∙ sent in
@@ -146,6 +148,7 @@ module _ (p : Player) (b : Meaning) (w : World) (kept : KeptBook b w.course.now 
           there = e;
           is = is ∙ ap (λ (x : Option (List ℕ)). Some (record { selected = x; tag = tag_of (due_id b) q; command = command })) (sym named);
           none = none;
+          at = at;
         };
       } in
       subst (λ (x : Need). IsAllowed x p b w) (sym need) may
@@ -223,7 +226,7 @@ module _ (p : Player) (b : Meaning) (w : World) (kept : KeptBook b w.course.now 
 
       flag_send : is_selected p.selected spot ≡ true → ours (due_id b) w.course.now.history ≡ [] → IsGoodStep p b w steps.Send
       flag_send selected none =
-          may_send store pending (commands.Store spot.uid modseq add asked) spot.name (named_of spot.name spot.validity selected)
+          may_send store pending (commands.Store spot.uid modseq add asked) spot.name (named_of spot.name spot.validity selected) (under_of spot.name spot.validity selected)
           (ap (λ (x : Action). command_of (tag_of (due_id b) q) x store) a) none (ap (λ (x : Action). send_of (due_id b) x store) a)
 
       is_mark : IsMark b.pending modseq
@@ -345,7 +348,7 @@ module _ (p : Player) (b : Meaning) (w : World) (kept : KeptBook b w.course.now 
 
       move_send : is_selected p.selected spot ≡ true → ours (due_id b) w.course.now.history ≡ [] → IsGoodStep p b w steps.Send
       move_send selected none =
-          may_send shift pending (commands.Shift spot.uid to) spot.name (named_of spot.name spot.validity selected)
+          may_send shift pending (commands.Shift spot.uid to) spot.name (named_of spot.name spot.validity selected) (under_of spot.name spot.validity selected)
           (ap (λ (x : Action). command_of (tag_of (due_id b) q) x shift) a) none (ap (λ (x : Action). send_of (due_id b) x shift) a)
 
       move_still : p.resumed ≡ true → is_selected p.selected spot ≡ true →
@@ -421,8 +424,9 @@ module _ (p : Player) (b : Meaning) (w : World) (kept : KeptBook b w.course.now 
         cond_both (is_selected_at p.selected to validity) (steps.Intend (intents.Put to validity uidnext)) (select_any to)
         (λ (s : Step). IsGoodStep p b w s)
         (λ t.
-        let holds : InBox (PutFacts id uidnext validity []) to validity w.course.now.boxes =
-        of_this (λ x y. InBox (PutFacts y uidnext validity []) x validity w.course.now.boxes) unsent.holds in
+        let holds : InBoxNow (PutFacts id uidnext validity []) to validity w.course.now.boxes =
+        of_under (under_of to validity t)
+        (of_this (λ x y. InBox (PutFacts y uidnext validity []) x validity w.course.now.boxes) unsent.holds) in
         intends free (intents.Put to validity uidnext)
         (record {
           box = holds.box;
@@ -465,7 +469,7 @@ module _ (p : Player) (b : Meaning) (w : World) (kept : KeptBook b w.course.now 
 
       put_send : is_selected_at p.selected to validity ≡ true → ours (due_id b) w.course.now.history ≡ [] → IsGoodStep p b w steps.Send
       put_send selected none =
-          may_send put pending (commands.Append to flags text) to (named_of to validity selected)
+          may_send put pending (commands.Append to flags text) to (named_of to validity selected) (under_of to validity selected)
           (ap (λ (x : Action). command_of (tag_of (due_id b) q) x put) a) none (ap (λ (x : Action). send_of (due_id b) x put) a)
 
       verdict_ok : p.resumed ≡ true → is_selected_at p.selected to validity ≡ true → (verdict : Verdict) →
@@ -605,7 +609,14 @@ module _ (p : Player) (b : Meaning) (w : World) (kept : KeptBook b w.course.now 
 
   learns_ok : (learns : Option Resynced) → p.learns ≡ learns → Learning learns p b w.course.now → IsGoodStep p b w (step_learn p b learns)
   learns_ok None h l = due_ok (due_action b.queue) refl
-  learns_ok (Some told) h l = subst (λ (o : Option Resynced). IsAllowed (need_learn o) p b w) (sym h) (l.fresh, tt)
+  learns_ok (Some told) h l =
+      let v : IsUnder told.name told.delta.validity w.course.now =
+      known.valid (record { name = told.name; validity = told.delta.validity }) (rest.resting.selected ∙ l.selected) in
+      subst (λ (o : Option Resynced). IsAllowed (need_learn o) p b w) (sym h) (
+        of_under
+            (subst (λ (k : ℕ). IsUnder told.name k w.course.now) (sym (learned_validity (cache_at told.name b.boxes) told.delta)) v) l.fresh,
+        tt,
+      )
 
 -- at any moment at which nothing is owed
 pub allowed_need : (p : Player) (b : Meaning) (w : World) → KeptBook b w.course.now w.waiting → w.owed ≡ None → Knows p b w →

@@ -21,6 +21,7 @@ use Rattle.imap_model.specs.declared.item.Item.{Item}
 use Rattle.imap_model.specs.declared.mark.Mark.{Mark}
 use Rattle.imap_model.specs.declared.replies.Replies.{Replies}
 use Rattle.imap_model.specs.declared.server.Server.{Server}
+use Rattle.mail_base.specs.declared.limits.TheConstants.{MAX_ROWS}
 use Rattle.mailbox_cache.specs.declared.delta.Delta.{Delta}
 use Rattle.playback.proofs.CodesTold.{copied_read, last_this, none_copied}
 use Rattle.playback.proofs.Fetches.{row_read}
@@ -67,16 +68,16 @@ no_target : (other : Option (ℕ × ℕ)) (later : Option Unheard) → target_fa
 no_target None later e = e
 no_target (Some pair) later e = absurd (cc)
 
-few_rows : (many : Bool) (count : ℕ) → nat_lt 200000 count ≡ many → rows_fault (cond many (Some count) None) ≡ None → count ≤ 200000
+few_rows : (many : Bool) (count : ℕ) → nat_lt MAX_ROWS count ≡ many → rows_fault (cond many (Some count) None) ≡ None → count ≤ MAX_ROWS
 few_rows true count t e = absurd (cc)
-few_rows false count t e = ltb-false 200000 count t
+few_rows false count t e = ltb-false MAX_ROWS count t
 
 few_told : (b : Meaning) (delta : Delta) (name : List ℕ) (under : Option ℕ) →
     box_fault b delta (Some (record { name = name; under = under })) ≡ None →
-    length (learned (cache_at name b.boxes) delta).rows ≤ 200000
+    length (learned (cache_at name b.boxes) delta).rows ≤ MAX_ROWS
 few_told b delta name under e =
     let count : ℕ = rows_with name b delta in
-    few_rows (nat_lt 200000 count) count refl (no_target (is_other under delta.validity) (rows_fault (is_many count)) e)
+    few_rows (nat_lt MAX_ROWS count) count refl (no_target (is_other under delta.validity) (rows_fault (is_many count)) e)
 
 module _ (p : Player) (b : Meaning) (delta : Delta) (fits : FitsWanted p b (Ok delta)) (sound : IsSound b) (beside : IsBeside p b) where
   -- the mailbox is the next one, where every action is settled
@@ -110,7 +111,7 @@ module _ (p : Player) (b : Meaning) (delta : Delta) (fits : FitsWanted p b (Ok d
       box_fault b delta (Some (record { name = name; under = under })) ≡ None → IsBeside (chosen_box p b delta name) b
   box_beside name under s none =
       let fit : Fits (cache_at name b.boxes) delta × HaveFewFlags delta.rows = fits name (ap (λ (x : Step). need_for x p b) s) in
-      let few : length (learned (cache_at name b.boxes) delta).rows ≤ 200000 = few_told b delta name under none in
+      let few : length (learned (cache_at name b.boxes) delta).rows ≤ MAX_ROWS = few_told b delta name under none in
       let within : length delta.rows ≤ length (learned (cache_at name b.boxes) delta).rows =
       rows_within (cache_at name b.boxes) delta delta.rising in
       record {

@@ -23,7 +23,7 @@ use Rattle.imap_model.specs.declared.deed.Author.TheVariants.{Ours}
 use Rattle.imap_model.specs.declared.deed.Change.{Change}
 use Rattle.imap_model.specs.declared.deed.Change.TheVariants as changes
 use Rattle.mail_base.specs.declared.tag.Tag.{Tag}
-use Rattle.mail_base.specs.declared.tag.Tag.TheVariants.{Play, Count, Strange}
+use Rattle.mail_base.specs.declared.tag.Tag.TheVariants.{Again, Count, Play, Strange}
 use Rattle.imap_model.specs.declared.command.Command.{Command}
 use Rattle.imap_model.specs.declared.command.Command.TheVariants as commands
 use Rattle.action_queue.specs.Queues.{due}
@@ -42,14 +42,13 @@ use Rattle.action_queue.specs.Book.{Meaning}
 use Rattle.append_probe.specs.Marked.{at_least, has_id, marked}
 use Rattle.playback.specs.Wanted.{IsAsked, IsWanted}
 use Rattle.playback.specs.Once.{new_uid, AllOwned, Fits, Once}
-use Rattle.playback.specs.InBox.{InBox}
+use Rattle.playback.specs.InBox.{InBox, InBoxNow}
 use Rattle.playback.specs.Open.{RowAbove, StoreFacts, ShiftFacts, some_of, PutFacts, IntentFacts, IsOpen, intent_name, intent_validity}
 use Rattle.playback.specs.Sound.{HasIntent, IsSound}
 use Rattle.playback.specs.Of.{tag_of, command_of, IsOf, MutatingWaits}
 use Rattle.playback.specs.Kept.{KeptBook, KeptBefore, Kept}
 use Rattle.playback.proofs.Queueing.{Suited, is_suited}
 use Rattle.playback.proofs.Marks.{has_its_id, marked_push}
-use Rattle.playback.proofs.Staying.{effect_validity}
 use Rattle.playback.proofs.Deeds.{ours_push_other, ours_push_mine, owned_push}
 use Rattle.playback.proofs.Facts.{fresh_evolves}
 
@@ -60,6 +59,7 @@ due_open b s q e = s.rest (due b.queue) q e (omega arith)
 -- a tag is of one action
 pub try_apart : (n k : ℕ) (tag : Tag) → (n ≡ k → ⊥) → is_try k tag ≡ true → is_try n tag ≡ false
 try_apart n k (Play m) d = λ t. ne_eqb m n (λ e. d (sym e ∙ eqb-true m k t))
+try_apart n k (Again m turn) d = λ t. ne_eqb m n (λ e. d (sym e ∙ eqb-true m k t))
 try_apart n k (Count m) d = λ t. absurd (cc)
 try_apart n k Strange d = λ t. absurd (cc)
 
@@ -124,7 +124,7 @@ module _ (b : Meaning) (s t : Server) (waiting : Option Waiting) (kept : KeptBoo
             subst (λ (x : Intent). IsOpen q.action (ours (suc (due b.queue)) t.history) x t.boxes) (same_Some intent other (sym pending ∙ p))
             (subst (λ (x : Queued). IsOpen x.action (ours (suc (due b.queue)) t.history) intent t.boxes) (same_Some queued q (sym there ∙ e))
             (subst (λ (l : List Deed). IsOpen queued.action l intent t.boxes) (sym mine) opened));
-        fresh = fresh_evolves b s.boxes t.boxes all.1 (λ n. effect_validity s.boxes name change s.boxes t.boxes n becomes.effect) kept.fresh;
+        fresh = fresh_evolves b s.boxes t.boxes all.1 kept.fresh;
         waits = λ m. absurd (nothing_waits m);
       }
 
@@ -217,8 +217,9 @@ module _ (b : Meaning) (s t : Server) (waiting : Option Waiting) (kept : KeptBoo
   box_is : (action : Action) (intent : Intent) (x : Mailbox) → of.queued.action ≡ action → of.intent ≡ intent →
       box_at (intent_name intent) s.boxes ≡ Some x → x.validity ≡ intent_validity intent
   box_is action intent x a i e =
-      let o : InBox (IntentFacts action [] intent) (intent_name intent) (intent_validity intent) s.boxes = opened action intent a i in
-      ap (λ (y : Mailbox). y.validity) (same_Some x o.box (sym e ∙ o.there)) ∙ o.same
+      let u : InBoxNow (λ _. Unit {0}) (intent_name intent) (intent_validity intent) s.boxes =
+      subst (λ (y : Intent). InBoxNow (λ _. Unit {0}) (intent_name y) (intent_validity y) s.boxes) i of.at in
+      ap (λ (y : Mailbox). y.validity) (same_Some x u.box (sym e ∙ u.there)) ∙ u.same
 
   -- the facts of the open intent at its mailbox
   facts_at : (action : Action) (intent : Intent) (x : Mailbox) → of.queued.action ≡ action → of.intent ≡ intent →
@@ -226,7 +227,8 @@ module _ (b : Meaning) (s t : Server) (waiting : Option Waiting) (kept : KeptBoo
   facts_at action intent x a i e =
       let o : InBox (IntentFacts action [] intent) (intent_name intent) (intent_validity intent) s.boxes = opened action intent a i in
       let is : o.box ≡ x = same_Some o.box x (sym o.there ∙ e) in
-      subst (λ (y : Mailbox). IntentFacts action [] intent y) is o.facts
+      subst (λ (y : Mailbox). IntentFacts action [] intent y) is
+      (o.facts (ap (λ (y : Mailbox). y.validity) is ∙ box_is action intent x a i e))
 
   -- the change of the pending intent was made
   acts : (action : Action) (intent : Intent) → of.queued.action ≡ action → of.intent ≡ intent → (name : List ℕ) (change : Change) →
@@ -261,8 +263,8 @@ module _ (b : Meaning) (s t : Server) (waiting : Option Waiting) (kept : KeptBoo
       (record {
         box = r.after;
         there = there;
-        same = after_v;
-        facts =
+        not_below = omega arith;
+        facts = λ _.
             store_acts uid modseq (floor_of s.boxes name) e.flags [] mine r.before r.after (ap highest_of r.there) r.becomes
             (facts_at (actions.Flag target add asked) (intents.Store name validity uid modseq) r.before a i r.there);
       })
@@ -288,8 +290,8 @@ module _ (b : Meaning) (s t : Server) (waiting : Option Waiting) (kept : KeptBoo
       (record {
         box = h.leaves.after;
         there = there;
-        same = after_v;
-        facts =
+        not_below = omega arith;
+        facts = λ _.
             shift_acts uid (floor_of s.boxes from) [] mine h.leaves.before h.leaves.after h.leaves.becomes
             (facts_at (actions.Move target other) (intents.Shift from validity uid to) h.leaves.before a i h.leaves.there);
       })
@@ -311,8 +313,8 @@ module _ (b : Meaning) (s t : Server) (waiting : Option Waiting) (kept : KeptBoo
       (record {
         box = r.after;
         there = there;
-        same = after_v;
-        facts =
+        not_below = omega arith;
+        facts = λ _.
             put_acts id uidnext validity (floor_of s.boxes to) flags text e.uid d r.before r.after
             (has_its_id text id writable.1) now_v refl r.becomes
             (facts_at (actions.Append other flags text id) (intents.Put to validity uidnext) r.before a i r.there);
@@ -395,6 +397,8 @@ pub harmless : (selected : Option (List ℕ)) (tag : Tag) (command : Command) (s
     Accepted selected tag command s t → t ≡ s
 harmless selected tag (commands.Store uid since add flags) s t = λ f e. absurd (cc)
 harmless selected tag (commands.Shift uid to) s t = λ f e. absurd (cc)
+harmless selected tag (commands.Copy uid to) s t = λ f e. absurd (cc)
+harmless selected tag (commands.Expunge uid) s t = λ f e. absurd (cc)
 harmless selected tag (commands.Append to flags text) s t = λ f e. absurd (cc)
 harmless selected tag commands.Capability s t = λ f e. e
 harmless selected tag (commands.Login account) s t = λ f e. e
@@ -405,6 +409,7 @@ harmless selected tag commands.FetchAll s t = λ f e. e
 harmless selected tag (commands.FetchRow uid) s t = λ f e. e
 harmless selected tag (commands.Search from id) s t = λ f e. e
 harmless selected tag (commands.FetchIds uids) s t = λ f e. e
+harmless selected tag (commands.FetchText uid) s t = λ f e. e
 harmless selected tag commands.Logout s t = λ f e. e
 
 -- none of these is of a book yet

@@ -5,7 +5,7 @@ use Rattle.imap_model.specs.Carrying.{Waiting}
 use Rattle.imap_model.specs.Mutating.{is_mutating}
 use Rattle.imap_model.specs.Talking.{Peer, Answering, Connecting, arrived}
 use Rattle.imap_model.specs.Talking.Answering.{stays, others, goes_on, refuses, carries}
-use Rattle.imap_model.specs.Talking.Connecting.{as_before, begins}
+use Rattle.imap_model.specs.Talking.Connecting.{as_before, ends, begins}
 use Rattle.imap_model.proofs.Effect.{carried_effect}
 use Rattle.imap_model.specs.declared.command.Command.{Command}
 use Rattle.playback.specs.Of.{MutatingWaits}
@@ -15,7 +15,7 @@ use Rattle.playback.proofs.Carrying.{nothing_waits}
 
 pub answering_steps : (books : Books) (p q : Peer) → Answering p q → SparesAt books p q → MayStep (state_of books p) (state_of books q)
 answering_steps books p q stays spares = inl refl
-answering_steps books p q (others t b) spares = inr (Other, record { server = t; changes = b; spares = spares b; becomes = refl })
+answering_steps books p q (others t b) spares = inr (Other, record { server = t; changes = b; spares = (spares b).0; stays = (spares b).1; becomes = refl })
 answering_steps books p q (goes_on a arriving asked) spares = inl refl
 answering_steps books p q (refuses a r arriving asked refusal) spares = inl refl
 answering_steps books p q (carries w r t after waits c) spares =
@@ -23,6 +23,7 @@ answering_steps books p q (carries w r t after waits c) spares =
 
 pub connecting_steps : (books : Books) (p q : Peer) → Connecting p q → SparesAt books p q → MayStep (state_of books p) (state_of books q)
 connecting_steps books p q (as_before a) spares = answering_steps books p q a spares
+connecting_steps books p q ends spares = inl refl
 connecting_steps books p q (begins greeting g) spares = inr (Connect, refl)
 
 -- none waits, so that none waits that changes something

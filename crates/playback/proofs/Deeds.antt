@@ -43,15 +43,18 @@ wanted_grows old new (actions.Flag target add asked) name validity (changes.SetF
 wanted_grows old new (actions.Flag target add asked) name validity (changes.Add flags text uid) g w = w
 wanted_grows old new (actions.Flag target add asked) name validity (changes.Drop uid) g w = w
 wanted_grows old new (actions.Flag target add asked) name validity (changes.Shift uid to received) g w = w
+wanted_grows old new (actions.Flag target add asked) name validity (changes.Reset under uids uidnext highest) g w = w
 wanted_grows old new (actions.Move target to) name validity (changes.Shift uid other received) g w =
     (resolved_stays old new target name validity uid g w.0, w.1)
 wanted_grows old new (actions.Move target to) name validity (changes.Add flags text uid) g w = w
 wanted_grows old new (actions.Move target to) name validity (changes.SetFlags uid flags) g w = w
 wanted_grows old new (actions.Move target to) name validity (changes.Drop uid) g w = w
+wanted_grows old new (actions.Move target to) name validity (changes.Reset under uids uidnext highest) g w = w
 wanted_grows old new (actions.Append to flags text id) name validity (changes.Add others content uid) g w = w
 wanted_grows old new (actions.Append to flags text id) name validity (changes.SetFlags uid others) g w = w
 wanted_grows old new (actions.Append to flags text id) name validity (changes.Drop uid) g w = w
 wanted_grows old new (actions.Append to flags text id) name validity (changes.Shift uid other received) g w = w
+wanted_grows old new (actions.Append to flags text id) name validity (changes.Reset under uids uidnext highest) g w = w
 
 one_grows : (old new : List Queued) (d : Deed) (author : Author) → Grows old new → IsOwned old d author → IsOwned new d author
 one_grows old new d Other g o = tt

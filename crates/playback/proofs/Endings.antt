@@ -128,8 +128,8 @@ module _ (b : Meaning) (w : World) (resumed : Bool) (q : Queued) (e : due_action
   -- the intent's mailbox was there
   was_under : IsUnder (intent_name intent) (intent_validity intent) said.before
   was_under =
-      let o : IsOpen q.action (ours (due_id b) said.before.history) intent said.before.boxes = sent.kept.open_intent intent pending q e in
-      record { box = o.box; there = o.there; same = o.same; facts = tt }
+      subst (λ (x : Intent). IsUnder (intent_name x) (intent_validity x) said.before)
+      (same_Some sent.is_of.intent intent (sym sent.is_of.pending ∙ pending)) sent.is_of.at
 
   was_carried : (P : Action → Said → Type 0) → P q.action said → WasCarried P b w.course
   was_carried P h = (

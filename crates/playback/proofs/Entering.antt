@@ -21,7 +21,8 @@ use Rattle.action_queue.specs.declared.event.Event.{Event}
 use Rattle.action_queue.specs.declared.event.Event.TheVariants as events
 use Rattle.playback.specs.Once.{AllOwned, Fits}
 use Rattle.playback.specs.Open.{IsOpen}
-use Rattle.playback.specs.Fresh.{Fresh, IsFreshFor}
+use Rattle.playback.proofs.Facts.{now_in}
+use Rattle.playback.specs.Fresh.{IsFreshNow, Fresh, IsFreshFor}
 use Rattle.playback.specs.Sound.{HasIntent, IsSound}
 use Rattle.playback.specs.Of.{tag_of, command_of, IsOf}
 use Rattle.playback.specs.Kept.{KeptBook, KeptBefore, Kept}
@@ -94,6 +95,7 @@ module _ (b : Meaning) (id : ℕ) (action : Action) (s : Server) (waiting : Opti
               (get_pushed b.queue new of.queued (due b.queue) of.there);
           is = subst (λ (k : ℕ). command_of (tag_of (suc k) of.queued) of.queued.action of.intent ≡ Some m.command) (sym same_due) of.is;
           none = subst (λ (k : ℕ). ours (suc k) s.history ≡ []) (sym same_due) of.none;
+          at = of.at;
         };
       }
 
@@ -104,7 +106,7 @@ intend_keeps b id intent s waiting kept has permitted = record {
   well = kept.well;
   once = record { owned = kept.once.owned; settled = kept.once.settled; once = kept.once.once; idle = λ n. absurd (cc); later = kept.once.later };
   open_intent = λ other p q e.
-      subst (λ (x : Intent). IsOpen q.action (ours (suc (due b.queue)) s.history) x s.boxes) (same_Some intent other p) (permitted.1 q e);
+      subst (λ (x : Intent). IsOpen q.action (ours (suc (due b.queue)) s.history) x s.boxes) (same_Some intent other p) (now_in (permitted.1 q e));
   fresh = kept.fresh;
   waits = λ m. absurd (permitted.0 m);
 }
@@ -140,13 +142,13 @@ settle_keeps b id outcome s waiting kept has permitted =
     }
 
 learned_fresh : (b : Meaning) (name : List ℕ) (delta : Delta) (s : Server) → Fresh b s.boxes →
-    IsFreshFor name (learned (cache_at name b.boxes) delta) s.boxes →
+    IsFreshNow name (learned (cache_at name b.boxes) delta) s.boxes →
     (n : List ℕ) (cache : Cache) → ((n ≡ name) × (Some (learned (cache_at name b.boxes) delta) ≡ Some cache)) ⊎ (cache_at n b.boxes ≡ Some cache) →
     IsFreshFor n cache s.boxes
 learned_fresh b name delta s fresh permitted n cache (inr was) = fresh n cache was
 learned_fresh b name delta s fresh permitted n cache (inl new) =
     subst (λ (k : List ℕ). IsFreshFor k cache s.boxes) (sym new.0)
-    (subst (λ (x : Cache). IsFreshFor name x s.boxes) (same_Some (learned (cache_at name b.boxes) delta) cache new.1) permitted)
+    (subst (λ (x : Cache). IsFreshFor name x s.boxes) (same_Some (learned (cache_at name b.boxes) delta) cache new.1) (now_in permitted))
 
 -- another cache, and the rest of the book as it was
 caches_keep : (b c : Meaning) (s : Server) (waiting : Option Waiting) → KeptBook b s waiting → IsSound c → c.queue ≡ b.queue →
@@ -172,6 +174,7 @@ caches_keep b c s waiting kept sound queue pending fresh = record {
     there = subst (λ (l : List Queued). slice_get l (due l) ≡ Some of.queued) (sym queue) of.there;
     is = subst (λ (l : List Queued). command_of (tag_of (suc (due l)) of.queued) of.queued.action of.intent ≡ Some m.command) (sym queue) of.is;
     none = subst (λ (l : List Queued). ours (suc (due l)) s.history ≡ []) (sym queue) of.none;
+    at = of.at;
   };
 }
 

@@ -1,6 +1,7 @@
 -- Changes by others.
 use Rattle.std.proofs.Common.{◌≡◌, ℕ, suc, ◌≤◌, List, length, Option, Some, None, refl, sym, ◌∙◌, ap, subst}
 use Rattle.std.proofs.lemmas.Option.{same_Some}
+use Rattle.mail_base.specs.declared.tag.Tag.{Tag}
 use Rattle.imap_model.specs.Lookups.{box_at}
 use Rattle.imap_model.specs.Ours.{ours}
 use Rattle.imap_model.specs.WellFormed.{IsWellFormed}
@@ -22,13 +23,12 @@ use Rattle.append_probe.specs.Marked.{marked}
 use Rattle.playback.specs.Once.{Fits}
 use Rattle.playback.specs.Open.{IntentFacts, IsOpen, Open, intent_name, intent_validity}
 use Rattle.playback.specs.Sound.{HasIntent}
-use Rattle.playback.specs.Of.{IsOf}
+use Rattle.playback.specs.Of.{IsOf, command_of, tag_of}
 use Rattle.playback.specs.Kept.{KeptBook, Kept}
-use Rattle.playback.specs.Polite.{Spares, SparesBook}
+use Rattle.playback.specs.Polite.{KeepsBox, KeepsWaiting, Spares, SparesBook}
 use Rattle.playback.proofs.Queueing.{Suited, is_suited}
-use Rattle.playback.proofs.Staying.{batch_validity}
 use Rattle.playback.proofs.Deeds.{batch_ours, batch_owned, batch_none}
-use Rattle.playback.proofs.Facts.{store_goes, shift_goes, put_goes, fresh_evolves, box_evolves}
+use Rattle.playback.proofs.Facts.{store_goes, shift_goes, put_goes, fresh_evolves, box_evolves, under_kept}
 
 -- the facts of a pending intent stay
 intent_goes : (b : Meaning) (old new : List Mailbox) (q : Queued) (action : Action) (intent : Intent) → q.action ≡ action → Suited b.queue action intent →
@@ -48,19 +48,36 @@ intent_goes b old new q (actions.Move target to) (intents.Put other validity uid
 intent_goes b old new q (actions.Append to flags text id) (intents.Store name validity uid modseq) a s p e mine x y f g v h i = absurd s
 intent_goes b old new q (actions.Append to flags text id) (intents.Shift from validity uid other) a s p e mine x y f g v h i = absurd s
 
--- a command of the book is that still, as no deed of ours comes
-pub of_after : (b : Meaning) (s t : Server) (w : Waiting) → Batch s.boxes s t → IsOf b s w → IsOf b t w
-of_after b s t w foreign of = record {
+-- the mailbox that is selected is the intent's
+command_selects : (tag : Tag) (action : Action) (intent : Intent) (w : Waiting) → command_of tag action intent ≡ Some w →
+    w.selected ≡ Some (intent_name intent)
+command_selects tag (actions.Flag target add flags) (intents.Store name validity uid modseq) w = λ e. ap (λ (x : Waiting). x.selected) (sym (same_Some _ w e))
+command_selects tag (actions.Move target other) (intents.Shift from validity uid to) w = λ e. ap (λ (x : Waiting). x.selected) (sym (same_Some _ w e))
+command_selects tag (actions.Append other flags text id) (intents.Put to validity uidnext) w = λ e. ap (λ (x : Waiting). x.selected) (sym (same_Some _ w e))
+command_selects tag (actions.Flag target add flags) (intents.Shift from validity uid to) w = λ e. absurd (cc)
+command_selects tag (actions.Flag target add flags) (intents.Put to validity uidnext) w = λ e. absurd (cc)
+command_selects tag (actions.Move target to) (intents.Store name validity uid modseq) w = λ e. absurd (cc)
+command_selects tag (actions.Move target to) (intents.Put other validity uidnext) w = λ e. absurd (cc)
+command_selects tag (actions.Append to flags text id) (intents.Store name validity uid modseq) w = λ e. absurd (cc)
+command_selects tag (actions.Append to flags text id) (intents.Shift from validity uid other) w = λ e. absurd (cc)
+
+-- a command of the book is that still, as no deed of ours comes, and its mailbox keeps its UIDVALIDITY
+pub of_after : (b : Meaning) (s t : Server) (w : Waiting) → Batch s.boxes s t → KeepsBox w.selected s.boxes t.boxes →
+    IsOf b s w → IsOf b t w
+of_after b s t w foreign keeps of = record {
   intent = of.intent;
   pending = of.pending;
   queued = of.queued;
   there = of.there;
   is = of.is;
   none = batch_ours (suc (due b.queue)) s.boxes s t foreign ∙ of.none;
+  at = under_kept (intent_name of.intent) (intent_validity of.intent) s.boxes t.boxes
+      (subst (λ (o : Option (List ℕ)). KeepsBox o s.boxes t.boxes)
+      (command_selects (tag_of (suc (due b.queue)) of.queued) of.queued.action of.intent w of.is) keeps) of.at;
 }
 
 module _ (b : Meaning) (s t : Server) (waiting : Option Waiting) (kept : KeptBook b s waiting) (foreign : Batch s.boxes s t)
-    (spares : Spares b s.boxes t.boxes) where
+    (spares : Spares b s.boxes t.boxes) (keeps : KeepsWaiting waiting s.boxes t.boxes) where
   same : (n : ℕ) → ours n t.history ≡ ours n s.history
   same n = batch_ours n s.boxes s t foreign
 
@@ -72,7 +89,6 @@ module _ (b : Meaning) (s t : Server) (waiting : Option Waiting) (kept : KeptBoo
       subst (λ (x : Queued). Suited b.queue x.action intent) is (is_suited b.queue h.queued.action intent h.suits_it) in
       subst (λ (l : List Deed). IsOpen q.action l intent t.boxes) (sym (same (suc (due b.queue))))
       (box_evolves (IntentFacts q.action (ours (suc (due b.queue)) s.history) intent) (intent_name intent) (intent_validity intent) s.boxes t.boxes all
-      (batch_validity s.boxes s t (intent_name intent) foreign)
       (λ x y f g v goes. intent_goes b s.boxes t.boxes q q.action intent refl suited spares e (ours (suc (due b.queue)) s.history) x y f g v goes)
       (kept.open_intent intent p q e))
 
@@ -90,16 +106,16 @@ module _ (b : Meaning) (s t : Server) (waiting : Option Waiting) (kept : KeptBoo
           later = λ i l. same (suc i) ∙ kept.once.later i l;
         };
         open_intent = open_after all.1;
-        fresh = fresh_evolves b s.boxes t.boxes all.1 (λ n. batch_validity s.boxes s t n foreign) kept.fresh;
-        waits = λ m. of_after b s t m.command foreign (kept.waits m);
+        fresh = fresh_evolves b s.boxes t.boxes all.1 kept.fresh;
+        waits = λ m. of_after b s t m.command foreign (subst (λ (o : Option Waiting). KeepsWaiting o s.boxes t.boxes) m.waits keeps) (kept.waits m);
       }
 
 pub others_book : (b : Option Meaning) (s t : Server) (waiting : Option Waiting) → Batch s.boxes s t → SparesBook s.boxes t.boxes b →
-    Kept b s waiting → Kept b t waiting
-others_book None s t waiting foreign spares k =
+    KeepsWaiting waiting s.boxes t.boxes → Kept b s waiting → Kept b t waiting
+others_book None s t waiting foreign spares keeps k =
     let all : IsWellFormed t.boxes × EvolvesFrom s.boxes s.boxes t.boxes = batches_stay s t k.well foreign in
     record { well = all.0; none = batch_none s.boxes s t foreign k.none; quiet = k.quiet }
-others_book (Some b) s t waiting foreign spares k = others_keep b s t waiting k foreign spares
+others_book (Some b) s t waiting foreign spares keeps k = others_keep b s t waiting k foreign spares keeps
 
 -- others that change nothing spare each book
 pub spared_same : (b : Option Meaning) (s : Server) → SparesBook s.boxes s.boxes b

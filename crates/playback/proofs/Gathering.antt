@@ -19,21 +19,21 @@ use Rattle.mailbox_cache.specs.Cache.{applied, first}
 use Rattle.mailbox_cache.specs.declared.cache.Cache.{Cache}
 use Rattle.mailbox_cache.specs.declared.delta.Delta.{Delta}
 use Rattle.playback.proofs.Deducing.{put_intends}
-use Rattle.playback.proofs.Facts.{box_evolves, put_goes}
+use Rattle.playback.proofs.Facts.{box_evolves, now_in, put_goes, squeezed}
 use Rattle.playback.proofs.Moments.{grows_given, since_same}
 use Rattle.playback.proofs.Onward.{knows_again, rest_now}
 use Rattle.playback.proofs.Purposes.{ChoosesBox, OfBox, Purpose, a_box, a_row, a_search, an_effect, purpose_of, the_ids}
 use Rattle.playback.specs.Allowed.{IsGathered, is_due, reply_of}
 use Rattle.playback.specs.Choosing.{IsChosen, chosen_box, chosen_due, chosen_for, chosen_in, wanted_by}
 use Rattle.playback.specs.Course.{IsOneOf, Said}
-use Rattle.playback.specs.Fresh.{IsFreshFor, IsFreshNow}
+use Rattle.playback.specs.Fresh.{IsFreshFor}
 use Rattle.playback.specs.InBox.{InBox}
 use Rattle.playback.specs.Kept.{KeptBook}
 use Rattle.playback.specs.Knows.{Came, HasCome, Holds, IsAnswered, IsFetched, IsNeeded, IsQuiet, IsTold, IsUnsent, Knows, Rests}
 use Rattle.playback.specs.Knows.{SelectsBox, with_rows}
 use Rattle.playback.specs.Needs.{IsPlain, need_of}
 use Rattle.playback.specs.Open.{PutFacts}
-use Rattle.playback.specs.Worlds.{Among, Since, World, given, name_of, selected_after, selected_by, selected_on}
+use Rattle.playback.specs.Worlds.{Among, IsAt, Since, World, given, name_of, selected_after, selected_by, selected_on}
 use Rattle.playback.specs.declared.finding.Finding.{Finding}
 use Rattle.playback.specs.declared.player.Player.{Player}
 use Rattle.playback.specs.declared.step.Step.{Step}
@@ -42,13 +42,17 @@ use Rattle.qresync_core.proofs.Replying.{codes_true, fetch_box, select_box, sele
 use Rattle.qresync_core.specs.Fresh.{FreshFacts, IsFresh}
 use Rattle.qresync_core.specs.Laws.{AnswersFetch, AnswersSelect, Levels, Mirrors, codes_of_box}
 use Rattle.qresync_core.specs.Marking.{mark_of}
-use Rattle.qresync_core.specs.Resync.{TellsDelta, is_told_empty}
+use Rattle.qresync_core.specs.declared.fault.ResyncFault.{ResyncFault}
+use Rattle.qresync_core.specs.declared.fault.ResyncFault.TheVariants as faults
+use Rattle.imap_model.specs.declared.replies.Replies.{Replies}
+use Rattle.qresync_core.specs.Resync.{TellsDelta, is_told_empty, kept_fault}
 use Rattle.qresync_core.specs.ToldCodes.{told_codes}
 use Rattle.qresync_core.specs.declared.codes.Codes.{Codes}
 use Rattle.qresync_core.specs.declared.fault.CodeFault.{CodeFault}
 use Rattle.std.proofs.Common.{Bool, List, [], None, Ok, Option, Result, Some, ap, false, inl, inr, refl, subst, sym, true, ℕ, ◌∙◌}
-use Rattle.std.proofs.Common.{◌∷◌, ◌≡◌, ◌≢◌, ◌≤◌}
-use Rattle.std.proofs.lemmas.Bool.{not-false}
+use Rattle.std.specs.Prelude.{◌==◌, nat_lt, if◌then◌else◌}
+use Rattle.std.proofs.Common.{not, ◌∷◌, ◌≡◌, ◌≢◌, ◌≤◌}
+use Rattle.std.proofs.lemmas.Bool.{cond_both, eqb-true, not-false}
 use Rattle.std.proofs.lemmas.Option.{same_Some}
 use Rattle.std.specs.Option.{is_some, option_map}
 use Rattle.action_queue.specs.declared.action.Action.TheVariants as actions
@@ -107,6 +111,13 @@ with_said : (rows : Option Said) (said : Said) (rest l : List Said) → l ≡ wi
 with_said None said rest l e = subst (λ (x : List Said). IsOneOf said x) (sym e) (inl refl)
 with_said (Some rows) said rest l e = subst (λ (x : List Said). IsOneOf said x) (sym e) (inr (inl refl))
 
+kept_same : (cache : Cache) (codes : Codes) → kept_fault (Some cache) codes ≡ None → cache.validity ≡ codes.validity
+kept_same cache codes =
+    cond_both (not (cache.validity == codes.validity)) (Some (faults.Validity cache.validity codes.validity))
+    (if nat_lt codes.highest cache.highest then Some (faults.Unfit cache.highest codes.highest) else None)
+    (λ (o : Option ResyncFault). o ≡ None → cache.validity ≡ codes.validity) (λ t e. absurd (cc))
+    (λ f e. eqb-true cache.validity codes.validity (not-false (cache.validity == codes.validity) f))
+
 module _ (p : Player) (b : Meaning) (w : World) (kept : KeptBook b w.course.now w.waiting) (quiet : w.waiting ≡ None)
     (known : Knows p b w) (delta : Delta)
     (c : Waiting) (a : IsAnswered c p b w) (name : List ℕ) (box : OfBox name b) (selects : SelectsBox name b c)
@@ -139,18 +150,36 @@ module _ (p : Player) (b : Meaning) (w : World) (kept : KeptBook b w.course.now 
       ∙ ap (λ (x : Result Codes CodeFault). selected_by name x) tells.told
       ∙ ap (λ (v : ℕ). Some (record { name = name; validity = v })) (sym tells.validity)
 
+  -- the numbers that were told are the mailbox's
+  codes_are : tells.codes ≡ codes_of_box there_then.0
+  codes_are =
+      let true_codes : told_codes a.said.reply ≡ Ok (codes_of_box there_then.0) =
+      codes_true mark there_then.0 a.said.reply
+      (selecting name mark there_then.0 a.said.reply (answers mark refl there_then.0 there_then.1)) in
+      let told : told_codes a.said.reply ≡ Ok tells.codes = tells.told in cc
+
+  -- the cache's UIDVALIDITY is the mailbox's, as its reply was taken
+  same_old : (cache : Cache) (e : cache_at name b.boxes ≡ Some cache) (box : Mailbox) → box_at name s.boxes ≡ Some box → (all : Option Replies) →
+      TellsDelta (Some cache) a.said.reply all delta → box.validity ≡ cache.validity
+  same_old cache e box there all t =
+      let true_codes : told_codes a.said.reply ≡ Ok (codes_of_box box) =
+      codes_true mark box a.said.reply (selecting name mark box a.said.reply (answers mark refl box there)) in
+      let told : told_codes a.said.reply ≡ Ok t.codes = t.told in
+      let is : t.codes ≡ codes_of_box box = cc in
+      sym (kept_same cache t.codes t.fits ∙ ap (λ (c : Codes). c.validity) is)
+
   -- a cache that was fresh at a moment is fresh now
   now_fresh : (cache : Cache) (t : Server) → Among t w → (m : Mailbox) → box_at name t.boxes ≡ Some m → IsFresh cache m →
-      IsFreshNow name cache w.course.now.boxes
+      IsFreshFor name cache w.course.now.boxes
   now_fresh cache t among m there fresh =
       let since : Since t w.course.now = known.since t among in
-      box_evolves (FreshFacts cache) name cache.validity t.boxes w.course.now.boxes since.evolves (since.valid name)
+      box_evolves (FreshFacts cache) name cache.validity t.boxes w.course.now.boxes since.evolves
       (λ x y f g v goes facts. facts_later cache x y facts goes)
-      (record { box = m; there = there; same = sym fresh.validity; facts = fresh.facts })
+      (now_in (record { box = m; there = there; same = sym fresh.validity; facts = fresh.facts }))
 
   -- the rows of all messages were fetched behind it
   fetched_fresh : (e : Said) → a.rows ≡ Some e → TellsDelta None a.said.reply (Some e.reply) delta →
-      IsFreshNow name (first delta) w.course.now.boxes
+      IsFreshFor name (first delta) w.course.now.boxes
   fetched_fresh e is t =
       let f : IsFetched a.said e w = a.fetched e is in
       let of : e.command.selected ≡ Some name = f.selected ∙ ap name_of selected_is in
@@ -163,9 +192,11 @@ module _ (p : Player) (b : Meaning) (w : World) (kept : KeptBook b w.course.now 
         selected = of;
         answers = record { server = e.before; later = e.behind; after = f.after; carried = f.carries; ok = ok; there = later.1 };
       } in
+      let at : IsAt (record { name = name; validity = delta.validity }) w.course.now =
+      known.valid (record { name = name; validity = delta.validity }) selected_is in
       let valid : later.0.validity ≡ there_then.0.validity =
-      sym (ap validity_of later.1) ∙ sym ((known.since e.before f.among).valid name) ∙ (known.since s a.among).valid name
-      ∙ ap validity_of there_then.1 in
+      squeezed name f.evolves (known.since e.before f.among).evolves there_then.0 later.0 at.box there_then.1 later.1 at.there
+      (at.same ∙ tells.validity ∙ ap (λ (c : Codes). c.validity) codes_are) in
       let found : FindsEvolved (floor_of s.boxes name) name there_then.0 e.before.boxes = f.evolves.each name there_then.0 there_then.1 in
       let found_is : found.box ≡ later.0 = same_Some found.box later.0 (sym found.there ∙ later.1) in
       let higher : there_then.0.highest ≤ later.0.highest =
@@ -179,13 +210,14 @@ module _ (p : Player) (b : Meaning) (w : World) (kept : KeptBook b w.course.now 
   -- by what was kept, and by whether the rows were fetched
   fresh_by : (cache : Option Cache) → cache_at name b.boxes ≡ cache → (rows : Option Said) → a.rows ≡ rows →
       is_some rows ≡ is_due cache a.said.reply →
-      TellsDelta cache a.said.reply (reply_of rows) delta → IsFreshNow name (learned cache delta) w.course.now.boxes
+      TellsDelta cache a.said.reply (reply_of rows) delta → IsFreshFor name (learned cache delta) w.course.now.boxes
   fresh_by (Some cache) e None r f t =
       let old : IsFreshFor name cache s.boxes = a.fresh name cache e in
+      let facts : FreshFacts cache old.box = old.facts (same_old cache e old.box old.there (reply_of None) t) in
       let levels : Levels cache delta old.box =
       kept_levels name cache old.box a.said.reply
       (answers (Some (mark_of cache)) (ap (λ (o : Option Cache). option_map mark_of o) e) old.box old.there)
-      (sym old.same) old.facts delta t in
+      (sym (same_old cache e old.box old.there (reply_of None) t)) facts delta t in
       now_fresh (applied cache delta) s a.among old.box old.there levels.mirrors.fresh
   fresh_by (Some cache) e (Some x) r f t = absurd (cc)
   fresh_by None e None r f t =
@@ -193,14 +225,6 @@ module _ (p : Player) (b : Meaning) (w : World) (kept : KeptBook b w.course.now 
       (empty_mirrors name mark there_then.0 a.said.reply (answers mark refl there_then.0 there_then.1)
       (not-false (is_told_empty a.said.reply) (sym f)) delta t).1.fresh
   fresh_by None e (Some x) r f t = fetched_fresh x r t
-
-  -- the numbers that were told are the mailbox's
-  codes_are : tells.codes ≡ codes_of_box there_then.0
-  codes_are =
-      let true_codes : told_codes a.said.reply ≡ Ok (codes_of_box there_then.0) =
-      codes_true mark there_then.0 a.said.reply
-      (selecting name mark there_then.0 a.said.reply (answers mark refl there_then.0 there_then.1)) in
-      let told : told_codes a.said.reply ≡ Ok tells.codes = tells.told in cc
 
   -- an append: the UIDNEXT that was told serves its intent
   module _ (q : Queued) (e : due_action b.queue ≡ Some q) (to : List ℕ) (flags : List (List ℕ)) (text id : List ℕ)
@@ -212,7 +236,7 @@ module _ (p : Player) (b : Meaning) (w : World) (kept : KeptBook b w.course.now 
     name_is = box.of_append q to flags text id e action
 
     put_then : InBox Puts name delta.validity s.boxes
-    put_then = record {
+    put_then = now_in (record {
       box = there_then.0;
       there = there_then.1;
       same = sym (tells.validity ∙ ap (λ (x : Codes). x.validity) codes_are);
@@ -220,11 +244,11 @@ module _ (p : Player) (b : Meaning) (w : World) (kept : KeptBook b w.course.now 
           (sym (tells.uidnext ∙ ap (λ (x : Codes). x.uidnext) codes_are))
           (put_intends id delta.validity there_then.0 there_then.0 ((known.since s a.among).well.each name there_then.0 there_then.1)
           ((box_same there_then.0.highest there_then.0).goes_on refl) refl);
-    }
+    })
 
     put_now : InBox Puts to delta.validity w.course.now.boxes
     put_now =
-        box_evolves Puts to delta.validity s.boxes w.course.now.boxes come.stays.evolves (come.stays.valid to)
+        box_evolves Puts to delta.validity s.boxes w.course.now.boxes come.stays.evolves
         (λ x y f g v goes facts. put_goes id delta.uidnext delta.validity [] x y goes
         (come.stays.spares q to flags text id x y e action f g v) facts)
         (subst (λ (n : List ℕ). InBox Puts n delta.validity s.boxes) name_is put_then)

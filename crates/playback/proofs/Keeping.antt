@@ -73,7 +73,7 @@ others_keep_state : (x y : State) → Others x y → KeptState x → KeptState y
 others_keep_state x y st k =
     arrives x y (record x { server = st.server }) st.becomes
     (each_both (λ b. Kept b x.server x.waiting) (λ b. Kept b st.server x.waiting) (SparesBook x.server.boxes st.server.boxes) x.books
-    (λ b spares p. others_book b x.server st.server x.waiting st.changes spares p) st.spares k)
+    (λ b spares p. others_book b x.server st.server x.waiting st.changes spares st.stays p) st.spares k)
 
 -- another command waits, none that changes anything
 pub quiet_keeps : (b : Option Meaning) (s : Server) (before later : Option Waiting) → (MutatingWaits later → ⊥) → Kept b s before → Kept b s later

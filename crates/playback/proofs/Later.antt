@@ -36,11 +36,17 @@ module _ (n : ℕ) (selected : Option (List ℕ)) (tag : Tag) (s t : Server) (we
   accepted_later (commands.FetchRow uid) e = same_later n s t e
   accepted_later (commands.Search from id) e = same_later n s t e
   accepted_later (commands.FetchIds uids) e = same_later n s t e
+  accepted_later (commands.FetchText uid) e = same_later n s t e
   accepted_later (commands.Store uid since add flags) (inl e) =
       change_later n tag e.found.name (changes.SetFlags uid e.flags) s t well f e.becomes
   accepted_later (commands.Store uid since add flags) (inr e) = same_later n s t e.stays
   accepted_later (commands.Shift uid to) (inl e) = change_later n tag e.found.name (changes.Shift uid to e.received) s t well f e.becomes
   accepted_later (commands.Shift uid to) (inr e) = same_later n s t e.stays
+  accepted_later (commands.Copy uid to) (inl e) =
+      change_later n tag to (changes.Add e.found.message.flags e.found.message.text e.received) s t well f e.becomes
+  accepted_later (commands.Copy uid to) (inr e) = same_later n s t e.stays
+  accepted_later (commands.Expunge uid) (inl e) = change_later n tag e.is.found.name (changes.Drop uid) s t well f e.becomes
+  accepted_later (commands.Expunge uid) (inr e) = same_later n s t e.stays
   accepted_later (commands.Append to flags text) e = change_later n tag to (changes.Add flags text e.uid) s t well f e.becomes
   accepted_later commands.Logout e = same_later n s t e
 

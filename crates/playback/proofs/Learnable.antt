@@ -4,6 +4,7 @@ use Rattle.std.proofs.Common.{arith}
 use Rattle.std.specs.Prelude.{nat_lt}
 use Rattle.std.proofs.Math.Dec.{eqb, ltb}
 use Rattle.std.proofs.lemmas.Bool.{eq-eqb, eqb-true, le-ltb, lt-ltb, ltb-true}
+use Rattle.mail_base.specs.declared.limits.TheConstants.{MAX_ROWS}
 use Rattle.mailbox_cache.specs.Rows.{put_row, put_rows, without_uids, Rises, RisesAbove}
 use Rattle.mailbox_cache.specs.declared.cache.Cache.{Cache}
 use Rattle.mailbox_cache.specs.declared.delta.Delta.{Delta}
@@ -39,13 +40,13 @@ right_mark None delta fits = refl
 right_mark (Some cache) delta fits = le-ltb delta.highest cache.highest fits.2
 
 pub may_learn : (version : Version) (b : Meaning) (name : List ℕ) (delta : Delta) → is_unknown b.boxes name ≡ false →
-    Fits (cache_at name b.boxes) delta → length (learned (cache_at name b.boxes) delta).rows ≤ 200000 →
+    Fits (cache_at name b.boxes) delta → length (learned (cache_at name b.boxes) delta).rows ≤ MAX_ROWS →
     first_broken version b (events.Learn name delta) ≡ None
 may_learn version b name delta known fits few =
     let kept = cache_at name b.boxes in
     five (is_unknown b.boxes name) (is_wrong_whole kept delta) (is_wrong_validity kept delta) (is_lower_mark kept delta)
-    (nat_lt 200000 (length (learned kept delta).rows)) known (right_whole kept delta fits) (right_validity kept delta fits)
-    (right_mark kept delta fits) (le-ltb 200000 (length (learned kept delta).rows) few)
+    (nat_lt MAX_ROWS (length (learned kept delta).rows)) known (right_whole kept delta fits) (right_validity kept delta fits)
+    (right_mark kept delta fits) (le-ltb MAX_ROWS (length (learned kept delta).rows) few)
 
 -- how many of these rows the test tells
 abbrev count : (ℕ → Bool) → List (ℕ × Row) → ℕ

@@ -30,8 +30,7 @@ use Rattle.mailbox_cache.specs.declared.cache.Cache.{Cache}
 use Rattle.mailbox_cache.specs.declared.row.Row.{Row}
 use Rattle.playback.proofs.Deducing.{later_then}
 use Rattle.playback.proofs.Deeds.{batch_ours}
-use Rattle.playback.proofs.Facts.{box_evolves, put_goes}
-use Rattle.playback.proofs.Staying.{batch_validity, effect_validity}
+use Rattle.playback.proofs.Facts.{box_evolves, put_goes, squeezed, under_keeps}
 use Rattle.playback.specs.Course.{AtMoment, Course, IsCourse, IsOneOf, Said, WasSaid}
 use Rattle.playback.specs.InBox.{InBox, InBoxNow}
 use Rattle.playback.specs.Knows.{Covered, HasEnded, Holds, HoldsVerdict, IsLearning, IsProbed, IsSent, IsTold, IsUnsent, Learning, OfAppend}
@@ -43,7 +42,7 @@ use Rattle.playback.specs.Past.{Later}
 use Rattle.playback.specs.Polite.{Spares}
 use Rattle.playback.specs.Why.{AreTwo, NoRow, OfDue, RowAt, RowIs, RowNotSo, RowWas, SomeRow, TellsLack, TellsNext, WasRefused, WasSelected}
 use Rattle.playback.specs.Why.{WhyIntent}
-use Rattle.playback.specs.Worlds.{Among, Grows, IsUnder, SameValidities, Since, World, answered_course, asks_rows, carried, given, moved}
+use Rattle.playback.specs.Worlds.{Among, Grows, IsUnder, Since, World, answered_course, asks_rows, carried, given, moved}
 use Rattle.playback.specs.Worlds.{says}
 use Rattle.playback.specs.declared.finding.Finding.{Finding}
 use Rattle.playback.specs.declared.finding.Resynced.{Resynced}
@@ -114,7 +113,7 @@ evolves_join a b c w g h =
     l.evolves
 
 pub since_same : (s : Server) → IsWellFormed s.boxes → Since s s
-since_same s w = record { well = w; evolves = evolves_same s.boxes s.boxes; valid = λ name. refl; grows = λ n e. e }
+since_same s w = record { well = w; evolves = evolves_same s.boxes s.boxes; grows = λ n e. e }
 
 pub since_is : (s t : Server) → IsWellFormed s.boxes → t ≡ s → Since s t
 since_is s t w e = subst (λ (x : Server). Since s x) (sym e) (since_same s w)
@@ -123,7 +122,6 @@ pub since_then : (a b c : Server) → Since a b → Since b c → Since a c
 since_then a b c g h = record {
   well = g.well;
   evolves = evolves_join a.boxes b.boxes c.boxes g.well g.evolves h.evolves;
-  valid = λ name. h.valid name ∙ g.valid name;
   grows = λ n e. g.grows n (h.grows n e);
 }
 
@@ -131,7 +129,6 @@ pub since_foreign : (s t : Server) → IsWellFormed s.boxes → Batch s.boxes s 
 since_foreign s t w f = record {
   well = w;
   evolves = (batches_stay s t w f).1;
-  valid = λ name. batch_validity s.boxes s t name f;
   grows = λ n e. sym (batch_ours n s.boxes s t f) ∙ e;
 }
 
@@ -148,7 +145,6 @@ pub since_changes : (author : Author) (name : List ℕ) (change : Change) (s t :
 since_changes author name change s t w c = record {
   well = w;
   evolves = (changes_stay s.boxes author name change s t w c).1;
-  valid = λ n. effect_validity s.boxes name change s.boxes t.boxes n c.effect;
   grows = λ n e. ours_before n (deed_of author name change t.boxes) s.history (sym (ap (ours n) c.history) ∙ e);
 }
 
@@ -163,12 +159,19 @@ since_accepted selected tag commands.FetchAll s t w e = since_is s t w e
 since_accepted selected tag (commands.FetchRow uid) s t w e = since_is s t w e
 since_accepted selected tag (commands.Search from id) s t w e = since_is s t w e
 since_accepted selected tag (commands.FetchIds uids) s t w e = since_is s t w e
+since_accepted selected tag (commands.FetchText uid) s t w e = since_is s t w e
 since_accepted selected tag (commands.Store uid since add flags) s t w (inl e) =
     since_changes (Ours tag) e.found.name (changes.SetFlags uid e.flags) s t w e.becomes
 since_accepted selected tag (commands.Store uid since add flags) s t w (inr e) = since_is s t w e.stays
 since_accepted selected tag (commands.Shift uid to) s t w (inl e) =
     since_changes (Ours tag) e.found.name (changes.Shift uid to e.received) s t w e.becomes
 since_accepted selected tag (commands.Shift uid to) s t w (inr e) = since_is s t w e.stays
+since_accepted selected tag (commands.Copy uid to) s t w (inl e) =
+    since_changes (Ours tag) to (changes.Add e.found.message.flags e.found.message.text e.received) s t w e.becomes
+since_accepted selected tag (commands.Copy uid to) s t w (inr e) = since_is s t w e.stays
+since_accepted selected tag (commands.Expunge uid) s t w (inl e) =
+    since_changes (Ours tag) e.is.found.name (changes.Drop uid) s t w e.becomes
+since_accepted selected tag (commands.Expunge uid) s t w (inr e) = since_is s t w e.stays
 since_accepted selected tag (commands.Append to flags text) s t w e =
     since_changes (Ours tag) to (changes.Add flags text e.uid) s t w e.becomes
 since_accepted selected tag commands.Logout s t w e = since_is s t w e
@@ -273,7 +276,6 @@ seen_grows (intents.Put to validity uidnext) b w v g s = tt
 pub stays_same : (b : Meaning) (s : Server) → Stays b s s
 stays_same b s = record {
   evolves = evolves_same s.boxes s.boxes;
-  valid = λ name. refl;
   spares = λ q to flags text id x y e a h k v. ap (λ (m : Mailbox). marked id m.messages) (same_Some y x (sym k ∙ h));
   same = refl;
 }
@@ -284,25 +286,17 @@ stays_is b s t e = subst (λ (x : Server). Stays b s x) (sym e) (stays_same b s)
 pub stays_others : (b : Meaning) (s t : Server) → IsWellFormed s.boxes → Batch s.boxes s t → Spares b s.boxes t.boxes → Stays b s t
 stays_others b s t w f spares = record {
   evolves = (batches_stay s t w f).1;
-  valid = λ name. batch_validity s.boxes s t name f;
   spares = spares;
   same = batch_ours (due_id b) s.boxes s t f;
 }
 
--- a mailbox that is there stays there, under its UIDVALIDITY
-pub same_valid : (name : List ℕ) (old new : List Mailbox) (x y : Mailbox) → SameValidities old new → box_at name old ≡ Some x →
-    box_at name new ≡ Some y →
-    y.validity ≡ x.validity
-same_valid name old new x y v h k = sym (ap validity_of k) ∙ v name ∙ ap validity_of h
-
 pub stays_then : (b : Meaning) (s m t : Server) → IsWellFormed s.boxes → Stays b s m → Stays b m t → Stays b s t
 stays_then b s m t w g h = record {
   evolves = evolves_join s.boxes m.boxes t.boxes w g.evolves h.evolves;
-  valid = λ name. h.valid name ∙ g.valid name;
   spares = λ q to flags text id x y e a here there same.
       let f : FindsEvolved (floor_of s.boxes to) to x m.boxes = g.evolves.each to x here in
-      h.spares q to flags text id f.box y e a f.there there (same_valid to m.boxes t.boxes f.box y h.valid f.there there)
-      ∙ g.spares q to flags text id x f.box e a here f.there (same_valid to s.boxes m.boxes x f.box g.valid here f.there);
+      let one : f.box.validity ≡ x.validity = squeezed to g.evolves h.evolves x f.box y here f.there there same in
+      h.spares q to flags text id f.box y e a f.there there (same ∙ sym one) ∙ g.spares q to flags text id x f.box e a here f.there one;
   same = h.same ∙ g.same;
 }
 
@@ -324,7 +318,7 @@ next_moves b s t validity uidnext st o = record {
   text = o.text;
   id = o.id;
   action = o.action;
-  holds = box_evolves (PutFacts o.id uidnext validity []) o.to validity s.boxes t.boxes st.evolves (st.valid o.to)
+  holds = box_evolves (PutFacts o.id uidnext validity []) o.to validity s.boxes t.boxes st.evolves
       (λ x y h k v g facts. put_goes o.id uidnext validity [] x y g
       (st.spares o.queued o.to o.flags o.text o.id x y o.there o.action h k v) facts) o.holds;
 }
@@ -337,7 +331,7 @@ covered_moves b s t uids st o = record {
   validity = o.validity;
   uidnext = o.uidnext;
   pending = o.pending;
-  holds = box_evolves (Covered o.uidnext o.append.id uids) o.append.to o.validity s.boxes t.boxes st.evolves (st.valid o.append.to)
+  holds = box_evolves (Covered o.uidnext o.append.id uids) o.append.to o.validity s.boxes t.boxes st.evolves
       (λ x y h k v g facts. covered_same o.uidnext o.append.id uids x y
       (st.spares o.append.queued o.append.to o.append.flags o.append.text o.append.id x y o.append.there o.append.action h k v)
       facts) o.holds;
@@ -421,7 +415,7 @@ learning_stays told p b s t step l =
     record {
       selected = l.selected;
       plain = l.plain;
-      fresh = box_evolves (FreshFacts cache) told.name cache.validity s.boxes t.boxes step.evolves (step.valid told.name)
+      fresh = box_evolves (FreshFacts cache) told.name cache.validity s.boxes t.boxes step.evolves
           (λ x y f g v goes facts. facts_later cache x y facts goes) l.fresh;
     }
 
@@ -430,7 +424,7 @@ pub learns_stay : (learns : Option Resynced) (p : Player) (b : Meaning) (s t : S
 learns_stay None p b s t step l = tt
 learns_stay (Some told) p b s t step l = learning_stays told p b s t step l
 
--- a mailbox that is there under a UIDVALIDITY is that at each later server, and was that at each earlier one
-pub under_stays : (name : List ℕ) (validity : ℕ) (s t : Server) → Since s t → IsUnder name validity s → IsUnder name validity t
-under_stays name validity s t step u =
-    box_evolves (λ _. Unit {0}) name validity s.boxes t.boxes step.evolves (step.valid name) (λ x y f g v goes facts. tt) u
+-- a mailbox that is there under a UIDVALIDITY, and keeps it, is there under it still
+pub under_stays : (name : List ℕ) (validity : ℕ) (s t : Server) → Since s t → validity_of (box_at name t.boxes) ≡ validity_of (box_at name s.boxes) →
+    IsUnder name validity s → IsUnder name validity t
+under_stays name validity s t step v u = under_keeps step.evolves v u

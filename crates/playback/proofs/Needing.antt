@@ -23,7 +23,7 @@ use Rattle.action_queue.specs.declared.intent.Intent.TheVariants as intents
 use Rattle.action_queue.specs.declared.outcome.Outcome.TheVariants as outcomes
 use Rattle.action_queue.specs.declared.rule.Version.TheVariants.{First}
 use Rattle.playback.specs.InBox.{InBox}
-use Rattle.playback.specs.Open.{IsOpen, StoreFacts, PutFacts, some_of}
+use Rattle.playback.specs.Open.{IsOpenNow, StoreFacts, PutFacts, some_of}
 use Rattle.append_probe.specs.Marked.{at_least, marked}
 use Rattle.playback.specs.Fresh.{IsFreshFor}
 use Rattle.playback.specs.Of.{IsOf}
@@ -75,7 +75,7 @@ above_breaks : ¬ (KeptBook (after book_two meant_above) server_before None)
 above_breaks k =
     let i : InBox (StoreFacts 1 99 []) box_name 5 server_before.boxes = k.open_intent (intents.Store box_name 5 1 99) refl (accepted asked) refl in
     let is : box_with [] 10 ≡ i.box = same_Some (box_with [] 10) i.box i.there in
-    let h : 99 ≤ i.box.highest = i.facts.highest in
+    let h : 99 ≤ i.box.highest = (i.facts (ap (λ (b : Mailbox). b.validity) (sym is))).highest in
     let ten : 10 ≡ i.box.highest = ap (λ (b : Mailbox). b.highest) is in
     absurd (omega arith)
 
@@ -87,7 +87,7 @@ learns_breaks k =
     let cache : Cache = learned None without_the_row in
     let i : IsFreshFor box_name cache server_before.boxes = k.fresh box_name cache refl in
     let is : box_with [] 10 ≡ i.box = same_Some (box_with [] 10) i.box i.there in
-    let row : None ≡ Some (kept_row (message_with [] 10)) = i.facts.rows 1 (message_with [] 10)
+    let row : None ≡ Some (kept_row (message_with [] 10)) = (i.facts (ap (λ (b : Mailbox). b.validity) (sym is))).rows 1 (message_with [] 10)
     (subst (λ (b : Mailbox). message_at 1 b.messages ≡ Some (message_with [] 10)) is refl) (lit≤ tt) in
     absurd (cc)
 
@@ -133,8 +133,8 @@ append_meant =
     (record { version = First; unbroken = refl })
     (nothing_waits, λ q e. put_open q (same_Some (accepted appends) q e))
   where
-    put_open : (q : Queued) → accepted appends ≡ q → IsOpen q.action (ours 1 server_before.history) (intents.Put box_name 5 2) server_before.boxes
-    put_open q is = subst (λ (x : Queued). IsOpen x.action (ours 1 server_before.history) (intents.Put box_name 5 2) server_before.boxes) is
+    put_open : (q : Queued) → accepted appends ≡ q → IsOpenNow q.action (ours 1 server_before.history) (intents.Put box_name 5 2) server_before.boxes
+    put_open q is = subst (λ (x : Queued). IsOpenNow x.action (ours 1 server_before.history) (intents.Put box_name 5 2) server_before.boxes) is
         (record { box = box_with [] 10; there = refl; same = refl; facts = record { reached = lit≤ tt; found = refl; received = tt } })
 
 one_more : Batch server_before.boxes server_before server_with_one_more
@@ -163,7 +163,7 @@ more_breaks : ¬ (KeptBook book_that_appends server_with_one_more None)
 more_breaks k =
     let i : InBox (PutFacts id 2 5 []) box_name 5 server_with_one_more.boxes = k.open_intent (intents.Put box_name 5 2) refl (accepted appends) refl in
     let is : box_with_one_more ≡ i.box = same_Some box_with_one_more i.box i.there in
-    let found : some_of (at_least 2 (marked id i.box.messages)) ≡ [] = i.facts.found in
+    let found : some_of (at_least 2 (marked id i.box.messages)) ≡ [] = (i.facts (ap (λ (b : Mailbox). b.validity) (sym is))).found in
     let here : some_of (at_least 2 (marked id box_with_one_more.messages)) ≡ [] =
     subst (λ (b : Mailbox). some_of (at_least 2 (marked id b.messages)) ≡ []) (sym is) found in
     one_found here

@@ -22,6 +22,8 @@ use Rattle.imap_model.specs.declared.server.Mailbox.{Mailbox}
 use Rattle.imap_model.specs.declared.server.Server.{Server}
 use Rattle.playback.proofs.Carrying.{harmless}
 use Rattle.playback.proofs.Foreign.{others_keep}
+use Rattle.playback.proofs.Facts.{under_kept}
+use Rattle.playback.proofs.Moving.{carried_validity}
 use Rattle.playback.proofs.Moments.{course_carried, course_moved, each_moment, grows_asks, grows_carried, grows_moved, grows_says}
 use Rattle.playback.proofs.Moments.{intent_grows, learns_stay, rests_grows, sent_grows, since_carries, since_foreign, since_grows}
 use Rattle.playback.proofs.Moments.{since_same, stays_is, stays_others, stays_same, stays_then, told_grows, under_stays, unsent_grows}
@@ -32,7 +34,7 @@ use Rattle.playback.specs.Knows.{IsWaiting, Knows, Learning, MayAskRows, Rests, 
 use Rattle.playback.specs.Needs.{due_id, need_for, need_learn, need_of}
 use Rattle.playback.specs.Of.{IsOf}
 use Rattle.playback.specs.Open.{Open}
-use Rattle.playback.specs.Polite.{Spares}
+use Rattle.playback.specs.Polite.{KeepsBox, KeepsWaiting, Spares}
 use Rattle.playback.specs.Replying.{read_sent}
 use Rattle.playback.specs.Steps.{append_meant, flag_meant, move_meant, step_action, step_append, step_due, step_flag_found, step_learn}
 use Rattle.playback.specs.Steps.{step_move_found, step_of}
@@ -175,13 +177,15 @@ module _ (p : Player) (b : Meaning) (w v : World) (g : Grows w v) (st : Stays b 
 -- others change something
 pub others_know : (p : Player) (b : Meaning) (w : World) (t : Server) → KeptBook b w.course.now w.waiting →
     Batch w.course.now.boxes w.course.now t →
-    Spares b w.course.now.boxes t.boxes → Knows p b w → Knows p b (moved t w)
-others_know p b w t kept foreign spares k =
-    let later : KeptBook b t w.waiting = others_keep b w.course.now t w.waiting kept foreign spares in
+    Spares b w.course.now.boxes t.boxes → KeepsBox (name_of w.selected) w.course.now.boxes t.boxes →
+    KeepsWaiting w.waiting w.course.now.boxes t.boxes → Knows p b w → Knows p b (moved t w)
+others_know p b w t kept foreign spares stays settled k =
+    let later : KeptBook b t w.waiting = others_keep b w.course.now t w.waiting kept foreign spares settled in
     let step : Since w.course.now t = since_foreign w.course.now t kept.well foreign in
     let st : Stays b w.course.now t = stays_others b w.course.now t kept.well foreign spares in
     knows_from p b w (moved t w) (grows_moved t w) (course_moved t w.course k.course) step later.well later.open_intent
-    (λ selected e. under_stays selected.name selected.validity w.course.now t step (k.valid selected e))
+    (λ selected e. under_kept selected.name selected.validity w.course.now.boxes t.boxes
+    (subst (λ (o : Option Selected). KeepsBox (name_of o) w.course.now.boxes t.boxes) e stays) (k.valid selected e))
     (came_on p b w (moved t w) (grows_moved t w) st k refl refl w.owed w.waiting k.came) k
 
 -- behind an ended action stands its outcome
@@ -347,7 +351,7 @@ module _ (name : List ℕ) (since : Option Mark) (c : Waiting) (r : Replies) (s 
       })) in
       let so : Some (record { name = name; validity = box.validity }) ≡ Some selected = sym (ap (selected_by name) codes) ∙ h in
       subst (λ (x : Selected). IsAt x t) (same_Some (record { name = name; validity = box.validity }) selected so)
-      (under_stays name box.validity s t step (record { box = box; there = there; same = refl; facts = tt }))
+      (under_stays name box.validity s t step (carried_validity c s t name (carried_effect c s r t after carries)) (record { box = box; there = there; same = refl; facts = tt }))
 
   valid_selected : (ending : Ending) → r.ending ≡ ending → (selected : Selected) → selected_on name r ending ≡ Some selected →
       IsAt selected t
@@ -454,7 +458,8 @@ module _ (p : Player) (b : Meaning) (w : World) (c : Waiting) (r : Replies) (t :
       (λ (f : FetchesRows o y p b w). (x.0, rows_answered o (subst (λ (z : Waiting). FetchesRows o z p b w) y_is f))) x.1
 
   valid_still : (selected : Selected) → w.selected ≡ Some selected → IsAt selected t
-  valid_still selected h = under_stays selected.name selected.validity w.course.now t step (known.valid selected h)
+  valid_still selected h = under_stays selected.name selected.validity w.course.now t step
+      (carried_validity c w.course.now t selected.name (carried_effect c w.course.now r t after carries)) (known.valid selected h)
 
   valid_after : (command : Command) → c.command ≡ command → (selected : Selected) → selected_after command r w.selected ≡ Some selected →
       IsAt selected t
@@ -468,8 +473,11 @@ module _ (p : Player) (b : Meaning) (w : World) (c : Waiting) (r : Replies) (t :
   valid_after (commands.FetchRow uid) is selected h = valid_still selected h
   valid_after (commands.Search from id) is selected h = valid_still selected h
   valid_after (commands.FetchIds uids) is selected h = valid_still selected h
+  valid_after (commands.FetchText uid) is selected h = valid_still selected h
   valid_after (commands.Store uid since add flags) is selected h = valid_still selected h
   valid_after (commands.Shift uid to) is selected h = valid_still selected h
+  valid_after (commands.Copy uid to) is selected h = valid_still selected h
+  valid_after (commands.Expunge uid) is selected h = valid_still selected h
   valid_after (commands.Append to flags text) is selected h = valid_still selected h
   valid_after commands.Logout is selected h = valid_still selected h
 

@@ -1,7 +1,7 @@
 -- The plain programs for `Open` and `Fresh` tell the truth.
 use Rattle.std.proofs.Common.{◌≡◌, ◌≤◌, ℕ, suc, ◌+◌, Bool, true, false, eqb, cond, List, [], ◌∷◌, Option, Some, None}
 use Rattle.std.proofs.Common.{refl, sym, ◌∙◌, ap, subst, arith}
-use Rattle.std.specs.Prelude.{◌&&◌, ◌||◌, ◌==◌, nat_le, nat_lt, is_some, bytes_eq}
+use Rattle.std.specs.Prelude.{◌&&◌, ◌||◌, ◌==◌, nat_le, nat_lt, not, is_some, bytes_eq}
 use Rattle.std.specs.Bool.{Decides}
 use Rattle.std.specs.List.{list_all}
 use Rattle.std.specs.Cmp.Lexicographic.{pointwise}
@@ -111,16 +111,21 @@ intent_decides action mine (intents.Put to validity uidnext) b =
 -- a test of the mailbox of a name
 module _ (Facts : Mailbox → Type 0) (test : Mailbox → Bool) (decides : (b : Mailbox) → Decides (test b) (Facts b)) (name : List ℕ) (validity : ℕ)
     (boxes : List Mailbox) where
+  tests : (b : Mailbox) → Decides (nat_le validity b.validity && (not (b.validity == validity) || test b))
+      ((validity ≤ b.validity) × (b.validity ≡ validity → Facts b))
+  tests b =
+      both (nat_le validity b.validity) (not (b.validity == validity) || test b) (at_most validity b.validity)
+      (implies (b.validity == validity) (test b) (Decides-eqb b.validity validity) (decides b))
+
   box_there : (o : Option Mailbox) → box_at name boxes ≡ o → holds_in test validity o ≡ true → InBox Facts name validity boxes
   box_there None e = λ h. absurd (cc)
   box_there (Some b) e = λ h.
-      let parts = and_parts (b.validity == validity) (test b) h in
-      record { box = b; there = e; same = eqb-true b.validity validity parts.0; facts = (decides b).0 parts.1 }
+      let both_are = (tests b).0 h in record { box = b; there = e; not_below = both_are.0; facts = both_are.1 }
 
   box_back : InBox Facts name validity boxes → holds_in test validity (box_at name boxes) ≡ true
   box_back i =
       ap (holds_in test validity) i.there
-      ∙ (both (i.box.validity == validity) (test i.box) (Decides-eqb i.box.validity validity) (decides i.box)).1 (i.same, i.facts)
+      ∙ (tests i.box).1 (i.not_below, i.facts)
 
   pub box_decides : Decides (holds_in test validity (box_at name boxes)) (InBox Facts name validity boxes)
   box_decides = (box_there (box_at name boxes) refl, box_back)
@@ -251,17 +256,22 @@ facts_decide cache box r =
     (both (list_all (knows_message cache) box.messages) (list_all (accounts_for cache box) cache.rows) (messages_decide cache box r) (rows_decide cache box)))
 
 module _ (name : List ℕ) (cache : Cache) (boxes : List Mailbox) (well : IsWellFormed boxes) where
+  tests_fresh : (b : Mailbox) → box_at name boxes ≡ Some b → Decides (nat_le cache.validity b.validity && (not (b.validity == cache.validity) || is_fresh cache b))
+      ((cache.validity ≤ b.validity) × (b.validity ≡ cache.validity → FreshFacts cache b))
+  tests_fresh b e =
+      both (nat_le cache.validity b.validity) (not (b.validity == cache.validity) || is_fresh cache b) (at_most cache.validity b.validity)
+      (implies (b.validity == cache.validity) (is_fresh cache b) (Decides-eqb b.validity cache.validity)
+      (facts_decide cache b (well.each name b e).rise))
+
   fresh_there : (o : Option Mailbox) → box_at name boxes ≡ o → holds_in (is_fresh cache) cache.validity o ≡ true → IsFreshFor name cache boxes
   fresh_there None e = λ h. absurd (cc)
   fresh_there (Some b) e = λ h.
-      let parts = and_parts (b.validity == cache.validity) (is_fresh cache b) h in
-      record { box = b; there = e; same = eqb-true b.validity cache.validity parts.0; facts = (facts_decide cache b (well.each name b e).rise).0 parts.1 }
+      let both_are = (tests_fresh b e).0 h in record { box = b; there = e; not_below = both_are.0; facts = both_are.1 }
 
   fresh_back : IsFreshFor name cache boxes → holds_in (is_fresh cache) cache.validity (box_at name boxes) ≡ true
   fresh_back i =
       ap (holds_in (is_fresh cache) cache.validity) i.there
-      ∙ (both (i.box.validity == cache.validity) (is_fresh cache i.box) (Decides-eqb i.box.validity cache.validity)
-      (facts_decide cache i.box (well.each name i.box i.there).rise)).1 (i.same, i.facts)
+      ∙ (tests_fresh i.box i.there).1 (i.not_below, i.facts)
 
   one_decides : Decides (holds_in (is_fresh cache) cache.validity (box_at name boxes)) (IsFreshFor name cache boxes)
   one_decides = (fresh_there (box_at name boxes) refl, fresh_back)

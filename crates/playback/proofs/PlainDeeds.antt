@@ -81,12 +81,14 @@ wanted_decides queue (actions.Flag target add asked) name validity (changes.SetF
 wanted_decides queue (actions.Flag target add asked) name validity (changes.Add flags text uid) = no (λ h. h)
 wanted_decides queue (actions.Flag target add asked) name validity (changes.Drop uid) = no (λ h. h)
 wanted_decides queue (actions.Flag target add asked) name validity (changes.Shift uid to received) = no (λ h. h)
+wanted_decides queue (actions.Flag target add asked) name validity (changes.Reset under uids uidnext highest) = no (λ h. h)
 wanted_decides queue (actions.Move target to) name validity (changes.Shift uid other received) =
     both (is_at (resolved queue target) name validity uid) (bytes_eq other to)
     (at_is (resolved queue target) name validity uid, is_there (resolved queue target) name validity uid) (bytes_eq-Decides other to)
 wanted_decides queue (actions.Move target to) name validity (changes.Add flags text uid) = no (λ h. h)
 wanted_decides queue (actions.Move target to) name validity (changes.SetFlags uid flags) = no (λ h. h)
 wanted_decides queue (actions.Move target to) name validity (changes.Drop uid) = no (λ h. h)
+wanted_decides queue (actions.Move target to) name validity (changes.Reset under uids uidnext highest) = no (λ h. h)
 wanted_decides queue (actions.Append to flags text id) name validity (changes.Add others content uid) =
     means (bytes_eq name to && (pointwise bytes_eq others flags && bytes_eq content text)) (λ h. (h.0, h.1.0, h.1.1)) (λ h. (h.0, (h.1, h.2)))
     (both (bytes_eq name to) (pointwise bytes_eq others flags && bytes_eq content text) (bytes_eq-Decides name to)
@@ -94,6 +96,7 @@ wanted_decides queue (actions.Append to flags text id) name validity (changes.Ad
 wanted_decides queue (actions.Append to flags text id) name validity (changes.SetFlags uid others) = no (λ h. h)
 wanted_decides queue (actions.Append to flags text id) name validity (changes.Drop uid) = no (λ h. h)
 wanted_decides queue (actions.Append to flags text id) name validity (changes.Shift uid other received) = no (λ h. h)
+wanted_decides queue (actions.Append to flags text id) name validity (changes.Reset under uids uidnext highest) = no (λ h. h)
 
 number_is : (n : ℕ) (o : Option ℕ) → Decides (is_number n o) (o ≡ Some n)
 number_is n None = no (λ e. absurd (cc))

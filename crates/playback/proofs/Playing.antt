@@ -81,9 +81,9 @@ safe_now x good owed =
 
 turn_keeps : (x y : Game) → Turn x y → IsGood x → IsGood y
 turn_keeps x y (others t act) good = record {
-  kept = others_keep x.book x.world.course.now t x.world.waiting good.kept act.changes act.spares;
+  kept = others_keep x.book x.world.course.now t x.world.waiting good.kept act.changes act.spares act.settled;
   beside = good.beside;
-  knows = others_know x.player x.book x.world t good.kept act.changes act.spares good.knows;
+  knows = others_know x.player x.book x.world t good.kept act.changes act.spares act.stays act.settled good.knows;
 }
 turn_keeps x y (sends c owed needed) good = record {
   kept =

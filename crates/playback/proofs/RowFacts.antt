@@ -195,7 +195,7 @@ row_again spot modseq action mine s o row =
     let m : IsMessage modseq spot.uid row.box = row_message modseq action spot.uid row.box row.facts in
     let is : o.box ≡ row.box = same_Some o.box row.box (sym o.there ∙ row.there) in
     store_again spot.uid modseq mine m.message row.box (subst
-    (λ (x : Mailbox). StoreFacts spot.uid modseq mine x) is o.facts) m.there m.mark
+    (λ (x : Mailbox). StoreFacts spot.uid modseq mine x) is (o.facts (ap (λ (x : Mailbox). x.validity) is ∙ row.same))) m.there m.mark
 
 -- the same of a move
 pub row_shifts : (n : ℕ) (spot : Spot) (modseq : ℕ) (action : Action) (s now : Server) → Since s now →
@@ -219,7 +219,7 @@ pub row_still : (spot : Spot) (modseq : ℕ) (action : Action) (mine : List Deed
 row_still spot modseq action mine s o row =
     let m : IsMessage modseq spot.uid row.box = row_message modseq action spot.uid row.box row.facts in
     let is : o.box ≡ row.box = same_Some o.box row.box (sym o.there ∙ row.there) in
-    shift_again spot.uid mine m.message row.box (subst (λ (x : Mailbox). ShiftFacts spot.uid mine x) is o.facts) m.there
+    shift_again spot.uid mine m.message row.box (subst (λ (x : Mailbox). ShiftFacts spot.uid mine x) is (o.facts (ap (λ (x : Mailbox). x.validity) is ∙ row.same))) m.there
 
 -- where the STORE had no effect, the row isn't there or has a greater mod-sequence
 passes : (uid modseq : ℕ) (action : Action) (box : Mailbox) (o : Option Message) → message_at uid box.messages ≡ o →

@@ -39,7 +39,7 @@ goes_on : (b c : Option Meaning) (s : Server) (w : Option Waiting) → Chooses f
 goes_on b c s w = record { before = b; later = c; begun = refl; becomes = refl }
 
 pub is_of : IsOf book_three server_before sent_out
-is_of = record { intent = meant; pending = refl; queued = accepted asked; there = refl; is = refl; none = refl }
+is_of = record { intent = meant; pending = refl; queued = accepted asked; there = refl; is = refl; none = refl; at = record { box = box_with [] 10; there = refl; same = refl; facts = tt } }
 
 sends : Sends sent_out (firm (Some book_three) server_before None) (firm (Some book_three) server_before (Some sent_out))
 sends = record { book = book_three; firm = refl; quiet = nothing_waits; is_of = is_of; becomes = refl }

@@ -1,17 +1,15 @@
--- No change touches a UIDVALIDITY.
+-- No change that a command makes touches a UIDVALIDITY.
 use Rattle.std.proofs.Common.{◌≡◌, ◌⊎◌, inl, inr, ℕ, true, false, List, refl, sym, ◌∙◌, ap, subst}
 use Rattle.std.specs.Prelude.{bytes_eq}
 use Rattle.std.proofs.lemmas.Bool.{cases_Bool}
 use Rattle.imap_model.specs.Lookups.{box_at, validity_of}
-use Rattle.imap_model.specs.Changes.{Adds, Sets, Drops, Rewrites, Effect, floor_of, Batch}
-use Rattle.imap_model.specs.Changes.Batch.{none, more}
+use Rattle.imap_model.specs.Changes.{Adds, Sets, Drops, Rewrites, Effect, floor_of}
 use Rattle.imap_model.proofs.Finding.{same_name}
 use Rattle.imap_model.proofs.Going.{names_apart}
 use Rattle.imap_model.proofs.Evolution.{adds_name, sets_name, drops_name}
 use Rattle.imap_model.proofs.Effects.{rewritten_there, rewritten_other}
 use Rattle.imap_model.specs.declared.server.Mailbox.{Mailbox}
 use Rattle.imap_model.specs.declared.server.Server.{Server}
-use Rattle.imap_model.specs.declared.deed.Change.{Change}
 use Rattle.imap_model.specs.declared.deed.Change.TheVariants as changes
 
 rewritten_validity : (Becomes : Mailbox → Mailbox → Type 0) (name n : List ℕ) (old new : List Mailbox) → ((b c : Mailbox) → Becomes b c → c.name ≡ b.name) →
@@ -23,28 +21,25 @@ rewritten_validity Becomes name n old new named same r (inl t) =
 rewritten_validity Becomes name n old new named same r (inr f) =
     ap validity_of (rewritten_other Becomes name n old new named (λ s. names_apart name n f (sym s)) r)
 
-added_validity : (base : List Mailbox) (name : List ℕ) (flags : List (List ℕ)) (text : List ℕ) (uid : ℕ) (old new : List Mailbox) (n : List ℕ) →
+pub added_validity : (base : List Mailbox) (name : List ℕ) (flags : List (List ℕ)) (text : List ℕ) (uid : ℕ) (old new : List Mailbox) (n : List ℕ) →
     Rewrites (Adds (floor_of base name) flags text uid) name old new → validity_of (box_at n new) ≡ validity_of (box_at n old)
 added_validity base name flags text uid old new n r =
     rewritten_validity (Adds (floor_of base name) flags text uid) name n old new (adds_name (floor_of base name) flags text uid)
     (λ b c a. ap (λ (x : Mailbox). x.validity) a.becomes) r (cases_Bool (bytes_eq name n))
 
-dropped_validity : (base : List Mailbox) (name : List ℕ) (uid : ℕ) (old new : List Mailbox) (n : List ℕ) →
+pub dropped_validity : (base : List Mailbox) (name : List ℕ) (uid : ℕ) (old new : List Mailbox) (n : List ℕ) →
     Rewrites (Drops (floor_of base name) uid) name old new → validity_of (box_at n new) ≡ validity_of (box_at n old)
 dropped_validity base name uid old new n r =
     rewritten_validity (Drops (floor_of base name) uid) name n old new (drops_name (floor_of base name) uid)
     (λ b c a. ap (λ (x : Mailbox). x.validity) a.becomes) r (cases_Bool (bytes_eq name n))
 
-pub effect_validity : (base : List Mailbox) (name : List ℕ) (change : Change) (old new : List Mailbox) (n : List ℕ) →
-    Effect base name change old new → validity_of (box_at n new) ≡ validity_of (box_at n old)
-effect_validity base name (changes.Add flags text uid) old new n e = added_validity base name flags text uid old new n e
-effect_validity base name (changes.SetFlags uid flags) old new n e =
+pub set_validity : (base : List Mailbox) (name : List ℕ) (uid : ℕ) (flags : List (List ℕ)) (old new : List Mailbox) (n : List ℕ) →
+    Effect base name (changes.SetFlags uid flags) old new → validity_of (box_at n new) ≡ validity_of (box_at n old)
+set_validity base name uid flags old new n e =
     rewritten_validity (Sets (floor_of base name) uid flags) name n old new (sets_name (floor_of base name) uid flags)
     (λ b c a. ap (λ (x : Mailbox). x.validity) a.becomes) e (cases_Bool (bytes_eq name n))
-effect_validity base name (changes.Drop uid) old new n e = dropped_validity base name uid old new n e
-effect_validity base name (changes.Shift uid to received) old new n e =
-    added_validity base to e.message.flags e.message.text received e.middle new n e.comes ∙ dropped_validity base name uid old e.middle n e.leaves
 
-pub batch_validity : (base : List Mailbox) (s t : Server) (n : List ℕ) → Batch base s t → validity_of (box_at n t.boxes) ≡ validity_of (box_at n s.boxes)
-batch_validity base s t n none = refl
-batch_validity base s t n (more {m = mid} name change c b) = batch_validity base mid t n b ∙ effect_validity base name change s.boxes mid.boxes n c.effect
+pub shifted_validity : (base : List Mailbox) (name : List ℕ) (uid : ℕ) (to : List ℕ) (received : ℕ) (old new : List Mailbox) (n : List ℕ) →
+    Effect base name (changes.Shift uid to received) old new → validity_of (box_at n new) ≡ validity_of (box_at n old)
+shifted_validity base name uid to received old new n e =
+    added_validity base to e.message.flags e.message.text received e.middle new n e.comes ∙ dropped_validity base name uid old e.middle n e.leaves

@@ -33,6 +33,7 @@ use Rattle.playback.proofs.PlainDeeds.{asked_decides}
 use Rattle.playback.proofs.Purposes.{AsksIds, AsksRow, OfPending, Purpose, Searches, SendsIt, a_box, a_row, a_search, an_effect}
 use Rattle.playback.proofs.Purposes.{learns_none, purpose_of, the_ids}
 use Rattle.playback.proofs.Readings.{IfRead, append_ends, if_read, move_ends, same_finding, store_ends}
+use Rattle.playback.proofs.Facts.{now_in}
 use Rattle.playback.proofs.RowFacts.{IsThat, selected_that, under_that}
 use Rattle.playback.specs.Allowed.{IsFair, IsReply, LacksFlags}
 use Rattle.playback.specs.Course.{AtMoment, IsOneOf, Said}
@@ -374,7 +375,8 @@ module _ (p : Player) (b : Meaning) (w : World) (kept : KeptBook b w.course.now 
         kept.open_intent (intents.Put x.to x.validity uidnext) x.pending x.queued x.there in
         let is : o.box ≡ under.box = same_Some o.box under.box (sym o.there ∙ under.there) in
         subst (λ (a : Action). PutFacts (append_id a) uidnext x.validity mine under.box) x.action
-        (subst (λ (m : Mailbox). PutFacts (append_id x.queued.action) uidnext x.validity mine m) is o.facts)
+        (subst (λ (m : Mailbox). PutFacts (append_id x.queued.action) uidnext x.validity mine m) is
+        (o.facts (ap (λ (m : Mailbox). m.validity) is ∙ under.same)))
 
     -- the messages with the Message-ID are those of then
     marks_now : marked x.id under.box.messages ≡ marked x.id under_then.box.messages
@@ -408,7 +410,7 @@ module _ (p : Player) (b : Meaning) (w : World) (kept : KeptBook b w.course.now 
     found_holds [] covered = none_now (none_left uidnext (marked x.id under.box.messages) (λ u h l. covered.each u h l))
     found_holds (range ∷ set) covered =
         of_put (λ to id validity low. InBox (Covered low id (range ∷ set)) to validity w.course.now.boxes)
-        (record { box = under.box; there = under.there; same = under.same; facts = covered })
+        (now_in (record { box = under.box; there = under.there; same = under.same; facts = covered }))
 
     found_told : (set : List UidRange) → IsTold (found_uids set) b w.course
     found_told [] = tt
@@ -443,12 +445,14 @@ module _ (p : Player) (b : Meaning) (w : World) (kept : KeptBook b w.course.now 
         let to_is : o.append.to ≡ x.to = cc in
         let id_is : o.append.id ≡ x.id = cc in
         let low_is : o.uidnext ≡ uidnext = cc in
+        let v_is : o.validity ≡ x.validity = cc in
         let box_is : o.holds.box ≡ under.box =
         same_Some o.holds.box under.box (sym o.holds.there ∙ ap (λ (n : List ℕ). box_at n w.course.now.boxes) to_is ∙ under.there) in
         let facts : Covered uidnext x.id uids under.box =
         subst (λ (k : ℕ). Covered k x.id uids under.box) low_is
         (subst (λ (k : List ℕ). Covered o.uidnext k uids under.box) id_is
-        (subst (λ (m : Mailbox). Covered o.uidnext o.append.id uids m) box_is o.holds.facts)) in
+        (subst (λ (m : Mailbox). Covered o.uidnext o.append.id uids m) box_is
+        (o.holds.facts (ap (λ (m : Mailbox). m.validity) box_is ∙ under.same ∙ sym v_is)))) in
         record { each = λ u h l. facts.each u (subst (λ (us : List ℕ). Contains us u) (sym marks_now) h) l; least = facts.least }
 
     -- the verdict

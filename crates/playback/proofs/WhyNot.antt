@@ -9,6 +9,7 @@ use Rattle.action_queue.specs.declared.intent.Intent.{Intent}
 use Rattle.action_queue.specs.declared.queued.Queued.{Queued}
 use Rattle.action_queue.specs.declared.target.Target.{Target}
 use Rattle.append_probe.specs.declared.verdict.Verdict.{Verdict}
+use Rattle.mail_base.specs.declared.limits.TheConstants.{MAX_ROWS}
 use Rattle.mailbox_cache.specs.declared.delta.Delta.{Delta}
 use Rattle.playback.specs.Allowed.{IsToHave, WhyNotChosen}
 use Rattle.playback.specs.Choosing.{IsChosenFault, box_fault, is_many, is_other, of_resync, rows_fault, rows_with, target_fault, wanted_by}
@@ -260,17 +261,17 @@ pub selects_box : (p : Player) (b : Meaning) (name : List ℕ) (under : Option �
     need_of p b ≡ needs.Select name
 selects_box p b name under e = ap (λ (step : Step). need_for step p b) e
 
-many_why : (n : ℕ) (unheard : Unheard) → rows_fault (is_many n) ≡ Some unheard → (200000 < n) × (unheard ≡ unheards.Rows n)
+many_why : (n : ℕ) (unheard : Unheard) → rows_fault (is_many n) ≡ Some unheard → (MAX_ROWS < n) × (unheard ≡ unheards.Rows n)
 many_why n unheard =
-    cond_both (nat_lt 200000 n) (Some n) None (λ (o : Option ℕ). rows_fault o ≡ Some unheard → (200000 < n) × (unheard ≡ unheards.Rows n))
-    (λ more e. (ltb-true 200000 n more, cc))
+    cond_both (nat_lt MAX_ROWS n) (Some n) None (λ (o : Option ℕ). rows_fault o ≡ Some unheard → (MAX_ROWS < n) × (unheard ≡ unheards.Rows n))
+    (λ more e. (ltb-true MAX_ROWS n more, cc))
     (λ few e. absurd (cc))
 
 module _ (p : Player) (b : Meaning) (delta : Delta) (name : List ℕ) (unheard : Unheard) where
   rows_why : need_of p b ≡ needs.Select name → rows_fault (is_many (rows_with name b delta)) ≡ Some unheard →
       WhyNotChosen unheard (Ok delta) p b
   rows_why selects e =
-      let many : (200000 < rows_with name b delta) × (unheard ≡ unheards.Rows (rows_with name b delta)) =
+      let many : (MAX_ROWS < rows_with name b delta) × (unheard ≡ unheards.Rows (rows_with name b delta)) =
       many_why (rows_with name b delta) unheard e in
       subst (λ (x : Unheard). WhyNotChosen x (Ok delta) p b) (sym many.1)
       (delta, refl, record { name = name; selects = selects; many = many.0; is = refl })

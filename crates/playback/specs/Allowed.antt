@@ -10,6 +10,7 @@ use Rattle.imap_model.specs.Mutating.{is_mutating}
 use Rattle.imap_model.specs.declared.command.Command.{Command}
 use Rattle.imap_model.specs.declared.mark.Mark.{Mark}
 use Rattle.imap_model.specs.declared.replies.Replies.{Replies}
+use Rattle.mail_base.specs.declared.limits.TheConstants.{MAX_ROWS}
 use Rattle.mailbox_cache.specs.declared.cache.Cache.{Cache}
 use Rattle.mailbox_cache.specs.declared.delta.Delta.{Delta}
 use Rattle.playback.specs.Course.{Course, Said}
@@ -140,7 +141,7 @@ pub record IsOtherValidity (old told : ℕ) (delta : Delta) (p : Player) (b : Me
 pub record IsTooManyRows (count : ℕ) (delta : Delta) (p : Player) (b : Meaning) : Type 0 where
   pub name : List ℕ
   pub selects : need_of p b ≡ needs.Select name
-  pub many : 200000 < count
+  pub many : MAX_ROWS < count
   pub is : length (learned (cache_at name b.boxes) delta).rows ≡ count
 
 -- why a SELECT's answer isn't taken, in the words of the book and the delta

@@ -11,7 +11,7 @@ use Rattle.action_queue.specs.declared.event.Event.{Event}
 use Rattle.playback.specs.Of.{IsOf}
 use Rattle.playback.specs.Kept.{Kept}
 use Rattle.playback.specs.Permitted.{MayFollow, Permits}
-use Rattle.playback.specs.Polite.{SparesBook}
+use Rattle.playback.specs.Polite.{KeepsBox, KeepsWaiting, SparesBook}
 
 -- An event that is permitted; a command of the book, or a question, that waits from now on; what waits is carried out, or dropped;
 -- others change something. A command of the book is that still behind a change by others; and others that change nothing spare each book.
@@ -22,6 +22,8 @@ pub record KeptByBook : Type 0 where
   pub asked : (b : Option Meaning) (s : Server) (w : Waiting) → is_mutating w.command ≡ false → Kept b s None → Kept b s (Some w)
   pub carried : (b : Option Meaning) (s t : Server) (w : Waiting) → Carries w s t → Kept b s (Some w) → Kept b t None
   pub dropped : (b : Option Meaning) (s : Server) (w : Option Waiting) → Kept b s w → Kept b s None
-  pub others : (b : Option Meaning) (s t : Server) (w : Option Waiting) → Batch s.boxes s t → SparesBook s.boxes t.boxes b → Kept b s w → Kept b t w
-  pub sendable : (b : Meaning) (s t : Server) (w : Waiting) → Batch s.boxes s t → IsOf b s w → IsOf b t w
+  pub others : (b : Option Meaning) (s t : Server) (w : Option Waiting) → Batch s.boxes s t → SparesBook s.boxes t.boxes b → KeepsWaiting w s.boxes t.boxes →
+      Kept b s w → Kept b t w
+  pub sendable : (b : Meaning) (s t : Server) (w : Waiting) → Batch s.boxes s t →
+      KeepsBox w.selected s.boxes t.boxes → IsOf b s w → IsOf b t w
   pub spared : (b : Option Meaning) (s : Server) → SparesBook s.boxes s.boxes b

@@ -5,6 +5,7 @@ use Rattle.action_queue.specs.Queues.{due, due_action}
 use Rattle.action_queue.specs.Writable.{HaveFewFlags}
 use Rattle.action_queue.specs.declared.action.Action.{Action}
 use Rattle.action_queue.specs.declared.queued.Queued.{Queued}
+use Rattle.mail_base.specs.declared.limits.TheConstants.{MAX_ROWS}
 use Rattle.mailbox_cache.specs.declared.delta.Delta.{Delta}
 use Rattle.playback.specs.Needs.{need_of}
 use Rattle.playback.specs.Steps.{step_of}
@@ -92,7 +93,7 @@ is_other (Some old) told = if old == told then None else Some (old, told)
 
 -- so many rows are more than a cache may have
 abbrev pub is_many : ℕ → Option ℕ
-is_many count = if nat_lt 200000 count then Some count else None
+is_many count = if nat_lt MAX_ROWS count then Some count else None
 
 -- how many rows the mailbox's cache would have
 abbrev pub rows_with : List ℕ → Meaning → Delta → ℕ

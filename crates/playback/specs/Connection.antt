@@ -12,7 +12,7 @@ use Rattle.action_queue.specs.Book.{Meaning}
 use Rattle.action_queue.specs.Events.{next_book}
 use Rattle.action_queue.specs.declared.event.Event.{Event}
 use Rattle.playback.specs.Of.{IsOf}
-use Rattle.playback.specs.Polite.{SparesBook}
+use Rattle.playback.specs.Polite.{KeepsWaiting, SparesBook}
 use Rattle.playback.specs.Permitted.{MayFollow, Permits}
 use Rattle.playback.specs.Machine.{Books, Firm, Begun, EachBook, State, chosen, Label, Begin, Choose, Step}
 
@@ -26,7 +26,7 @@ MayStep x y = (y ≡ x) ⊎ ((label : Label) × Step label x y)
 
 -- others spare the books, where it is others that change something
 abbrev pub SparesAt : Books → Peer → Peer → Type 0
-SparesAt books p q = Batch p.server.boxes p.server q.server → EachBook (SparesBook p.server.boxes q.server.boxes) books
+SparesAt books p q = Batch p.server.boxes p.server q.server → EachBook (SparesBook p.server.boxes q.server.boxes) books × KeepsWaiting p.waiting p.server.boxes q.server.boxes
 
 -- the command is that of the one book that a stop may leave
 abbrev pub IsOfBooks : Books → Peer → Tag → Command → Type 0

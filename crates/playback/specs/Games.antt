@@ -12,9 +12,9 @@ use Rattle.playback.specs.Choosing.{FitsWanted, IsChosen, committed}
 use Rattle.playback.specs.Kept.{KeptBook}
 use Rattle.playback.specs.Knows.{IsNeeded, Knows, MayAskRows}
 use Rattle.playback.specs.Needs.{IsBeside, IsLawfulNeed, need_of}
-use Rattle.playback.specs.Polite.{Spares}
+use Rattle.playback.specs.Polite.{KeepsBox, KeepsWaiting, Spares}
 use Rattle.playback.specs.Replying.{IsHeard}
-use Rattle.playback.specs.Worlds.{World, asks_rows, carried, given, moved, says}
+use Rattle.playback.specs.Worlds.{World, asks_rows, carried, given, moved, name_of, says}
 use Rattle.playback.specs.declared.player.Player.{Player}
 use Rattle.std.specs.Prelude.{Bool, List, None, Ok, Option, Some, ℕ, ◌≡◌}
 
@@ -28,6 +28,8 @@ pub record Game : Type 0 where
 pub record OthersAct (x : Game) (t : Server) : Type 0 where
   pub changes : Batch x.world.course.now.boxes x.world.course.now t
   pub spares : Spares x.book x.world.course.now.boxes t.boxes
+  pub stays : KeepsBox (name_of x.world.selected) x.world.course.now.boxes t.boxes
+  pub settled : KeepsWaiting x.world.waiting x.world.course.now.boxes t.boxes
 
 -- What may happen next: others act; a command that is needed arrives at the server; behind a SELECT the rows of all messages are asked
 -- for; what waits is carried out; its reply, or that to a resynchronisation, is handed over; an event that is needed is recorded.
@@ -63,7 +65,8 @@ IsSafe x = x.world.owed ≡ None → IsLawfulNeed (need_of x.player x.book) x.pl
 -- As others act, a command arrives, the rows are asked for, or what waits is carried out, the player knows what it knew.
 pub record KnownOnward : Type 0 where
   pub others : (p : Player) (b : Meaning) (w : World) (t : Server) → KeptBook b w.course.now w.waiting
-      → Batch w.course.now.boxes w.course.now t → Spares b w.course.now.boxes t.boxes → Knows p b w → Knows p b (moved t w)
+      → Batch w.course.now.boxes w.course.now t → Spares b w.course.now.boxes t.boxes
+      → KeepsBox (name_of w.selected) w.course.now.boxes t.boxes → KeepsWaiting w.waiting w.course.now.boxes t.boxes → Knows p b w → Knows p b (moved t w)
   pub sends : (p : Player) (b : Meaning) (w : World) (c : Waiting) → KeptBook b w.course.now w.waiting → w.owed ≡ None
       → IsNeeded (need_of p b) c p.selected b → Knows p b w → Knows p b (says c w)
   pub asks : (p : Player) (b : Meaning) (w : World) (c : Waiting) → MayAskRows c p b w → Knows p b w → Knows p b (asks_rows c w)

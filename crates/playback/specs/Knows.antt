@@ -20,7 +20,7 @@ use Rattle.imap_model.specs.declared.server.Mailbox.{Mailbox}
 use Rattle.imap_model.specs.declared.server.Server.{Server}
 use Rattle.mailbox_cache.specs.declared.row.Row.{Row}
 use Rattle.playback.specs.Course.{AtMoment, Course, IsCourse, IsOneOf, Said}
-use Rattle.playback.specs.Fresh.{Fresh, IsFreshNow}
+use Rattle.playback.specs.Fresh.{Fresh, IsFreshFor}
 use Rattle.playback.specs.InBox.{InBox, InBoxNow}
 use Rattle.playback.specs.Kept.{KeptBook}
 use Rattle.playback.specs.Needs.{IsPlain, due_id, need_of}
@@ -30,7 +30,7 @@ use Rattle.playback.specs.Open.{Open, PutFacts}
 use Rattle.playback.specs.Polite.{Spares}
 use Rattle.playback.specs.Replying.{read_sent}
 use Rattle.playback.specs.Why.{AreTwo, NoRow, OfDue, RowAt, RowNotSo, RowSo, RowWas, TellsNext, WasRefused, WasSelected, WhyIntent}
-use Rattle.playback.specs.Worlds.{Among, IsAt, SameValidities, Since, World, name_of, selected_after}
+use Rattle.playback.specs.Worlds.{Among, IsAt, Since, World, name_of, selected_after}
 use Rattle.playback.specs.declared.finding.Finding.{Finding}
 use Rattle.playback.specs.declared.finding.Resynced.{Resynced}
 use Rattle.playback.specs.declared.finding.Selected.{Selected}
@@ -120,7 +120,6 @@ Holds (findings.Probed verdict) b s = HoldsVerdict verdict b s
 -- nothing of the action that is due happened from one server to the other
 pub record Stays (b : Meaning) (s t : Server) : Type 0 where
   pub evolves : EvolvesFrom s.boxes s.boxes t.boxes
-  pub valid : SameValidities s.boxes t.boxes
   pub spares : Spares b s.boxes t.boxes
   pub same : ours (due_id b) t.history ≡ ours (due_id b) s.history
 
@@ -258,7 +257,7 @@ pub record IsResting (p : Player) (b : Meaning) (w : World) : Type 0 where
 pub record IsLearning (told : Resynced) (p : Player) (b : Meaning) (now : Server) : Type 0 where
   pub selected : p.selected ≡ Some (record { name = told.name; validity = told.delta.validity })
   pub plain : IsPlain p.told
-  pub fresh : IsFreshNow told.name (learned (cache_at told.name b.boxes) told.delta) now.boxes
+  pub fresh : IsFreshFor told.name (learned (cache_at told.name b.boxes) told.delta) now.boxes
 
 -- where something is to be recorded of a mailbox: it is what its resynchronisation told
 abbrev pub Learning : Option Resynced → Player → Meaning → Server → Type 0

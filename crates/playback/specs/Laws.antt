@@ -21,11 +21,6 @@ Leaves (Ask w) x y = y.books ≡ x.books
 abbrev pub LeavesTheRest : Type 0
 LeavesTheRest = (label : Label) (x y : State) → Step label x y → Leaves label x y
 
--- no step touches a UIDVALIDITY, so none is asked of others
-abbrev pub ValiditiesStay : Type 0
-ValiditiesStay = (label : Label) (x y : State) → Step label x y → (name : List ℕ) →
-    validity_of (box_at name y.server.boxes) ≡ validity_of (box_at name x.server.boxes)
-
 -- the plainest thing that follows: whatever steps follow a kept state, no action's number has two changes in the server's history
 abbrev pub NeverTwice : Type 0
 NeverTwice = (labels : List Label) (x y : State) → Run labels x y → KeptState x → (n : ℕ) → length (ours n y.server.history) ≤ 1

@@ -11,7 +11,7 @@ use Rattle.action_queue.specs.declared.event.Event.{Event}
 use Rattle.playback.specs.Of.{IsOf, MutatingWaits}
 use Rattle.playback.specs.Kept.{Kept}
 use Rattle.playback.specs.Permitted.{MayFollow, Permits}
-use Rattle.playback.specs.Polite.{SparesBook}
+use Rattle.playback.specs.Polite.{KeepsWaiting, SparesBook}
 
 -- the books of what a stop may leave: one, or those before and after an event; no book stands for no journal
 pub data Books : Type 0 where
@@ -73,6 +73,7 @@ pub record Others (x y : State) : Type 0 where
   pub server : Server
   pub changes : Batch x.server.boxes x.server server
   pub spares : EachBook (SparesBook x.server.boxes server.boxes) x.books
+  pub stays : KeepsWaiting x.waiting x.server.boxes server.boxes
   pub becomes : y ≡ record x { server = server }
 
 -- the last byte of a question arrives

@@ -132,8 +132,11 @@ IsPlayQuestion commands.FetchAll = ⊥
 IsPlayQuestion (commands.FetchRow uid) = Unit {0}
 IsPlayQuestion (commands.Search from id) = ¬ (Contains id 0)
 IsPlayQuestion (commands.FetchIds uids) = Unit {0}
+IsPlayQuestion (commands.FetchText uid) = ⊥
 IsPlayQuestion (commands.Store uid since add flags) = ⊥
 IsPlayQuestion (commands.Shift uid to) = ⊥
+IsPlayQuestion (commands.Copy uid to) = ⊥
+IsPlayQuestion (commands.Expunge uid) = ⊥
 IsPlayQuestion (commands.Append to flags text) = ⊥
 IsPlayQuestion commands.Logout = ⊥
 

@@ -3,6 +3,8 @@
 use Rattle.std.specs.Prelude.{◌≡◌, ℕ, suc, true, [], Option, Some, None}
 use Rattle.mail_base.specs.declared.tag.Tag.{Tag}
 use Rattle.mail_base.specs.declared.tag.Tag.TheVariants.{Play}
+use Rattle.playback.specs.InBox.{InBoxNow}
+use Rattle.playback.specs.Open.{intent_name, intent_validity}
 use Rattle.imap_model.specs.Carrying.{Waiting}
 use Rattle.imap_model.specs.Mutating.{is_mutating}
 use Rattle.imap_model.specs.Ours.{ours}
@@ -43,6 +45,7 @@ pub record IsOf (b : Meaning) (s : Server) (w : Waiting) : Type 0 where
   pub there : due_action b.queue ≡ Some queued
   pub is : command_of (tag_of (suc (due b.queue)) queued) queued.action intent ≡ Some w
   pub none : ours (suc (due b.queue)) s.history ≡ []
+  pub at : InBoxNow (λ _. Unit {0}) (intent_name intent) (intent_validity intent) s.boxes
 
 -- a command that changes a mailbox waits
 pub record MutatingWaits (waiting : Option Waiting) : Type 0 where

@@ -40,6 +40,7 @@ new_uid (changes.Add flags text uid) = Some uid
 new_uid (changes.SetFlags uid flags) = None
 new_uid (changes.Drop uid) = None
 new_uid (changes.Shift uid to received) = Some received
+new_uid (changes.Reset under uids uidnext highest) = None
 
 -- the place of an outcome is where the deed put the message
 abbrev pub IsPlace : Option Place → Deed → Type 0

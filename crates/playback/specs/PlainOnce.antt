@@ -34,6 +34,7 @@ is_added to flags text name (changes.Add others content uid) = bytes_eq name to 
 is_added to flags text name (changes.SetFlags uid others) = false
 is_added to flags text name (changes.Drop uid) = false
 is_added to flags text name (changes.Shift uid other received) = false
+is_added to flags text name (changes.Reset under uids uidnext highest) = false
 
 abbrev pub is_wanted : List Queued → Action → List ℕ → ℕ → Change → Bool
 is_wanted queue (actions.Flag target add asked) name validity (changes.SetFlags uid flags) =
@@ -41,11 +42,13 @@ is_wanted queue (actions.Flag target add asked) name validity (changes.SetFlags 
 is_wanted queue (actions.Flag target add asked) name validity (changes.Add flags text uid) = false
 is_wanted queue (actions.Flag target add asked) name validity (changes.Drop uid) = false
 is_wanted queue (actions.Flag target add asked) name validity (changes.Shift uid to received) = false
+is_wanted queue (actions.Flag target add asked) name validity (changes.Reset under uids uidnext highest) = false
 is_wanted queue (actions.Move target to) name validity (changes.Shift uid other received) =
     is_at (resolved queue target) name validity uid && bytes_eq other to
 is_wanted queue (actions.Move target to) name validity (changes.Add flags text uid) = false
 is_wanted queue (actions.Move target to) name validity (changes.SetFlags uid flags) = false
 is_wanted queue (actions.Move target to) name validity (changes.Drop uid) = false
+is_wanted queue (actions.Move target to) name validity (changes.Reset under uids uidnext highest) = false
 is_wanted queue (actions.Append to flags text id) name validity change = is_added to flags text name change
 
 -- the deed is what this action wants

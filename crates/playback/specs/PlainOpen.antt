@@ -1,5 +1,5 @@
 -- A plain program for `Open` (RFC 7162, section 3.1.3; RFC 9051, sections 2.3.1.1 and 6.4.8; RFC 4549, section 4.2).
-use Rattle.std.specs.Prelude.{◌≡◌, ℕ, suc, Bool, true, false, ◌&&◌, ◌||◌, ◌==◌, nat_le, nat_lt, List, [], ◌∷◌, Option, Some, None, if◌then◌else◌}
+use Rattle.std.specs.Prelude.{◌≡◌, ℕ, suc, Bool, true, false, ◌&&◌, ◌||◌, ◌==◌, nat_le, nat_lt, not, List, [], ◌∷◌, Option, Some, None, if◌then◌else◌}
 use Rattle.imap_model.specs.Lookups.{box_at, message_at}
 use Rattle.imap_model.specs.Ours.{is_number, ours}
 use Rattle.imap_model.specs.declared.deed.Deed.{Deed}
@@ -62,7 +62,7 @@ intent_holds action mine (intents.Put to validity uidnext) b = put_holds (append
 -- the mailbox is there, and has this UIDVALIDITY
 abbrev pub holds_in : (Mailbox → Bool) → ℕ → Option Mailbox → Bool
 holds_in test validity None = false
-holds_in test validity (Some b) = (b.validity == validity) && test b
+holds_in test validity (Some b) = nat_le validity b.validity && (not (b.validity == validity) || test b)
 
 -- the intent says what is so of its mailbox
 abbrev pub holds_at : Action → List Deed → Intent → List Mailbox → Bool

@@ -87,15 +87,15 @@ told responses = replies_of responses endings.Ok codings.None
 
 -- the row of message 42
 abbrev pub row : List (List ℕ) → ℕ → Response
-row flags modseq = responses.Fetch (record { uid = Some 42; flags = Some flags; modseq = Some modseq; ids = None })
+row flags modseq = responses.Fetch (record { uid = Some 42; flags = Some flags; modseq = Some modseq; ids = None; text = None })
 
 -- the row without its mod-sequence
 abbrev pub bare_row : Response
-bare_row = responses.Fetch (record { uid = Some 42; flags = Some []; modseq = None; ids = None })
+bare_row = responses.Fetch (record { uid = Some 42; flags = Some []; modseq = None; ids = None; text = None })
 
 -- the row without its flags
 abbrev pub flagless_row : Response
-flagless_row = responses.Fetch (record { uid = Some 42; flags = None; modseq = Some 715; ids = None })
+flagless_row = responses.Fetch (record { uid = Some 42; flags = None; modseq = Some 715; ids = None; text = None })
 
 -- this UID alone
 abbrev pub one : ℕ → List UidRange

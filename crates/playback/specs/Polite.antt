@@ -3,6 +3,7 @@
 -- It speaks of the action that is due alone, and of it only where it is an append. The law rests on it only while that append's intent
 -- is pending; the player also from the SELECT that told its UIDNEXT.
 use Rattle.std.specs.Prelude.{◌≡◌, ℕ, List, Option, Some, None}
+use Rattle.imap_model.specs.Carrying.{Waiting}
 use Rattle.imap_model.specs.Lookups.{box_at}
 use Rattle.imap_model.specs.declared.server.Mailbox.{Mailbox}
 use Rattle.action_queue.specs.Queues.{due_action}
@@ -22,3 +23,18 @@ Spares b old new = (q : Queued) (to : List ℕ) (flags : List (List ℕ)) (text 
 abbrev pub SparesBook : List Mailbox → List Mailbox → Option Meaning → Type 0
 SparesBook old new None = Unit {0}
 SparesBook old new (Some b) = Spares b old new
+
+-- the UIDVALIDITY of what a name has
+abbrev pub has_validity : Option Mailbox → Option ℕ
+has_validity None = None
+has_validity (Some box) = Some box.validity
+
+-- a mailbox that is selected keeps its UIDVALIDITY
+abbrev pub KeepsBox : Option (List ℕ) → List Mailbox → List Mailbox → Type 0
+KeepsBox None old new = Unit {0}
+KeepsBox (Some name) old new = has_validity (box_at name new) ≡ has_validity (box_at name old)
+
+-- and so does the one in which a command waits
+abbrev pub KeepsWaiting : Option Waiting → List Mailbox → List Mailbox → Type 0
+KeepsWaiting None old new = Unit {0}
+KeepsWaiting (Some w) old new = KeepsBox w.selected old new

@@ -22,12 +22,15 @@ IsWanted queue (actions.Flag target add asked) name validity (changes.SetFlags u
 IsWanted queue (actions.Flag target add asked) name validity (changes.Add flags text uid) = ⊥
 IsWanted queue (actions.Flag target add asked) name validity (changes.Drop uid) = ⊥
 IsWanted queue (actions.Flag target add asked) name validity (changes.Shift uid to received) = ⊥
+IsWanted queue (actions.Flag target add asked) name validity (changes.Reset under uids uidnext highest) = ⊥
 IsWanted queue (actions.Move target to) name validity (changes.Shift uid other received) =
     (resolved queue target ≡ found.Real name validity uid) × (other ≡ to)
 IsWanted queue (actions.Move target to) name validity (changes.Add flags text uid) = ⊥
 IsWanted queue (actions.Move target to) name validity (changes.SetFlags uid flags) = ⊥
 IsWanted queue (actions.Move target to) name validity (changes.Drop uid) = ⊥
+IsWanted queue (actions.Move target to) name validity (changes.Reset under uids uidnext highest) = ⊥
 IsWanted queue (actions.Append to flags text id) name validity (changes.Add others content uid) = (name ≡ to) × (others ≡ flags) × (content ≡ text)
 IsWanted queue (actions.Append to flags text id) name validity (changes.SetFlags uid others) = ⊥
 IsWanted queue (actions.Append to flags text id) name validity (changes.Drop uid) = ⊥
 IsWanted queue (actions.Append to flags text id) name validity (changes.Shift uid other received) = ⊥
+IsWanted queue (actions.Append to flags text id) name validity (changes.Reset under uids uidnext highest) = ⊥

@@ -118,8 +118,11 @@ IsCommandFor commands.FetchAll named = ⊥
 IsCommandFor (commands.FetchRow uid) named = ⊥
 IsCommandFor (commands.Search from id) named = ⊥
 IsCommandFor (commands.FetchIds uids) named = ⊥
+IsCommandFor (commands.FetchText uid) named = ⊥
 IsCommandFor (commands.Store uid since add flags) named = uid ≡ named
 IsCommandFor (commands.Shift uid to) named = uid ≡ named
+IsCommandFor (commands.Copy uid to) named = ⊥
+IsCommandFor (commands.Expunge uid) named = uid ≡ named
 IsCommandFor (commands.Append to flags octets) named = ⊥
 IsCommandFor commands.Logout named = ⊥
 

@@ -66,8 +66,11 @@ selected_after commands.FetchAll r selected = selected
 selected_after (commands.FetchRow uid) r selected = selected
 selected_after (commands.Search from id) r selected = selected
 selected_after (commands.FetchIds uids) r selected = selected
+selected_after (commands.FetchText uid) r selected = selected
 selected_after (commands.Store uid since add flags) r selected = selected
 selected_after (commands.Shift uid to) r selected = selected
+selected_after (commands.Copy uid to) r selected = selected
+selected_after (commands.Expunge uid) r selected = selected
 selected_after (commands.Append to flags text) r selected = selected
 selected_after commands.Logout r selected = selected
 
@@ -104,15 +107,10 @@ asks_rows c w = record w { waiting = Some c }
 abbrev pub given : World → World
 given w = record w { owed = None }
 
--- each mailbox has the UIDVALIDITY that it had
-abbrev pub SameValidities : List Mailbox → List Mailbox → Type 0
-SameValidities old new = (name : List ℕ) → validity_of (box_at name new) ≡ validity_of (box_at name old)
-
 -- what is known of one server stays known of a later one
 pub record Since (s now : Server) : Type 0 where
   pub well : IsWellFormed s.boxes
   pub evolves : EvolvesFrom s.boxes s.boxes now.boxes
-  pub valid : SameValidities s.boxes now.boxes
   pub grows : (n : ℕ) → ours n now.history ≡ [] → ours n s.history ≡ []
 
 -- no moment and nothing that was said is forgotten; at most one moment is new

@@ -5,7 +5,7 @@ ghost use Rattle.playback.specs.Concluding.{HadItsEffect, HadNoEffect, IntentsFo
 ghost use Rattle.playback.specs.Connection.{StepsOfConnection, StepsOfWriting};
 ghost use Rattle.playback.specs.EachKind.{EachKindTakesEffect};
 ghost use Rattle.playback.specs.Example.{TakesEffect};
-ghost use Rattle.playback.specs.Laws.{KeptAlways, LeavesTheRest, NeverTwice, ValiditiesStay};
+ghost use Rattle.playback.specs.Laws.{KeptAlways, LeavesTheRest, NeverTwice};
 ghost use Rattle.playback.specs.Needed.{ConditionsAreNeeded};
 ghost use Rattle.playback.specs.Past.{GoesOnLater};
 ghost use Rattle.playback.specs.Plain.{PlainDecides};
@@ -82,11 +82,6 @@ pub fn takes_effect()
 /// An action of each kind can take effect.
 pub fn each_kind_takes_effect()
     ensures { EachKindTakesEffect }
-{}
-
-/// No step touches a UIDVALIDITY.
-pub fn validities_stay()
-    ensures { ValiditiesStay }
 {}
 
 /// The plain programs tell the truth.

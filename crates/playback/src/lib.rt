@@ -23,7 +23,7 @@ pub use laws::{
     conditions_are_needed, counts_by_action, each_kind_takes_effect, goes_on_later, had_its_effect,
     had_no_effect, intents_follow, kept_always, kept_by_book, leaves_the_rest, never_twice,
     outcomes_fit, plain_decides, sound_stays, steps_of_connection, steps_of_writing, takes_effect,
-    targets_resolve, validities_stay, worked_rows,
+    targets_resolve, worked_rows,
 };
 pub use need::{Need, Unheard};
 pub use plain_fresh::caches_fresh;

@@ -82,8 +82,11 @@ fn is_fresh_in(alloc: Global, cache: &Cache, found: Option<&Mailbox>) -> Result<
     match found {
         None => Ok(false),
         Some(mailbox) => {
-            if mailbox.validity.number() != cache.validity.number() {
+            if cache.validity.number() > mailbox.validity.number() {
                 return Ok(false);
+            }
+            if mailbox.validity.number() != cache.validity.number() {
+                return Ok(true);
             }
             is_fresh(alloc, cache, mailbox)
         }

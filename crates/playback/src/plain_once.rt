@@ -161,7 +161,7 @@ pub(crate) fn gives(uid: Uid, change: &Change) -> bool
 {
     match change {
         Change::Add { uid: new, .. } | Change::Shift { new, .. } => new.number() == uid.number(),
-        Change::SetFlags { .. } | Change::Drop { .. } => false,
+        Change::SetFlags { .. } | Change::Drop { .. } | Change::Reset { .. } => false,
     }
 }
 
@@ -253,7 +253,10 @@ fn is_added(to: &BoxName, flags: &FlagSet, text: &Bytes, deed: &Deed) -> bool
             text: content,
             ..
         } => { deed.name == *to && *others == *flags && content.as_slice() == text.as_slice() }
-        Change::SetFlags { .. } | Change::Drop { .. } | Change::Shift { .. } => false,
+        Change::SetFlags { .. }
+        | Change::Drop { .. }
+        | Change::Shift { .. }
+        | Change::Reset { .. } => false,
     }
 }
 
@@ -265,7 +268,8 @@ fn is_moved(book: &Book, target: &Target, to: &BoxName, deed: &Deed) -> bool
         Change::Shift { uid, to: other, .. } => {
             is_found_at(&book.resolved(target), &deed.name, deed.validity, *uid) && *other == *to
         }
-        Change::Add { .. } | Change::SetFlags { .. } | Change::Drop { .. } => false,
+        Change::Add { .. } | Change::SetFlags { .. } | Change::Drop { .. } | Change::Reset { .. } =>
+            false,
     }
 }
 
@@ -279,7 +283,8 @@ fn is_flagged(book: &Book, target: &Target, add: bool, asked: &FlagSet, deed: &D
             is_found_at(&book.resolved(target), &deed.name, deed.validity, *uid)
                 && is_asked(add, asked, flags)
         }
-        Change::Add { .. } | Change::Drop { .. } | Change::Shift { .. } => false,
+        Change::Add { .. } | Change::Drop { .. } | Change::Shift { .. } | Change::Reset { .. } =>
+            false,
     }
 }
 

@@ -78,8 +78,12 @@ fn holds_in(
     let Some(mailbox) = box_in(boxes, name_of(intent)) else {
         return Ok(false);
     };
-    if mailbox.validity.number() != validity_of(intent).number() {
+    let validity = validity_of(intent);
+    if validity.number() > mailbox.validity.number() {
         return Ok(false);
+    }
+    if mailbox.validity.number() != validity.number() {
+        return Ok(true);
     }
     intent_holds(alloc, action, mine, intent, mailbox)
 }

@@ -27,9 +27,9 @@ ghost use Rattle.playback.specs.declared.need.Unheard.TheVariants as unheards;
 
 use crate::heard::heard_of;
 use crate::{Finding, Need, Resynced, Selected, Step, Unheard};
-use action_queue::{Action, Book, MAX_ROWS};
+use action_queue::{Action, Book};
 use imap_model::Replies;
-use mail_base::{BoxName, Validity};
+use mail_base::{BoxName, MAX_ROWS, Validity};
 use mailbox_cache::{Cache, Delta};
 use qresync_core::ResyncFault;
 use std::alloc::{AllocError, Global};

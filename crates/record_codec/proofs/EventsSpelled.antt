@@ -5,6 +5,7 @@ use Rattle.std.specs.Int.{w32, w64, to_be_bytes}
 use Rattle.std.specs.List.{flat_map}
 use Rattle.std.proofs.lemmas.Bool.{le-leb}
 use Rattle.std.proofs.lemmas.List.{append-nil}
+use Rattle.mail_base.specs.declared.limits.TheConstants.{MAX_ROWS}
 use Rattle.mail_header.specs.Identifier.{id_bodies, HasMessageId}
 use Rattle.mailbox_cache.specs.declared.delta.Delta.{Delta}
 use Rattle.action_queue.specs.Writable.{IsWritable, IsWritableAction, HaveFewFlags}
@@ -196,7 +197,7 @@ outcome_read (outcomes.Conflict kind) rest kept = then_by (kind_at (kind_fields 
 
 -- ---- what a mailbox became
 
-told_read : (delta : Delta) (rest : List ℕ) → IsKeptDelta delta → length delta.rows ≤ 200000 → HaveFewFlags delta.rows →
+told_read : (delta : Delta) (rest : List ℕ) → IsKeptDelta delta → length delta.rows ≤ MAX_ROWS → HaveFewFlags delta.rows →
     told_at (told_fields (told_of delta) ++ rest) ≡ Ok (told_of delta, rest)
 unfolding told_at
 told_read delta rest kept few flags =

@@ -20,6 +20,7 @@ use Rattle.flag_set.specs.FlagSet.{order, AllKeys, IsRising, IsFlagSet}
 use Rattle.flag_set.proofs.Keys.{key_is}
 use Rattle.flag_set.proofs.Order.{below_all}
 use Rattle.mail_base.specs.BoxName.{IsBoxName}
+use Rattle.mail_base.specs.declared.limits.TheConstants.{MAX_ROWS}
 use Rattle.uid_sets.specs.declared.uid.UidRange.{UidRange}
 use Rattle.uid_sets.specs.UidSet.{IsRange, RisesAbove, IsCanonical}
 use Rattle.mailbox_cache.specs.Rows.{has_uid, Rises, AreApart}
@@ -364,11 +365,11 @@ pub record AreKeptRows (vanished : List UidRange) (rows : List (ℕ × Row)) : T
   pub rising : Rises rows
   pub apart : AreApart vanished rows
   pub kept : AllByRecursion IsKeptRow rows
-  pub few : length rows ≤ 200000
+  pub few : length rows ≤ MAX_ROWS
   pub flags : HaveFewFlags rows
 
 abbrev row_count : ℕ → Bool
-row_count n = nat_le n 200000
+row_count n = nat_le n MAX_ROWS
 
 pub row_list_reads : (vanished : List UidRange) (bytes : List ℕ) (y : List (ℕ × Row) × List ℕ) → AreBytes bytes →
     row_list_at vanished bytes ≡ Ok y → Reads row_fields (AreKeptRows vanished) bytes y
@@ -378,7 +379,7 @@ row_list_reads vanished bytes y all is =
     let n = number_reads bytes c.count all c.first in
     let rows = many_reads (row_at vanished) row_uid row_field (IsNextRow vanished) (row_reads vanished) c.count.0 0 c.count.1 y n.clean c.later in
     let size : length y.0 ≡ c.count.0 = rows.kept.0 in
-    let high : c.count.0 ≤ 200000 = leb-true c.count.0 200000 c.fits in
+    let high : c.count.0 ≤ MAX_ROWS = leb-true c.count.0 MAX_ROWS c.fits in
     sound_by (to_be_bytes w32 (length y.0) ++ flat_map row_field y.0) bytes y.1 (AreKeptRows vanished y.0) all
     (n.is ∙ ap (λ (t : List ℕ). to_be_bytes w32 c.count.0 ++ t) rows.is ∙ ap (λ (n : ℕ). to_be_bytes w32 n ++ (flat_map row_field y.0 ++ y.1)) (sym size))
     (record {
@@ -393,12 +394,12 @@ pub row_list_read : (vanished : List UidRange) (rows : List (ℕ × Row)) (rest 
     row_list_at vanished (row_fields rows ++ rest) ≡ Ok (rows, rest)
 unfolding row_list_at row_fields
 row_list_read vanished rows rest kept =
-    let few : length rows ≤ 200000 = kept.few in
+    let few : length rows ≤ MAX_ROWS = kept.few in
     let bytes = to_be_bytes w32 (length rows) ++ (flat_map row_field rows ++ rest) in
     counts (number_at w32 bytes) row_count bytes (λ few. many_at (row_at vanished) row_uid few.0 0 few.1)
     (length rows, flat_map row_field rows ++ rest) (Ok (rows, rest))
     (number_read (length rows) (flat_map row_field rows ++ rest) (omega arith))
-    (le-leb (length rows) 200000 few)
+    (le-leb (length rows) MAX_ROWS few)
     (many_read (row_at vanished) row_uid row_field (IsNextRow vanished) (row_read vanished) 0 rows rest
     (each_row vanished 0 rows (from_first rows kept.kept kept.rising) kept.apart kept.kept kept.flags))
 

@@ -4,6 +4,7 @@ use Rattle.std.proofs.Common.{sym, subst, ◌∙◌, append_assoc, arith}
 use Rattle.std.specs.Int.{w32, w64, to_be_bytes}
 use Rattle.std.specs.List.{flat_map, AllByRecursion}
 use Rattle.std.proofs.lemmas.List.{length-append}
+use Rattle.mail_base.specs.declared.limits.TheConstants.{MAX_ROWS}
 use Rattle.mail_header.specs.Identifier.{PlacedBody, id_bodies, id_of, HasMessageId}
 use Rattle.uid_sets.specs.UidSet.{RisesAbove, IsCanonical}
 use Rattle.uid_sets.specs.declared.uid.UidRange.{UidRange}
@@ -246,7 +247,7 @@ ranges_same xs ys r s set set' same =
     (few_ranges ys set') same in
     many_same range_field IsFitting range_same xs ys r s counts.0 (all_fitting 0 xs set) (all_fitting 0 ys set') counts.1
 
-rows_same : (xs ys : List (ℕ × Row)) (r s : List ℕ) → length xs ≤ 200000 → length ys ≤ 200000 → AllByRecursion IsGoodRow xs →
+rows_same : (xs ys : List (ℕ × Row)) (r s : List ℕ) → length xs ≤ MAX_ROWS → length ys ≤ MAX_ROWS → AllByRecursion IsGoodRow xs →
     AllByRecursion IsGoodRow ys → row_fields xs ++ r ≡ row_fields ys ++ s → (xs ≡ ys) × (r ≡ s)
 unfolding row_fields
 rows_same xs ys r s few few' good good' same =
@@ -312,8 +313,8 @@ delta_from a b alike =
     } in
     first ∙ delta_with b.whole b.validity b.highest b.uidnext a.vanished b.vanished alike.vanished a.rows b.rows alike.rows a.rising b.rising a.apart b.apart
 
-delta_same : (a b : Delta) → IsKeptDelta a → IsKeptDelta b → (length a.rows ≤ 200000) × HaveFewFlags a.rows →
-    (length b.rows ≤ 200000) × HaveFewFlags b.rows → delta_fields a ≡ delta_fields b → a ≡ b
+delta_same : (a b : Delta) → IsKeptDelta a → IsKeptDelta b → (length a.rows ≤ MAX_ROWS) × HaveFewFlags a.rows →
+    (length b.rows ≤ MAX_ROWS) × HaveFewFlags b.rows → delta_fields a ≡ delta_fields b → a ≡ b
 unfolding delta_fields mark_fields
 delta_same a b kept kept' can can' same =
     let fields = byte_same (bit a.whole) (bit b.whole) (mark_fields a ++ (range_fields a.vanished ++ row_fields a.rows))

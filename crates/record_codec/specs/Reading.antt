@@ -10,6 +10,7 @@ use Rattle.std.specs.Ordering.{match_ordering}
 use Rattle.flag_set.specs.Flag.{refusal}
 use Rattle.flag_set.specs.FlagKey.{key_of}
 use Rattle.flag_set.specs.FlagSet.{order}
+use Rattle.mail_base.specs.declared.limits.TheConstants.{MAX_ROWS}
 use Rattle.mail_header.specs.Identifier.{PlacedBody, id_bodies, id_of}
 use Rattle.uid_sets.specs.declared.uid.UidRange.{UidRange}
 use Rattle.mailbox_cache.specs.Rows.{has_uid}
@@ -363,7 +364,7 @@ row_uid floor r = r.0
 unfoldable pub row_list_at : List UidRange → List ℕ → Reading (List (ℕ × Row))
 row_list_at vanished bytes = do
   count ← number_at w32 bytes
-  few ← passing (nat_le count.0 200000) bytes count
+  few ← passing (nat_le count.0 MAX_ROWS) bytes count
   many_at (row_at vanished) row_uid few.0 0 few.1
 
 unfoldable pub bit_at : List ℕ → Reading Bool

@@ -19,7 +19,7 @@ use crate::fields::{
 use crate::outcome::outcome_bytes;
 use crate::sizes::size;
 use action_queue::{Action, Event, Intent};
-use mail_base::{BoxName, Bytes};
+use mail_base::{BoxName, Bytes, MAX_ROWS};
 use mailbox_cache::{Delta, Row};
 use std::alloc::{AllocError, Global};
 use uid_sets::{Uid, UidSet};
@@ -180,7 +180,7 @@ fn put_intent(out: &mut Vec<u8>, intent: &Intent) -> Result<(), AllocError>
 // What a mailbox became.
 #[tactic(auto, unfolding(crate::specs::Bodies::delta_fields))]
 fn put_delta(out: &mut Vec<u8>, delta: &Delta) -> Result<(), AllocError>
-    requires few { length delta.now.rows ≤ 200000 }
+    requires few { length delta.now.rows ≤ MAX_ROWS }
     requires flags { HaveFewFlags delta.now.rows }
     ensures wrote { OnOk result (out.new.items ≡ out.old.items ++ delta_fields delta.now) }
     ensures kept { OnOk result (IsKeptDelta delta.now) }
@@ -230,7 +230,7 @@ fn range_count(set: &UidSet) -> u32
 // The rows behind their count.
 #[tactic(auto, unfolding(crate::specs::Bodies::row_fields))]
 fn put_row_list(out: &mut Vec<u8>, rows: &[(Uid, Row)]) -> Result<(), AllocError>
-    requires few { length rows.now ≤ 200000 }
+    requires few { length rows.now ≤ MAX_ROWS }
     requires flags { HaveFewFlags rows.now }
     ensures wrote { OnOk result (out.new.items ≡ out.old.items ++ row_fields rows.now) }
     ensures kept { OnOk result (AllByRecursion IsKeptRow rows.now) }

@@ -9,7 +9,7 @@ ghost use Rattle.record_codec.specs.Bodies.{body_of, action_fields, intent_field
 use crate::outcome::outcome_bytes;
 use action_queue::{Action, Event, Intent, Outcome, Target};
 use flag_set::{FlagKey, FlagSet};
-use mail_base::BoxName;
+use mail_base::{BoxName, MAX_ROWS};
 use mailbox_cache::{Delta, Row};
 use uid_sets::{Uid, UidSet};
 
@@ -143,7 +143,7 @@ fn row_size(uid: Uid, row: &Row) -> u64
 
 // Rows, one behind the other.
 fn rows_size(rows: &[(Uid, Row)]) -> u64
-    requires few { length rows.now ≤ 200000 }
+    requires few { length rows.now ≤ MAX_ROWS }
     requires flags { HaveFewFlags rows.now }
     ensures value { result ≡ length (flat_map row_field rows.now) }
     ensures most { result ≤ length rows.now * 262158 }
@@ -167,7 +167,7 @@ fn ranges_size(set: &UidSet) -> u64
 // What a mailbox became.
 #[tactic(auto, unfolding(crate::specs::Bodies::delta_fields, crate::specs::Bodies::mark_fields, crate::specs::Bodies::range_fields, crate::specs::Bodies::row_fields))]
 fn delta_size(delta: &Delta) -> u64
-    requires few { length delta.now.rows ≤ 200000 }
+    requires few { length delta.now.rows ≤ MAX_ROWS }
     requires flags { HaveFewFlags delta.now.rows }
     ensures value { result ≡ length (delta_fields delta.now) }
     ensures most { result < 2 ^ 60 }

@@ -77,6 +77,7 @@ impl Store {
         ensures link { D.link disk.new ≡ D.link disk.old }
         ensures count { D.disk_faults disk.old ≤ D.disk_faults disk.new }
         ensures cause { IsErrOf result faults.Disk → Rose (D.disk_faults disk.old) (D.disk_faults disk.new) }
+        ensures unfailed { (IsErrOf result faults.Disk → ⊥) → D.disk_faults disk.new ≡ D.disk_faults disk.old }
     {
         let limit = limit_of(&event);
         room_for(&self.journal, size(&event), limit)?;
@@ -127,6 +128,7 @@ impl Store {
         ensures link { D.link disk.new ≡ D.link disk.old }
         ensures count { D.disk_faults disk.old ≤ D.disk_faults disk.new }
         ensures cause { IsErrOf result faults.Disk → Rose (D.disk_faults disk.old) (D.disk_faults disk.new) }
+        ensures unfailed { (IsErrOf result faults.Disk → ⊥) → D.disk_faults disk.new ≡ D.disk_faults disk.old }
     {
         let frame = encode_outcome(id, &outcome);
         self.journal.append(disk, &frame, MAX_OTHER)?;

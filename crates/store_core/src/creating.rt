@@ -80,6 +80,7 @@ impl Store {
         ensures link { D.link disk.new ≡ D.link disk.old }
         ensures count { D.disk_faults disk.old ≤ D.disk_faults disk.new }
         ensures cause { IsErrOf result faults.Disk → Rose (D.disk_faults disk.old) (D.disk_faults disk.new) }
+        ensures unfailed { (IsErrOf result faults.Disk → ⊥) → D.disk_faults disk.new ≡ D.disk_faults disk.old }
     {
         are_short(names.as_slice());
         let event = Event::Begin { names };

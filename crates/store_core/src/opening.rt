@@ -82,6 +82,7 @@ impl Store {
         ensures link { D.link disk.new ≡ D.link disk.old }
         ensures count { D.disk_faults disk.old ≤ D.disk_faults disk.new }
         ensures cause { IsErrOf result faults.Disk → Rose (D.disk_faults disk.old) (D.disk_faults disk.new) }
+        ensures unfailed { (IsErrOf result faults.Disk → ⊥) → D.disk_faults disk.new ≡ D.disk_faults disk.old }
     {
         let mut journal = Journal::open(disk)?;
         let mut book = read_begin(alloc, disk, &mut journal)?;
@@ -112,6 +113,7 @@ fn read_begin<D: Disk>(
     ensures link { D.link disk.new ≡ D.link disk.old }
     ensures count { D.disk_faults disk.old ≤ D.disk_faults disk.new }
     ensures cause { IsErrOf result faults.Disk → Rose (D.disk_faults disk.old) (D.disk_faults disk.new) }
+    ensures unfailed { (IsErrOf result faults.Disk → ⊥) → D.disk_faults disk.new ≡ D.disk_faults disk.old }
 {
     let at = journal.place();
     let Some(body) = journal.next(alloc, disk)? else {
@@ -185,6 +187,7 @@ fn read_later<D: Disk>(
     ensures link { D.link disk.new ≡ D.link disk.old }
     ensures count { D.disk_faults disk.old ≤ D.disk_faults disk.new }
     ensures cause { IsErrOf result faults.Disk → Rose (D.disk_faults disk.old) (D.disk_faults disk.new) }
+    ensures unfailed { (IsErrOf result faults.Disk → ⊥) → D.disk_faults disk.new ≡ D.disk_faults disk.old }
 {
     // Each record takes the journal's place on, and a place is a u64: so the loop ends.
     loop {
@@ -218,6 +221,7 @@ fn read_few<D: Disk>(
     ensures link { D.link disk.new ≡ D.link disk.old }
     ensures count { D.disk_faults disk.old ≤ D.disk_faults disk.new }
     ensures cause { IsErrOf result faults.Disk → Rose (D.disk_faults disk.old) (D.disk_faults disk.new) }
+    ensures unfailed { (IsErrOf result faults.Disk → ⊥) → D.disk_faults disk.new ≡ D.disk_faults disk.old }
 {
     let at = journal.place();
     let version = journal.version();

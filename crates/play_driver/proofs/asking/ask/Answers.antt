@@ -81,7 +81,7 @@ returns-in_err-answer-clause-goes_on g c =
     (λ t made stands known fair. search rules)
     (λ t. asked_talks _ c.args.tag c.args.command.now
     (asked_remains c.args.player.now b _ c.args.tag c.args.command.now c.requires.fold c.requires.rests.beside c.requires.needed) _ _
-    (c.ask.ensures.talks.told t))
+    (c.ask.ensures.talks.told t)) c.ask.ensures.talks.earlier
 
 pub returns-in_err-answer-clause-reasons : goal.returns-in_err-answer-clause-reasons
 returns-in_err-answer-clause-reasons g c = record {
@@ -177,7 +177,7 @@ returns-in-Ok-clause-goes_on g c =
     (λ w kept reply polite here. knows w kept reply (subst (λ (x : Bool). IsFair x b w) (sym permits) polite) here)))
     (λ t. asked_talks _ c.args.tag c.args.command.now
     (asked_remains c.args.player.now b _ c.args.tag c.args.command.now c.requires.fold c.requires.rests.beside c.requires.needed) _ _
-    (c.ask.ensures.talks.told t))
+    (c.ask.ensures.talks.told t)) c.ask.ensures.talks.earlier
 
 pub returns-in-Ok-clause-reasons : goal.returns-in-Ok-clause-reasons
 returns-in-Ok-clause-reasons g c = record {
@@ -276,7 +276,7 @@ returns-in-Err-clause-goes_on g c =
     (λ t made stands known fair. search rules)
     (λ t. asked_talks _ c.args.tag c.args.command.now
     (asked_remains c.args.player.now b _ c.args.tag c.args.command.now c.requires.fold c.requires.rests.beside c.requires.needed) _ _
-    (c.ask.ensures.talks.told t))
+    (c.ask.ensures.talks.told t)) c.ask.ensures.talks.earlier
 
 pub returns-in-Err-clause-reasons : goal.returns-in-Err-clause-reasons
 returns-in-Err-clause-reasons g c = record {

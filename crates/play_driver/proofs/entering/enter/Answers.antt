@@ -1,4 +1,4 @@
-use Rattle.std.proofs.Common.{◌∙◌, ℕ, arith, refl, rules, subst, sym}
+use Rattle.std.proofs.Common.{◌∙◌, ℕ, arith, inl, inr, refl, rules, subst, sym}
 use Rattle.imap_session.proofs.Outcomes.{if_ok_more}
 use Rattle.imap_session.proofs.Talks.{answers_enquires, connects_enquires, enabling_asks, entering_asks}
 use Rattle.imap_session.proofs.Talking.{linked_then}
@@ -8,7 +8,7 @@ use Rattle.imap_session.specs.declared.fault.SessionFault.TheVariants as faults
 use Rattle.imap_session.specs.Enquiring.{Enquiring}
 use Rattle.world_traits.specs.Links.{AnyStep, LinkStep}
 use Rattle.play_driver.specs.Questioning.{Questioning}
-use Rattle.play_driver.proofs.OverOne.{answers_over, connects_first, enabling_over, entering_over, goes_behind}
+use Rattle.play_driver.proofs.OverOne.{answers_over, connects_first, enabling_over, entering_over, goes_behind, once_then}
 use Rattle.play_driver.specs.Entering.NotEntered.{unconnected, ungreeted}
 use Rattle.play_driver.specs.Stages.{Stage}
 use Rattle.play_driver.specs.Refusals.{RefusesRun}
@@ -19,7 +19,6 @@ use Rattle.play_driver.proofs.Remaining.{enabling_remains, entering_remains}
 use Rattle.play_driver.proofs.Served.{served_end}
 use Rattle.play_driver.proofs.ToldRefusals.{entry_told, never_told}
 use Rattle.play_driver.proofs.Enters.{enabling_told, entered_so, entering_told, unfit_so, unknown_so}
-use Rattle.play_driver.proofs.Faulting.{at_err}
 use Rattle.play_driver.proofs.Opened.{in_any, opens_from}
 use Rattle.play_driver.proofs.entering.enter.Goals as goal
 
@@ -29,7 +28,8 @@ returns-in_err-fresh-clause-enters g c = record {
   told = λ t. connects_enquires _ _ (c.connect.ensures.told t);
   once = λ t. connects_first (LinkStep Questioning) _ _ (c.connect.ensures.told t);
   why = λ t fault is.
-      unconnected (c.connect.ensures.only fault (search rules)) (at_err c.connect.result fault _ (search rules) (c.connect.ensures.unsent t));
+      unconnected (c.connect.ensures.only fault (search rules)) (c.in_err-fresh.ensures.unsent t) (c.in_err-fresh.ensures.unmade t);
+  one = λ t. inl (c.in_err-fresh.ensures.unmade t);
   honest = search rules;
   blames = search rules;
 }
@@ -50,6 +50,9 @@ returns-in_err-greeted-clause-enters g c = record {
       (answers_over _ _ (c.greet.ensures.receives.told t));
   why = λ t fault is.
       ungreeted (c.greet.ensures.why t fault (search rules)) (c.greet.ensures.receives.sent t ∙ c.in_ok-fresh.ensures.sent t);
+  one = λ t.
+      once_then (g.L.Clocked.link c.args.link.now) (g.L.Clocked.link c.connect.new.link) (g.L.Clocked.link c.greet.new.link)
+      (inr (c.in_ok-fresh.ensures.earlier t)) (c.greet.ensures.receives.earlier t);
   honest = search rules;
   blames = search rules;
 }
@@ -87,6 +90,10 @@ returns-in_err-known-clause-enters g c = record {
         unsent = c.greet.ensures.receives.sent t ∙ c.in_ok-fresh.ensures.sent t;
         greets = c.in_ok-greeted.ensures.greeting t;
       }) (c.in_ok-greeted.ensures.still t) c.authenticate.result (g.L.Clocked.link c.authenticate.new.link) (c.authenticate.ensures.converses.why t) fault (search rules);
+  one = λ t.
+      let first = once_then (g.L.Clocked.link c.args.link.now) (g.L.Clocked.link c.connect.new.link) (g.L.Clocked.link c.greet.new.link)
+      (inr (c.in_ok-fresh.ensures.earlier t)) (c.greet.ensures.receives.earlier t) in
+      once_then (g.L.Clocked.link c.args.link.now) (g.L.Clocked.link c.greet.new.link) (g.L.Clocked.link c.authenticate.new.link) first (c.authenticate.ensures.converses.earlier t);
   honest = search rules;
   blames = search rules;
 }
@@ -146,6 +153,11 @@ returns-clause-enters g c = record {
         greets = c.in_ok-greeted.ensures.greeting t;
       }) (c.in_ok-greeted.ensures.still t) known.rev2 k (c.in_ok-known.ensures.concludes.came t) (c.in_ok-known.ensures.still t) (g.L.Clocked.link c.enable.new.link)
       c.enable.result (c.enable.ensures.converses.why t) fault is;
+  one = λ t.
+      let first = once_then (g.L.Clocked.link c.args.link.now) (g.L.Clocked.link c.connect.new.link) (g.L.Clocked.link c.greet.new.link)
+      (inr (c.in_ok-fresh.ensures.earlier t)) (c.greet.ensures.receives.earlier t) in
+      let second = once_then (g.L.Clocked.link c.args.link.now) (g.L.Clocked.link c.greet.new.link) (g.L.Clocked.link c.authenticate.new.link) first (c.authenticate.ensures.converses.earlier t) in
+      once_then (g.L.Clocked.link c.args.link.now) (g.L.Clocked.link c.authenticate.new.link) (g.L.Clocked.link c.enable.new.link) second (c.enable.ensures.converses.earlier t);
   honest = search rules;
   blames = search rules;
 }

@@ -17,6 +17,7 @@ returns-in_err-answer-clause-gathers g c = record {
   sent = search rules;
   why = search rules;
   honest = search rules;
+  earlier = c.select.ensures.talks.earlier;
   blames = search rules;
 }
 
@@ -28,6 +29,7 @@ returns-then-not-is_fetch_due-clause-gathers g c = record {
   sent = search rules;
   why = search rules;
   honest = search rules;
+  earlier = c.select.ensures.talks.earlier;
   blames = search rules;
 }
 
@@ -67,6 +69,7 @@ returns-in_err-fetched-clause-gathers g c = record {
       (c.next_tag-tag.ensures ∙ ap (λ (k : ℕ). tags.Count (k + 1)) c.in_ok-answer.ensures.counted)
       (sym c.if-not-is_fetch_due.false ∙ c.is_fetch_due.ensures) next _ fault (c.ask.ensures.talks.sent t) (c.ask.ensures.fails.why t _ q.hears fault (search rules));
   honest = search rules;
+  earlier = λ t. c.ask.ensures.talks.earlier t ∙ c.select.ensures.talks.earlier t;
   blames = search rules;
 }
 
@@ -83,6 +86,7 @@ returns-clause-gathers g c = record {
       (sym c.if-not-is_fetch_due.false ∙ c.is_fetch_due.ensures) (c.in_ok-answer.ensures.replied.whole t (c.in_ok-answer.ensures.replied.accepted tt)) (c.ask.ensures.talks.sent t);
   why = search rules;
   honest = search rules;
+  earlier = λ t. c.ask.ensures.talks.earlier t ∙ c.select.ensures.talks.earlier t;
   blames = search rules;
 }
 

@@ -4,7 +4,7 @@ use Rattle.play_driver.proofs.Links.{left_there}
 use Rattle.play_driver.proofs.Surely.{run_surely}
 use Rattle.play_driver.proofs.RenewedEntered.{renewed_entered}
 use Rattle.play_driver.proofs.Faulting.{ok_no_err, told_as}
-use Rattle.play_driver.proofs.OverOne.{enters_run, goes_behind, leave_run, talks_run}
+use Rattle.play_driver.proofs.OverOne.{enters_run, goes_behind, leave_run, once_then, talks_run}
 use Rattle.play_driver.proofs.Progressing.{firm_left, linked_progress, linked_sides, progress_grows, rests_left, sides_then}
 use Rattle.play_driver.proofs.WholeRun.{HasBegun, all_synced, fair_run, has_begun, has_room, leaves_asking, leaves_grow, plays_so, progress_three}
 use Rattle.play_driver.proofs.WholeRun.{bad_at, begins_so, faultless_two, progress_two, questions_stay}
@@ -35,6 +35,7 @@ returns-in_err-ready-clause-goes_on g c = record {
   each_one_side = λ t.
       linked_sides AnyStep _ _ (rests_left c.args.store.now (g.W.Clocked.clock c.args.world.now) _ (c.requires.left t)) (c.enter.ensures.enters.files t);
   once = λ t. enters_run _ _ (c.enter.ensures.enters.once t);
+  one = c.enter.ensures.enters.one;
 }
 
 pub returns-in_err-ready-clause-reasons : goal.returns-in_err-ready-clause-reasons
@@ -111,6 +112,9 @@ returns-in_err-last-clause-goes_on g c = record {
       (linked_sides AnyStep _ _ (rests_left c.args.store.now (g.W.Clocked.clock c.args.world.now) _ (c.requires.left t)) (c.enter.ensures.enters.files t))
       (c.play_on.ensures.goes_on.each_one_side t);
   once = λ t. goes_behind RunStep _ _ _ (enters_run _ _ (c.enter.ensures.enters.once t)) (talks_run _ _ (c.play_on.ensures.goes_on.talks t));
+  one = λ t.
+      once_then (g.W.Clocked.link c.args.world.now) (g.W.Clocked.link c.enter.new.link) (g.W.Clocked.link c.play_on.new.world)
+      (c.enter.ensures.enters.one t) (c.play_on.ensures.goes_on.earlier t);
 }
 
 pub returns-in_err-last-clause-reasons : goal.returns-in_err-last-clause-reasons
@@ -181,7 +185,8 @@ returns-in_err-last-clause-complete g c = λ t kept fair serving renewed fault i
     (λ here knows second. c.play_on.ensures.excuses.faultless t r.opened.made here knows second fault is_on reply))
     (λ name before told e. faultless_two _ _ _ _ r kept _ more fair
     (λ here knows second. c.play_on.ensures.excuses.valid t r.opened.made here knows second
-    (renewed_entered c.args.store.now.book _ _ (c.enter.ensures.enters.told t) renewed) name before told (is_on ∙ ap (λ (x : PlayFault). Err x) e)))
+    (renewed_entered c.args.store.now.book _ _ _ (firm_left c.args.store.now (g.W.Clocked.clock c.args.world.now) _ (c.requires.left f)) kept
+    (c.enter.ensures.enters.told t) more fair renewed) name before told (is_on ∙ ap (λ (x : PlayFault). Err x) e)))
 
 -- it didn't leave
 pub returns-in_err-leave-clause-goes_on : goal.returns-in_err-leave-clause-goes_on
@@ -213,6 +218,10 @@ returns-in_err-leave-clause-goes_on g c = record {
   once = λ t.
       goes_behind RunStep _ _ _ (goes_behind RunStep _ _ _ (enters_run _ _ (c.enter.ensures.enters.once t)) (talks_run _ _ (c.play_on.ensures.goes_on.talks t)))
       (leave_run _ _ _ _ (c.leave.ensures.talks.told t));
+  one = λ t.
+      let first = once_then (g.W.Clocked.link c.args.world.now) (g.W.Clocked.link c.enter.new.link) (g.W.Clocked.link c.play_on.new.world)
+      (c.enter.ensures.enters.one t) (c.play_on.ensures.goes_on.earlier t) in
+      once_then (g.W.Clocked.link c.args.world.now) (g.W.Clocked.link c.play_on.new.world) (g.W.Clocked.link c.leave.new.link) first (c.leave.ensures.talks.earlier t);
 }
 
 pub returns-in_err-leave-clause-reasons : goal.returns-in_err-leave-clause-reasons
@@ -314,6 +323,10 @@ returns-clause-goes_on g c = record {
   once = λ t.
       goes_behind RunStep _ _ _ (goes_behind RunStep _ _ _ (enters_run _ _ (c.enter.ensures.enters.once t)) (talks_run _ _ (c.play_on.ensures.goes_on.talks t)))
       (leave_run _ _ _ _ (c.leave.ensures.talks.told t));
+  one = λ t.
+      let first = once_then (g.W.Clocked.link c.args.world.now) (g.W.Clocked.link c.enter.new.link) (g.W.Clocked.link c.play_on.new.world)
+      (c.enter.ensures.enters.one t) (c.play_on.ensures.goes_on.earlier t) in
+      once_then (g.W.Clocked.link c.args.world.now) (g.W.Clocked.link c.play_on.new.world) (g.W.Clocked.link c.leave.new.link) first (c.leave.ensures.talks.earlier t);
 }
 
 pub returns-clause-reasons : goal.returns-clause-reasons

@@ -2,8 +2,8 @@ use Rattle.action_queue.specs.Book.{Meaning}
 use Rattle.play_driver.proofs.Faulting.{ok_no_err, told_as}
 use Rattle.play_driver.proofs.ManyTurns.{gone_on, gone_start, is_sound, joined_on, so_on, stops_behind, stops_wanting, talks_start}
 use Rattle.play_driver.proofs.OverOne.{talks_then}
-use Rattle.play_driver.proofs.Parts.{grows_then}
-use Rattle.play_driver.proofs.Progressing.{later_start, later_then, progress_grows, progress_start, progress_then, sides_start, sides_then}
+use Rattle.play_driver.proofs.Parts.{grows_start, grows_then}
+use Rattle.play_driver.proofs.Progressing.{firm_left, later_start, later_then, progress_grows, progress_start, progress_then, sides_start, sides_then}
 use Rattle.play_driver.proofs.Renewing.{renewed_on}
 use Rattle.play_driver.proofs.Shortness.{runs_on, runs_start}
 use Rattle.play_driver.proofs.ValidFaults.{memory_no_disk, memory_valid}
@@ -13,7 +13,7 @@ use Rattle.play_driver.specs.Settled.{IsSyncedSoFar}
 use Rattle.play_driver.specs.TrueRecords.{IsTrueBefore, IsTrueSince}
 use Rattle.play_driver.specs.Turning.{standing_of}
 use Rattle.playback.specs.Needs.{NeedsNoMemory, need_of}
-use Rattle.std.proofs.Common.{Ok, subst, ◌≡◌}
+use Rattle.std.proofs.Common.{Ok, refl, subst, ◌≡◌, ◌∙◌}
 use Rattle.play_driver.specs.declared.fault.PlayFault.TheVariants as faults
 use Rattle.std.proofs.Common.{rules, arith}
 use Rattle.std.specs.declared.alloc.AllocError.{AllocError}
@@ -37,6 +37,9 @@ loop-at-init g c = record {
   talks = λ t. talks_start (g.W.Clocked.clock c.args.world.now);
   disk_count = omega arith;
   link_count = omega arith;
+  disk_same = refl;
+  link_same = refl;
+  earlier = λ t. refl;
 }
 
 -- what is needed wasn't said
@@ -47,6 +50,18 @@ returns-in_err-need-clause-goes_on g c = record {
   known = search rules;
   each_one_side = search rules;
   talks = search rules;
+  earlier = c.loop-at.invariant.earlier;
+}
+
+pub returns-in_err-need-clause-accuses : goal.returns-in_err-need-clause-accuses
+returns-in_err-need-clause-accuses g c = record {
+  disk_count = c.loop-at.invariant.disk_count;
+  link_count = c.loop-at.invariant.link_count;
+  disk_cause = search rules;
+  link_cause = search rules;
+  disk_unfailed = λ no. c.loop-at.invariant.disk_same;
+  link_unfailed = λ no. c.loop-at.invariant.link_same;
+  honest = search rules;
 }
 
 pub returns-in_err-need-clause-reasons : goal.returns-in_err-need-clause-reasons
@@ -90,6 +105,7 @@ returns-then-is_finished-clause-goes_on g c = record {
   known = λ t made kept known fair. (c.loop-at.invariant.gone t made kept known).known fair;
   each_one_side = search rules;
   talks = search rules;
+  earlier = c.loop-at.invariant.earlier;
 }
 
 pub returns-then-is_finished-clause-synced : goal.returns-then-is_finished-clause-synced
@@ -123,6 +139,8 @@ returns-then-is_finished-clause-accuses g c = record {
   link_count = c.loop-at.invariant.link_count;
   disk_cause = λ is. absurd cc;
   link_cause = λ is. absurd cc;
+  disk_unfailed = λ no. c.loop-at.invariant.disk_same;
+  link_unfailed = λ no. c.loop-at.invariant.link_same;
   honest = λ t at is. absurd cc;
 }
 
@@ -141,6 +159,18 @@ returns-in_err-at-clause-goes_on g c = record {
   known = search rules;
   each_one_side = λ t. sides_then _ _ _ (c.loop-at.invariant.each_one_side t) (c.turn.ensures.goes_on.each_one_side t);
   talks = λ t. talks_then _ _ _ (c.loop-at.invariant.talks t) (c.turn.ensures.goes_on.talks t);
+  earlier = λ t. c.turn.ensures.goes_on.earlier t ∙ c.loop-at.invariant.earlier t;
+}
+
+pub returns-in_err-at-clause-accuses : goal.returns-in_err-at-clause-accuses
+returns-in_err-at-clause-accuses g c = record {
+  disk_count = omega (arith, c.loop-at.invariant.disk_count, c.turn.ensures.accuses.disk_count);
+  link_count = omega (arith, c.loop-at.invariant.link_count, c.turn.ensures.accuses.link_count);
+  disk_cause = search rules;
+  link_cause = search rules;
+  disk_unfailed = λ no. c.turn.ensures.accuses.disk_unfailed (λ is. no (search rules)) ∙ c.loop-at.invariant.disk_same;
+  link_unfailed = λ no. c.turn.ensures.accuses.link_unfailed (λ is. no (search rules)) ∙ c.loop-at.invariant.link_same;
+  honest = search rules;
 }
 
 pub returns-in_err-at-clause-reasons : goal.returns-in_err-at-clause-reasons
@@ -186,7 +216,10 @@ returns-in_err-at-clause-excuses g c = record {
       (progress_grows _ _ _ (c.turn.ensures.goes_on.progress f)) ⊥ fair
       (λ first here knows second. c.turn.ensures.excuses.valid t made here knows second
       (renewed_on c.args.store.now.book c.loop-at.store.book (g.W.Clocked.clock c.args.world.now) (g.W.Clocked.clock c.loop-at.world)
-      (c.loop-at.invariant.talks t) c.loop-at.invariant.later none)
+      (firm_left c.args.store.now (g.W.Clocked.clock c.args.world.now) _ (c.requires.left f))
+      (firm_left c.loop-at.store (g.W.Clocked.clock c.loop-at.world) _ (c.loop-at.invariant.left f))
+      ((c.loop-at.invariant.gone t made kept known).joined (g.W.Clocked.clock c.loop-at.world) (progress_grows _ _ _ (c.loop-at.invariant.progress f))
+      (grows_start (g.W.Clocked.clock c.loop-at.world)) first) c.loop-at.invariant.later none)
       box was now (search rules));
 }
 
@@ -245,4 +278,9 @@ loop-at-preserved g c = record {
   talks = λ t. talks_then _ _ _ (c.loop-at.invariant.talks t) (c.turn.ensures.goes_on.talks t);
   disk_count = omega (arith, c.loop-at.invariant.disk_count, c.turn.ensures.accuses.disk_count);
   link_count = omega (arith, c.loop-at.invariant.link_count, c.turn.ensures.accuses.link_count);
+  disk_same =
+      c.turn.ensures.accuses.disk_unfailed (λ is. ok_no_err c.turn.result c.in_ok-at.at _ c.in_ok-at.was is) ∙ c.loop-at.invariant.disk_same;
+  link_same =
+      c.turn.ensures.accuses.link_unfailed (λ is. ok_no_err c.turn.result c.in_ok-at.at _ c.in_ok-at.was is) ∙ c.loop-at.invariant.link_same;
+  earlier = λ t. c.turn.ensures.goes_on.earlier t ∙ c.loop-at.invariant.earlier t;
 }

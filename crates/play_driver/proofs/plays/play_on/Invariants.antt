@@ -1,5 +1,5 @@
 -- What is so of the turns from the first one to the last one so far.
-use Rattle.std.proofs.Common.{◌≤◌, ◌<◌, ◌+◌, ◌*◌, IsTrue}
+use Rattle.std.proofs.Common.{◌≡◌, ◌≤◌, ◌<◌, ◌+◌, ◌*◌, IsTrue}
 use Rattle.action_queue.specs.Book.{Meaning}
 use Rattle.journal_core.specs.OneSide.{EachOneSide}
 use Rattle.playback.specs.Choosing.{IsEntered}
@@ -53,6 +53,9 @@ invariant-loop-at g l = record {
   talks : g.W.Clocked.tells_server → Since Any TalkStep (g.W.Clocked.clock l.fn.world) (g.W.Clocked.clock l.world);
   disk_count : g.W.Clocked.disk_faults l.fn.world ≤ g.W.Clocked.disk_faults l.world;
   link_count : (g.W.Clocked.link l.fn.world).faults ≤ (g.W.Clocked.link l.world).faults;
+  disk_same : g.W.Clocked.disk_faults l.world ≡ g.W.Clocked.disk_faults l.fn.world;
+  link_same : (g.W.Clocked.link l.world).faults ≡ (g.W.Clocked.link l.fn.world).faults;
+  earlier : g.W.Clocked.tells_files → (g.W.Clocked.link l.world).earlier ≡ (g.W.Clocked.link l.fn.world).earlier;
 }
 
 abbrev pub decreases-loop-at : goal.decreases-loop-at

@@ -40,7 +40,7 @@ pub returns-in_err-enter_event-clause-goes_on : goal.returns-in_err-enter_event-
 returns-in_err-enter_event-clause-goes_on g c =
     goes_recorded g.W.Clocked c.args.world.now c.enter_event.new.disk c.args.session c.args.player.now c.args.store.now c.args.event _
     c.requires.fold c.requires.rests c.requires.needed c.requires.left c.enter_event.ensures.takes _ _ _ (search rules)
-    c.enter_event.ensures.each_one_side
+    c.enter_event.ensures.each_one_side c.enter_event.ensures.accuses.link
 
 pub returns-in_err-enter_event-clause-reasons : goal.returns-in_err-enter_event-clause-reasons
 returns-in_err-enter_event-clause-reasons g c = record {
@@ -120,7 +120,7 @@ returns-clause-goes_on g c =
     made _ _ (known_law.records p s.book event s.journal.version _ made _ _ stands known c.requires.needed
     (may_come s.journal.version p s.book event c.requires.fold c.requires.rests.beside c.requires.needed)
     (c.enter_event.ensures.takes (g.W.Clocked.server_with_files t))))
-    c.enter_event.ensures.each_one_side
+    c.enter_event.ensures.each_one_side c.enter_event.ensures.accuses.link
 
 pub returns-clause-synced : goal.returns-clause-synced
 returns-clause-synced g c = λ t start first kept fair so_far.

@@ -11,6 +11,7 @@ returns-in_err-came-clause-gathers g c = record {
   sent = search rules;
   why = λ t next heard h fault is. c.gather.ensures.gathers.why t next heard h fault (search rules);
   honest = search rules;
+  earlier = search rules;
   blames = search rules;
 }
 

@@ -37,7 +37,7 @@ returns-in_err-answer-clause-goes_on g c =
     c.requires.rests c.requires.left c.resynchronise.ensures.gathers.files _ _
     (λ t made stands known. asks_joined c.args.store.now.book _ _ stands (c.resynchronise.ensures.gathers.told t))
     (λ t made stands known fair. search rules)
-    (λ t. over_talks _ _ (c.resynchronise.ensures.gathers.asks t))
+    (λ t. over_talks _ _ (c.resynchronise.ensures.gathers.asks t)) c.resynchronise.ensures.gathers.earlier
 
 pub returns-in_err-answer-clause-reasons : goal.returns-in_err-answer-clause-reasons
 returns-in_err-answer-clause-reasons g c = record {
@@ -113,7 +113,7 @@ returns-in-Ok-clause-goes_on g c =
     c.in_ok-answer.answer.1 value (option_copied c.cache_in-kept.result) kept (selected_in c.args.session)
     (count_of c.args.session) c.in_ok-answer.answer.0.conversation.count c.in_ok-answer.answer.0.permits (c.in_ok-answer.ensures.value t) made
     (permits_in c.args.session) (c.requires.rests.stands t).selects (c.resynchronise.ensures.gathers.asks t) known knows)
-    (λ t. over_talks _ _ (c.resynchronise.ensures.gathers.asks t))
+    (λ t. over_talks _ _ (c.resynchronise.ensures.gathers.asks t)) c.resynchronise.ensures.gathers.earlier
 
 pub returns-in-Ok-clause-reasons : goal.returns-in-Ok-clause-reasons
 returns-in-Ok-clause-reasons g c = record {
@@ -196,7 +196,7 @@ returns-in-Err-clause-goes_on g c =
     c.requires.rests c.requires.left c.resynchronise.ensures.gathers.files _ _
     (λ t made stands known. asks_joined c.args.store.now.book _ _ stands (c.resynchronise.ensures.gathers.told t))
     (λ t made stands known fair. search rules)
-    (λ t. over_talks _ _ (c.resynchronise.ensures.gathers.asks t))
+    (λ t. over_talks _ _ (c.resynchronise.ensures.gathers.asks t)) c.resynchronise.ensures.gathers.earlier
 
 pub returns-in-Err-clause-reasons : goal.returns-in-Err-clause-reasons
 returns-in-Err-clause-reasons g c = record {

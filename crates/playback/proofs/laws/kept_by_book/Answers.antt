@@ -13,7 +13,7 @@ returns c = record {
   asked = λ b s w harmless kept. quiet_keeps b s None (Some w) (asked_quiet w harmless) kept;
   carried = λ b s t w carries kept. carries_book b s t w kept carries;
   dropped = λ b s w kept. quiet_keeps b s w None nothing_waits kept;
-  others = λ b s t w batch spares kept. others_book b s t w batch spares kept;
+  others = λ b s t w batch spares keeps kept. others_book b s t w batch spares keeps kept;
   sendable = of_after;
   spared = spared_same;
 }

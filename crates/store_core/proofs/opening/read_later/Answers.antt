@@ -10,6 +10,7 @@ loop-more-init g c = record {
   version = refl;
   link = refl;
   faults = omega arith;
+  unfailed = refl;
   looks = λ tells. looks_none _ _;
   fold = λ fold. fold;
   reads = λ tells r. r;
@@ -23,6 +24,12 @@ returns-in_err-more-clause-broken g c tells r why is =
 pub returns-in_err-more-clause-told : goal.returns-in_err-more-clause-told
 returns-in_err-more-clause-told g c tells = looks_then _ _ _ _ _ _ (c.loop-more.invariant.looks tells) (c.read_few.ensures.told tells)
 
+pub returns-in_err-more-clause-unfailed : goal.returns-in_err-more-clause-unfailed
+returns-in_err-more-clause-unfailed g c other = c.read_few.ensures.unfailed (λ is. other (search rules)) ∙ c.loop-more.invariant.unfailed
+
+pub returns-then-not-more-clause-unfailed : goal.returns-then-not-more-clause-unfailed
+returns-then-not-more-clause-unfailed g c other = c.in_ok-more.ensures.unfailed (λ is. cc is) ∙ c.loop-more.invariant.unfailed
+
 pub returns-then-not-more-clause-value : goal.returns-then-not-more-clause-value
 returns-then-not-more-clause-value g c tells r = c.in_ok-more.ensures.value tells (c.loop-more.invariant.reads tells r)
 
@@ -35,6 +42,7 @@ loop-more-preserved g c = record {
   version = c.read_few.ensures.version ∙ c.loop-more.invariant.version;
   link = c.read_few.ensures.link ∙ c.loop-more.invariant.link;
   faults = omega (arith, c.read_few.ensures.count, c.loop-more.invariant.faults);
+  unfailed = c.in_ok-more.ensures.unfailed (λ is. cc is) ∙ c.loop-more.invariant.unfailed;
   looks = λ tells. looks_then _ _ _ _ _ _ (c.loop-more.invariant.looks tells) (c.read_few.ensures.told tells);
   fold = λ fold. c.in_ok-more.ensures.fold (c.loop-more.invariant.fold fold);
   reads = λ tells r. c.in_ok-more.ensures.value tells (c.loop-more.invariant.reads tells r);

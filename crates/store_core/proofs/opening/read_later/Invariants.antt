@@ -15,6 +15,7 @@ invariant-loop-more g l =
       version : l.journal.version ≡ l.fn.journal.version;
       link : g.D.Clocked.link l.disk ≡ g.D.Clocked.link l.fn.disk;
       faults : g.D.Clocked.disk_faults l.fn.disk ≤ g.D.Clocked.disk_faults l.disk;
+      unfailed : g.D.Clocked.disk_faults l.disk ≡ g.D.Clocked.disk_faults l.fn.disk;
       looks : g.D.Clocked.tells_files → OnlyLooks (clock l.fn.disk) (clock l.disk) (seen l.fn.disk) (seen l.disk);
       fold : IsFold (meaning l.fn.book) → IsFold (meaning l.book);
       reads : g.D.Clocked.tells_files → ReadsBook mail (meaning l.fn.book) l.fn.journal (clock l.fn.disk).now (seen l.fn.disk) →
