@@ -120,6 +120,7 @@ module _ (k : Course) (n : ℕ) (t : AreWithLetter n k.seen) where
   letter_done status.Lacking text ends no_disk no_output = absurd ends
   letter_done status.Validity text ends no_disk no_output = absurd ends
   letter_done status.Input text ends no_disk no_output = absurd ends
+  letter_done status.Shelf text ends no_disk no_output = absurd ends
 
 module _ (k : Course) where
   look_done : (look : Look) → AreSeen look k.seen → (r : Status) (text : List ℕ) → EndsLook look k r text → (r ≡ status.Disk → ⊥) →

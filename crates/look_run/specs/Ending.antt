@@ -51,6 +51,7 @@ EndsLetter n k status.Reply text = ⊥
 EndsLetter n k status.Lacking text = ⊥
 EndsLetter n k status.Validity text = ⊥
 EndsLetter n k status.Input text = ⊥
+EndsLetter n k status.Shelf text = ⊥
 
 -- what each status says of a look; of `history` as of `queue`, by another text
 abbrev pub EndsLook : Look → Course → Status → List ℕ → Type 0

@@ -1,5 +1,5 @@
 -- The words of the two commands that only look at the journal (this client's profile).
-use Rattle.std.specs.Prelude.{◌≡◌, ℕ, ◌<◌, ◌^◌, List, [], ◌∷◌, codes, decimal}
+use Rattle.std.specs.Prelude.{◌≡◌, ℕ, ◌<◌, ◌^◌, List, [], ◌∷◌, codes, decimal, ⊤}
 use Rattle.look_run.specs.declared.look.Look.{Look}
 use Rattle.look_run.specs.declared.look.Look.TheVariants as looks
 
@@ -23,6 +23,11 @@ pub record WritesLetter (words : List (List ℕ)) (n : ℕ) : Type 0 where
 abbrev pub Asks : List (List ℕ) → Look → Type 0
 Asks words looks.History = WritesHistory words
 Asks words (looks.Letter n) = WritesLetter words n
+
+-- a letter is asked for by a number from 1
+abbrev pub IsNumbered : Look → Type 0
+IsNumbered looks.History = ⊤
+IsNumbered (looks.Letter n) = 0 < n
 
 -- the words ask for neither
 abbrev pub AsksNothing : List (List ℕ) → Type 0

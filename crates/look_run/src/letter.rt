@@ -1,6 +1,6 @@
 //! The letter that an action puts into a mailbox.
 
-ghost use Rattle.std.specs.Prelude.{◌≡◌, IfOk};
+ghost use Rattle.std.specs.Prelude.{◌≡◌, ◌<◌, IfOk};
 ghost use Rattle.action_queue.specs.Book.{meaning};
 ghost use Rattle.look_run.specs.LetterText.{IsLetter};
 
@@ -15,6 +15,7 @@ use std::alloc::{AllocError, Global};
 pub struct Letter {
     /// The action's number, from 1.
     pub number: u32,
+    ghost from_one: { 0 < number },
 }
 
 impl Show for Letter {
@@ -31,10 +32,10 @@ impl Show for Letter {
 
 /// The letter of the action of this number, from 1, byte for byte as it was accepted, or the reason why there is none. Fails for want of memory alone.
 pub fn letter_of(book: &Book, number: u32) -> Result<Result<Bytes, LookReason>, AllocError>
+    requires { 0 < number }
     ensures { IfOk result (IsLetter (meaning book.now) number) }
 {
-    // Actions are counted from 1.
-    let at = (number as usize).saturating_sub(1);
+    let at = number as usize - 1;
     let Some(queued) = book.queue.as_slice().get(at) else {
         return Ok(Err(LookReason::NoAction));
     };

@@ -12,7 +12,7 @@ ghost use Rattle.mail_top.specs.Showing.{OnlyReads};
 ghost use Rattle.mail_top.specs.Telling.{printed};
 ghost use Rattle.look_run.specs.Ending.{AreSeen, Ends, EndsLook};
 ghost use Rattle.look_run.specs.Telling.{letter_status, letter_text, refused};
-ghost use Rattle.look_run.specs.Words.{Asks, AsksNothing, WritesLetter};
+ghost use Rattle.look_run.specs.Words.{Asks, AsksNothing, IsNumbered, WritesLetter};
 ghost use Rattle.look_run.specs.declared.look.Look.{Look as AnyLook};
 
 use crate::{History, Letter, Look, LookReason, look_of};
@@ -60,6 +60,7 @@ fn looked<D: Disk>(alloc: Global, words: &[String], disk: &mut D) -> Ending
     ensures words { (result.status ≡ Status.Words) ↔ AsksNothing (map string_bytes words.now) }
     ensures reason { result.status ≡ Status.Reason → (n : ℕ) × WritesLetter (map string_bytes words.now) n }
     ensures cause { result.status ≡ Status.Disk → Rose (D.disk_faults disk.old) (D.disk_faults disk.new) }
+    ensures unfailed { (result.status ≡ Status.Disk → ⊥) → D.disk_faults disk.new ≡ D.disk_faults disk.old }
     ensures count { D.disk_faults disk.old ≤ D.disk_faults disk.new }
     ensures link { D.link disk.new ≡ D.link disk.old }
 {
@@ -71,6 +72,7 @@ fn looked<D: Disk>(alloc: Global, words: &[String], disk: &mut D) -> Ending
 
 // Looks at this, up to the printing.
 fn look_at<D: Disk>(alloc: Global, disk: &mut D, look: &Look) -> Ending
+    requires { IsNumbered look.now }
     ensures ends { D.tells_files →
         EndsLook look.now (course_of D.Clocked D.seen disk.old disk.new) result.status (printed result.text) }
     ensures reads { D.tells_files → OnlyReads (D.clock disk.old) (D.clock disk.new) }
@@ -78,6 +80,7 @@ fn look_at<D: Disk>(alloc: Global, disk: &mut D, look: &Look) -> Ending
     ensures not_words { result.status ≢ Status.Words }
     ensures reason { result.status ≡ Status.Reason → (n : ℕ) × (look.now ≡ Look.Letter n) }
     ensures cause { result.status ≡ Status.Disk → Rose (D.disk_faults disk.old) (D.disk_faults disk.new) }
+    ensures unfailed { (result.status ≡ Status.Disk → ⊥) → D.disk_faults disk.new ≡ D.disk_faults disk.old }
     ensures count { D.disk_faults disk.old ≤ D.disk_faults disk.new }
     ensures link { D.link disk.new ≡ D.link disk.old }
 {
@@ -111,10 +114,11 @@ pub fn look_run<D: Disk, S: Sink>(
         × (S.tells → Prints result text (S.written out.old) (S.written out.new) (S.sink_faults out.old) (S.sink_faults out.new)) }
     ensures reads { D.tells_files → OnlyReads (D.clock disk.old) (D.clock disk.new) }
 
-    // Each answer has its cause, whatever the disk tells. The link stays.
+    // Each answer has its cause, whatever the disk tells; and where a call of the disk failed, that is the answer. The link stays.
     ensures words { (result ≡ Status.Words) ↔ AsksNothing (map string_bytes words.now) }
     ensures reason { result ≡ Status.Reason → (n : ℕ) × WritesLetter (map string_bytes words.now) n }
     ensures disk { result ≡ Status.Disk → Rose (D.disk_faults disk.old) (D.disk_faults disk.new) }
+    ensures unfailed { (result ≡ Status.Disk → ⊥) → D.disk_faults disk.new ≡ D.disk_faults disk.old }
     ensures output { result ≡ Status.Output → Rose (S.sink_faults out.old) (S.sink_faults out.new) }
     ensures link { D.link disk.new ≡ D.link disk.old }
 

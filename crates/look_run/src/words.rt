@@ -4,7 +4,7 @@ ghost use Rattle.std.specs.Prelude.{◌≡◌, ℕ, ◌∷◌, IsNone, IfSome, c
 ghost use Rattle.look_run.specs.Words.{Asks, AsksNothing, WritesHistory, WritesLetter, WritesNumber};
 
 use crate::Look;
-use mail_top::number_of;
+use mail_base::number_of;
 
 /// What the words ask to see. `None` exactly where they ask for neither.
 ///

@@ -12,6 +12,7 @@ use Rattle.std.specs.declared.cmp.Ordering.{Ordering}
 use Rattle.std.specs.declared.cmp.Ordering.TheVariants as orderings
 use Rattle.std.proofs.lemmas.List.Folds.{list_any_more, list_any_at}
 use Rattle.std.proofs.lemmas.List.Sums.{fold_more}
+use Rattle.mail_base.specs.declared.limits.TheConstants.{MAX_ACTIONS}
 use Rattle.flag_set.specs.Flag.{asked_refusal}
 use Rattle.flag_set.specs.FlagKey.{key_of}
 use Rattle.flag_set.specs.FlagSet.{order, put}
@@ -225,8 +226,8 @@ good_action (Append addition input) b action free is = subst (λ (a : Action). i
 -- what the book takes may come next
 pub may_accept : (v : Version) (wanted : Wanted) (b : Meaning) (id : ℕ) (action : Action) → Admits wanted b id action → MayCome v (Some b) (accepts b action)
 may_accept First wanted b id action t =
-    four_pass (not (next_id b == next_id b)) (is_unknown_action b.boxes action) (is_bad_action b.queue action) (nat_le 1000000 (length b.queue))
-    (same_number (next_id b)) (known_action wanted b action t.free t.is) (good_action wanted b action t.free t.is) (below 1000000 (length b.queue) t.few)
+    four_pass (not (next_id b == next_id b)) (is_unknown_action b.boxes action) (is_bad_action b.queue action) (nat_le MAX_ACTIONS (length b.queue))
+    (same_number (next_id b)) (known_action wanted b action t.free t.is) (good_action wanted b action t.free t.is) (below MAX_ACTIONS (length b.queue) t.few)
 
 -- a refusal that is handed on
 module _ (wanted : Wanted) (b : Meaning) (r : Result (ℕ × Action) Refusal) where

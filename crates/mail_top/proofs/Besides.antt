@@ -25,7 +25,7 @@ use Rattle.mail_top.specs.Telling.{status_of, TellsNoPlace}
 use Rattle.mail_top.specs.Words.{Request, Queue, Play, AsksNothing}
 use Rattle.mail_top.specs.declared.refusal.Refusal.{Refusal}
 use Rattle.mail_top.specs.declared.refusal.Refusal.TheVariants as refusals
-use Rattle.mail_top.proofs.Connections.{request_alone}
+use Rattle.mail_top.proofs.Connections.{none_once, request_alone}
 use Rattle.mail_top.proofs.Endings.{completes_act, completes_init, completes_rows, completes_queue, completes_report}
 use Rattle.mail_top.proofs.Goings.{asks_given, nothing_taken}
 use Rattle.mail_top.proofs.Headlines.{request_once}
@@ -54,9 +54,9 @@ reads_apart k reads = record { request = Queue; never = never_queue; records = q
 
 -- what such a request gives of the book beside the server
 module _ {Self : Type 0} (W : Ghosts Self) (files : W.tells_server → W.tells_files) (seen : Self → Files) (old new : Self) where
-  pub apart : (IsPlay : Type 0) (s : Status) (text : List ℕ) → (W.tells_files → GoesApart (course_of W seen old new)) → (IsPlay → ⊥) →
-      (s ≡ status.Reply → ⊥) → BesideServer W seen IsPlay old new s text
-  apart IsPlay s text goes other no_reply = record {
+  pub apart : (IsPlay : Type 0) (s : Status) (text : List ℕ) → (W.tells_files → GoesApart (course_of W seen old new)) → W.link new ≡ W.link old →
+      (IsPlay → ⊥) → (s ≡ status.Reply → ⊥) → BesideServer W seen IsPlay old new s text
+  apart IsPlay s text goes link other no_reply = record {
     joined = λ e.
         let went = goes (files e.tells) in
         request_joins went.request went.never went.records (W.clock old) (W.clock new) e.kept (went.goes.books e.one_side e.books e.have);
@@ -70,9 +70,12 @@ module _ {Self : Type 0} (W : Ghosts Self) (files : W.tells_server → W.tells_f
     serves = λ play f serving none bad. other play;
     faultless = λ f is. no_reply is;
     honest = λ tells is. absurd (no_reply is);
-    connects = λ tells.
-        let went = goes (files tells) in
-        request_alone went.request went.never (MayBeLeft went.request (W.clock old).now (seen old)) (W.clock old) (W.clock new) went.goes.keeps;
+    connects = record {
+      at_first = λ tells.
+          let went = goes (files tells) in
+          request_alone went.request went.never (MayBeLeft went.request (W.clock old).now (seen old)) (W.clock old) (W.clock new) went.goes.keeps;
+      once = λ tells. none_once (W.link old) (W.link new) link;
+    };
   }
 
 -- under another name for the premise, the status and the text
@@ -104,18 +107,20 @@ disk_refusal (Err refusals.Actions) is = absurd cc
 disk_refusal (Err (refusals.Full end)) is = absurd cc
 
 -- a link that stayed has as many faults
-same_count : (k l : LinkState) → l ≡ k → k.faults ≤ l.faults
+pub same_count : (k l : LinkState) → l ≡ k → k.faults ≤ l.faults
 same_count k l same = let count : l.faults ≡ k.faults = ap (λ (s : LinkState). s.faults) same in omega (arith, count)
 
 -- the causes of a command that works with the files alone
 pub refused_causes : {Self T : Type 0} (W : Ghosts Self) (old new : Self) (r : Result T Refusal) (s : Status) → s ≡ status_of r →
-    (r ≡ Err refusals.Disk → Rose (W.disk_faults old) (W.disk_faults new)) → W.disk_faults old ≤ W.disk_faults new → W.link new ≡ W.link old →
-    HasCauses W old new s
-refused_causes W old new r s status_is cause count link = record {
+    (r ≡ Err refusals.Disk → Rose (W.disk_faults old) (W.disk_faults new)) → ((r ≡ Err refusals.Disk → ⊥) → W.disk_faults new ≡ W.disk_faults old) →
+    W.disk_faults old ≤ W.disk_faults new → W.link new ≡ W.link old → HasCauses W old new s
+refused_causes W old new r s status_is cause unfailed count link = record {
   disk = λ is. cause (disk_refusal r (sym status_is ∙ is));
   link_fault = λ is. absurd (no_link r s status_is is);
   count = count;
   link_count = same_count (W.link old) (W.link new) link;
+  disk_unfailed = λ other. unfailed (λ is. other (status_is ∙ ap status_of is));
+  link_unfailed = λ other. ap (λ (l : LinkState). l.faults) link;
 }
 
 -- under another name for the status

@@ -1,5 +1,5 @@
 -- Between two runs others need to spare an append only while its intent is pending.
-use Rattle.std.proofs.Common.{◌≡◌, true, ℕ, suc, ◌≤◌, List, length, Option, Some, None, refl, sym, ◌∙◌, ap, subst}
+use Rattle.std.proofs.Common.{◌≡◌, ◌⊎◌, inl, inr, true, ℕ, suc, ◌≤◌, List, length, Option, Some, None, refl, sym, ◌∙◌, ap, subst}
 use Rattle.std.proofs.lemmas.Option.{same_Some}
 use Rattle.imap_model.specs.Carrying.{Waiting}
 use Rattle.imap_model.specs.Changes.{Batch}
@@ -7,6 +7,7 @@ use Rattle.imap_model.specs.Evolving.{EvolvesFrom}
 use Rattle.imap_model.specs.Ours.{ours}
 use Rattle.imap_model.specs.Talking.{Peer}
 use Rattle.imap_model.specs.WellFormed.{IsWellFormed}
+use Rattle.imap_model.specs.declared.server.Mailbox.{Mailbox}
 use Rattle.imap_model.specs.declared.deed.Deed.{Deed}
 use Rattle.imap_model.specs.declared.server.Server.{Server}
 use Rattle.imap_model.proofs.Evolution.{batches_stay}
@@ -19,19 +20,20 @@ use Rattle.action_queue.specs.declared.intent.Intent.{Intent}
 use Rattle.action_queue.specs.declared.intent.Intent.TheVariants as intents
 use Rattle.action_queue.specs.declared.queued.Queued.{Queued}
 use Rattle.playback.specs.Kept.{Kept, KeptBook}
+use Rattle.playback.specs.Of.{IsOf}
 use Rattle.playback.specs.Once.{Fits}
-use Rattle.playback.specs.Polite.{Spares}
+use Rattle.playback.specs.Polite.{KeepsBox, KeepsWaiting, Spares}
 use Rattle.playback.specs.Sound.{HasIntent}
-use Rattle.playback.proofs.Deeds.{batch_ours, batch_owned}
+use Rattle.playback.proofs.Deeds.{batch_none, batch_ours, batch_owned}
 use Rattle.playback.proofs.Facts.{fresh_evolves}
-use Rattle.playback.proofs.Foreign.{of_after, others_book, others_keep, spared_same}
-use Rattle.playback.proofs.Staying.{batch_validity}
+use Rattle.playback.proofs.Foreign.{of_after, others_keep, spared_same}
 use Rattle.store_core.specs.Mail.{mail}
 use Rattle.play_driver.specs.Machine.{Withstands}
 use Rattle.play_driver.proofs.PlayedKept.{withstood}
-use Rattle.mail_top.specs.FairRuns.{SparesBetween, SparesPending, between}
+use Rattle.mail_top.specs.FairRuns.{SparesBetween, SparesBookBetween, SparesPending, between}
 
-module _ (b : Meaning) (s t : Server) (waiting : Option Waiting) (kept : KeptBook b s waiting) (foreign : Batch s.boxes s t) where
+module _ (b : Meaning) (s t : Server) (waiting : Option Waiting) (kept : KeptBook b s waiting) (foreign : Batch s.boxes s t)
+    (keeps : KeepsWaiting waiting s.boxes t.boxes) where
   -- where no intent is pending, nothing that is kept rests on what others leave
   no_intent : b.pending ≡ None → KeptBook b t waiting
   no_intent none =
@@ -48,8 +50,8 @@ module _ (b : Meaning) (s t : Server) (waiting : Option Waiting) (kept : KeptBoo
           later = λ i l. same (suc i) ∙ kept.once.later i l;
         };
         open_intent = λ intent p q e. absurd (let clash : None ≡ Some intent = sym none ∙ p in cc);
-        fresh = fresh_evolves b s.boxes t.boxes all.1 (λ n. batch_validity s.boxes s t n foreign) kept.fresh;
-        waits = λ m. of_after b s t m.command foreign (kept.waits m);
+        fresh = fresh_evolves b s.boxes t.boxes all.1 kept.fresh;
+        waits = λ m. of_after b s t m.command foreign (subst (λ (o : Option Waiting). KeepsWaiting o s.boxes t.boxes) m.waits keeps) (kept.waits m);
       }
 
   -- the intent of a flag or a move is pending, so no append is due
@@ -70,16 +72,42 @@ module _ (b : Meaning) (s t : Server) (waiting : Option Waiting) (kept : KeptBoo
 
   by_intent : (pending : Option Intent) → b.pending ≡ pending → SparesPending b s.boxes t.boxes → KeptBook b t waiting
   by_intent None none spares = no_intent none
-  by_intent (Some intent) is spares = others_keep b s t waiting kept foreign (spared_all intent is spares)
+  by_intent (Some intent) is spares = others_keep b s t waiting kept foreign (spared_all intent is spares) keeps
+
+-- without a book nothing waits that is this client's
+no_book : (s t : Server) (waiting : Option Waiting) → Batch s.boxes s t → Kept None s waiting → Kept None t waiting
+no_book s t waiting foreign kept =
+    let all : IsWellFormed t.boxes × EvolvesFrom s.boxes s.boxes t.boxes = batches_stay s t kept.well foreign in
+    record { well = all.0; none = batch_none s.boxes s t foreign kept.none; quiet = kept.quiet }
 
 others_between : (b : Option Meaning) (p : Peer) (t : Server) → Batch p.server.boxes p.server t → SparesBetween b p t →
     Kept b p.server p.waiting → Kept b t p.waiting
-others_between None p t foreign spares kept = others_book None p.server t p.waiting foreign tt kept
-others_between (Some b) p t foreign spares kept = by_intent b p.server t p.waiting kept foreign b.pending refl spares
+others_between None p t foreign spares kept = no_book p.server t p.waiting foreign kept
+others_between (Some b) p t foreign spares kept = by_intent b p.server t p.waiting kept foreign spares.waiting b.pending refl spares.append
+
+-- a command of the book stays one: its mailbox is selected, or the command waits
+command_stays : (b : Meaning) (p : Peer) (t : Server) (w : Waiting) → (p.talk.selected ≡ w.selected) ⊎ (p.waiting ≡ Some w) →
+    Batch p.server.boxes p.server t → SparesBookBetween b p t → IsOf b p.server w → IsOf b t w
+command_stays b p t w (inl selects) foreign spares of =
+    of_after b p.server t w foreign (subst (λ (o : Option (List ℕ)). KeepsBox o p.server.boxes t.boxes) selects spares.selected) of
+command_stays b p t w (inr waits) foreign spares of =
+    of_after b p.server t w foreign (subst (λ (o : Option Waiting). KeepsWaiting o p.server.boxes t.boxes) waits spares.waiting) of
+
+same_box : (selected : Option (List ℕ)) (boxes : List Mailbox) → KeepsBox selected boxes boxes
+same_box None boxes = tt
+same_box (Some name) boxes = refl
+
+same_waiting : (waiting : Option Waiting) (boxes : List Mailbox) → KeepsWaiting waiting boxes boxes
+same_waiting None boxes = tt
+same_waiting (Some w) boxes = same_box w.selected boxes
 
 spared_between : (b : Option Meaning) (p : Peer) → SparesBetween b p p.server
 spared_between None p = tt
-spared_between (Some b) p = λ to validity uidnext pending. spared_same (Some b) p.server
+spared_between (Some b) p = record {
+  append = λ to validity uidnext pending. spared_same (Some b) p.server;
+  selected = same_box p.talk.selected p.server.boxes;
+  waiting = same_waiting p.waiting p.server.boxes;
+}
 
 -- so what is kept withstands each step between two runs too
 pub between_withstood : Withstands mail between Kept
@@ -90,6 +118,6 @@ between_withstood = record {
   carried = withstood.carried;
   dropped = withstood.dropped;
   others = others_between;
-  sendable = λ b p t w selects batch spares of. of_after b p.server t w batch of;
+  sendable = command_stays;
   spared = spared_between;
 }

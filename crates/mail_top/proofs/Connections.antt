@@ -1,10 +1,12 @@
 -- How a command connects: at first, or not at all.
-use Rattle.std.proofs.Common.{◌≡◌}
+use Rattle.std.proofs.Common.{◌≡◌, inl, ap, subst}
 use Rattle.imap_model.specs.Talking.{Connecting}
+use Rattle.world_traits.specs.LinkState.{LinkState}
 use Rattle.world_traits.specs.Links.{Any, LinkStep}
 use Rattle.world_traits.specs.Moments.{Moment, Clock, Since, Within}
 use Rattle.world_traits.proofs.Passing.{since_start, since_weaker}
 use Rattle.store_core.specs.HeldActions.{KeepsActions}
+use Rattle.play_driver.specs.Accuses.{ConnectsOnce}
 use Rattle.play_driver.specs.Questioning.{ConnectsFirst, RunStep}
 use Rattle.mail_top.specs.Connecting.{ConnectsAtFirst, SameOutside}
 use Rattle.mail_top.specs.Leaving.{KeepsStep}
@@ -37,3 +39,11 @@ opens_alone entry k l s = none_made k l (opening entry k l s)
 -- behind that the run makes one
 pub opens_then : (entry : Moment) (k l n : Clock) → Since (Within entry) KeepsActions k l → ConnectsFirst RunStep l n → ConnectsAtFirst k n
 opens_then entry k l n s run = record { first = l; opens = opening entry k l s; run = run }
+
+-- a link that stays makes no connection
+pub none_once : (k l : LinkState) → l ≡ k → ConnectsOnce k l
+none_once k l same = inl (ap (λ (s : LinkState). s.earlier) same)
+
+-- and what is made behind one that stayed is made in all
+pub then_once : (k l n : LinkState) → l ≡ k → ConnectsOnce l n → ConnectsOnce k n
+then_once k l n same once = subst (λ (s : LinkState). ConnectsOnce s n) same once

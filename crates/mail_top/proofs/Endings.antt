@@ -1,6 +1,7 @@
 -- What each status says follows from what became of the command; and a lawful command ends well.
 use Rattle.std.proofs.Common.{◌≡◌, ◌⊎◌, inl, inr, ⊎_elim, ℕ, ◌≤◌, List, length, refl, sym, ◌∙◌, ap, subst, arith}
 use Rattle.std.specs.Prelude.{◌↔◌, true}
+use Rattle.mail_base.specs.declared.limits.TheConstants.{MAX_ACTIONS}
 use Rattle.mail_base.specs.Account.{Credentials}
 use Rattle.mail_base.specs.declared.status.Status.{Status}
 use Rattle.mail_base.specs.declared.status.Status.TheVariants as status
@@ -155,7 +156,7 @@ module _ (k : Course) (wanted : Wanted) (t : IsTakable wanted k.seen) where
   never_full : (text : List ℕ) → SaysFull wanted k text → ⊥
   never_full text s = by_limit s.past
     where
-      by_limit : ((1000000 ≤ length s.book.queue) × (text ≡ limit_actions)) ⊎ PassesPlace wanted k s.book s.stays.holds text → ⊥
+      by_limit : ((MAX_ACTIONS ≤ length s.book.queue) × (text ≡ limit_actions)) ⊎ PassesPlace wanted k s.book s.stays.holds text → ⊥
       by_limit (inl many) =
           let same = same_book k.seen s.book t.book s.stays.holds t.holds in omega (arith, many.0, t.few, ap (λ (b : Meaning). length b.queue) same)
       by_limit (inr long) = never_long text s.book s.stays.holds long
@@ -176,6 +177,7 @@ module _ (k : Course) (wanted : Wanted) (t : IsTakable wanted k.seen) where
   act_done status.Lacking text ends no_disk no_output no_input = absurd ends
   act_done status.Validity text ends no_disk no_output no_input = absurd ends
   act_done status.Input text ends no_disk no_output no_input = absurd (no_input refl)
+  act_done status.Shelf text ends no_disk no_output no_input = absurd ends
 
 module _ (k : Course) (names : List (List ℕ)) (unbegun : IsUnbegun k.seen) where
   init_done : (r : Status) (text : List ℕ) → EndsInit names k r text → (r ≡ status.Disk → ⊥) → (r ≡ status.Output → ⊥) → IsDone r
@@ -196,6 +198,7 @@ module _ (k : Course) (names : List (List ℕ)) (unbegun : IsUnbegun k.seen) whe
   init_done status.Lacking text ends no_disk no_output = absurd ends
   init_done status.Validity text ends no_disk no_output = absurd ends
   init_done status.Input text ends no_disk no_output = absurd ends
+  init_done status.Shelf text ends no_disk no_output = absurd ends
 
 module _ (k : Course) (name : List ℕ) (t : IsListable name k.seen) where
   never_unknown : (text : List ℕ) → SaysUnknown name k text → ⊥
@@ -220,6 +223,7 @@ module _ (k : Course) (name : List ℕ) (t : IsListable name k.seen) where
   rows_done status.Lacking text ends no_disk no_output = absurd ends
   rows_done status.Validity text ends no_disk no_output = absurd ends
   rows_done status.Input text ends no_disk no_output = absurd ends
+  rows_done status.Shelf text ends no_disk no_output = absurd ends
 
 module _ (shown : Meaning → List ℕ) (k : Course) (t : AreBook k.seen) where
   pub shown_done : (r : Status) (text : List ℕ) → EndsShown shown k r text → (r ≡ status.Disk → ⊥) → (r ≡ status.Output → ⊥) → IsDone r
@@ -238,6 +242,7 @@ module _ (shown : Meaning → List ℕ) (k : Course) (t : AreBook k.seen) where
   shown_done status.Lacking text ends no_disk no_output = absurd ends
   shown_done status.Validity text ends no_disk no_output = absurd ends
   shown_done status.Input text ends no_disk no_output = absurd ends
+  shown_done status.Shelf text ends no_disk no_output = absurd ends
 
 -- a `play` that the server serves
 module _ (account : Credentials) (k : Course) (b : Meaning) (holds : HasBook mail b k.seen) where
@@ -259,6 +264,7 @@ module _ (account : Credentials) (k : Course) (b : Meaning) (holds : HasBook mai
   play_done status.Lacking text ends no_disk no_output no_link no_limit serves = absurd (serves tt)
   play_done status.Validity text ends no_disk no_output no_link no_limit serves = absurd (serves tt)
   play_done status.Input text ends no_disk no_output no_link no_limit serves = absurd ends
+  play_done status.Shelf text ends no_disk no_output no_link no_limit serves = absurd ends
 
 module _ (account : Credentials) (words : List (List ℕ)) (input : List ℕ) (k : Course) (r : Status) (text : List ℕ)
     (ends : Ends account words input k r text) (cause : r ≡ status.Words → AsksNothing words)

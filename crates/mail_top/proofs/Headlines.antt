@@ -151,6 +151,7 @@ ended_finished account k status.Reason text came says = absurd came
 ended_finished account k status.Memory text came says = absurd came
 ended_finished account k status.Limit text came says = absurd came
 ended_finished account k status.Input text came says = absurd came
+ended_finished account k status.Shelf text came says = absurd came
 
 -- the words ask for nothing else
 pub run_finished : (account : Credentials) (words : List (List ℕ)) (input : List ℕ) (k : Course) (s : Status) (text : List ℕ) → WritesPlay words →

@@ -4,6 +4,7 @@ use Rattle.std.proofs.lemmas.Bool.{lt-ltb}
 use Rattle.std.proofs.lemmas.List.{length-append}
 use Rattle.std.specs.Prelude.{nat_lt, ◌==◌, if◌then◌else◌}
 use Rattle.std.specs.Result.{IsErrAnd, IsOkUnless}
+use Rattle.mail_base.specs.declared.limits.TheConstants.{MAX_TEXT}
 use Rattle.mail_header.specs.BareLf.{crlf_of, crlf_after, end_behind}
 use Rattle.mail_header.specs.Identifier.{HasMessageId}
 use Rattle.mail_header.specs.declared.identifier.IdFault.{IdFault}
@@ -33,10 +34,10 @@ crlf_longer before (byte ∷ bytes) =
     let behind = crlf_longer byte bytes in
     omega (arith, here, behind, length-append (if byte == 10 then end_behind before else byte ∷ []) (crlf_after byte bytes))
 
-above : (n : ℕ) → 33554432 < n → nat_lt 33554432 n ≡ true
-above n more = lt-ltb 33554432 n more
+above : (n : ℕ) → MAX_TEXT < n → nat_lt MAX_TEXT n ≡ true
+above n more = lt-ltb MAX_TEXT n more
 
-large_input : (input : List ℕ) → 33554432 < length input → is_large input ≡ true
+large_input : (input : List ℕ) → MAX_TEXT < length input → is_large input ≡ true
 large_input input more = above (length (crlf_of input)) (omega (arith, more, crlf_longer 0 input))
 
 -- an input that isn't read gives no message
@@ -118,7 +119,7 @@ take_most (suc n) (x ∷ xs) = let less = take_most n xs in omega (arith, less)
 pub piece_most : (given into : List ℕ) (n : ℕ) → n ≤ 33554433 - length given → length given ≤ 33554433 → length (given ++ take n into) ≤ 33554433
 piece_most given into n fits most = omega (arith, fits, most, length-append given (take n into), take_most n into)
 
-pub longer : (xs ys : List ℕ) → 33554432 < length xs → 33554432 < length (xs ++ ys)
+pub longer : (xs ys : List ℕ) → MAX_TEXT < length xs → MAX_TEXT < length (xs ++ ys)
 longer xs ys more = omega (arith, more, length-append xs ys)
 
 -- an input that ends within what is read was read out, and so was one of which that much was read

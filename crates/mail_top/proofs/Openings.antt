@@ -240,6 +240,10 @@ module _ {S T : Type 0} (o : Result S StoreFault) (r : Result T Refusal) (x : St
   pub store_disk : r ≡ Err refusals.Disk → o ≡ Err stores.Disk
   store_disk is = let same : of_store x ≡ refusals.Disk = cc (raised r (of_store x) given, is) in was ∙ ap (λ (f : StoreFault). Err f) (store_disk_back x same)
 
+  pub store_failed : o ≡ Err stores.Disk → r ≡ Err refusals.Disk
+  store_failed is =
+      let same : x ≡ stores.Disk = cc (was, is) in raised r (of_store x) given ∙ ap (λ (f : StoreFault). Err (of_store f)) same
+
   pub store_already : r ≡ Err refusals.Already → o ≡ Err stores.Already
   store_already is =
       let same : of_store x ≡ refusals.Already = cc (raised r (of_store x) given, is) in was ∙ ap (λ (f : StoreFault). Err f) (store_already_back x same)
@@ -249,6 +253,10 @@ module _ {S T : Type 0} (o : Result S CommitFault) (r : Result T Refusal) (x : C
   pub commit_disk : r ≡ Err refusals.Disk → o ≡ Err commits.Disk
   commit_disk is = let same : of_commit x ≡ refusals.Disk = cc (raised r (of_commit x) given, is) in was
       ∙ ap (λ (f : CommitFault). Err f) (commit_disk_back x same)
+
+  pub commit_failed : o ≡ Err commits.Disk → r ≡ Err refusals.Disk
+  commit_failed is =
+      let same : x ≡ commits.Disk = cc (was, is) in raised r (of_commit x) given ∙ ap (λ (f : CommitFault). Err (of_commit f)) same
 
   pub commit_input : r ≡ Err refusals.Input → ⊥
   commit_input is = let same : of_commit x ≡ refusals.Input = cc (raised r (of_commit x) given, is) in commit_input_back x same

@@ -223,6 +223,10 @@ module _ {S : Type 0} (o : Result S PlayFault) (r : Result Played Unfinished) (x
   run_failed is =
       let same : x ≡ faults.Disk = cc (was, is) in ap status_of_play (ended_by r (ends.Stopped x) given) ∙ ap status_of_fault same
 
+  pub run_lost : o ≡ Err faults.Link → status_of_play r ≡ status.Link
+  run_lost is =
+      let same : x ≡ faults.Link = cc (was, is) in ap status_of_play (ended_by r (ends.Stopped x) given) ∙ ap status_of_fault same
+
   pub run_link : status_of_play r ≡ status.Link → o ≡ Err faults.Link
   run_link is = was ∙ ap (λ (f : PlayFault). Err f) (link_fault x (of_run status.Link is))
 

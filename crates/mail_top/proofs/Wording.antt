@@ -7,22 +7,16 @@ use Rattle.std.specs.Char.{is_ascii_digit}
 use Rattle.std.specs.List.{list_all}
 use Rattle.std.proofs.lemmas.Bool.{and_parts}
 use Rattle.imap_model.proofs.Cutting.{all_digits}
-use Rattle.mail_base.specs.Number.{IsNumberUpTo}
+use Rattle.mail_base.specs.Arguments.{WritesBox}
 use Rattle.conflict_report.specs.QueueLines.{sign_of}
 use Rattle.local_view.specs.declared.seen.Ident.{Ident}
 use Rattle.local_view.specs.declared.seen.Ident.TheVariants as ident
 use Rattle.mail_top.specs.Words.{Change, Transfer, Addition, Flag, Move, Append, Request, Init, Act, Rows, Queue, Report, Play, Asks}
-use Rattle.mail_top.specs.Words.{WritesBox, WritesIdent, WritesInit, WritesFlag, WritesMove, WritesAppend, WritesRows}
+use Rattle.mail_top.specs.Words.{WritesIdent, WritesInit, WritesFlag, WritesMove, WritesAppend, WritesRows}
 use Rattle.mail_top.specs.Names.{name_of}
 use Rattle.mail_top.proofs.Naming.{kept_name}
 
--- the decimal digits of a number are read as it
-pub decimal_number : (text : List ℕ) (n : ℕ) → n < 2 ^ 32 → text ≡ decimal n → IsNumberUpTo 4294967295 text n
-decimal_number text n fits is =
-    let both = decimal_is_IsNumeral n (omega arith) in
-    subst (λ (t : List ℕ). IsNumberUpTo 4294967295 t n) (sym is) (record { digits = both.0; value = both.1; fits = omega arith })
-
--- and as no other
+-- the decimal digits of a number are read as no other
 pub one_decimal : (m n : ℕ) → m < 2 ^ 32 → n < 2 ^ 32 → decimal m ≡ decimal n → m ≡ n
 one_decimal m n small less same =
     sym (decimal_is_IsNumeral m (omega (arith, small))).1 ∙ ap (λ (t : List ℕ). digits_value 10 t) same ∙ (decimal_is_IsNumeral n (omega (arith, less))).1

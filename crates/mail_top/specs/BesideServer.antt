@@ -12,7 +12,7 @@ use Rattle.play_driver.specs.Joining.{AllFair, Grows}
 use Rattle.play_driver.specs.Played.{played}
 use Rattle.play_driver.specs.Serving.{AllServing}
 use Rattle.mail_top.specs.CompletePlay.{IsTheServers, WaitsForNone}
-use Rattle.mail_top.specs.Connecting.{ConnectsAtFirst}
+use Rattle.mail_top.specs.Connecting.{Connects}
 use Rattle.mail_top.specs.Headline.{StaysOnce}
 use Rattle.mail_top.specs.KeptNow.{IsKeptNow, StaysKept}
 use Rattle.mail_top.specs.Played.{AreSynced, CameThrough}
@@ -56,4 +56,4 @@ pub record BesideServer {Self : Type 0} (W : Ghosts Self) (seen : Self → Files
       IsTheServers s → ⊥
   pub faultless : Fairly W old new → s ≡ status.Reply → ⊥
   pub honest : W.tells_server → s ≡ status.Reply → TellsNoPlace text
-  pub connects : W.tells_server → ConnectsAtFirst (W.clock old) (W.clock new)
+  pub connects : Connects W old new

@@ -7,12 +7,15 @@ use Rattle.world_traits.specs.declared.clocked.Clocked.{Ghosts}
 use Rattle.world_traits.specs.declared.streams.Sink.{Ghosts as SinkGhosts}
 use Rattle.world_traits.specs.declared.streams.Source.{Ghosts as SourceGhosts}
 
--- The disk or the link is blamed only where a call of it failed; and their counts of faults never fall.
+-- The disk or the link is blamed only where a call of it failed, and their counts of faults never fall. Where a call failed, the run ends by
+-- that status: under any other one the count is as it was.
 pub record HasCauses {Self : Type 0} (W : Ghosts Self) (old new : Self) (s : Status) : Type 0 where
   pub disk : s ≡ status.Disk → Rose (W.disk_faults old) (W.disk_faults new)
   pub link_fault : s ≡ status.Link → Rose (W.link old).faults (W.link new).faults
   pub count : W.disk_faults old ≤ W.disk_faults new
   pub link_count : (W.link old).faults ≤ (W.link new).faults
+  pub disk_unfailed : (s ≡ status.Disk → ⊥) → W.disk_faults new ≡ W.disk_faults old
+  pub link_unfailed : (s ≡ status.Link → ⊥) → (W.link new).faults ≡ (W.link old).faults
 
 -- The output is blamed only where a write failed; and its count of faults never falls.
 pub record HasOutputCause {Self : Type 0} (S : SinkGhosts Self) (old new : Self) (s : Status) : Type 0 where

@@ -9,7 +9,7 @@ use Rattle.store_core.specs.Mail.{mail}
 use Rattle.store_core.specs.Books.{HasBook}
 use Rattle.play_driver.specs.Renewed.{NoneRenewed}
 
--- the files hold a book, and no mailbox was made anew under which an action of it waits
+-- the files hold a book, and no mailbox was made anew of which it knows something
 pub record WaitsForNone (files : Files) (s : Server) : Type 0 where
   pub book : Meaning
   pub holds : HasBook mail book files
@@ -32,6 +32,7 @@ IsTheServers status.Reason = ⊥
 IsTheServers status.Memory = ⊥
 IsTheServers status.Limit = ⊥
 IsTheServers status.Input = ⊥
+IsTheServers status.Shelf = ⊥
 
 -- each action is settled and each mailbox resynchronised, or memory is wanting
 abbrev pub IsPlayed : Status → Type 0

@@ -3,6 +3,7 @@ use Rattle.std.specs.Prelude.{◌≡◌}
 use Rattle.world_traits.specs.Links.{Any}
 use Rattle.world_traits.specs.Moments.{Moment, Clock, Since}
 use Rattle.world_traits.specs.declared.clocked.Clocked.{Ghosts}
+use Rattle.play_driver.specs.Accuses.{ConnectsOnce}
 use Rattle.play_driver.specs.Questioning.{ConnectsFirst, RunStep}
 
 -- what isn't on the disk stays
@@ -15,6 +16,12 @@ pub record ConnectsAtFirst (old new : Clock) : Type 0 where
   pub first : Clock
   pub opens : Since Any SameOutside old first
   pub run : ConnectsFirst RunStep first new
+
+-- A run connects before it asks for anything, and not again behind it; and it makes one connection at most: what was sent in earlier ones is
+-- as it was, but for what the last one before the run had sent.
+pub record Connects {Self : Type 0} (W : Ghosts Self) (old new : Self) : Type 0 where
+  pub at_first : W.tells_server → ConnectsAtFirst (W.clock old) (W.clock new)
+  pub once : W.tells_files → ConnectsOnce (W.link old) (W.link new)
 
 -- the link is as it was, and so is all that isn't on the disk
 pub record SparesServer {Self : Type 0} (W : Ghosts Self) (old new : Self) : Type 0 where

@@ -1,6 +1,7 @@
 -- How a command ends: what each status says of what was asked for, of the book as read, of what a stop leaves, of the link, and
 -- of the printed text.
 use Rattle.std.specs.Prelude.{◌≡◌, ◌⊎◌, ℕ, ◌≤◌, ◌<◌, false, List, length}
+use Rattle.mail_base.specs.declared.limits.TheConstants.{MAX_ACTIONS}
 use Rattle.mail_base.specs.Account.{Credentials}
 use Rattle.mail_base.specs.Lines.{error_words}
 use Rattle.mail_base.specs.declared.status.Status.{Status}
@@ -41,6 +42,7 @@ EndsInit names k status.Reply text = ⊥
 EndsInit names k status.Lacking text = ⊥
 EndsInit names k status.Validity text = ⊥
 EndsInit names k status.Input text = ⊥
+EndsInit names k status.Shelf text = ⊥
 
 -- What each status says of an action that is asked for: `flag`, `move` and `append`.
 abbrev pub EndsAct : Wanted → Course → Status → List ℕ → Type 0
@@ -59,6 +61,7 @@ EndsAct wanted k status.Refused text = ⊥
 EndsAct wanted k status.Reply text = ⊥
 EndsAct wanted k status.Lacking text = ⊥
 EndsAct wanted k status.Validity text = ⊥
+EndsAct wanted k status.Shelf text = ⊥
 
 -- What each status says of `list BOX`.
 abbrev pub EndsRows : List ℕ → Course → Status → List ℕ → Type 0
@@ -77,6 +80,7 @@ EndsRows name k status.Reply text = ⊥
 EndsRows name k status.Lacking text = ⊥
 EndsRows name k status.Validity text = ⊥
 EndsRows name k status.Input text = ⊥
+EndsRows name k status.Shelf text = ⊥
 
 -- What each status says of `queue` and of `report`, which show the book by a text.
 abbrev pub EndsShown : (Meaning → List ℕ) → Course → Status → List ℕ → Type 0
@@ -95,6 +99,7 @@ EndsShown shown k status.Reply text = ⊥
 EndsShown shown k status.Lacking text = ⊥
 EndsShown shown k status.Validity text = ⊥
 EndsShown shown k status.Input text = ⊥
+EndsShown shown k status.Shelf text = ⊥
 
 -- What each status says of `play`. The others don't come.
 abbrev pub EndsPlay : Credentials → Course → Status → List ℕ → Type 0
@@ -113,6 +118,7 @@ EndsPlay account k status.Limit text = SaysStopped account k status.Limit text
 EndsPlay account k status.Words text = ⊥
 EndsPlay account k status.Reason text = ⊥
 EndsPlay account k status.Input text = ⊥
+EndsPlay account k status.Shelf text = ⊥
 
 -- what each status says of a request
 abbrev pub EndsRequest : Credentials → Request → Course → Status → List ℕ → Type 0
@@ -151,7 +157,7 @@ pub record IsTakable (wanted : Wanted) (seen : Files) : Type 0 where
   pub book : Meaning
   pub holds : HasBook mail book seen
   pub free : IsFree wanted book
-  pub few : length book.queue < 1000000
+  pub few : length book.queue < MAX_ACTIONS
   pub room : (action : Action) → Becomes wanted book action → end_behind holds (accepts book action) ≤ max_accepted
 
 -- The files hold a book that has the mailbox.

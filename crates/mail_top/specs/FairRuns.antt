@@ -5,7 +5,7 @@ use Rattle.imap_model.specs.declared.server.Mailbox.{Mailbox}
 use Rattle.imap_model.specs.declared.server.Server.{Server}
 use Rattle.action_queue.specs.Book.{Meaning}
 use Rattle.action_queue.specs.declared.intent.Intent.TheVariants as intents
-use Rattle.playback.specs.Polite.{Spares}
+use Rattle.playback.specs.Polite.{KeepsBox, KeepsWaiting, Spares}
 use Rattle.world_traits.specs.Files.{Files}
 use Rattle.world_traits.specs.Links.{LinkStep}
 use Rattle.world_traits.specs.Moments.{Moment, MayLeave, Clock, OneSideAtRest, restarted}
@@ -30,17 +30,25 @@ pub record FairRun (words : List (List ℕ)) (input : List ℕ) (seen : Files) (
 abbrev pub SparesPending : Meaning → List Mailbox → List Mailbox → Type 0
 SparesPending b old new = (to : List ℕ) (validity uidnext : ℕ) → b.pending ≡ Some (intents.Put to validity uidnext) → Spares b old new
 
+-- Besides no mailbox gets another UIDVALIDITY that is selected in a connection that hasn't ended yet, or was as the waiting command arrived:
+-- a change of a message that is carried out there would be one of another message (RFC 9051, section 2.3.1.1). Any other mailbox may be
+-- renewed; a connection that was lost may be counted as ended at once.
+pub record SparesBookBetween (b : Meaning) (p : Peer) (t : Server) : Type 0 where
+  pub append : SparesPending b p.server.boxes t.boxes
+  pub selected : KeepsBox p.talk.selected p.server.boxes t.boxes
+  pub waiting : KeepsWaiting p.waiting p.server.boxes t.boxes
+
 -- where there is no book yet, nothing is asked
 abbrev pub SparesBetween : Option Meaning → Peer → Server → Type 0
 SparesBetween None p t = Unit {0}
-SparesBetween (Some b) p t = SparesPending b p.server.boxes t.boxes
+SparesBetween (Some b) p t = SparesBookBetween b p t
 
 -- this client's machine, with less asked of others
 abbrev pub between : Machine mail
 between = record played { Spares = SparesBetween }
 
--- Between two runs the files stay, and the server goes on by one step: others change something, and are fair; the command of a
--- connection that ended is carried out, or dropped.
+-- Between two runs the files stay, and the server goes on by one step: the last connection comes to its end; others change something, and
+-- are fair; the command of a connection that ended is carried out, or dropped.
 pub record FairlyGoesOn (m n : Moment) : Type 0 where
   pub step : LinkStep Connecting m n
   pub fair : IsFair mail between m n

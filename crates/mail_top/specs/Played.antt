@@ -85,6 +85,7 @@ CameThrough status.Reason = ⊥
 CameThrough status.Memory = ⊥
 CameThrough status.Limit = ⊥
 CameThrough status.Input = ⊥
+CameThrough status.Shelf = ⊥
 
 -- The files hold a book. Behind a moment of this time at which every action had an outcome, each of its mailboxes has a cache that is
 -- the server's as it answered for its rows since.

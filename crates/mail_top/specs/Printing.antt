@@ -25,6 +25,7 @@ Prints status.Reply text old new faults faults_after = Writes text old new fault
 Prints status.Lacking text old new faults faults_after = Writes text old new faults faults_after
 Prints status.Validity text old new faults faults_after = Writes text old new faults faults_after
 Prints status.Input text old new faults faults_after = Writes text old new faults faults_after
+Prints status.Shelf text old new faults faults_after = Writes text old new faults faults_after
 
 -- The status is that of the ending; or it was done, and the output failed.
 abbrev pub IsSaid : Status → Status → Type 0

@@ -1,5 +1,6 @@
 -- How the input of a command is read.
 use Rattle.std.specs.Prelude.{◌≡◌, ℕ, ◌≤◌, ◌<◌, true, false, List, [], length, drop, Result, Ok, Err, ⊤}
+use Rattle.mail_base.specs.declared.limits.TheConstants.{MAX_TEXT}
 use Rattle.mail_header.specs.BareLf.{crlf_of}
 use Rattle.mail_header.specs.Identifier.{HasMessageId}
 use Rattle.world_traits.specs.Files.{Files}
@@ -64,7 +65,7 @@ IsInput tells rest input = tells → input ≡ rest
 -- The input's bytes; or it has more than a message may have; or it failed, or memory is wanting.
 abbrev pub InputRead : List ℕ → Result (List ℕ) Refusal → Type 0
 InputRead input (Ok given) = given ≡ input
-InputRead input (Err (refusals.Reason reason)) = (reason ≡ reasons.TooLarge) × (33554432 < length input)
+InputRead input (Err (refusals.Reason reason)) = (reason ≡ reasons.TooLarge) × (MAX_TEXT < length input)
 InputRead input (Err refusals.Input) = ⊤
 InputRead input (Err refusals.Memory) = ⊤
 InputRead input (Err refusals.Actions) = ⊥

@@ -1,6 +1,7 @@
 -- Why a command is refused by the book as it is, or by its input (this client's profile).
 use Rattle.std.specs.Prelude.{◌≡◌, ◌==◌, ℕ, suc, Bool, true, false, not, is_some, nat_le, nat_lt, List, [], ◌∷◌, length, bytes_eq, Option, Some, None, ⊤}
 use Rattle.std.specs.List.{list_any}
+use Rattle.mail_base.specs.declared.limits.TheConstants.{MAX_QUEUE, MAX_TEXT}
 use Rattle.flag_set.specs.Flag.{asked_refusal}
 use Rattle.mail_header.specs.BareLf.{crlf_of}
 use Rattle.mail_header.specs.Identifier.{HasMessageId}
@@ -57,11 +58,11 @@ open_len (q ∷ qs) = one_if_open q.outcome (open_len qs)
 
 -- the queue has as many unsettled actions as it may
 abbrev pub is_full : List Queued → Bool
-is_full queue = nat_le 65535 (open_len queue)
+is_full queue = nat_le MAX_QUEUE (open_len queue)
 
 -- the message that an input gives has more than 2^25 bytes
 abbrev pub is_large : List ℕ → Bool
-is_large input = nat_lt 33554432 (length (crlf_of input))
+is_large input = nat_lt MAX_TEXT (length (crlf_of input))
 
 -- it has a byte 0
 abbrev pub has_zero : List ℕ → Bool

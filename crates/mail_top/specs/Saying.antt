@@ -1,5 +1,6 @@
 -- What is said of how a command ended: of the book as read, of what a stop leaves now, and of the printed text.
 use Rattle.std.specs.Prelude.{◌≡◌, ◌⊎◌, ℕ, ◌≤◌, ◌<◌, true, false, List, length, Some, None}
+use Rattle.mail_base.specs.declared.limits.TheConstants.{MAX_ACTIONS}
 use Rattle.mail_base.specs.Lines.{ready, accepted, error_disk, error_memory, journal_header, journal_exists, limit_journal}
 use Rattle.journal_core.specs.declared.fault.Place9.{Place9}
 use Rattle.journal_core.specs.Appending.{told_end}
@@ -44,7 +45,7 @@ pub record SaysAccepted (wanted : Wanted) (k : Course) (text : List ℕ) : Type 
   pub book : Meaning
   pub holds : HasBook mail book k.seen
   pub free : IsFree wanted book
-  pub few : length book.queue < 1000000
+  pub few : length book.queue < MAX_ACTIONS
   pub action : Action
   pub is : Becomes wanted book action
   pub within : end_behind holds (accepts book action) ≤ max_accepted
@@ -97,7 +98,7 @@ pub record SaysUnread (wanted : Wanted) (k : Course) (text : List ℕ) : Type 0 
 
 -- with the action the journal would end at the text's place, past its limit
 pub record PassesPlace (wanted : Wanted) (k : Course) (book : Meaning) (holds : HasBook mail book k.seen) (text : List ℕ) : Type 0 where
-  pub few : length book.queue < 1000000
+  pub few : length book.queue < MAX_ACTIONS
   pub action : Action
   pub is : Becomes wanted book action
   pub past : max_accepted < end_behind holds (accepts book action)
@@ -109,7 +110,7 @@ pub record SaysFull (wanted : Wanted) (k : Course) (text : List ℕ) : Type 0 wh
   pub book : Meaning
   pub stays : Stays k book
   pub free : IsFree wanted book
-  pub past : ((1000000 ≤ length book.queue) × (text ≡ limit_actions)) ⊎ PassesPlace wanted k book stays.holds text
+  pub past : ((MAX_ACTIONS ≤ length book.queue) × (text ≡ limit_actions)) ⊎ PassesPlace wanted k book stays.holds text
 
 -- memory is wanting
 pub record SaysMemory (k : Course) (text : List ℕ) : Type 0 where

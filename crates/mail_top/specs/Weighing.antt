@@ -1,6 +1,7 @@
 -- What a book answers to an action that is asked for, and to a question for a mailbox's rows.
 use Rattle.std.specs.Prelude.{◌≡◌, ℕ, ◌+◌, ◌≤◌, ◌<◌, true, false, List, length, Some, Result, Ok, Err, ⊤}
 use Rattle.std.specs.List.{list_any}
+use Rattle.mail_base.specs.declared.limits.TheConstants.{MAX_ACTIONS}
 use Rattle.flag_set.specs.declared.flag_fault.FlagFault.{FlagFault}
 use Rattle.flag_set.specs.declared.flag_fault.FlagFault.TheVariants as flaws
 use Rattle.action_queue.specs.Book.{Meaning}
@@ -20,7 +21,7 @@ use Rattle.mail_top.specs.declared.refusal.Refusal.TheVariants as refusals
 -- The book admits this action, under this number.
 pub record Admits (wanted : Wanted) (b : Meaning) (id : ℕ) (action : Action) : Type 0 where
   pub free : IsFree wanted b
-  pub few : length b.queue < 1000000
+  pub few : length b.queue < MAX_ACTIONS
   pub number : id ≡ next_id b
   pub is : Becomes wanted b action
 
@@ -30,7 +31,7 @@ abbrev pub Weighed : Wanted → Meaning → Result (ℕ × Action) Refusal → T
 Weighed wanted b (Ok both) = Admits wanted b both.0 both.1
 Weighed wanted b (Err (refusals.Reason reason)) = IsFirst wanted b reason
 Weighed wanted b (Err refusals.Input) = Awaits wanted b
-Weighed wanted b (Err refusals.Actions) = IsFree wanted b × (1000000 ≤ length b.queue)
+Weighed wanted b (Err refusals.Actions) = IsFree wanted b × (MAX_ACTIONS ≤ length b.queue)
 Weighed wanted b (Err refusals.Memory) = ⊤
 Weighed wanted b (Err refusals.Disk) = ⊥
 Weighed wanted b (Err refusals.Already) = ⊥
@@ -72,8 +73,8 @@ FlagsAsked flags (Err flaws.Memory) = ⊤
 
 -- the queue takes one more action under this number, or has too many
 abbrev pub HasNumber : List Queued → Result ℕ Refusal → Type 0
-HasNumber queue (Ok id) = (length queue < 1000000) × (id ≡ length queue + 1)
-HasNumber queue (Err refusals.Actions) = 1000000 ≤ length queue
+HasNumber queue (Ok id) = (length queue < MAX_ACTIONS) × (id ≡ length queue + 1)
+HasNumber queue (Err refusals.Actions) = MAX_ACTIONS ≤ length queue
 HasNumber queue (Err (refusals.Reason reason)) = ⊥
 HasNumber queue (Err refusals.Memory) = ⊥
 HasNumber queue (Err refusals.Input) = ⊥

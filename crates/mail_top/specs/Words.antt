@@ -1,6 +1,6 @@
 -- The words of a command, and what they ask for.
 use Rattle.std.specs.Prelude.{◌≡◌, ℕ, ◌<◌, ◌≤◌, ◌^◌, Bool, List, [], ◌∷◌, length, map, codes, decimal, string_bytes, ⊤}
-use Rattle.mail_base.specs.BoxName.{IsBoxText, KeptAs}
+use Rattle.mail_base.specs.Arguments.{WritesBox}
 use Rattle.conflict_report.specs.QueueLines.{sign_of}
 use Rattle.local_view.specs.declared.seen.Ident.{Ident}
 use Rattle.local_view.specs.declared.seen.Ident.TheVariants as ident
@@ -62,11 +62,6 @@ pub record WritesIdent (word : List ℕ) (id : Ident) : Type 0 where
   pub is : word ≡ ident_text id
   pub from_one : 0 < number_of id
   pub fits : number_of id < 2 ^ 32
-
--- The word writes a mailbox's name, which is kept as this.
-pub record WritesBox (word name : List ℕ) : Type 0 where
-  pub named : IsBoxText word
-  pub kept : KeptAs word name
 
 -- The words are `init BOX ..` with 1 to 32 texts, and these are the names that they write, no two of them the same.
 pub record WritesInit (words names : List (List ℕ)) : Type 0 where

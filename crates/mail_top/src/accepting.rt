@@ -59,6 +59,7 @@ pub fn accept<D: Disk, I: Source>(
     ensures count { D.disk_faults disk.old ≤ D.disk_faults disk.new }
     ensures source_count { I.source_faults input.old ≤ I.source_faults input.new }
     ensures cause { IsErrOf result refusals.Disk → Rose (D.disk_faults disk.old) (D.disk_faults disk.new) }
+    ensures unfailed { (IsErrOf result refusals.Disk → ⊥) → D.disk_faults disk.new ≡ D.disk_faults disk.old }
     ensures input_cause { IsErrOf result refusals.Input → Rose (I.source_faults input.old) (I.source_faults input.new) }
     ensures never { IsErrOf result refusals.Already → ⊥ }
 {

@@ -53,6 +53,7 @@ pub fn init<D: Disk>(alloc: Global, disk: &mut D, texts: &[String]) -> Result<()
     ensures link { D.link disk.new ≡ D.link disk.old }
     ensures count { D.disk_faults disk.old ≤ D.disk_faults disk.new }
     ensures cause { IsErrOf result refusals.Disk → Rose (D.disk_faults disk.old) (D.disk_faults disk.new) }
+    ensures unfailed { (IsErrOf result refusals.Disk → ⊥) → D.disk_faults disk.new ≡ D.disk_faults disk.old }
     ensures unread { IsErrOf result refusals.Input → ⊥ }
 {
     let names = names_in(alloc, texts)?;

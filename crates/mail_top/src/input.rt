@@ -8,13 +8,10 @@ ghost use Rattle.mail_top.specs.Reading.{IsInput, IsReadOut, TakesFront, Identif
 ghost use Rattle.mail_top.specs.declared.refusal.Refusal.TheVariants as refusals;
 
 use crate::{Reason, Refusal};
-use mail_base::Bytes;
+use mail_base::{Bytes, MAX_TEXT};
 use mail_header::{crlf_of, message_id};
 use std::alloc::Global;
 use world_traits::Source;
-
-/// The most bytes of a message that is put into a mailbox (this client's profile).
-pub const MAX_TEXT: usize = 33_554_432;
 
 /// The most bytes that are read of an input: one more than a message may have.
 pub const MAX_INPUT: usize = 33_554_433;

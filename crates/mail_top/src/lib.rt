@@ -21,9 +21,9 @@ mod unfinished;
 mod weighing;
 mod words;
 
-pub use arguments::{box_of, ident_of, is_addition, number_of};
+pub use arguments::{ident_of, is_addition};
 pub use ending::{Ending, ending_of_refusal, ending_of_text, ending_of_words, say};
-pub use input::{MAX_INPUT, MAX_TEXT};
+pub use input::MAX_INPUT;
 pub use names::{MAX_NAMES, are_names, names_in};
 pub use printed::Printed;
 pub use reason::Reason;
@@ -37,5 +37,5 @@ pub use runs::{
 };
 pub use showing::{Show, show_book};
 pub use unfinished::Unfinished;
-pub use weighing::{MAX_ASKED, MAX_OPEN};
+pub use weighing::MAX_ASKED;
 pub use words::asked;

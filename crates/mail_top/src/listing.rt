@@ -25,6 +25,7 @@ pub fn list<D: Disk>(alloc: Global, disk: &mut D, name: &BoxName) -> Result<Byte
     ensures reads { D.tells_files → OnlyReads (D.clock disk.old) (D.clock disk.new) }
 
     ensures cause { IsErrOf result refusals.Disk → Rose (D.disk_faults disk.old) (D.disk_faults disk.new) }
+    ensures unfailed { (IsErrOf result refusals.Disk → ⊥) → D.disk_faults disk.new ≡ D.disk_faults disk.old }
     ensures never { IsErrOf result refusals.Already → ⊥ }
     ensures unread { IsErrOf result refusals.Input → ⊥ }
     ensures count { D.disk_faults disk.old ≤ D.disk_faults disk.new }

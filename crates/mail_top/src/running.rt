@@ -7,7 +7,7 @@ ghost use Rattle.mail_top.specs.BesideServer.{BesideServer, EntersKept, FairUpTo
 ghost use Rattle.mail_top.specs.Causing.{HasCauses, HasOutputCause, NoDiskFault, NoInputFault, NoLinkFault, NoOutputFault};
 ghost use Rattle.mail_top.specs.CompletePlay.{IsPlayed, WaitsForNone};
 ghost use Rattle.mail_top.specs.Completing.{Completes};
-ghost use Rattle.mail_top.specs.Connecting.{ConnectsAtFirst, SparesServer};
+ghost use Rattle.mail_top.specs.Connecting.{Connects, SparesServer};
 ghost use Rattle.mail_top.specs.Course.{course_of};
 ghost use Rattle.mail_top.specs.Going.{Goes, GoesRequest};
 ghost use Rattle.mail_top.specs.Headline.{AlwaysOwned, Finishes, NeverTwice, OnceOrReported};
@@ -130,7 +130,7 @@ pub fn run<W: World, I: Source, S: Sink>(
         × (W.tells_server → result ≡ Status.Reply → TellsNoPlace text)
         × (S.tells → Prints result text (S.written out.old) (S.written out.new) (S.sink_faults out.old) (S.sink_faults out.new)) }
 
-    // Each answer has its cause, whatever the world tells.
+    // Each answer has its cause, whatever the world tells; and where a call of the disk or of the link failed, that is the answer.
     ensures words { (result ≡ Status.Words) ↔ AsksNothing (map string_bytes words.now) }
     ensures causes { HasCauses W.Clocked world.old world.new result }
     ensures sink { HasOutputCause S.Sink out.old out.new result }
@@ -179,9 +179,9 @@ pub fn run<W: World, I: Source, S: Sink>(
         → AreSynced (W.seen world.new) (W.clock world.old) (W.clock world.new) }
     ensures faultless { Fairly W.Clocked world.old world.new → result ≡ Status.Reply → ⊥ }
 
-    // A run connects before it asks for anything, questions and changes of mailboxes alike, and not again; and only `play` touches the
-    // server or the link.
-    ensures connects { W.tells_server → ConnectsAtFirst (W.clock world.old) (W.clock world.new) }
+    // A run connects before it asks for anything, questions and changes of mailboxes alike, and not again: it makes one connection at
+    // most. Only `play` touches the server or the link.
+    ensures connects { Connects W.Clocked world.old world.new }
     ensures spares { (WritesPlay (map string_bytes words.now) → ⊥) → SparesServer W.Clocked world.old world.new }
 {
     let ending = carry_out(alloc, words, account, input, world);

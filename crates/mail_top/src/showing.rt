@@ -46,6 +46,7 @@ pub fn show_book<D: Disk, S: Show>(
     // Each refusal is one of a journal that is read, and has its cause. The link stays.
     ensures only { (refusal : Refusal) → IsErrOf result refusal → IsOfReading refusal }
     ensures cause { IsErrOf result refusals.Disk → Rose (D.disk_faults disk.old) (D.disk_faults disk.new) }
+    ensures unfailed { (IsErrOf result refusals.Disk → ⊥) → D.disk_faults disk.new ≡ D.disk_faults disk.old }
     ensures count { D.disk_faults disk.old ≤ D.disk_faults disk.new }
     ensures link { D.link disk.new ≡ D.link disk.old }
 {

@@ -18,15 +18,12 @@ ghost use Rattle.mail_top.specs.declared.refusal.Refusal.TheVariants as refusals
 
 use crate::input::message;
 use crate::{AskedAction, AskedAppend, AskedFlags, AskedMove, Reason, Refusal};
-use action_queue::{Action, Book, MAX_ACTIONS, Queue, Queued, Target};
+use action_queue::{Action, Book, Queue, Queued, Target};
 use flag_set::{FlagFault, FlagKey, FlagSet};
 use local_view::{Ident, is_shown};
-use mail_base::{ActionId, BoxName};
+use mail_base::{ActionId, BoxName, MAX_ACTIONS, MAX_QUEUE};
 use std::alloc::Global;
 use world_traits::Source;
-
-/// The most unsettled actions of a queue (this client's profile).
-pub const MAX_OPEN: usize = 65_535;
 
 /// The most flags of one command (this client's profile).
 pub const MAX_ASKED: usize = 32;
@@ -217,7 +214,7 @@ fn has_room(queue: &Queue) -> Result<(), Reason>
     ensures room { OnOk result (is_full queue.now.items ≡ false) }
     ensures full { IfErr result (λ reason. (reason ≡ reasons.QueueFull) × (is_full queue.now.items ≡ true)) }
 {
-    if open_len(queue.as_slice()) >= MAX_OPEN {
+    if open_len(queue.as_slice()) >= MAX_QUEUE {
         return Err(Reason::QueueFull);
     }
     Ok(())

@@ -7,10 +7,10 @@ ghost use Rattle.mail_top.specs.Words.{change_of, transfer_of, addition_of, want
 ghost use Rattle.mail_top.specs.Names.{name_of, WriteNames};
 
 use crate::{
-    Asked, AskedAction, AskedAppend, AskedFlags, AskedMove, MAX_ASKED, are_names, box_of, ident_of,
+    Asked, AskedAction, AskedAppend, AskedFlags, AskedMove, MAX_ASKED, are_names, ident_of,
     is_addition,
 };
-use mail_base::BoxName;
+use mail_base::{BoxName, box_of};
 
 /// What the words of a command ask for. `None` exactly where they ask for nothing.
 ///

@@ -1,3 +1,6 @@
+use Rattle.std.proofs.Common.{◌∙◌, ap}
+use Rattle.mail_top.specs.Telling.{status_of}
+use Rattle.look_run.specs.Telling.{letter_status}
 use Rattle.look_run.proofs.Letters.{history_seen, history_disk, history_words, history_output, history_reason}
 use Rattle.look_run.proofs.Letters.{letter_seen, letter_disk, letter_words, letter_output}
 use Rattle.look_run.proofs.running.look_at.Goals as goal
@@ -33,3 +36,11 @@ returns-in-Letter-clause-reason g c is = (_, c.in-Letter.is)
 
 pub returns-in-Letter-clause-cause : goal.returns-in-Letter-clause-cause
 returns-in-Letter-clause-cause g c is = c.show_book-in-Letter.ensures.cause (letter_disk _ _ c.ending_of_letter.ensures.status is)
+
+pub returns-in-History-clause-unfailed : goal.returns-in-History-clause-unfailed
+returns-in-History-clause-unfailed g c other =
+    c.show_book.ensures.unfailed (λ is. other (c.ending_of_text.ensures.status ∙ ap status_of is))
+
+pub returns-in-Letter-clause-unfailed : goal.returns-in-Letter-clause-unfailed
+returns-in-Letter-clause-unfailed g c other =
+    c.show_book-in-Letter.ensures.unfailed (λ is. other (c.ending_of_letter.ensures.status ∙ ap letter_status is))

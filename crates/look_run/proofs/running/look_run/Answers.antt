@@ -1,5 +1,5 @@
 use Rattle.mail_base.specs.declared.status.Status.TheVariants as status
-use Rattle.mail_top.proofs.Endings.{said_as, said_disk, said_words}
+use Rattle.mail_top.proofs.Endings.{ended_so, said_as, said_disk, said_words}
 use Rattle.look_run.proofs.Endings.{completes, letter_printed, said_ends}
 use Rattle.look_run.proofs.running.look_run.Goals as goal
 
@@ -14,6 +14,10 @@ returns-clause-reason g c is = c.looked-ending.ensures.reason (said_as status.Re
 
 pub returns-clause-disk : goal.returns-clause-disk
 returns-clause-disk g c is = c.looked-ending.ensures.cause (said_disk _ _ c.say.ensures.status is)
+
+pub returns-clause-unfailed : goal.returns-clause-unfailed
+returns-clause-unfailed g c other =
+    c.looked-ending.ensures.unfailed (λ is. other (ended_so status.Disk _ _ (λ e. cc e) (λ e. cc e) c.say.ensures.status is))
 
 pub returns-clause-complete : goal.returns-clause-complete
 returns-clause-complete g c tells look asks seen no_disk no_sink =

@@ -9,7 +9,11 @@ use Rattle.store_core.specs.Mail.{mail}
 use Rattle.store_core.specs.Taking.{ChoosesStep}
 use Rattle.look_run.specs.Words.{Asks}
 use Rattle.look_run.proofs.Endings.{said_look}
+use Rattle.look_run.proofs.Numbers.{asked_numbered}
 use Rattle.look_run.proofs.running.looked.Goals as goal
+
+pub look_at-requires : goal.look_at-requires
+look_at-requires g c = asked_numbered _ _ c.in-Some.ensures.some
 
 pub returns-in_default-clause-ends : goal.returns-in_default-clause-ends
 returns-in_default-clause-ends g c tells = inl (record {

@@ -9,8 +9,9 @@ use Rattle.mail_top.specs.Weighing.{Admits, Weighed}
 use Rattle.mail_top.specs.Words.{Act, wanted_of}
 use Rattle.mail_top.proofs.Goings.{awaits_on, nothing_taken}
 use Rattle.mail_top.proofs.Moving.{opens_adding, adding_then, chooses_steps, steps_then, left_now, left_start}
-use Rattle.mail_top.proofs.Openings.{unopened_act, weighed_act, unrecorded_act, opened_stays, opened_book, store_disk, store_already, store_input, never_err}
-use Rattle.mail_top.proofs.Openings.{rose_later, commit_disk, commit_already, commit_input, weighed_disk, weighed_already, weighed_input}
+use Rattle.mail_top.proofs.Openings.{unopened_act, weighed_act, unrecorded_act, opened_stays, opened_book, store_disk, store_failed, store_already}
+use Rattle.mail_top.proofs.Openings.{store_input, never_err, rose_later, commit_disk, commit_failed, commit_already, commit_input, weighed_disk}
+use Rattle.mail_top.proofs.Openings.{weighed_already, weighed_input}
 use Rattle.mail_top.proofs.Recording.{told_as, no_room, may_event, kept_as, event_keeps, event_steps, event_full, event_recorded}
 use Rattle.mail_top.proofs.accepting.accept.Goals as goal
 
@@ -30,6 +31,10 @@ returns-in_err-store-clause-goes g c tells = (
 
 pub returns-in_err-store-clause-cause : goal.returns-in_err-store-clause-cause
 returns-in_err-store-clause-cause g c is = c.open.ensures.cause (store_disk _ _ _ c.in_err-store.was c.from_residual.ensures.1 is)
+
+pub returns-in_err-store-clause-unfailed : goal.returns-in_err-store-clause-unfailed
+returns-in_err-store-clause-unfailed g c other =
+    c.open.ensures.unfailed (λ is. other (store_failed _ _ _ c.in_err-store.was c.from_residual.ensures.1 is))
 
 pub returns-in_err-store-clause-input_cause : goal.returns-in_err-store-clause-input_cause
 returns-in_err-store-clause-input_cause g c is = absurd (store_input _ _ _ c.in_err-store.was c.from_residual.ensures.1 is)
@@ -60,6 +65,9 @@ returns-in_err-taken-clause-goes g c tells =
 pub returns-in_err-taken-clause-cause : goal.returns-in_err-taken-clause-cause
 returns-in_err-taken-clause-cause g c is =
     absurd (weighed_disk _ _ _ _ _ c.in_err-taken.was c.from_residual-in_err-taken.ensures.1 c.weighed.ensures.value.2 is)
+
+pub returns-in_err-taken-clause-unfailed : goal.returns-in_err-taken-clause-unfailed
+returns-in_err-taken-clause-unfailed g c other = c.in_ok-store.ensures.unfailed (never_err _ _)
 
 pub returns-in_err-taken-clause-input_cause : goal.returns-in_err-taken-clause-input_cause
 returns-in_err-taken-clause-input_cause g c is =
@@ -118,6 +126,11 @@ pub returns-in_err-commit-clause-cause : goal.returns-in_err-commit-clause-cause
 returns-in_err-commit-clause-cause g c is =
     rose_later _ _ _ c.open.ensures.count (c.commit.ensures.cause (commit_disk _ _ _ c.in_err-commit.was c.from_residual-in_err-commit.ensures.1 is))
 
+pub returns-in_err-commit-clause-unfailed : goal.returns-in_err-commit-clause-unfailed
+returns-in_err-commit-clause-unfailed g c other =
+    c.commit.ensures.unfailed (λ is. other (commit_failed _ _ _ c.in_err-commit.was c.from_residual-in_err-commit.ensures.1 is))
+    ∙ c.in_ok-store.ensures.unfailed (never_err _ _)
+
 pub returns-in_err-commit-clause-input_cause : goal.returns-in_err-commit-clause-input_cause
 returns-in_err-commit-clause-input_cause g c is = absurd (commit_input _ _ _ c.in_err-commit.was c.from_residual-in_err-commit.ensures.1 is)
 
@@ -156,6 +169,9 @@ returns-clause-goes g c tells =
         };
       },
     )
+
+pub returns-clause-unfailed : goal.returns-clause-unfailed
+returns-clause-unfailed g c other = c.in_ok-commit.ensures.unfailed (never_err _ _) ∙ c.in_ok-store.ensures.unfailed (never_err _ _)
 
 pub returns-clause-each_one_side : goal.returns-clause-each_one_side
 returns-clause-each_one_side g c tells one =

@@ -8,7 +8,7 @@ use Rattle.mail_top.specs.Names.{name_of}
 use Rattle.mail_top.specs.Words.{Init}
 use Rattle.mail_top.proofs.Beginnings.{uncreated_named, created_named, keeps_named, steps_named, out_of_memory}
 use Rattle.mail_top.proofs.Moving.{steps_none, left_now, left_start, left_none}
-use Rattle.mail_top.proofs.Openings.{store_disk}
+use Rattle.mail_top.proofs.Openings.{never_err, store_disk, store_failed}
 use Rattle.mail_top.proofs.creating.init.Goals as goal
 
 pub returns-in_err-names-clause-ends : goal.returns-in_err-names-clause-ends
@@ -55,6 +55,13 @@ returns-in_err-_store-clause-books g c tells one books have =
 
 pub returns-in_err-_store-clause-cause : goal.returns-in_err-_store-clause-cause
 returns-in_err-_store-clause-cause g c is = c.init.ensures.cause (store_disk _ _ _ c.in_err-_store.was c.from_residual-in_err-_store.ensures.1 is)
+
+pub returns-in_err-_store-clause-unfailed : goal.returns-in_err-_store-clause-unfailed
+returns-in_err-_store-clause-unfailed g c other =
+    c.init.ensures.unfailed (λ is. other (store_failed _ _ _ c.in_err-_store.was c.from_residual-in_err-_store.ensures.1 is))
+
+pub returns-clause-unfailed : goal.returns-clause-unfailed
+returns-clause-unfailed g c other = c.in_ok-_store.ensures.unfailed (never_err _ _)
 
 pub returns-clause-ends : goal.returns-clause-ends
 returns-clause-ends g c tells =

@@ -1,18 +1,22 @@
-use Rattle.std.proofs.Common.{refl, rules}
+use Rattle.std.proofs.Common.{refl, ◌∙◌, ap, subst, rules}
+use Rattle.world_traits.specs.Calls.{Rose}
+use Rattle.world_traits.specs.LinkState.{LinkState}
 use Rattle.journal_core.proofs.AtRest.{each_then}
 use Rattle.journal_core.proofs.HeldBodies.{narrowed}
 use Rattle.store_core.proofs.Choosing.{only_left}
 use Rattle.mail_top.specs.TruePlay.PlaysTruly.{unread, recorded}
 use Rattle.mail_top.specs.Words.{Play}
-use Rattle.mail_top.proofs.Connections.{opens_alone, opens_then}
+use Rattle.mail_top.proofs.Besides.{same_count}
+use Rattle.mail_top.proofs.Connections.{none_once, opens_alone, opens_then, then_once}
 use Rattle.mail_top.proofs.Headlines.{kept_last, play_once, still_once}
 use Rattle.mail_top.proofs.PlaySteps.{opening_keeps, opening_joined, play_steps, play_keeps, playing_now, playing_start, opened_kept, play_joined, play_fair}
 use Rattle.mail_top.proofs.PlaySteps.{play_synced, surely_played, surely_unopened, only_opens, opens_store, truly_stopped, one_last}
 use Rattle.mail_top.proofs.Moving.{chooses_steps}
 use Rattle.mail_top.proofs.PlayServed.{none_behind, opening_serves, played_serves, run_serves, serving_behind}
-use Rattle.mail_top.proofs.Openings.{never_err, opened_book}
+use Rattle.mail_top.proofs.Openings.{never_err, opened_book, rose_later}
 use Rattle.mail_top.proofs.Sayings.{unopened_play, is_opened, played_play, played_disk, played_link, stopped_play}
-use Rattle.mail_top.proofs.Sayings.{no_place_told, opening_failed, opening_reply, run_failed, run_honest, run_reply, played_reply, stopped_early}
+use Rattle.mail_top.proofs.Sayings.{no_place_told, opening_disk, opening_failed, opening_link, opening_reply, run_disk, run_failed, run_honest, run_link}
+use Rattle.mail_top.proofs.Sayings.{run_lost, run_reply, played_reply, stopped_early}
 use Rattle.mail_top.proofs.playing.play.Goals as goal
 
 pub returns-in_err-store-clause-ends : goal.returns-in_err-store-clause-ends
@@ -44,7 +48,20 @@ returns-in_err-store-clause-server g c = record {
   serves = λ play f serving none bad. opening_serves _ _ c.from_residual.ensures.1 bad;
   faultless = λ f is. opening_reply _ _ _ c.in_err-store.was c.from_residual.ensures.1 is;
   honest = λ tells is. absurd (opening_reply _ _ _ c.in_err-store.was c.from_residual.ensures.1 is);
-  connects = λ tells. opens_alone _ _ _ (c.open.ensures.held (g.W.Clocked.server_with_files tells));
+  connects = record {
+    at_first = λ tells. opens_alone _ _ _ (c.open.ensures.held (g.W.Clocked.server_with_files tells));
+    once = λ tells. none_once _ _ c.open.ensures.link;
+  };
+}
+
+pub returns-in_err-store-clause-causes : goal.returns-in_err-store-clause-causes
+returns-in_err-store-clause-causes g c = record {
+  disk = λ is. c.open.ensures.cause (opening_disk _ _ _ c.in_err-store.was c.from_residual.ensures.1 is);
+  link_fault = λ is. absurd (opening_link _ _ _ c.in_err-store.was c.from_residual.ensures.1 is);
+  count = c.open.ensures.count;
+  link_count = same_count _ _ c.open.ensures.link;
+  disk_unfailed = λ other. c.open.ensures.unfailed (λ is. other (opening_failed _ _ _ c.in_err-store.was c.from_residual.ensures.1 is));
+  link_unfailed = λ other. ap (λ (s : LinkState). s.faults) c.open.ensures.link;
 }
 
 pub returns-in_err-played-clause-ends : goal.returns-in_err-played-clause-ends
@@ -125,7 +142,30 @@ returns-in_err-played-clause-server g c = record {
       run_reply _ _ _ c.in_err-played.was c.from_residual-in_err-played.ensures.1 (c.play.ensures.faultless f.tells here spared) is;
   honest = λ tells is.
       no_place_told _ _ _ refl refl (run_honest _ _ _ c.in_err-played.was c.from_residual-in_err-played.ensures.1 (c.play.ensures.accuses.honest tells)) is;
-  connects = λ tells. opens_then _ _ _ _ (c.open.ensures.held (g.W.Clocked.server_with_files tells)) (c.play.ensures.goes_on.once tells);
+  connects = record {
+    at_first = λ tells. opens_then _ _ _ _ (c.open.ensures.held (g.W.Clocked.server_with_files tells)) (c.play.ensures.goes_on.once tells);
+    once = λ tells.
+        then_once (g.W.Clocked.link c.args.world.now) (g.W.Clocked.link c.open.new.disk) (g.W.Clocked.link c.play.new.world) c.open.ensures.link
+        (c.play.ensures.goes_on.one tells);
+  };
+}
+
+pub returns-in_err-played-clause-causes : goal.returns-in_err-played-clause-causes
+returns-in_err-played-clause-causes g c = record {
+  disk = λ is.
+      rose_later _ _ _ c.open.ensures.count
+      (c.play.ensures.accuses.disk_cause (run_disk _ _ _ c.in_err-played.was c.from_residual-in_err-played.ensures.1 is));
+  link_fault = λ is.
+      subst (λ (s : LinkState). Rose s.faults (g.W.Clocked.link c.play.new.world).faults) c.open.ensures.link
+      (c.play.ensures.accuses.link_cause (run_link _ _ _ c.in_err-played.was c.from_residual-in_err-played.ensures.1 is));
+  count = search rules;
+  link_count = search rules;
+  disk_unfailed = λ other.
+      c.play.ensures.accuses.disk_unfailed (λ is. other (run_failed _ _ _ c.in_err-played.was c.from_residual-in_err-played.ensures.1 is))
+      ∙ c.in_ok-store.ensures.unfailed (never_err _ _);
+  link_unfailed = λ other.
+      c.play.ensures.accuses.link_unfailed (λ is. other (run_lost _ _ _ c.in_err-played.was c.from_residual-in_err-played.ensures.1 is))
+      ∙ ap (λ (s : LinkState). s.faults) c.open.ensures.link;
 }
 
 pub returns-clause-ends : goal.returns-clause-ends
@@ -188,7 +228,12 @@ returns-clause-server g c = record {
   serves = λ play f serving none bad. played_serves c.in_ok-played.played bad;
   faultless = λ f is. played_reply c.in_ok-played.played is;
   honest = λ tells is. absurd (played_reply c.in_ok-played.played is);
-  connects = λ tells. opens_then _ _ _ _ (c.open.ensures.held (g.W.Clocked.server_with_files tells)) (c.play.ensures.goes_on.once tells);
+  connects = record {
+    at_first = λ tells. opens_then _ _ _ _ (c.open.ensures.held (g.W.Clocked.server_with_files tells)) (c.play.ensures.goes_on.once tells);
+    once = λ tells.
+        then_once (g.W.Clocked.link c.args.world.now) (g.W.Clocked.link c.open.new.disk) (g.W.Clocked.link c.play.new.world) c.open.ensures.link
+        (c.play.ensures.goes_on.one tells);
+  };
 }
 
 pub returns-clause-causes : goal.returns-clause-causes
@@ -197,4 +242,6 @@ returns-clause-causes g c = record {
   link_fault = λ is. absurd (played_link c.in_ok-played.played is);
   count = search rules;
   link_count = search rules;
+  disk_unfailed = λ other. c.in_ok-played.ensures.accuses.disk_unfailed (never_err _ _) ∙ c.in_ok-store.ensures.unfailed (never_err _ _);
+  link_unfailed = λ other. c.in_ok-played.ensures.accuses.link_unfailed (never_err _ _) ∙ ap (λ (s : LinkState). s.faults) c.open.ensures.link;
 }

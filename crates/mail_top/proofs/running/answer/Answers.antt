@@ -25,7 +25,8 @@ returns-in-Init-clause-goes g c tells = (
 
 pub returns-in-Init-clause-causes : goal.returns-in-Init-clause-causes
 returns-in-Init-clause-causes g c =
-    refused_causes g.W.Clocked _ _ _ _ c.ending_of_init.ensures.status c.init.ensures.cause c.init.ensures.count c.init.ensures.link
+    refused_causes g.W.Clocked _ _ _ _ c.ending_of_init.ensures.status c.init.ensures.cause c.init.ensures.unfailed c.init.ensures.count
+    c.init.ensures.link
 
 pub returns-in-Init-clause-reads : goal.returns-in-Init-clause-reads
 returns-in-Init-clause-reads g c =
@@ -41,7 +42,7 @@ returns-in-Init-clause-server g c =
       records = init_records _;
       goes = record { keeps = c.init.ensures.keeps tells; books = λ one books have. c.init.ensures.books tells one books have };
     })
-    (λ play. subst IsPlay c.in-Init.is play) (λ is. no_reply _ _ c.ending_of_init.ensures.status is)
+    c.init.ensures.link (λ play. subst IsPlay c.in-Init.is play) (λ is. no_reply _ _ c.ending_of_init.ensures.status is)
 
 pub returns-in-Init-clause-sides : goal.returns-in-Init-clause-sides
 returns-in-Init-clause-sides g c tells = record {
@@ -61,7 +62,8 @@ returns-in-Act-clause-goes g c tells =
 
 pub returns-in-Act-clause-causes : goal.returns-in-Act-clause-causes
 returns-in-Act-clause-causes g c =
-    refused_causes g.W.Clocked _ _ _ _ c.ending_of_action.ensures.status c.accept.ensures.cause c.accept.ensures.count c.accept.ensures.link
+    refused_causes g.W.Clocked _ _ _ _ c.ending_of_action.ensures.status c.accept.ensures.cause c.accept.ensures.unfailed c.accept.ensures.count
+    c.accept.ensures.link
 
 pub returns-in-Act-clause-reads : goal.returns-in-Act-clause-reads
 returns-in-Act-clause-reads g c = record {
@@ -89,7 +91,7 @@ returns-in-Act-clause-server g c =
       records = action_records _ (few_with _ went.0 (subst IsLawful c.in-Act.is c.requires));
       goes = went.2.goes;
     })
-    (λ play. subst IsPlay c.in-Act.is play) (λ is. no_reply _ _ c.ending_of_action.ensures.status is)
+    c.accept.ensures.link (λ play. subst IsPlay c.in-Act.is play) (λ is. no_reply _ _ c.ending_of_action.ensures.status is)
 
 pub returns-in-Act-clause-sides : goal.returns-in-Act-clause-sides
 returns-in-Act-clause-sides g c tells = record {
@@ -109,7 +111,8 @@ returns-in-Rows-clause-goes g c tells = (
 
 pub returns-in-Rows-clause-causes : goal.returns-in-Rows-clause-causes
 returns-in-Rows-clause-causes g c =
-    refused_causes g.W.Clocked _ _ _ _ c.ending_of_text.ensures.status c.list.ensures.cause c.list.ensures.count c.list.ensures.link
+    refused_causes g.W.Clocked _ _ _ _ c.ending_of_text.ensures.status c.list.ensures.cause c.list.ensures.unfailed c.list.ensures.count
+    c.list.ensures.link
 
 pub returns-in-Rows-clause-reads : goal.returns-in-Rows-clause-reads
 returns-in-Rows-clause-reads g c =
@@ -119,7 +122,7 @@ returns-in-Rows-clause-reads g c =
 pub returns-in-Rows-clause-server : goal.returns-in-Rows-clause-server
 returns-in-Rows-clause-server g c =
     apart g.W.Clocked (λ told. g.W.Clocked.server_with_files told) g.W.Disk.seen _ _ _ _ _
-    (λ tells. reads_apart _ (c.list.ensures.reads tells)) (λ play. subst IsPlay c.in-Rows.is play) (λ is. no_reply _ _ c.ending_of_text.ensures.status is)
+    (λ tells. reads_apart _ (c.list.ensures.reads tells)) c.list.ensures.link (λ play. subst IsPlay c.in-Rows.is play) (λ is. no_reply _ _ c.ending_of_text.ensures.status is)
 
 pub returns-in-Rows-clause-sides : goal.returns-in-Rows-clause-sides
 returns-in-Rows-clause-sides g c tells = record {
@@ -139,7 +142,8 @@ returns-in-Queue-clause-goes g c tells = (
 
 pub returns-in-Queue-clause-causes : goal.returns-in-Queue-clause-causes
 returns-in-Queue-clause-causes g c =
-    refused_causes g.W.Clocked _ _ _ _ c.ending_of_text-in-Queue.ensures.status c.show_book.ensures.cause c.show_book.ensures.count c.show_book.ensures.link
+    refused_causes g.W.Clocked _ _ _ _ c.ending_of_text-in-Queue.ensures.status c.show_book.ensures.cause c.show_book.ensures.unfailed c.show_book.ensures.count
+    c.show_book.ensures.link
 
 pub returns-in-Queue-clause-reads : goal.returns-in-Queue-clause-reads
 returns-in-Queue-clause-reads g c =
@@ -149,7 +153,7 @@ returns-in-Queue-clause-reads g c =
 pub returns-in-Queue-clause-server : goal.returns-in-Queue-clause-server
 returns-in-Queue-clause-server g c =
     apart g.W.Clocked (λ told. g.W.Clocked.server_with_files told) g.W.Disk.seen _ _ _ _ _
-    (λ tells. reads_apart _ (c.show_book.ensures.reads tells)) (λ play. subst IsPlay c.in-Queue.is play) (λ is. no_reply _ _ c.ending_of_text-in-Queue.ensures.status is)
+    (λ tells. reads_apart _ (c.show_book.ensures.reads tells)) c.show_book.ensures.link (λ play. subst IsPlay c.in-Queue.is play) (λ is. no_reply _ _ c.ending_of_text-in-Queue.ensures.status is)
 
 pub returns-in-Queue-clause-sides : goal.returns-in-Queue-clause-sides
 returns-in-Queue-clause-sides g c tells = record {
@@ -169,7 +173,8 @@ returns-in-Report-clause-goes g c tells = (
 
 pub returns-in-Report-clause-causes : goal.returns-in-Report-clause-causes
 returns-in-Report-clause-causes g c =
-    refused_causes g.W.Clocked _ _ _ _ c.ending_of_text-in-Report.ensures.status c.show_book-in-Report.ensures.cause c.show_book-in-Report.ensures.count c.show_book-in-Report.ensures.link
+    refused_causes g.W.Clocked _ _ _ _ c.ending_of_text-in-Report.ensures.status c.show_book-in-Report.ensures.cause c.show_book-in-Report.ensures.unfailed c.show_book-in-Report.ensures.count
+    c.show_book-in-Report.ensures.link
 
 pub returns-in-Report-clause-reads : goal.returns-in-Report-clause-reads
 returns-in-Report-clause-reads g c =
@@ -179,7 +184,7 @@ returns-in-Report-clause-reads g c =
 pub returns-in-Report-clause-server : goal.returns-in-Report-clause-server
 returns-in-Report-clause-server g c =
     apart g.W.Clocked (λ told. g.W.Clocked.server_with_files told) g.W.Disk.seen _ _ _ _ _
-    (λ tells. reads_apart _ (c.show_book-in-Report.ensures.reads tells)) (λ play. subst IsPlay c.in-Report.is play) (λ is. no_reply _ _ c.ending_of_text-in-Report.ensures.status is)
+    (λ tells. reads_apart _ (c.show_book-in-Report.ensures.reads tells)) c.show_book-in-Report.ensures.link (λ play. subst IsPlay c.in-Report.is play) (λ is. no_reply _ _ c.ending_of_text-in-Report.ensures.status is)
 
 pub returns-in-Report-clause-sides : goal.returns-in-Report-clause-sides
 returns-in-Report-clause-sides g c tells = record {

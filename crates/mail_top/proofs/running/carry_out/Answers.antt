@@ -49,7 +49,7 @@ returns-in-None-clause-server g c = record {
   serves = λ play. absurd (c.in-None.ensures.none refl [] Play play);
   faultless = λ f is. words_not_reply _ c.ending_of_words.ensures.status is;
   honest = λ tells is. absurd (words_not_reply _ c.ending_of_words.ensures.status is);
-  connects = λ tells. nothing_made _;
+  connects = record { at_first = λ tells. nothing_made _; once = λ tells. inl refl };
 }
 
 pub returns-in-None-clause-sides : goal.returns-in-None-clause-sides

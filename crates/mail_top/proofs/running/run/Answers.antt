@@ -31,6 +31,10 @@ returns-clause-causes g c =
       link_fault = λ is. causes.link_fault (said_link _ _ c.say.ensures.status is);
       count = causes.count;
       link_count = causes.link_count;
+      disk_unfailed = λ other.
+          causes.disk_unfailed (λ is. other (ended_so status.Disk _ _ (λ e. cc e) (λ e. cc e) c.say.ensures.status is));
+      link_unfailed = λ other.
+          causes.link_unfailed (λ is. other (ended_so status.Link _ _ (λ e. cc e) (λ e. cc e) c.say.ensures.status is));
     }
 
 pub returns-clause-sink : goal.returns-clause-sink
@@ -108,7 +112,7 @@ pub returns-clause-faultless : goal.returns-clause-faultless
 returns-clause-faultless g c fairly is = c.carry_out-ending.ensures.server.faultless fairly (said_reply _ _ c.say.ensures.status is)
 
 pub returns-clause-connects : goal.returns-clause-connects
-returns-clause-connects g c tells = c.carry_out-ending.ensures.server.connects tells
+returns-clause-connects g c = c.carry_out-ending.ensures.server.connects
 
 pub returns-clause-spares : goal.returns-clause-spares
 returns-clause-spares g c never = record {

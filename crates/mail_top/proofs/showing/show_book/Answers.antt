@@ -1,5 +1,5 @@
 use Rattle.journal_core.proofs.HeldBodies.{narrowed}
-use Rattle.mail_top.proofs.Openings.{never_err, opened_stays, store_disk}
+use Rattle.mail_top.proofs.Openings.{never_err, opened_stays, store_disk, store_failed}
 use Rattle.mail_top.proofs.Showings.{memory_showing, reading_refusal, shown_showing, unopened_showing}
 use Rattle.mail_top.proofs.showing.show_book.Goals as goal
 
@@ -22,6 +22,16 @@ returns-in_err-store-clause-only g c refusal is =
 
 pub returns-in_err-store-clause-cause : goal.returns-in_err-store-clause-cause
 returns-in_err-store-clause-cause g c is = c.open.ensures.cause (store_disk _ _ _ c.in_err-store.was c.from_residual.ensures.1 is)
+
+pub returns-in_err-store-clause-unfailed : goal.returns-in_err-store-clause-unfailed
+returns-in_err-store-clause-unfailed g c other =
+    c.open.ensures.unfailed (λ is. other (store_failed _ _ _ c.in_err-store.was c.from_residual.ensures.1 is))
+
+pub returns-in_err-shown-clause-unfailed : goal.returns-in_err-shown-clause-unfailed
+returns-in_err-shown-clause-unfailed g c other = c.in_ok-store.ensures.unfailed (never_err _ _)
+
+pub returns-clause-unfailed : goal.returns-clause-unfailed
+returns-clause-unfailed g c other = c.in_ok-store.ensures.unfailed (never_err _ _)
 
 pub returns-in_err-shown-clause-ends : goal.returns-in_err-shown-clause-ends
 returns-in_err-shown-clause-ends g c tells =

@@ -1,5 +1,5 @@
 -- What the trait says of content holds, since nothing of it is told.
-use Rattle.std.proofs.Common.{ap}
+use Rattle.std.proofs.Common.{ap, rules}
 use Rattle.world_traits.specs.LinkState.{failed_link}
 use Rattle.world_real.proofs.real_world.RealWorldDisk.TheImpl.Goals as goal
 
@@ -10,6 +10,7 @@ length-tells g c = record {
   count = c.ensures.count;
   link = ap failed_link c.ensures.link;
   cause = c.ensures.cause;
+  unfailed = search rules;
 }
 
 pub read-tells : goal.read-tells
@@ -21,6 +22,7 @@ read-tells g c = record {
   count = c.ensures.count;
   link = ap failed_link c.ensures.link;
   cause = c.ensures.cause;
+  unfailed = search rules;
 }
 
 pub write_at-tells : goal.write_at-tells
@@ -29,6 +31,7 @@ write_at-tells g c = record {
   count = c.ensures.count;
   link = ap failed_link c.ensures.link;
   cause = c.ensures.cause;
+  unfailed = search rules;
 }
 
 pub sync-tells : goal.sync-tells
@@ -37,4 +40,5 @@ sync-tells g c = record {
   count = c.ensures.count;
   link = ap failed_link c.ensures.link;
   cause = c.ensures.cause;
+  unfailed = search rules;
 }

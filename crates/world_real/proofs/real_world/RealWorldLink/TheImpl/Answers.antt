@@ -1,5 +1,5 @@
 -- What the trait says of content and of a server holds, since nothing of them is told.
-use Rattle.std.proofs.Common.{ap}
+use Rattle.std.proofs.Common.{ap, rules}
 use Rattle.world_real.specs.Faults.{Faults}
 use Rattle.world_real.proofs.real_world.RealWorldLink.TheImpl.Goals as goal
 
@@ -12,10 +12,13 @@ connect-tells g c = record {
   anew = λ tells. absurd tells;
   greets = λ tells. absurd tells;
   sent = λ tells. absurd tells;
+  earlier = λ tells. absurd tells;
   unsent = λ tells. absurd tells;
+  unmade = λ tells. absurd tells;
   lost = λ tells. absurd tells;
   count = c.ensures.count;
   cause = c.ensures.cause;
+  unfailed = search rules;
 }
 
 pub send-tells : goal.send-tells
@@ -25,10 +28,12 @@ send-tells g c = record {
   told = λ tells. absurd tells;
   sent = λ tells. absurd tells;
   front = λ tells. absurd tells;
+  earlier = λ tells. absurd tells;
   received = λ tells. absurd tells;
   lost = λ tells. absurd tells;
   count = c.ensures.count;
   cause = c.ensures.cause;
+  unfailed = search rules;
 }
 
 pub recv-tells : goal.recv-tells
@@ -40,9 +45,11 @@ recv-tells g c = record {
   told = λ tells. absurd tells;
   received = λ tells. absurd tells;
   sent = λ tells. absurd tells;
+  earlier = λ tells. absurd tells;
   lost = λ tells. absurd tells;
   count = c.ensures.count;
   cause = c.ensures.cause;
+  unfailed = search rules;
 }
 
 pub close-tells : goal.close-tells
@@ -52,5 +59,6 @@ close-tells g c = record {
   told = λ tells. absurd tells;
   ended = λ tells. absurd tells;
   sent = λ tells. absurd tells;
+  earlier = λ tells. absurd tells;
   count = ap (λ (f : Faults). f.link) c.ensures.same;
 }
