@@ -78,5 +78,6 @@ pub fn status_text(status: Status) -> &'static str {
         Status::Output => "output",
         Status::Input => "input",
         Status::Limit => "limit",
+        Status::Shelf => "shelf",
     }
 }

@@ -9,7 +9,7 @@ ghost use Rattle.store_core.specs.declared.fault.StoreFault.TheVariants as fault
 ghost use Rattle.mail_bench.specs.Settled.{HasSettled, left_alone};
 ghost use Rattle.mail_bench.specs.Names.{name_of_part};
 
-use action_queue::MAX_ACTIONS;
+use mail_base::MAX_ACTIONS;
 use std::alloc::{AllocError, Global};
 use store_core::{Store, StoreFault};
 use world_traits::MemDisk;

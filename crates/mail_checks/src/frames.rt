@@ -13,6 +13,7 @@ const SHORT: usize = 1000;
 pub fn answers(call: &str, input: &mut Input, answer: &mut Answer) -> Result<bool, CaseFault> {
     let done = match call {
         "feed" => put_feed(input, answer),
+        "held" => put_held(input, answer),
         "pieces" => put_pieces(input, answer),
         _ => return Ok(false),
     };
@@ -154,6 +155,19 @@ fn put_pieces(input: &mut Input, answer: &mut Answer) -> Result<(), CaseFault> {
         }
     }
     Ok(())
+}
+
+// How many bytes are kept once each frame of the pieces was taken.
+fn put_held(input: &mut Input, answer: &mut Answer) -> Result<(), CaseFault> {
+    let mut feed = Feed::new(input.alloc);
+    for _ in 0..input.len() {
+        let piece = input.text()?;
+        if feed.push(piece).is_err() {
+            return Err(CaseFault::WrongInput);
+        }
+        taken(input.alloc, &mut feed, piece.len())?;
+    }
+    answer.number(feed.held())
 }
 
 // A frame's place, its bytes or how many they are, and its literals.

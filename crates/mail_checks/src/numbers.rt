@@ -120,6 +120,7 @@ fn put_status(input: &mut Input, answer: &mut Answer) -> Result<(), CaseFault> {
         "done" => Status::Done,
         "conflicts" => Status::Conflicts,
         "limit" => Status::Limit,
+        "shelf" => Status::Shelf,
         _ => return Err(CaseFault::WrongInput),
     };
     answer.number(u64::from(status.code()))
@@ -128,6 +129,7 @@ fn put_status(input: &mut Input, answer: &mut Answer) -> Result<(), CaseFault> {
 fn put_action(input: &mut Input, answer: &mut Answer) -> Result<(), CaseFault> {
     let tag = match input.word()? {
         "play" => Tag::Play(input.short()?),
+        "again" => again_of(input)?,
         "count" => Tag::Count(input.short()?),
         "strange" => Tag::Strange,
         _ => return Err(CaseFault::WrongInput),
@@ -135,6 +137,17 @@ fn put_action(input: &mut Input, answer: &mut Answer) -> Result<(), CaseFault> {
     match tag.action() {
         Some(number) => answer.number(u64::from(number)),
         None => answer.word("none"),
+    }
+}
+
+// The tag of a try of an action, behind so many that were withdrawn.
+fn again_of(input: &mut Input) -> Result<Tag, CaseFault> {
+    let id = input.short()?;
+    match input.short()? {
+        0 => Ok(Tag::of_try(id, 0)),
+        1 => Ok(Tag::of_try(id, 1)),
+        2 => Ok(Tag::of_try(id, 2)),
+        _ => Err(CaseFault::WrongInput),
     }
 }
 

@@ -63,6 +63,7 @@ fn limit_of(limit: Limit) -> &'static str {
         | Limit::Reply
         | Limit::Rows
         | Limit::Journal
-        | Limit::Actions => "another limit",
+        | Limit::Actions
+        | Limit::Generation => "another limit",
     }
 }

@@ -140,6 +140,7 @@ ends_as task status.Reason world text ends = absurd ends
 ends_as task status.Memory world text ends = absurd ends
 ends_as task status.Output world text ends = absurd ends
 ends_as task status.Input world text ends = absurd ends
+ends_as task status.Shelf world text ends = absurd ends
 
 -- at 0 the line is so, and at 14 a limit was passed
 pub ends_done : (task : Task) (s : Status) (world : MemWorld) (text : List ℕ) → s ≡ status.Done → EndsBy task s world text → IsDrilled task world text

@@ -12,6 +12,7 @@ use Rattle.server_mem.specs.Offers.{atoms}
 use Rattle.server_mem.specs.States.{State, disconnected, fresh}
 use Rattle.world_mem.specs.Planned.{unbegun}
 use Rattle.world_mem.specs.Running.{Run, start}
+use Rattle.world_mem.specs.Tally.{IsUncalled}
 use Rattle.world_mem.specs.Worlds.{planned_of, run_in}
 use Rattle.world_mem.specs.declared.mem_world.MemWorld.{MemWorld}
 use Rattle.world_mem.specs.declared.plan.Plan.{Plan}
@@ -77,9 +78,9 @@ same_run left right server boxes offers none_left none_right is =
 -- so is the one that is made of two empty files and of a server of these mailboxes, if one is made
 pub new_world : {E : Type 0} (r : Result MemWorld E) (size : ℕ) (left right : List ℕ) (server : State) (boxes : List Mailbox)
     (offers : List (List ℕ)) (plan : Plan) → IfOk r (λ world. run_in world ≡ start (record { left = left; right = right }) (disconnected server) None) →
-    IfOk r (λ world. planned_of world ≡ unbegun plan) → left ≡ [] → right ≡ [] → server ≡ fresh boxes (atoms offers) → plan ≡ nothing_fails →
+    IfOk r (IsUncalled plan) → left ≡ [] → right ≡ [] → server ≡ fresh boxes (atoms offers) → plan ≡ nothing_fails →
     IsWellFormed boxes → boxes ≡ boxes_at_first size → offers ≡ offers_at_first → IfOk r (IsNew size)
-new_world (Ok world) size left right server boxes offers plan run planned none_left none_right is quiet well boxes_are offers_are =
+new_world (Ok world) size left right server boxes offers plan run uncalled none_left none_right is quiet well boxes_are offers_are =
     is_new size world boxes (atoms offers) (run ∙ same_run left right server boxes (atoms offers) none_left none_right is)
-    (planned ∙ ap (λ (p : Plan). unbegun p) quiet) well boxes_are (ap (λ (l : List (List ℕ)). atoms l) offers_are)
-new_world (Err fault) size left right server boxes offers plan run planned none_left none_right is quiet well boxes_are offers_are = tt
+    (uncalled.plan ∙ ap (λ (p : Plan). unbegun p) quiet) well boxes_are (ap (λ (l : List (List ℕ)). atoms l) offers_are)
+new_world (Err fault) size left right server boxes offers plan run uncalled none_left none_right is quiet well boxes_are offers_are = tt

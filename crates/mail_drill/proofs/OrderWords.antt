@@ -5,6 +5,7 @@ use Rattle.std.specs.List.{list_all}
 use Rattle.std.proofs.lemmas.Bool.{and_parts}
 use Rattle.std.proofs.lemmas.Bool.Decides.{nat_tests}
 use Rattle.std.proofs.lemmas.List.Elements.{All-cons, All-nil}
+use Rattle.mail_base.specs.Arguments.{WritesBox}
 use Rattle.mail_base.specs.BoxName.{IsNameByte}
 use Rattle.mail_header.specs.BareLf.{crlf_of}
 use Rattle.mail_header.specs.Identifier.{HasMessageId, PlacedBody, id_of}
@@ -15,7 +16,7 @@ use Rattle.action_queue.specs.declared.target.Target.{Target}
 use Rattle.action_queue.specs.declared.target.Target.TheVariants as targets
 use Rattle.local_view.specs.declared.seen.Ident.TheVariants as ident
 use Rattle.mail_top.specs.Actions.{Becomes, keys_of, target_in, target_of}
-use Rattle.mail_top.specs.Words.{AsksAction, WritesBox, WritesIdent}
+use Rattle.mail_top.specs.Words.{AsksAction, WritesIdent}
 use Rattle.mail_drill.proofs.Messages.{message_id, message_kept}
 use Rattle.mail_drill.specs.Answering.{IsNumbered}
 use Rattle.mail_drill.specs.Asked.{action_of, identifier, wanted_of}

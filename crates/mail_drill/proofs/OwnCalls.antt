@@ -13,21 +13,23 @@ use Rattle.world_traits.specs.LinkState.{Connection}
 use Rattle.world_traits.specs.Moments.{Clock, Moment, tick, with_stored}
 use Rattle.world_traits.specs.declared.disk.Side.{Side}
 use Rattle.world_traits.specs.declared.disk.Side.TheVariants.{Left, Right}
+use Rattle.world_mem.specs.Connecting.{Connects}
+use Rattle.world_mem.specs.Downed.{Downed}
 use Rattle.world_mem.specs.Heard.{HearsBytes}
 use Rattle.world_mem.specs.Losing.{Loses}
 use Rattle.world_mem.specs.Others.{changes}
 use Rattle.world_mem.specs.Planned.{Planned, IsStopped, next_link}
 use Rattle.world_mem.specs.Restarting.{goes_on_from, left_of}
 use Rattle.world_mem.specs.Running.{Run, step}
-use Rattle.world_mem.specs.Worlds.{EntersSome, FailsExactly, LinkIsToFail, Refuses, connection_at, course_of, entered, loss_by, planned_of}
-use Rattle.world_mem.specs.Worlds.{refused_of, run_in, server_of, served_by}
+use Rattle.world_mem.specs.Worlds.{EntersSome, EntersSomeAnew, FailsExactly, LinkIsToFail, Refuses, connection_at, course_of, entered}
+use Rattle.world_mem.specs.Worlds.{entered_anew, loss_by, planned_of, refused_of, run_in, server_of, served_by, used_anew, used_in}
 use Rattle.world_mem.specs.declared.did.Did.TheVariants as did
 use Rattle.world_mem.specs.declared.did.Held.{Held}
 use Rattle.world_mem.specs.declared.mem_world.MemWorld.{MemWorld}
 use Rattle.world_mem.specs.declared.plan.Loss.{Loss}
 use Rattle.mail_drill.specs.Alone.{are_own, is_alone, is_own_at}
 use Rattle.mail_drill.proofs.OwnTurns.{both_true}
-use Rattle.mail_drill.proofs.OwnRuns.{IsOwnRun, own_now, bytes_own, greeted_own, loses_own, settled_own}
+use Rattle.mail_drill.proofs.OwnRuns.{IsOwnRun, own_now, bytes_own, ended_own, greeted_own, loses_own, settled_own}
 
 -- an equation of truth values is stable
 stable : (b : Bool) → ((b ≡ false) → ⊥) → b ≡ true
@@ -63,7 +65,13 @@ still_alone false false old new tells alone keeps = keeps (tells refl).1 (own_wo
 module _ (old new : MemWorld) (quiet : (planned_of new).plan.foreign ≡ []) (own : IsOwnRun (run_in old)) where
   -- a call of the link begins, and nobody changes anything
   own_entered : IsOwnRun (entered old new)
-  own_entered = subst (λ (fs : List (ℕ × List ℕ × Change)). IsOwnRun (changes fs (planned_of new).link (run_in old))) (sym quiet) own
+  own_entered = subst (λ (fs : List (ℕ × List ℕ × Change)). IsOwnRun (changes fs (planned_of new).link (used_in old) (run_in old))) (sym quiet) own
+
+  -- and so as a connection is made, behind the end of the old one
+  own_anew : IsOwnRun (entered_anew old new)
+  own_anew =
+      subst (λ (fs : List (ℕ × List ℕ × Change)). IsOwnRun (changes fs (planned_of new).link (used_anew old) (step did.Ended (run_in old)))) (sym quiet)
+      (ended_own (run_in old) own)
 
 module _ (old new : MemWorld) (own : IsOwnRun (run_in old)) where
   -- a call that does nothing
@@ -96,19 +104,19 @@ module _ (old new : MemWorld) (quiet : (planned_of new).plan.foreign ≡ []) (no
   begun_alone (inl is) = ran new (entered old new) (own_entered old new quiet own) is
   begun_alone (inr some) = absurd (none_counted (refused_of old) (refused_of new) none some.1)
 
+  -- so it is where a connection was to be made
+  begun_anew : (run_in new ≡ entered_anew old new) ⊎ (EntersSomeAnew old new × Refuses old new) → is_alone (run_in new).clock ≡ true
+  begun_anew (inl is) = ran new (entered_anew old new) (own_anew old new quiet own) is
+  begun_anew (inr some) = absurd (none_counted (refused_of old) (refused_of new) none some.1)
+
   -- a connection begins: what waits is carried out before it, or dropped
-  greets : (h : Option Held) → (run_in old).held ≡ h →
-      ((run_in old).held ≡ None → run_in new ≡ step did.Greeted (entered old new)) →
-      ((held : Held) → (run_in old).held ≡ Some held → held.carried ≡ false → run_in new ≡ step did.Greeted (entered old new)) →
-      ((held : Held) → (run_in old).held ≡ Some held → held.carried ≡ true →
-      run_in new ≡ step did.Greeted (step did.Settled (entered old new))) →
-      is_alone (run_in new).clock ≡ true
-  greets None is free dropped carried = ran new _ (greeted_own _ (own_entered old new quiet own)) (free is)
-  greets (Some held) is free dropped carried = settles held.carried refl
+  greets : (h : Option Held) → (run_in old).held ≡ h → Connects old new → is_alone (run_in new).clock ≡ true
+  greets None is connects = ran new _ (greeted_own _ (own_anew old new quiet own)) (connects.free is)
+  greets (Some held) is connects = settles held.carried refl
     where
       settles : (b : Bool) → held.carried ≡ b → is_alone (run_in new).clock ≡ true
-      settles false same = ran new _ (greeted_own _ (own_entered old new quiet own)) (dropped held is same)
-      settles true same = ran new _ (greeted_own _ (settled_own _ (own_entered old new quiet own))) (carried held is same)
+      settles false same = ran new _ (greeted_own _ (own_anew old new quiet own)) (connects.dropped held is same)
+      settles true same = ran new _ (greeted_own _ (settled_own _ (own_anew old new quiet own))) (connects.carried held is same)
 
   -- a call that no loss is planned for fails only where a growth is refused
   lost : loss_by new ≡ None → (IsStopped (planned_of new) → ⊥) → ((LinkIsToFail (planned_of new) → ⊥) → Refuses old new) → ⊥
@@ -123,42 +131,37 @@ module _ (old new : MemWorld) (quiet : (planned_of new).plan.foreign ≡ []) (no
   loses_alone loss bytes (inr refuses) = absurd (none_counted (refused_of old) (refused_of new) none refuses)
 
   -- so `connect` keeps it, by what it promises
-  pub connect_alone : {T E : Type 0} (result : Result T E) →
-      ((run_in old).held ≡ None → OnOk result (run_in new ≡ step did.Greeted (entered old new))) →
-      ((held : Held) → (run_in old).held ≡ Some held → held.carried ≡ false →
-      OnOk result (run_in new ≡ step did.Greeted (entered old new))) →
-      ((held : Held) → (run_in old).held ≡ Some held → held.carried ≡ true →
-      OnOk result (run_in new ≡ step did.Greeted (step did.Settled (entered old new)))) →
+  pub connect_alone : {T E : Type 0} (result : Result T E) → OnOk result (Connects old new) →
       ((IsStopped (planned_of new) → ⊥) → (loss : Loss) → loss_by new ≡ Some loss →
-      (run_in new ≡ entered old new) ⊎ (EntersSome old new × Refuses old new)) →
+      (run_in new ≡ entered_anew old new) ⊎ (EntersSomeAnew old new × Refuses old new)) →
       FailsExactly (LinkIsToFail (planned_of new)) result (refused_of old) (refused_of new) →
       (IsStopped (planned_of new) → run_in new ≡ run_in old) →
       is_alone (run_in new).clock ≡ true
-  connect_alone (Ok x) free dropped carried loses exact stopped = greets (run_in old).held refl free dropped carried
-  connect_alone (Err e) free dropped carried loses exact stopped = unless_stopped old new own stopped (λ runs. by_loss runs (loss_by new) refl)
+  connect_alone (Ok x) connects loses exact stopped = greets (run_in old).held refl connects
+  connect_alone (Err e) connects loses exact stopped = unless_stopped old new own stopped (λ runs. by_loss runs (loss_by new) refl)
     where
       by_loss : (IsStopped (planned_of new) → ⊥) → (l : Option Loss) → loss_by new ≡ l → is_alone (run_in new).clock ≡ true
       by_loss runs None is = absurd (lost is runs exact.others)
-      by_loss runs (Some loss) is = begun_alone (loses runs loss is)
+      by_loss runs (Some loss) is = begun_anew (loses runs loss is)
 
   -- `send`
   pub send_alone : {T E : Type 0} (result : Result T E) (bytes : List ℕ) →
       OnOk result (HearsBytes bytes (served_by old (entered old new)) (entered old new) (server_of new) (run_in new)) →
       ((IsStopped (planned_of new) → ⊥) → (connection_at old ≡ None → ⊥) → (loss : Loss) → loss_by new ≡ Some loss →
-      Loses loss bytes (served_by old (entered old new)) (entered old new) (run_in new) ⊎ Refuses old new) →
+      Downed loss bytes old new) →
       ((IsStopped (planned_of new) → ⊥) → connection_at old ≡ None →
       ((run_in new ≡ entered old new) × (refused_of new ≡ refused_of old)) ⊎ (EntersSome old new × Refuses old new)) →
       FailsExactly (LinkIsToFail (planned_of new) ⊎ (connection_at old ≡ None)) result (refused_of old) (refused_of new) →
       (IsStopped (planned_of new) → run_in new ≡ run_in old) →
       is_alone (run_in new).clock ≡ true
-  send_alone (Ok x) bytes hears loses unheard exact stopped =
+  send_alone (Ok x) bytes hears downed unheard exact stopped =
       (bytes_own bytes (served_by old (entered old new)) (entered old new) (server_of new) (run_in new) hears (own_entered old new quiet own)).moments
-  send_alone (Err e) bytes hears loses unheard exact stopped = unless_stopped old new own stopped (λ runs. by_link runs (connection_at old) refl)
+  send_alone (Err e) bytes hears downed unheard exact stopped = unless_stopped old new own stopped (λ runs. by_link runs (connection_at old) refl)
     where
       by_loss : (IsStopped (planned_of new) → ⊥) → (connection_at old ≡ None → ⊥) → (l : Option Loss) → loss_by new ≡ l →
           is_alone (run_in new).clock ≡ true
       by_loss runs there None is = absurd (lost is runs (λ why. exact.others (⊎_elim why there)))
-      by_loss runs there (Some loss) is = loses_alone loss bytes (loses runs there loss is)
+      by_loss runs there (Some loss) is = loses_alone loss bytes (downed runs there loss is).loses
 
       by_link : (IsStopped (planned_of new) → ⊥) → (c : Option Connection) → connection_at old ≡ c → is_alone (run_in new).clock ≡ true
       by_link runs None is = begun_alone (not_refused (unheard runs is))

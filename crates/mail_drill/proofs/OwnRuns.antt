@@ -61,6 +61,10 @@ heard_own part a r own =
 began_own : (r : Run) → IsOwnRun r → IsOwnRun (step did.Began r)
 began_own r own = record { moments = both_true _ _ (own_now r.clock own.moments) own.moments; state = own.state }
 
+-- a connection comes to its end
+pub ended_own : (r : Run) → IsOwnRun r → IsOwnRun (step did.Ended r)
+ended_own r own = record { moments = both_true _ _ (own_now r.clock own.moments) own.moments; state = own.state }
+
 -- a connection begins
 pub greeted_own : (r : Run) → IsOwnRun r → IsOwnRun (step did.Greeted r)
 greeted_own r own = record { moments = both_true _ _ (own_now r.clock own.moments) own.moments; state = own.state }

@@ -2,12 +2,15 @@
 use Rattle.std.proofs.Common.{◌≡◌, ℕ, Bool, true, false, ◌&&◌, List, [], ◌∷◌, ◌++◌, Option, Some, None, is_some, refl, if◌then◌else◌}
 use Rattle.std.specs.Prelude.{nat_lt}
 use Rattle.std.proofs.lemmas.Bool.{and_parts}
+use Rattle.flag_set.specs.FlagSet.{has}
 use Rattle.imap_model.specs.CarriedOut.{only}
+use Rattle.imap_model.specs.Carrying.{deleted}
 use Rattle.imap_model.specs.Changes.{deed_of}
 use Rattle.imap_model.specs.Lawful.{broken_rule}
 use Rattle.imap_model.specs.Lookups.{box_at, message_at, validity_of}
 use Rattle.imap_model.specs.PlainChanges.{changed, with_change}
-use Rattle.imap_model.specs.PlainServer.{Choices, Turn, accepted, answered, append_turn, change_turn, coded, copied_code, denied, is_closed}
+use Rattle.imap_model.specs.PlainServer.{Choices, Turn, accepted, answered, append_turn, change_turn, coded, copied_code, copy_in, copy_message}
+use Rattle.imap_model.specs.PlainServer.{copy_turn, denied, expunge_in, expunge_message, expunge_turn, is_closed}
 use Rattle.imap_model.specs.PlainServer.{move_in, move_message, move_turn, question_turn, row_in, select_turn, store_in, store_message}
 use Rattle.imap_model.specs.PlainServer.{store_turn, stored_flags, turn_of}
 use Rattle.imap_model.specs.Remarks.{selected_box}
@@ -96,6 +99,35 @@ module _ (s : Server) (own : are_own s.history ≡ true) where
   move_own None tag uid to = own
   move_own (Some name) tag uid to = move_in_own name tag uid to (box_at name s.boxes) (box_at to s.boxes)
 
+  copy_message_own : (name : List ℕ) (tag : Tag) (uid : ℕ) (to : List ℕ) (target : Mailbox) (m : Option Message) →
+      IsOwnTurn (copy_message name tag uid to s target m)
+  copy_message_own name tag uid to target None = own
+  copy_message_own name tag uid to target (Some m) =
+      change_own (Some name) tag to (changes.Add m.flags m.text target.uidnext) (λ t. accepted [] (copied_code uid to target.uidnext t))
+
+  copy_in_own : (name : List ℕ) (tag : Tag) (uid : ℕ) (to : List ℕ) (box target : Option Mailbox) → IsOwnTurn (copy_in name tag uid to s box target)
+  copy_in_own name tag uid to None target = own
+  copy_in_own name tag uid to (Some b) None = own
+  copy_in_own name tag uid to (Some b) (Some target) = copy_message_own name tag uid to target (message_at uid b.messages)
+
+  copy_own : (selected : Option (List ℕ)) (tag : Tag) (uid : ℕ) (to : List ℕ) → IsOwnTurn (copy_turn selected tag uid to s)
+  copy_own None tag uid to = own
+  copy_own (Some name) tag uid to = copy_in_own name tag uid to (box_at name s.boxes) (box_at to s.boxes)
+
+  expunge_message_own : (name : List ℕ) (tag : Tag) (uid : ℕ) (m : Option Message) → IsOwnTurn (expunge_message name tag uid s m)
+  expunge_message_own name tag uid None = own
+  expunge_message_own name tag uid (Some m) =
+      either (has m.flags deleted) _ _
+      (change_own (Some name) tag name (changes.Drop uid) (λ t. accepted (responses.Vanished false (only uid) ∷ []) codings.None)) own
+
+  expunge_in_own : (name : List ℕ) (tag : Tag) (uid : ℕ) (box : Option Mailbox) → IsOwnTurn (expunge_in name tag uid s box)
+  expunge_in_own name tag uid None = own
+  expunge_in_own name tag uid (Some b) = expunge_message_own name tag uid (message_at uid b.messages)
+
+  expunge_own : (selected : Option (List ℕ)) (tag : Tag) (uid : ℕ) → IsOwnTurn (expunge_turn selected tag uid s)
+  expunge_own None tag uid = own
+  expunge_own (Some name) tag uid = expunge_in_own name tag uid (box_at name s.boxes)
+
   append_own : (selected : Option (List ℕ)) (tag : Tag) (to : List ℕ) (flags : List (List ℕ)) (text : List ℕ) (box : Option Mailbox) →
       IsOwnTurn (append_turn selected tag to flags text s box)
   append_own selected tag to flags text None = own
@@ -113,8 +145,11 @@ module _ (s : Server) (own : are_own s.history ≡ true) where
   turn_own c selected tag (commands.FetchRow uid) = question_own selected _ (selected_box selected s.boxes)
   turn_own c selected tag (commands.Search from id) = question_own selected _ (selected_box selected s.boxes)
   turn_own c selected tag (commands.FetchIds uids) = question_own selected _ (selected_box selected s.boxes)
+  turn_own c selected tag (commands.FetchText uid) = question_own selected _ (selected_box selected s.boxes)
   turn_own c selected tag (commands.Store uid since add flags) = store_own selected tag uid since add flags
   turn_own c selected tag (commands.Shift uid to) = move_own selected tag uid to
+  turn_own c selected tag (commands.Copy uid to) = copy_own selected tag uid to
+  turn_own c selected tag (commands.Expunge uid) = expunge_own selected tag uid
   turn_own c selected tag (commands.Append to flags text) =
       either (is_closed c.closed to) _ _ own (append_own selected tag to flags text (box_at to s.boxes))
   turn_own c selected tag commands.Logout = own

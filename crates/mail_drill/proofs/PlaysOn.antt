@@ -74,6 +74,7 @@ module _ (b : Meaning) (account : Credentials) (k : Course) (playing : IsPlaying
   play_leaves status.Words text says = absurd says
   play_leaves status.Reason text says = absurd says
   play_leaves status.Input text says = absurd says
+  play_leaves status.Shelf text says = absurd says
 
 -- the words ask for a play, and for nothing else
 ends_play : (account : Credentials) (words : List (List ℕ)) (input : List ℕ) (k : Course) (s : Status) (text : List ℕ) → WritesPlay words →

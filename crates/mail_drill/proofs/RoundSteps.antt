@@ -128,6 +128,11 @@ ended_or_not status.Input = inr neither
     neither : CameToItsEnd status.Input → ⊥
     neither (inl is) = absurd cc
     neither (inr is) = absurd cc
+ended_or_not status.Shelf = inr neither
+  where
+    neither : CameToItsEnd status.Shelf → ⊥
+    neither (inl is) = absurd cc
+    neither (inr is) = absurd cc
 
 -- A call of a play, and how its round ends by the status.
 module _ (account : Credentials) (words : List (List ℕ)) (input : List ℕ) (old new : QuietWorld) (s : Status) (are : words ≡ play_words) (none : input ≡ [])

@@ -66,12 +66,19 @@ module _ (selected : Option (List ℕ)) (tag : Tag) (s t : Server) (empty : t.hi
   accepted_shows (commands.FetchRow uid) same = same
   accepted_shows (commands.Search from id) same = same
   accepted_shows (commands.FetchIds uids) same = same
+  accepted_shows (commands.FetchText uid) same = same
   accepted_shows (commands.Store uid since add flags) (inl e) =
       absurd (change_shows s.boxes (Ours tag) e.found.name (changes.SetFlags uid e.flags) s t e.becomes empty)
   accepted_shows (commands.Store uid since add flags) (inr e) = e.stays
   accepted_shows (commands.Shift uid to) (inl e) =
       absurd (change_shows s.boxes (Ours tag) e.found.name (changes.Shift uid to e.received) s t e.becomes empty)
   accepted_shows (commands.Shift uid to) (inr e) = e.stays
+  accepted_shows (commands.Copy uid to) (inl e) =
+      absurd (change_shows s.boxes (Ours tag) to (changes.Add e.found.message.flags e.found.message.text e.received) s t e.becomes empty)
+  accepted_shows (commands.Copy uid to) (inr e) = e.stays
+  accepted_shows (commands.Expunge uid) (inl e) =
+      absurd (change_shows s.boxes (Ours tag) e.is.found.name (changes.Drop uid) s t e.becomes empty)
+  accepted_shows (commands.Expunge uid) (inr e) = e.stays
   accepted_shows (commands.Append to flags text) e = absurd (change_shows s.boxes (Ours tag) to (changes.Add flags text e.uid) s t e.becomes empty)
   accepted_shows commands.Logout same = same
 

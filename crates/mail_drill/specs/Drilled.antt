@@ -68,3 +68,4 @@ EndsBy task status.Reason world text = ⊥
 EndsBy task status.Memory world text = ⊥
 EndsBy task status.Output world text = ⊥
 EndsBy task status.Input world text = ⊥
+EndsBy task status.Shelf world text = ⊥

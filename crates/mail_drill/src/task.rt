@@ -1,11 +1,10 @@
 //! What a drill is asked for.
 
-ghost use Rattle.std.specs.Prelude.{◌≡◌, ◌<◌, ◌^◌, ◌↔◌, IsTrue, IsNone, IfSome, decimal, map, string_bytes};
+ghost use Rattle.std.specs.Prelude.{IsNone, IfSome, map, string_bytes};
 ghost use Rattle.mail_drill.specs.Tasks.{WritesTask};
 ghost use Rattle.mail_drill.specs.declared.task.Task.{Task as AnyTask};
 
-use itoa::Buffer;
-use mail_base::read_u32;
+use mail_base::number_of;
 
 /// The most messages of a drill.
 pub const MAX_SIZE: u32 = 2_000;
@@ -33,27 +32,4 @@ pub fn task_of(words: &[String]) -> Option<Task>
         return None;
     }
     Some(Task { seed, size })
-}
-
-// The number below 2^32 that a text writes, without leading zeros.
-fn number_of(text: &str) -> Option<u32>
-    ensures some { IfSome result (λ number. text.now ≡ decimal number) }
-    ensures none { IsNone result → (number : _) → number < 2 ^ 32 → text.now ≡ decimal number → ⊥ }
-{
-    let Ok(number) = read_u32(text.as_bytes()) else {
-        return None;
-    };
-    if is_decimal(text, number) {
-        Some(number)
-    } else {
-        None
-    }
-}
-
-// Whether the text is this number, without leading zeros.
-fn is_decimal(text: &str, number: u32) -> bool
-    ensures { IsTrue result ↔ (text.now ≡ decimal number) }
-{
-    let mut buffer = Buffer::new();
-    buffer.format(number) == text
 }

@@ -4,27 +4,30 @@ ghost use Rattle.std.specs.Prelude.{◌<◌, ◌≤◌, ◌+◌, ◌^◌, length
 
 use crate::fault::LineFault;
 use crate::foreign::Foreign;
+use crate::muted_world::MutedWorld;
 use imap_model::Server;
 use server_mem::ForeignFault;
 use std::alloc::AllocError;
 use world_mem::{Files, ImageFault, MemWorld, Plan, ScriptWorld};
 use world_traits::{Disk, DiskFailed, Link, LinkFailed, Side};
 
-/// The world of a server, or that of a script.
+/// The world of a server, of one that is muted, or that of a script.
 #[derive(Drop)]
 pub enum AnyWorld {
     /// Of a server.
     Served(MemWorld),
+    /// Of a server that leaves APPENDUID out. It has no moments and no plan.
+    Muted(MutedWorld),
     /// Of a script, which has no server, no moments and no plan.
     Scripted(ScriptWorld),
 }
 
 impl AnyWorld {
-    /// Whether it is the world of a script.
-    pub fn is_scripted(&self) -> bool {
+    /// Whether its calls can fail by a plan.
+    pub fn has_plan(&self) -> bool {
         match self {
-            AnyWorld::Served(_) => false,
-            AnyWorld::Scripted(_) => true,
+            AnyWorld::Served(_) => true,
+            AnyWorld::Muted(_) | AnyWorld::Scripted(_) => false,
         }
     }
 
@@ -32,6 +35,7 @@ impl AnyWorld {
     pub fn length(&mut self, side: Side) -> Result<u64, DiskFailed> {
         match self {
             AnyWorld::Served(world) => world.length(side),
+            AnyWorld::Muted(world) => world.length(side),
             AnyWorld::Scripted(world) => world.length(side),
         }
     }
@@ -42,6 +46,7 @@ impl AnyWorld {
     {
         match self {
             AnyWorld::Served(world) => world.read(side, at, into),
+            AnyWorld::Muted(world) => world.read(side, at, into),
             AnyWorld::Scripted(world) => world.read(side, at, into),
         }
     }
@@ -52,6 +57,7 @@ impl AnyWorld {
     {
         match self {
             AnyWorld::Served(world) => world.write_at(side, at, bytes),
+            AnyWorld::Muted(world) => world.write_at(side, at, bytes),
             AnyWorld::Scripted(world) => world.write_at(side, at, bytes),
         }
     }
@@ -60,6 +66,7 @@ impl AnyWorld {
     pub fn sync(&mut self, side: Side) -> Result<(), DiskFailed> {
         match self {
             AnyWorld::Served(world) => world.sync(side),
+            AnyWorld::Muted(world) => world.sync(side),
             AnyWorld::Scripted(world) => world.sync(side),
         }
     }
@@ -68,6 +75,7 @@ impl AnyWorld {
     pub fn connect(&mut self) -> Result<(), LinkFailed> {
         match self {
             AnyWorld::Served(world) => world.connect(),
+            AnyWorld::Muted(world) => world.connect(),
             AnyWorld::Scripted(world) => world.connect(),
         }
     }
@@ -76,6 +84,7 @@ impl AnyWorld {
     pub fn send(&mut self, bytes: &[u8]) -> Result<(), LinkFailed> {
         match self {
             AnyWorld::Served(world) => world.send(bytes),
+            AnyWorld::Muted(world) => world.send(bytes),
             AnyWorld::Scripted(world) => world.send(bytes),
         }
     }
@@ -88,6 +97,7 @@ impl AnyWorld {
     {
         match self {
             AnyWorld::Served(world) => world.recv(into),
+            AnyWorld::Muted(world) => world.recv(into),
             AnyWorld::Scripted(world) => world.recv(into),
         }
     }
@@ -96,15 +106,16 @@ impl AnyWorld {
     pub fn close(&mut self) {
         match self {
             AnyWorld::Served(world) => world.close(),
+            AnyWorld::Muted(world) => world.close(),
             AnyWorld::Scripted(world) => world.close(),
         }
     }
 
-    /// Gives another plan, whose calls are counted from now on. The world of a script has none.
+    /// Gives another plan, whose calls are counted from now on, where there is one.
     pub fn plan(&mut self, plan: Plan) {
         match self {
             AnyWorld::Served(world) => world.plan(plan),
-            AnyWorld::Scripted(_) => {}
+            AnyWorld::Muted(_) | AnyWorld::Scripted(_) => {}
         }
     }
 
@@ -112,6 +123,7 @@ impl AnyWorld {
     pub fn refused(&self) -> u64 {
         match self {
             AnyWorld::Served(world) => world.refused(),
+            AnyWorld::Muted(world) => world.refused(),
             AnyWorld::Scripted(world) => world.refused(),
         }
     }
@@ -120,6 +132,7 @@ impl AnyWorld {
     pub fn sent(&self) -> &[u8] {
         match self {
             AnyWorld::Served(world) => world.sent(),
+            AnyWorld::Muted(world) => world.sent(),
             AnyWorld::Scripted(world) => world.sent(),
         }
     }
@@ -128,6 +141,7 @@ impl AnyWorld {
     pub fn server(&self) -> Option<&Server> {
         match self {
             AnyWorld::Served(world) => Some(world.server().server()),
+            AnyWorld::Muted(world) => Some(world.server()),
             AnyWorld::Scripted(_) => None,
         }
     }
@@ -137,10 +151,12 @@ impl AnyWorld {
     /// # Errors
     /// `Unfit` where there is no server, and `Memory`.
     pub fn change(&mut self, foreign: &Foreign) -> Result<Option<u8>, LineFault> {
-        let AnyWorld::Served(world) = self else {
-            return Err(LineFault::Unfit);
+        let made = match self {
+            AnyWorld::Served(world) => world.foreign(&foreign.name, &foreign.change),
+            AnyWorld::Muted(world) => world.foreign(&foreign.name, &foreign.change),
+            AnyWorld::Scripted(_) => return Err(LineFault::Unfit),
         };
-        match world.foreign(&foreign.name, &foreign.change) {
+        match made {
             Ok(()) => Ok(None),
             Err(ForeignFault::NotLawful { rule }) => Ok(Some(rule)),
             Err(ForeignFault::Memory) => Err(LineFault::Memory),
@@ -151,7 +167,7 @@ impl AnyWorld {
     pub fn image(&self, moment: u64, pick: u64) -> Option<Result<Files, ImageFault>> {
         match self {
             AnyWorld::Served(world) => Some(world.images_at(moment, pick)),
-            AnyWorld::Scripted(_) => None,
+            AnyWorld::Muted(_) | AnyWorld::Scripted(_) => None,
         }
     }
 }

@@ -2,11 +2,12 @@
 
 use crate::fault::LineFault;
 use crate::page::Page;
-use crate::values::{flags, name, uid};
+use crate::values::{flags, modseq, name, uid, validity};
 use flag_set::FlagSet;
 use imap_model::Change;
-use mail_base::{BoxName, Bytes};
+use mail_base::{BoxName, Bytes, List};
 use std::alloc::{AllocError, Global};
+use uid_sets::Uid;
 
 /// A change by another client in the mailbox of a name.
 #[derive(Drop)]
@@ -32,6 +33,7 @@ fn change_of(alloc: Global, verb: &[u8], rest: &[Bytes]) -> Result<Change, LineF
         b"set" => setting(alloc, rest),
         b"drop" => dropping(rest),
         b"shift" => shifting(rest),
+        b"reset" => renewing(alloc, rest),
         _ => Err(LineFault::Unfit),
     }
 }
@@ -81,6 +83,32 @@ fn shifting(words: &[Bytes]) -> Result<Change, LineFault> {
     })
 }
 
+// `VALIDITY UIDNEXT HIGHEST UID ..`
+fn renewing(alloc: Global, words: &[Bytes]) -> Result<Change, LineFault> {
+    let [first, next, highest, rest @ ..] = words else {
+        return Err(LineFault::Unfit);
+    };
+    let validity = validity(first.as_slice())?;
+    let uidnext = uid(next.as_slice())?;
+    let highest = modseq(highest.as_slice())?;
+    let uids = List::of(uids_of(alloc, rest)?);
+    Ok(Change::Reset {
+        validity,
+        uids,
+        uidnext,
+        highest,
+    })
+}
+
+fn uids_of(alloc: Global, words: &[Bytes]) -> Result<Vec<Uid>, LineFault> {
+    let mut uids = Vec::new(alloc);
+    for word in words {
+        let uid = uid(word.as_slice())?;
+        uids.push(uid)?;
+    }
+    Ok(uids)
+}
+
 /// Adds the flags of a set, by key.
 pub fn put_flags(page: &mut Page, flags: &FlagSet) -> Result<(), AllocError> {
     for key in flags.keys() {
@@ -117,5 +145,25 @@ pub fn put_change(page: &mut Page, name: &BoxName, change: &Change) -> Result<()
             page.word(to.as_bytes())?;
             page.number(u64::from(new.number()))
         }
+        Change::Reset {
+            validity,
+            uids,
+            uidnext,
+            highest,
+        } => {
+            page.put(b" reset")?;
+            page.word(name.as_bytes())?;
+            page.number(u64::from(validity.number()))?;
+            page.number(u64::from(uidnext.number()))?;
+            page.number(highest.number())?;
+            put_uids(page, uids.as_slice())
+        }
     }
+}
+
+fn put_uids(page: &mut Page, uids: &[Uid]) -> Result<(), AllocError> {
+    for uid in uids {
+        page.number(u64::from(uid.number()))?;
+    }
+    Ok(())
 }

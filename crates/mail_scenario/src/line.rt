@@ -16,6 +16,8 @@ pub enum Line {
     Setting(Setting),
     /// Makes the world of the server.
     World,
+    /// Makes the world of the server, which is muted.
+    Muted,
     /// Makes the world of the script.
     Scripted,
     /// What is to go wrong in the next run.
@@ -32,6 +34,7 @@ enum Kind {
     Server,
     Setting,
     World,
+    Muted,
     Scripted,
     Mishap,
     Input,
@@ -49,6 +52,7 @@ pub fn line_of(alloc: Global, words: &[Bytes]) -> Result<Line, LineFault> {
         Kind::Server => Ok(Line::Server(copied(alloc, rest)?)),
         Kind::Setting => Ok(Line::Setting(setting_of(alloc, verb, rest)?)),
         Kind::World => Ok(Line::World),
+        Kind::Muted => Ok(Line::Muted),
         Kind::Scripted => Ok(Line::Scripted),
         Kind::Mishap => Ok(Line::Mishap(mishap_of(alloc, verb, rest)?)),
         Kind::Input => Ok(Line::Input(input_of(alloc, rest)?)),
@@ -57,13 +61,14 @@ pub fn line_of(alloc: Global, words: &[Bytes]) -> Result<Line, LineFault> {
     }
 }
 
-// The kind of a line that begins with this word. `world` and `scripted` stand alone; `files` alone shows the files.
+// The kind of a line that begins with this word. `world`, `muted` and `scripted` stand alone; `files` alone shows the files.
 fn kind_of(verb: &[u8], is_alone: bool) -> Result<Kind, LineFault> {
     match verb {
         b"server" => Ok(Kind::Server),
         b"world" if is_alone => Ok(Kind::World),
+        b"muted" if is_alone => Ok(Kind::Muted),
         b"scripted" if is_alone => Ok(Kind::Scripted),
-        b"world" | b"scripted" => Err(LineFault::Unfit),
+        b"world" | b"muted" | b"scripted" => Err(LineFault::Unfit),
         b"disk" | b"link" | b"other" | b"stop" | b"source" | b"sink" => Ok(Kind::Mishap),
         b"input" => Ok(Kind::Input),
         b"files" if is_alone => Ok(Kind::ShowFiles),

@@ -11,6 +11,7 @@ mod foreign;
 mod line;
 mod looks;
 mod mishap;
+mod muted_world;
 mod next_run;
 mod numbers;
 mod outcome;

@@ -20,7 +20,7 @@ use std::mem;
 #[derive(Drop)]
 pub struct Player {
     alloc: Global,
-    // The server that is described, up to `world` or `scripted`.
+    // The server that is described, up to `world`, `muted` or `scripted`.
     setup: Option<Setup>,
     // What stands behind these. Before the first server there is neither. A box keeps it out of sight of those proofs that let a
     // scenario go: a world has many parts.
@@ -54,6 +54,7 @@ impl Player {
         match line {
             Line::Server(offers) => self.begin(offers),
             Line::World => self.enter_world(),
+            Line::Muted => self.enter_muted(),
             Line::Scripted => self.enter_script(),
             Line::Setting(setting) => self.set(setting),
             Line::Mishap(mishap) => self.plan(mishap),
@@ -89,7 +90,16 @@ impl Player {
         Ok(())
     }
 
-    // A world of a script has no plan: what was planned is forgotten.
+    // A world of a muted server has no plan: what was planned is forgotten.
+    fn enter_muted(&mut self) -> Result<(), LineFault> {
+        let setup = self.take_setup()?;
+        self.next.forget_plan(self.alloc);
+        let stand = setup.into_muted(self.alloc)?;
+        self.stand = Some(Box::new(self.alloc, stand)?);
+        Ok(())
+    }
+
+    // Nor has a world of a script.
     fn enter_script(&mut self) -> Result<(), LineFault> {
         let setup = self.take_setup()?;
         self.next.forget_plan(self.alloc);
@@ -98,7 +108,7 @@ impl Player {
         Ok(())
     }
 
-    // Only the input and the output of a run over a script fail by a plan.
+    // Only the input and the output of a run over a world without a plan fail by one.
     fn plan(&mut self, mishap: Mishap) -> Result<(), LineFault> {
         if !self.is_plan(&mishap) {
             return Err(LineFault::Unfit);
@@ -109,7 +119,7 @@ impl Player {
 
     fn is_plan(&self, mishap: &Mishap) -> bool {
         match &self.stand {
-            Some(stand) => !stand.world.world().is_scripted() || mishap.is_of_streams(),
+            Some(stand) => stand.world.world().has_plan() || mishap.is_of_streams(),
             None => self.setup.is_some(),
         }
     }

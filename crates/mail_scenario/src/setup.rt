@@ -1,7 +1,10 @@
 //! A server that is described, and the worlds that are made of it.
 
+ghost use Rattle.std.specs.Prelude.{◌≡◌, false, IfOk};
+
 use crate::any_world::AnyWorld;
 use crate::fault::LineFault;
+use crate::muted_world::MutedWorld;
 use crate::next_run::no_plan;
 use crate::setting::Setting;
 use crate::stand::Stand;
@@ -101,18 +104,25 @@ impl Setup {
             account,
             script: _script,
         } = self;
-        if !is_well_formed(&boxes) {
-            return Err(LineFault::NotWellFormed);
-        }
-        let mut server = MemServer::new(alloc, boxes, offers)?;
-        if let Some((flags, any)) = permitted {
-            server.permit(flags, any);
-        }
-        if let Some(name) = refused {
-            server.refuse(name);
-        }
+        let server = server_of(alloc, offers, boxes, permitted, refused)?;
         let world = world_of(alloc, server, files)?;
         Ok(Stand::new(world, account))
+    }
+
+    /// The world of the server, which is muted, and of the files, and who logs in.
+    pub fn into_muted(self, alloc: Global) -> Result<Stand, LineFault> {
+        let Setup {
+            offers,
+            boxes,
+            permitted,
+            refused,
+            files,
+            account,
+            script: _script,
+        } = self;
+        let server = server_of(alloc, offers, boxes, permitted, refused)?;
+        let world = MutedWorld::new(alloc, server, files)?;
+        Ok(Stand::new(AnyWorld::Muted(world), account))
     }
 
     /// The world of the files and the script, and who logs in.
@@ -131,7 +141,33 @@ impl Setup {
     }
 }
 
-fn world_of(alloc: Global, server: MemServer, files: Files) -> Result<AnyWorld, AllocError> {
+// The server that is described.
+fn server_of(
+    alloc: Global,
+    offers: Words,
+    boxes: Vec<Mailbox>,
+    permitted: Option<(FlagSet, bool)>,
+    refused: Option<BoxName>,
+) -> Result<MemServer, LineFault>
+    ensures sound { IfOk result (λ server. server.failed ≡ false) }
+    ensures lawful { IfOk result (λ server. server.muted ≡ false) }
+{
+    if !is_well_formed(&boxes) {
+        return Err(LineFault::NotWellFormed);
+    }
+    let mut server = MemServer::new(alloc, boxes, offers)?;
+    if let Some((flags, any)) = permitted {
+        server.permit(flags, any);
+    }
+    if let Some(name) = refused {
+        server.refuse(name);
+    }
+    Ok(server)
+}
+
+fn world_of(alloc: Global, server: MemServer, files: Files) -> Result<AnyWorld, AllocError>
+    requires { server.muted ≡ false }
+{
     let world = MemWorld::new(alloc, server, files, no_plan(alloc))?;
     Ok(AnyWorld::Served(world))
 }

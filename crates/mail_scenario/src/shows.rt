@@ -71,6 +71,10 @@ fn put_deed(page: &mut Page, deed: &Deed) -> Result<(), AllocError> {
 fn put_tag(page: &mut Page, tag: Tag) -> Result<(), AllocError> {
     match tag {
         Tag::Play(number) => put_marked(page, b"P", number),
+        Tag::Again { id, turn } => {
+            put_marked(page, b"P", id)?;
+            put_marked(page, b"R", u32::from(turn))
+        }
         Tag::Count(number) => put_marked(page, b"C", number),
         Tag::Strange => page.put(b"strange"),
     }

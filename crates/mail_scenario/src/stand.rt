@@ -36,6 +36,6 @@ impl Stand {
 fn restarted_any(world: AnyWorld, pick: u64, plan: Plan) -> Result<AnyWorld, LineFault> {
     match world {
         AnyWorld::Served(world) => Ok(AnyWorld::Served(restarted(world, pick, plan)?)),
-        AnyWorld::Scripted(_) => Err(LineFault::Unfit),
+        AnyWorld::Muted(_) | AnyWorld::Scripted(_) => Err(LineFault::Unfit),
     }
 }

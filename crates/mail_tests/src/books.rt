@@ -3,9 +3,9 @@
 mod limits;
 mod steps;
 
-use action_queue::{Action, Book, Event, Intent, MAX_ACTIONS, Rule, Target, Version};
+use action_queue::{Action, Book, Event, Intent, Rule, Target, Version};
 use flag_set::FlagSet;
-use mail_base::{ActionId, BoxName, List, ModSeq, Validity};
+use mail_base::{ActionId, BoxName, List, MAX_ACTIONS, ModSeq, Validity};
 use mailbox_cache::Delta;
 use std::alloc::{AllocError, Global};
 use std::process::Abort;

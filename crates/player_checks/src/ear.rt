@@ -97,5 +97,6 @@ fn row_of(alloc: Global, number: u32) -> Result<Response, CaseFault> {
         flags: Some(FlagSet::none(alloc)),
         modseq: Some(modseq),
         ids: None,
+        text: None,
     }))
 }

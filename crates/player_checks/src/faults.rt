@@ -68,5 +68,6 @@ fn item_word(item: Item) -> &'static str {
         Item::Flags => "FLAGS",
         Item::ModSeq => "MODSEQ",
         Item::Row => "row",
+        Item::Body => "BODY",
     }
 }

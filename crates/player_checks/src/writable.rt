@@ -3,9 +3,9 @@
 ghost use Rattle.std.specs.Prelude.{IsTrue};
 ghost use Rattle.action_queue.specs.Writable.{HaveFewFlags};
 
-use action_queue::{Action, Event, MAX_ROWS};
+use action_queue::{Action, Event};
 use flag_set::{FlagSet, MAX_FLAGS};
-use mail_base::Bytes;
+use mail_base::{Bytes, MAX_ROWS};
 use mail_header::{IdFault, message_id};
 use mailbox_cache::Row;
 use std::alloc::{AllocError, Global};

@@ -1,5 +1,7 @@
 //! The mailboxes and the server that a case begins with.
 
+ghost use Rattle.std.specs.Prelude.{◌≡◌, false, IfOk};
+
 use crate::line::{Line, Word, told_by};
 use crate::listener::Listener;
 use crate::texts::{bytes_of, flags_of, modseq_of, name_of, small, split, uid_of};
@@ -146,11 +148,9 @@ fn offers_of(alloc: Global, lines: &[Line<'_>]) -> Result<Words, Fault> {
 }
 
 /// The server that a case begins with.
-pub fn listener_of(
-    alloc: Global,
-    head: &[Line<'_>],
-    lines: &[Line<'_>],
-) -> Result<Listener, Fault> {
+pub fn listener_of(alloc: Global, head: &[Line<'_>], lines: &[Line<'_>]) -> Result<Listener, Fault>
+    ensures { IfOk result (λ listener. listener.server.muted ≡ false) }
+{
     let boxes = boxes_of(alloc, told_by(head, lines, Word::Mailbox))?;
     let offers = offers_of(alloc, told_by(head, lines, Word::Offer))?;
     match Listener::new(alloc, boxes, offers)? {

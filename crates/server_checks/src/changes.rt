@@ -1,10 +1,11 @@
 //! The changes that other clients make.
 
-use crate::texts::{bytes_of, flags_of, name_of, split, uid_of};
+use crate::texts::{bytes_of, flags_of, modseq_of, name_of, small, split, uid_of};
 use case_files::Fault;
 use imap_model::Change;
-use mail_base::{BoxName, Bytes};
+use mail_base::{BoxName, Bytes, List, Validity};
 use std::alloc::Global;
+use uid_sets::Uid;
 
 /// A change by another client in the mailbox of a name.
 #[derive(Drop)]
@@ -48,7 +49,38 @@ fn moving_of(text: &str) -> Result<Change, Fault> {
     Ok(Change::Shift { uid, to, new })
 }
 
-/// `INBOX expunge 42`, or `flags`, `append` or `move` in its place.
+// `6 next 50 highest 800 uids 1 2`
+fn reset_of(alloc: Global, text: &str) -> Result<Change, Fault> {
+    let (validity, rest) = split(text, " next ")?;
+    let (next, rest) = split(rest, " highest ")?;
+    let (highest, rest) = split(rest, " uids")?;
+    let Some(validity) = Validity::new(small(validity)?) else {
+        return Err(Fault::Form);
+    };
+    let uidnext = uid_of(next)?;
+    let highest = modseq_of(highest)?;
+    let uids = List::of(uids_of(alloc, rest)?);
+    Ok(Change::Reset {
+        validity,
+        uids,
+        uidnext,
+        highest,
+    })
+}
+
+// ` 1 2`
+fn uids_of(alloc: Global, text: &str) -> Result<Vec<Uid>, Fault> {
+    let mut uids = Vec::new(alloc);
+    for word in text.split(' ') {
+        if !word.is_empty() {
+            let uid = uid_of(word)?;
+            uids.push(uid)?;
+        }
+    }
+    Ok(uids)
+}
+
+/// `INBOX expunge 42`, or `flags`, `append`, `move` or `reset` in its place.
 pub fn foreign_of(alloc: Global, text: &str) -> Result<Foreign, Fault> {
     let (name, rest) = split(text, " ")?;
     let (verb, rest) = split(rest, " ")?;
@@ -60,6 +92,8 @@ pub fn foreign_of(alloc: Global, text: &str) -> Result<Foreign, Fault> {
         adding_of(alloc, rest)?
     } else if verb == "move" {
         moving_of(rest)?
+    } else if verb == "reset" {
+        reset_of(alloc, rest)?
     } else {
         return Err(Fault::Form);
     };

@@ -6,7 +6,10 @@ use server_mem::MemServer;
 fn comes(deed: &Deed) -> bool {
     match &deed.change {
         Change::Add { .. } => true,
-        Change::SetFlags { .. } | Change::Drop { .. } | Change::Shift { .. } => false,
+        Change::SetFlags { .. }
+        | Change::Drop { .. }
+        | Change::Shift { .. }
+        | Change::Reset { .. } => false,
     }
 }
 

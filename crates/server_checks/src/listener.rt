@@ -1,6 +1,6 @@
 //! A server in memory that can hear.
 
-ghost use Rattle.std.specs.Prelude.{◌≡◌, false};
+ghost use Rattle.std.specs.Prelude.{◌≡◌, false, IfOk, IfSome};
 
 use flag_set::FlagSet;
 use imap_model::{Change, Mailbox};
@@ -21,7 +21,9 @@ impl Listener {
         alloc: Global,
         boxes: Vec<Mailbox>,
         offers: Words,
-    ) -> Result<Option<Listener>, AllocError> {
+    ) -> Result<Option<Listener>, AllocError>
+        ensures { IfOk result (λ found. IfSome found (λ listener. listener.server.muted ≡ false)) }
+    {
         if !is_well_formed(&boxes) {
             return Ok(None);
         }
@@ -35,7 +37,9 @@ impl Listener {
     }
 
     /// The server, given up.
-    pub fn into_server(self) -> MemServer {
+    pub fn into_server(self) -> MemServer
+        ensures { result ≡ self.server }
+    {
         self.server
     }
 

@@ -1,5 +1,7 @@
 //! The calls of a world, each without clauses: what a call says of all moments is dear to carry on.
 
+ghost use Rattle.std.specs.Prelude.{◌≡◌, false};
+
 use imap_model::Change;
 use mail_base::BoxName;
 use server_mem::ForeignFault;
@@ -79,6 +81,8 @@ pub fn new_world(
     server: server_mem::MemServer,
     files: Files,
     plan: Plan,
-) -> Result<MemWorld, AllocError> {
+) -> Result<MemWorld, AllocError>
+    requires { server.muted ≡ false }
+{
     MemWorld::new(alloc, server, files, plan)
 }

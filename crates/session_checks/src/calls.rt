@@ -1,6 +1,6 @@
 //! The calls of a case, by their words.
 
-use crate::session::{Session, ask, authenticate, connect, enable, greet, leave, select};
+use crate::session::{Session, ask, authenticate, connect, enable, greet, hear, leave, select};
 use case_words::{
     Answer, CaseFault, Input, account, command, flags, mark, name, put_name, put_tag, tag, words_of,
 };
@@ -41,6 +41,22 @@ fn asked<L: Link>(
     ask(session, link, tag, &command, answer)
 }
 
+// The same with a listener that refuses what comes behind so many responses: `hear 2 C5 fetch all`.
+fn heard<L: Link>(
+    session: Session,
+    link: &mut L,
+    input: &mut Input,
+    answer: &mut Answer,
+) -> Result<Session, CaseFault>
+    requires silent { L.tells_files → ⊥ }
+    requires mute { L.tells_server → ⊥ }
+{
+    let most = input.number()?;
+    let tag = tag(input)?;
+    let command = command(input)?;
+    hear(session, link, most, tag, &command, answer)
+}
+
 // `select "INBOX"`, or `select "INBOX" since 5 715`.
 fn selected<L: Link>(
     session: Session,
@@ -76,6 +92,7 @@ fn by_word<L: Link>(
         "enable" => enable(session, link, answer),
         "select" => selected(session, link, input, answer),
         "ask" => asked(session, link, input, answer),
+        "hear" => heard(session, link, input, answer),
         "leave" => leave(session, link, answer),
         call => looked(session, call, input, answer),
     }

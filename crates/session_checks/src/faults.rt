@@ -45,6 +45,7 @@ fn item_word(item: Item) -> &'static str {
         Item::Flags => "FLAGS",
         Item::ModSeq => "MODSEQ",
         Item::Row => "row",
+        Item::Body => "BODY",
     }
 }
 
@@ -58,5 +59,6 @@ fn limit_word(limit: Limit) -> &'static str {
         Limit::Flag => "flag",
         Limit::Journal => "journal",
         Limit::Actions => "actions",
+        Limit::Generation => "generation",
     }
 }

@@ -4,6 +4,7 @@
 
 mod calls;
 mod faults;
+mod few;
 mod lines;
 mod play;
 mod report;

@@ -7,6 +7,7 @@ ghost use Rattle.imap_session.specs.Counting.{HasTag};
 ghost use Rattle.imap_session.specs.Session.{IsAsked};
 
 use crate::faults::put_fault;
+use crate::few::Few;
 use case_words::{Answer, CaseFault, put_code, put_response, word_of_ending};
 use imap_model::{Command, Mark, Replies};
 use imap_session::{Chosen, Fresh, Greeted, Ready, SessionFault};
@@ -227,8 +228,11 @@ fn is_asked(command: &Command) -> bool
         | Command::FetchRow { .. }
         | Command::Search { .. }
         | Command::FetchIds { .. }
+        | Command::FetchText { .. }
         | Command::Store { .. }
         | Command::Shift { .. }
+        | Command::Copy { .. }
+        | Command::Expunge { .. }
         | Command::Append { .. } => true,
         Command::Capability
         | Command::Login { .. }
@@ -243,10 +247,14 @@ fn is_asked(command: &Command) -> bool
 fn is_tag(chosen: &Chosen, tag: Tag, mutating: bool) -> bool
     ensures { IsTrue result → HasTag mutating chosen.now.conversation.count tag }
 {
-    if mutating {
-        return matches!(tag, Tag::Play(number) if number > 0);
+    if !mutating {
+        return tag == chosen.next_tag();
     }
-    tag == chosen.next_tag()
+    match tag {
+        Tag::Play(id) => id > 0,
+        Tag::Again { id, turn } => id > 0 && (turn == 2 || turn == 3),
+        Tag::Count(_) | Tag::Strange => false,
+    }
 }
 
 // Whether a command can be asked under the tag.
@@ -293,6 +301,46 @@ pub fn ask<L: Link>(
 {
     match session {
         Session::Chosen(chosen) => ask_chosen(chosen, link, tag, command, answer),
+        other => unfit(other),
+    }
+}
+
+// Runs a command whose reply goes to a listener that refuses what comes behind so many responses.
+fn hear_chosen<L: Link>(
+    chosen: Chosen,
+    link: &mut L,
+    most: u64,
+    tag: Tag,
+    command: &Command,
+    answer: &mut Answer,
+) -> Result<Session, CaseFault>
+    requires silent { L.tells_files → ⊥ }
+    requires mute { L.tells_server → ⊥ }
+{
+    if !fits(&chosen, tag, command) {
+        return Err(CaseFault::WrongInput);
+    }
+    let mut few = Few::new(most);
+    let outcome = chosen.ask_into(link, tag, command, &mut few);
+    answer.word("took")?;
+    answer.number(few.taken())?;
+    told(answer, outcome.map(|told| Session::Chosen(told.0)))
+}
+
+/// Runs a command whose reply goes to a listener that refuses what comes behind so many responses, and tells how many it took.
+pub fn hear<L: Link>(
+    session: Session,
+    link: &mut L,
+    most: u64,
+    tag: Tag,
+    command: &Command,
+    answer: &mut Answer,
+) -> Result<Session, CaseFault>
+    requires silent { L.tells_files → ⊥ }
+    requires mute { L.tells_server → ⊥ }
+{
+    match session {
+        Session::Chosen(chosen) => hear_chosen(chosen, link, most, tag, command, answer),
         other => unfit(other),
     }
 }

@@ -63,7 +63,7 @@ impl Clocked for SilentLink {
 }
 
 impl Link for SilentLink {
-    ghost use Rattle.std.specs.Prelude.{◌≡◌, ◌≤◌, ◌<◌, length, IfOk, OnErr};
+    ghost use Rattle.std.specs.Prelude.{◌≡◌, ◌≤◌, ◌<◌, length, IfOk, OnOk, OnErr};
     ghost use Rattle.world_traits.specs.Calls.{Rose};
 
     ghost honest = { λ link tells c is. absurd tells };
@@ -71,6 +71,7 @@ impl Link for SilentLink {
     fn connect(&mut self) -> Result<(), LinkFailed>
         ensures count { self.old ≤ self.new }
         ensures cause { OnErr result (Rose self.old self.new) }
+        ensures unfailed { OnOk result (self.new ≡ self.old) }
     {
         match self.world.connect() {
             Ok(()) => Ok(()),
@@ -81,6 +82,7 @@ impl Link for SilentLink {
     fn send(&mut self, bytes: &[u8]) -> Result<(), LinkFailed>
         ensures count { self.old ≤ self.new }
         ensures cause { OnErr result (Rose self.old self.new) }
+        ensures unfailed { OnOk result (self.new ≡ self.old) }
     {
         match self.world.send(bytes) {
             Ok(()) => Ok(()),
@@ -94,6 +96,7 @@ impl Link for SilentLink {
         ensures fits { IfOk result (λ n. n ≤ length into.old) }
         ensures count { self.old ≤ self.new }
         ensures cause { OnErr result (Rose self.old self.new) }
+        ensures unfailed { OnOk result (self.new ≡ self.old) }
     {
         match self.world.recv(into) {
             Ok(count) => Ok(count),

@@ -1,5 +1,7 @@
 //! The images of a world in memory beside the plain slow program.
 
+ghost use Rattle.std.specs.Prelude.{◌≡◌, false, IfSome};
+
 use crate::plain_images::{Call, Cell, cells_after, image};
 use crate::tally::Tally;
 use mail_base::{Bytes, List, Words};
@@ -34,7 +36,9 @@ const CALLS: [Call<'static>; 11] = [
 ];
 
 // A server without mailboxes.
-fn server(alloc: Global) -> Option<MemServer> {
+fn server(alloc: Global) -> Option<MemServer>
+    ensures { IfSome result (λ server. server.muted ≡ false) }
+{
     let boxes = Vec::new(alloc);
     if !is_well_formed(&boxes) {
         return None;

@@ -21,7 +21,7 @@ fn same_set(left: &UidSet, right: &UidSet) -> bool {
     left.ranges() == right.ranges()
 }
 
-fn same_ids(left: &Option<Bytes>, right: &Option<Bytes>) -> bool {
+fn same_bytes(left: &Option<Bytes>, right: &Option<Bytes>) -> bool {
     match (left, right) {
         (Some(left), Some(right)) => left.as_slice() == right.as_slice(),
         (None, None) => true,
@@ -33,7 +33,8 @@ fn same_row(left: &Fetched, right: &Fetched) -> bool {
     left.uid == right.uid
         && left.flags == right.flags
         && left.modseq == right.modseq
-        && same_ids(&left.ids, &right.ids)
+        && same_bytes(&left.ids, &right.ids)
+        && same_bytes(&left.text, &right.text)
 }
 
 fn same_code(left: &Code, right: &Code) -> bool {

@@ -103,6 +103,15 @@ fn tells(
             None => false,
         });
     }
+    if is_text_name(name) {
+        return Ok(match nstring_of(alloc, value)? {
+            Some(text) => {
+                fetched.text = Some(text);
+                true
+            }
+            None => false,
+        });
+    }
     Ok((is_atom(name) || is_section_name(name)) && is_value(value))
 }
 
@@ -126,6 +135,16 @@ fn section_of<'b, 'a>(
     let (front, origin) = cut(parts, close);
     let (name, inside) = cut(front, open);
     Some((name, from(inside, 1), from(origin, 1)))
+}
+
+/// Whether the name is that of the whole text's item.
+fn is_text_name(parts: &[Part<'_>]) -> bool {
+    match section_of(parts) {
+        Some((name, inside, origin)) => {
+            same_word(name, b"BODY") && inside.is_empty() && origin.is_empty()
+        }
+        None => false,
+    }
 }
 
 /// Whether the name is that of the identifiers' item.

@@ -22,11 +22,25 @@ pub(crate) fn tag_of(alloc: Global, parts: &[Part<'_>]) -> Result<Option<Tag>, A
     if text.is_empty() || !lawful {
         return Ok(None);
     }
+    if let Some(tag) = tried(&text) {
+        return Ok(Some(tag));
+    }
     Ok(Some(match (lettered(&text, b'P'), lettered(&text, b'C')) {
         (Some(number), _) => Tag::Play(number),
         (None, Some(number)) => Tag::Count(number),
         (None, None) => Tag::Strange,
     }))
+}
+
+/// The tag of a second or third try: that of the first one, and `R2` or `R3` behind it.
+fn tried(text: &[u8]) -> Option<Tag> {
+    let (front, turn) = match text {
+        [front @ .., b'R', b'2'] => (front, 2u8),
+        [front @ .., b'R', b'3'] => (front, 3u8),
+        _ => return None,
+    };
+    let id = lettered(front, b'P')?;
+    Some(Tag::Again { id, turn })
 }
 
 /// The number behind the letter, where it is written as this client writes numbers, and isn't 0.

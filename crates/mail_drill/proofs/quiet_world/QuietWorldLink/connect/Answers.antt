@@ -6,6 +6,7 @@ invariant_of-self-clause-alone c =
     let was = c.args.self.now in
     let new = c.connect-connected.new.self in
     let call = c.connect-connected.ensures in
-    let quiet = quiet_link was.world new call.next was.quiet in
+    let quiet = quiet_link was.world new call.called.next was.quiet in
     still_alone was.short c.is_wanting-self.result was.world new c.is_wanting-self.ensures was.alone
-    (λ none own. connect_alone was.world new quiet none own c.connect-connected.result call.free call.dropped call.carried call.loses call.exact call.stopped)
+    (λ none own. connect_alone was.world new quiet none own c.connect-connected.result call.connects call.loses call.called.exact
+    call.called.stopped)

@@ -6,6 +6,6 @@ invariant_of-self-clause-alone c =
     let was = c.args.self.now in
     let new = c.recv-received.new.self in
     let call = c.recv-received.ensures in
-    let quiet = quiet_link was.world new call.next was.quiet in
+    let quiet = quiet_link was.world new call.called.next was.quiet in
     still_alone was.short c.is_wanting-self.result was.world new c.is_wanting-self.ensures was.alone
-    (λ none own. recv_alone was.world new quiet none own c.recv-received.result call.run call.loses call.stopped)
+    (λ none own. recv_alone was.world new quiet none own c.recv-received.result call.run call.loses call.called.stopped)

@@ -6,6 +6,7 @@ invariant_of-self-clause-alone c =
     let was = c.args.self.now in
     let new = c.send-sent.new.self in
     let call = c.send-sent.ensures in
-    let quiet = quiet_link was.world new call.next was.quiet in
+    let quiet = quiet_link was.world new call.called.next was.quiet in
     still_alone was.short c.is_wanting-self.result was.world new c.is_wanting-self.ensures was.alone
-    (λ none own. send_alone was.world new quiet none own c.send-sent.result c.args.bytes.now call.hears call.loses call.unheard call.exact call.stopped)
+    (λ none own. send_alone was.world new quiet none own c.send-sent.result c.args.bytes.now call.hears call.downed call.unheard
+    call.called.exact call.called.stopped)
