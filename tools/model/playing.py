@@ -87,6 +87,8 @@ class Run:
         told = self.ask('SELECT %s%s' % (astring(name), mark), carried=lambda: self.told_of(name, cache))
         if not told:
             raise Fault(5, 'error refused: C%d NO [TRYCREATE] done' % self.count)
+        if cache and cache['validity'] != told['validity']:
+            raise Fault(8, 'error validity %s %d %d' % (name, cache['validity'], told['validity']))
         rows = told['rows']
         if cache is None and not told['empty']:
             rows = self.ask('UID FETCH 1:* ' + ROW, carried=lambda: [row_of(m) for m in self.world.box(name).messages])
@@ -97,6 +99,7 @@ class Run:
 
     def told_of(self, name: str, cache: Optional[dict]) -> Optional[dict]:
         box = self.world.box(name)
+        self.world.in_box = box.name if box else None
         if box is None:
             return None
         highest = cache['highest'] if cache else 0

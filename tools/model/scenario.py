@@ -103,6 +103,8 @@ class Scenario:
             shown += list(rest[1:])
         if verb == 'shift':
             shown += [word(rest[1]), str(rest[2])]
+        if verb == 'reset':
+            shown += [str(number) for number in rest[1:]]
         return ' '.join(shown)
 
     def other(self, number: int, *change) -> None:
@@ -110,7 +112,7 @@ class Scenario:
         self.world.others.append((number, change))
 
     def change(self, *change) -> None:
-        rule = self.world.change(*change)
+        rule = self.world.change_between(*change)
         self.line('change ' + self.change_words(change), *(['rule %d' % rule] if rule else []))
 
     def restart(self, pick: int) -> None:

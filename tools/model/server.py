@@ -27,11 +27,18 @@ class Box:
         self.messages.remove(message)
         self.gone.append((message['uid'], self.tick()))
 
+    def renew(self, validity: int, uidnext: int, highest: int, *uids: int) -> None:
+        """The same messages under other UIDs, as of a mailbox that was recreated with them."""
+        self.validity, self.uidnext, self.highest, self.gone = validity, uidnext, highest, []
+        for message, uid in zip(self.messages, uids):
+            message['uid'], message['modseq'] = uid, highest
+
 
 class Server:
     """Mailboxes in order, what the server offers, and each change since it began, with its author: `other`, or the tag of a command.
 
-    A change is ('add', box, uid, text, flag ..), ('set', box, uid, flag ..), ('drop', box, uid) or ('shift', box, uid, to, new uid).
+    A change is ('add', box, uid, text, flag ..), ('set', box, uid, flag ..), ('drop', box, uid), ('shift', box, uid, to, new uid) or
+    ('reset', box, validity, uidnext, highest, uid ..).
     """
 
     def __init__(self, offers: Iterable[str] = (), boxes: Iterable[Box] = (), account: Tuple[str, str] = ('ann', 'pw')):
@@ -60,11 +67,21 @@ class Server:
                 return 2
         if verb in ('set', 'drop', 'shift') and box.at(rest[0]) is None:
             return 3
+        if verb == 'reset':
+            return self.broken_reset(box, *rest)
         if any(changed.highest >= 2**63 - 1 for changed in ([box, to] if verb == 'shift' else [box])):
             return 4
         if verb == 'add' and b'\0' in rest[1]:
             return 5
         return None
+
+    @staticmethod
+    def broken_reset(box: Box, validity: int, uidnext: int, highest: int, *uids: int) -> Optional[int]:
+        """The first rule that a new UIDVALIDITY with these UIDs breaks, if it breaks one."""
+        if validity <= box.validity:
+            return 7
+        rise = all(low < high for low, high in zip(uids, uids[1:]))
+        return None if rise and len(uids) == len(box.messages) and all(uid < uidnext for uid in uids) else 8
 
     def change(self, verb: str, name: str, *rest, author: str = 'other') -> Optional[int]:
         """Makes a change, or gives the rule that it breaks."""
@@ -77,6 +94,8 @@ class Server:
         elif verb == 'set':
             message = box.at(rest[0])
             message['modseq'], message['flags'] = box.tick(), keys(rest[1:])
+        elif verb == 'reset':
+            box.renew(*rest)
         else:
             message = box.at(rest[0])
             box.drop(message)

@@ -2,6 +2,7 @@
 from typing import Any, Callable, Dict, Iterable, List, Optional, Tuple
 
 from .server import Box, Server
+from .words import name_of
 
 
 class Fault(Exception):
@@ -69,8 +70,11 @@ class World(Server):
         super().__init__(offers, boxes, account)
         self.files = [File(left), File(right)]
         self.on, self.was_sent = False, b''
-        # What a command that waits does, if it is carried out.
+        # The mailbox that the connection has selected, or the last one had.
+        self.in_box: Optional[str] = None
+        # What a command that waits does, if it is carried out, and the mailbox that was selected as it was sent.
         self.waiting: Optional[Callable[[], Any]] = None
+        self.waits_in: Optional[str] = None
         self.moments = 1
         # How many calls of link and disk the last run made that called the link.
         self.counts = (0, 0)
@@ -91,10 +95,24 @@ class World(Server):
         self.calls = self.disk_calls = self.link_calls = 0
 
     def change(self, *change, author: str = 'other') -> Optional[int]:
+        if change[0] == 'reset' and self.is_held(change[1]):
+            return None
         rule = super().change(*change, author=author)
         if rule is None:
             self.moments += 1
         return rule
+
+    def change_between(self, *change) -> Optional[int]:
+        """A change between two runs. First the end of the last connection is a moment of its own."""
+        is_held = change[0] == 'reset' and self.is_held(change[1])
+        rule = self.change(*change)
+        if rule is None and not is_held:
+            self.moments += 1
+        return rule
+
+    def is_held(self, name: str) -> bool:
+        """Whether a mailbox isn't renewed now: the connection has it selected, or a command that waits does."""
+        return (self.on and self.in_box == name_of(name)) or self.waits_in == name_of(name)
 
     def has_stopped(self) -> bool:
         return self.stop is not None and self.calls >= self.stop
@@ -151,12 +169,15 @@ class World(Server):
 
     def connect(self) -> None:
         self.on = False
+        # The end of the last connection is a moment of its own.
+        if not self.has_stopped():
+            self.moments += 1
         if self.link_call():
             raise link_fault()
         # A command of the lost connection that waits is carried out before the greeting, or never.
         if self.waiting:
             self.waiting()
-        self.on, self.was_sent, self.waiting = True, b'', None
+        self.on, self.was_sent, self.waiting, self.in_box, self.waits_in = True, b'', None, None, None
 
     def send(self, text: bytes, carried: Callable[[], Any] = lambda: None) -> Any:
         """Sends a text; what it is carried out as, where it is a command's last part, gives what the server answers."""
@@ -171,8 +192,9 @@ class World(Server):
         if arrived >= len(text):
             if not loss.startswith('waits'):
                 carried()
-            elif loss == 'waits done':
-                self.waiting = carried
+            else:
+                self.waits_in = self.in_box
+                self.waiting = carried if loss == 'waits done' else None
         self.on = False
         raise link_fault()
 

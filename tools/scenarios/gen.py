@@ -53,12 +53,18 @@ def changes_by_others(s: Scenario) -> None:
         ('drop', 'INBOX', 40),
         ('set', 'Full', 1, '\\Seen'), ('add', 'INBOX', 90, b'a\0b')]:
         s.change(*c)
+    s.note('A mailbox that is recreated with its messages: under a greater UIDVALIDITY, with UIDs that rise, one a message, below UIDNEXT.')
+    for c in [('reset', 'Sent Mail', 10, 20, 5, 1, 2, 19),
+        ('reset', 'Nowhere', 6, 1, 1), ('reset', 'INBOX', 5, 45, 1, 44), ('reset', 'INBOX', 4, 45, 1, 44), ('reset', 'INBOX', 6, 45, 1),
+        ('reset', 'INBOX', 6, 45, 1, 1, 2), ('reset', 'Sent Mail', 11, 20, 5, 2, 1, 3), ('reset', 'Sent Mail', 11, 20, 5, 1, 1, 3),
+        ('reset', 'INBOX', 6, 45, 1, 45)]:
+        s.change(*c)
     s.history()
     s.show()
     s.moments()
-    s.line('image 4 0', 'left 00ff', 'right -')
-    s.line('image 5 1', 'no moment 5')
-    s.line('image 18446744073709551615 18446744073709551615', 'no moment 5')
+    s.line('image 10 0', 'left 00ff', 'right -')
+    s.line('image 11 1', 'no moment 11')
+    s.line('image 18446744073709551615 18446744073709551615', 'no moment 11')
     s.gap()
     s.note('A restart leaves the server and the history, and one moment.')
     s.restart(0)
@@ -72,7 +78,7 @@ def plans(s: Scenario) -> None:
     for l in ['server', 'disk 1', 'link 1 nothing', 'link 2 part 0', 'link 3 part 4294967295', 'link 4 all', 'link 5 waits done',
         'link 6 waits dropped',
         'other 1 add INBOX 1 "text" \\Seen', 'other 1 set INBOX 1', 'other 2 drop INBOX 1',
-        'other 18446744073709551615 shift INBOX 1 Archive 2',
+        'other 18446744073709551615 shift INBOX 1 Archive 2', 'other 3 reset INBOX 6 3 800 1 2', 'other 4 reset Archive 10 1 1',
         'stop 0', 'source 1', 'sink 2', 'world', 'show']:
         s.line(l)
     s.world = World()

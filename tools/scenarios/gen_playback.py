@@ -237,6 +237,38 @@ def reasons(c: Cases) -> None:
     add(c, 'the message goes between FETCH and MOVE', s.ends(), conflict(1), conflict(7, 1))
 
 
+def recreated_mailboxes(c: Cases) -> None:
+    s = flagged()
+    s.change('reset', 'INBOX', 6, 50, 800, 1, 2)
+    s.plays('error validity INBOX 5 6')
+    s.sent()
+    add(c, 'INBOX was recreated between two runs: nothing is sent for its action', s.ends())
+    s = flagged()
+    s.change('reset', 'Archive', 10, 1, 1)
+    s.plays('error validity Archive 9 10')
+    s.sent()
+    add(c, 'Archive was recreated between two runs: the action in INBOX is played, and then the run ends', s.ends(), done())
+    s = flagged()
+    s.other(15, 'reset', 'INBOX', 6, 50, 800, 1, 2)
+    s.plays('played 1 conflicts 0')
+    s.sent()
+    add(c, 'a mailbox isn\'t recreated while it is selected', s.ends(), done())
+    s = flagged()
+    s.link(15, 'waits done')
+    s.plays('error link')
+    s.change('reset', 'INBOX', 6, 50, 800, 1, 2)
+    s.plays('played 1 conflicts 1')
+    s.sent()
+    add(c, 'a mailbox isn\'t recreated while a change of flags in it waits', s.ends(), conflict(8))
+    s = flagged()
+    s.link(15, 'nothing')
+    s.plays('error link')
+    s.change('reset', 'INBOX', 6, 50, 800, 1, 2)
+    s.plays('error validity INBOX 5 6')
+    s.sent()
+    add(c, 'INBOX was recreated behind a change of flags that was lost', s.ends())
+
+
 def reasons_of_a_second_try(c: Cases) -> None:
     s = flagged()
     s.link(15, 'nothing')
@@ -501,7 +533,7 @@ LOST = """\
 # effect once, or is a conflict; none took effect twice.
 
 """
-MAKERS = [worked, lost_before_or_behind, reasons, reasons_of_a_second_try, refusals, several, waiting, to_the_end, older,
+MAKERS = [worked, lost_before_or_behind, reasons, recreated_mailboxes, reasons_of_a_second_try, refusals, several, waiting, to_the_end, older,
           older_server]
 
 
