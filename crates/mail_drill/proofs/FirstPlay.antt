@@ -25,7 +25,7 @@ use Rattle.play_driver.specs.Joining.{AnyTwo, Grows, Joined}
 use Rattle.play_driver.specs.Played.{played}
 use Rattle.play_driver.specs.Progress.{IsLater, IsPlaying, box_names, has_name}
 use Rattle.play_driver.specs.Settled.{AreSyncedBehind}
-use Rattle.play_driver.specs.Synced.{IsSynced}
+use Rattle.play_driver.specs.Synced.{IsNotRead, IsSynced}
 use Rattle.play_driver.proofs.Parts.{grows, grows_then}
 use Rattle.play_driver.proofs.Progressing.{later_start}
 use Rattle.mail_top.specs.KeptNow.{IsKeptNow}
@@ -106,7 +106,8 @@ module _ (account : Credentials) (words : List (List ℕ)) (input : List ℕ) (w
       read_before_end =
           let one_more : Grows s.level.at (tick s.level.at s.level.to) =
           since_tick Any AnyTwo s.level.at s.level.at (tick s.level.at s.level.to) s.level.to (since_start Any AnyTwo s.level.at) refl tt tt in
-          grows_then s.level.at (tick s.level.at s.level.to) (clock_of new) one_more s.level.after
+          grows_then s.level.at (tick s.level.at s.level.to) (clock_of new) one_more
+          (grows Any (IsNotRead name) (tick s.level.at s.level.to) (clock_of new) s.level.after)
 
       box_stays : box_at name (now_of old).outside.server.boxes ≡ Some s.level.is.level.box
       box_stays = ap (λ (x : Server). box_at name x.boxes) (sym (same_server s.level.at read_in_time read_before_end)) ∙ s.level.is.level.there

@@ -1,5 +1,5 @@
 -- Questions of a session: the answer comes at one moment.
-use Rattle.std.proofs.Common.{◌≡◌, ◌++◌, false, ℕ, List, Option, refl}
+use Rattle.std.proofs.Common.{◌≡◌, ◌++◌, false, ℕ, List, Option, None, refl}
 use Rattle.mail_base.specs.declared.tag.Tag.{Tag}
 use Rattle.imap_model.specs.CarriedOut.{CarriesOut}
 use Rattle.imap_model.specs.Mutating.{is_mutating}
@@ -13,8 +13,10 @@ use Rattle.imap_session.specs.Knowing.{Tells}
 use Rattle.imap_session.specs.Session.{waiting_of}
 use Rattle.imap_session.proofs.Talks.{asks_enquires}
 use Rattle.play_driver.specs.Exchanges.{Exchange, IsAnswered}
+use Rattle.play_driver.proofs.NotRead.{IsQuiet, answered_quiet}
 
--- the clock at which a question is answered, the moment behind it, and what leads to it and from it
+-- The clock at which a question is answered, the moment behind it, and what leads to it and from it. Behind it nothing waits, where nothing
+-- waited or arrived at first.
 pub record AnsweredAt (selected : Option (List ℕ)) (tag : Tag) (x : Exchange) (old new : Clock) : Type 0 where
   pub at : Clock
   pub to : Moment
@@ -25,6 +27,9 @@ pub record AnsweredAt (selected : Option (List ℕ)) (tag : Tag) (x : Exchange) 
   pub carried : CarriesOut (waiting_of selected tag x.asked) at.now.outside.server x.replies to.outside.server selects
   pub told : List Response
   pub tells : Tells (waiting_of selected tag x.asked) told x.replies selects at.now.outside to.outside
+  pub quiet : old.now.outside.waiting ≡ None → old.now.outside.talk.arriving ≡ None → Since Any IsQuiet (tick at to) new
+  pub nothing : new.now.outside.waiting ≡ None
+  pub no_part : new.now.outside.talk.arriving ≡ None
 
 pub answered_at : (selected : Option (List ℕ)) (tag : Tag) (x : Exchange) (old new : Clock) → is_mutating x.asked ≡ false →
     IsAnswered selected tag x old new → AnsweredAt selected tag x old new
@@ -45,6 +50,11 @@ answered_at selected tag x old new question a =
       carried = r.is.is;
       told = told ++ a.answered.asked;
       tells = r.is;
+      quiet = λ none no_part.
+          answered_quiet tag x.asked (waiting_of selected tag x.asked) x.replies a.answered.asked old r.at new r.to none no_part r.before
+          r.step.outside (r.is.waits a.accepted) r.is.before r.is.behind r.after;
+      nothing = a.answered.stands.nothing;
+      no_part = a.answered.stands.no_part;
     }
 
 -- the whole time

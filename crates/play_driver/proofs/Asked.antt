@@ -11,14 +11,16 @@ use Rattle.imap_session.specs.Counting.{HasTag}
 use Rattle.imap_session.specs.Dialogue.{next_tag}
 use Rattle.imap_session.specs.Faults.{IsCount}
 use Rattle.imap_session.specs.Sent.{SentFront, joined}
-use Rattle.imap_session.specs.Session.{Follows, IsAsked}
+use Rattle.imap_session.specs.Session.{Follows, IsAsked, waiting_of}
 use Rattle.imap_session.specs.declared.chosen.Chosen.{Chosen}
 use Rattle.imap_session.specs.declared.fault.SessionFault.{SessionFault}
 use Rattle.mail_base.specs.declared.tag.Tag.{Tag}
 use Rattle.play_driver.proofs.Faulting.{same_err}
 use Rattle.play_driver.proofs.Folds.{fold_sound}
+use Rattle.play_driver.proofs.NotRead.{asked_not_read}
 use Rattle.play_driver.specs.Faults.{of_session, of_unheard}
 use Rattle.play_driver.specs.Stages.{stage_of}
+use Rattle.play_driver.specs.Synced.{AsksRows, IsNotRead}
 use Rattle.play_driver.specs.Turning.{AskedBetween, IsAskedFor, TurnFails, permits_due, standing_of}
 use Rattle.play_driver.specs.Turning.TurnFails.{not_answered, not_heard}
 use Rattle.play_driver.specs.declared.fault.PlayFault.{PlayFault}
@@ -31,12 +33,15 @@ use Rattle.playback.specs.declared.finding.Finding.{Finding}
 use Rattle.playback.specs.declared.need.Need.{Need}
 use Rattle.playback.specs.declared.need.Unheard.{Unheard}
 use Rattle.playback.specs.declared.player.Player.{Player}
-use Rattle.std.proofs.Common.{Bool, Err, IsErrOf, List, Option, ap, arith, false, refl, subst, sym, true, ℕ, ◌<◌, ◌∙◌, ◌≡◌, ◌≢◌}
+use Rattle.std.proofs.Common.{Bool, Err, IsErrOf, List, Option, ap, arith, false, inl, inr, None, refl, subst, sym, true, ℕ, ◌<◌, ◌∙◌, ◌≡◌, ◌≢◌}
 use Rattle.std.proofs.lemmas.Bool.{both_ways}
 use Rattle.store_core.specs.Fold.{IsFold}
 use Rattle.store_core.specs.Holding.{Holding}
 use Rattle.store_core.specs.Mail.{mail}
+use Rattle.world_traits.specs.Asking.{Asking}
 use Rattle.world_traits.specs.LinkState.{LinkState}
+use Rattle.world_traits.specs.Links.{Any, Linked}
+use Rattle.world_traits.specs.Moments.{Clock, Since}
 use Rattle.imap_model.specs.declared.command.Command.TheVariants as commands
 use Rattle.mail_base.specs.declared.tag.Tag.TheVariants as tags
 use Rattle.play_driver.specs.declared.session.Session.TheVariants as sessions
@@ -189,6 +194,37 @@ pub asked_remains : (p : Player) (b : Meaning) (count : ℕ) (tag : Tag) (comman
     IsAskedFor (need_of p b) count tag command → command ≢ commands.Logout
 asked_remains p b count tag command fold beside needed =
     no_logout command (askable (need_of p b) p b count tag command needed (lawful_fold p b fold beside)).asked
+
+-- nor does it ask for all rows of a mailbox
+question_no_rows : (name : List ℕ) (selected : Option (List ℕ)) (tag : Tag) (command : Command) → IsPlayQuestion command →
+    AsksRows name (waiting_of selected tag command) → ⊥
+question_no_rows name selected tag command h (inl (since, is)) = subst IsPlayQuestion is h
+question_no_rows name selected tag command h (inr (there, is)) = subst IsPlayQuestion is h
+
+sent_no_rows : (name : List ℕ) (selected : Option (List ℕ)) (tag : Tag) (command : Command) → is_mutating command ≡ true →
+    AsksRows name (waiting_of selected tag command) → ⊥
+sent_no_rows name selected tag command e (inl (since, is)) =
+    both_ways (is_mutating (commands.Select name since)) refl (sym (ap is_mutating is) ∙ e)
+sent_no_rows name selected tag command e (inr (there, is)) = both_ways (is_mutating commands.FetchAll) refl (sym (ap is_mutating is) ∙ e)
+
+needed_no_rows : (need : Need) (p : Player) (b : Meaning) (count : ℕ) (tag : Tag) (command : Command) → IsAskedFor need count tag command →
+    IsLawfulNeed need p b → (name : List ℕ) (selected : Option (List ℕ)) → AsksRows name (waiting_of selected tag command) → ⊥
+needed_no_rows (needs.Select box) p b count tag command is lawful name selected asks = is
+needed_no_rows (needs.Ask asked) p b count tag command is lawful name selected asks =
+    question_no_rows name selected tag command (subst IsPlayQuestion (sym is.0) lawful.0) asks
+needed_no_rows (needs.Commit event) p b count tag command is lawful name selected asks = is
+needed_no_rows (needs.Settle n outcome) p b count tag command is lawful name selected asks = is
+needed_no_rows (needs.Send n sent) p b count tag command is lawful name selected asks =
+    sent_no_rows name selected tag command (ap is_mutating is.0 ∙ lawful.1) asks
+needed_no_rows needs.Finished p b count tag command is lawful name selected asks = is
+
+-- So it reads no mailbox, where nothing waited or arrived before.
+pub asked_reads_none : (p : Player) (b : Meaning) (count : ℕ) (tag : Tag) (command : Command) (old new : Clock) → IsFold b → IsBeside p b →
+    IsAskedFor (need_of p b) count tag command → old.now.outside.waiting ≡ None → old.now.outside.talk.arriving ≡ None →
+    Linked (Asking old.now.outside.talk.told tag command) old new → (name : List ℕ) → Since Any (IsNotRead name) old new
+asked_reads_none p b count tag command old new fold beside needed none nothing linked name =
+    asked_not_read name tag command old new none nothing
+    (needed_no_rows (need_of p b) p b count tag command needed (lawful_fold p b fold beside) name old.now.outside.talk.selected) linked
 
 -- a reply is awaited for it
 pub asked_awaits : (need : Need) (count : ℕ) (tag : Tag) (command : Command) → IsAskedFor need count tag command → Awaits need

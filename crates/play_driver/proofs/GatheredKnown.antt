@@ -8,12 +8,13 @@ use Rattle.play_driver.proofs.Calls.{enquires_stays}
 use Rattle.play_driver.proofs.GatheredTaken.{chosen_takes, taken_delta}
 use Rattle.play_driver.proofs.KnownLaws.{known_law, level_law}
 use Rattle.play_driver.proofs.PlayedKept.{withstood}
-use Rattle.play_driver.specs.Joining.{AllFair, AnyTwo, StaysJoined}
+use Rattle.play_driver.proofs.ReadsOne.{resynced_other}
+use Rattle.play_driver.specs.Joining.{AllFair, StaysJoined}
 use Rattle.play_driver.specs.KnownAt.{GatheredAt, KnownAt, StandsKept}
 use Rattle.play_driver.specs.Played.{played}
 use Rattle.play_driver.specs.Questioning.{Questioning}
 use Rattle.play_driver.specs.Resynchronising.{Resyncs}
-use Rattle.play_driver.specs.Synced.{IsReadAt}
+use Rattle.play_driver.specs.Synced.{IsLastRead, IsNotRead}
 use Rattle.playback.specs.Allowed.{IsGathered}
 use Rattle.playback.specs.Choosing.{IsChosen}
 use Rattle.playback.specs.Kept.{Kept, KeptBook}
@@ -23,13 +24,14 @@ use Rattle.playback.specs.Worlds.{World, given}
 use Rattle.playback.specs.declared.finding.Resynced.{Resynced}
 use Rattle.playback.specs.declared.player.Player.{Player}
 use Rattle.qresync_core.specs.declared.fault.ResyncFault.{ResyncFault}
-use Rattle.std.proofs.Common.{List, Ok, Option, Result, Some, refl, subst, sym, ℕ, ◌∙◌, ◌≡◌}
+use Rattle.std.proofs.Common.{List, Ok, Option, Result, Some, ap, refl, subst, sym, true, ℕ, ◌∙◌, ◌≡◌, ◌≢◌}
+use Rattle.std.specs.Prelude.{is_some}
 use Rattle.std.proofs.lemmas.Option.{same_Some}
 use Rattle.store_core.proofs.MailBook.{one_mail_event}
 use Rattle.store_core.specs.Mail.{mail}
 use Rattle.store_core.specs.Steps.{Firm}
 use Rattle.world_traits.specs.Links.{Any, Linked}
-use Rattle.world_traits.specs.Moments.{Became, Clock}
+use Rattle.world_traits.specs.Moments.{Clock, Since}
 use Rattle.playback.specs.declared.need.Need.TheVariants as needs
 
 module _ (b : Meaning) (old new : Clock) (stands : StandsKept b old) where
@@ -78,10 +80,22 @@ module _ (b : Meaning) (old new : Clock) (stands : StandsKept b old) where
         (known_law.gathers p b name Taken.0 count after permits then made old new stands known needed linked fair
         (subst (λ (s : Option (List ℕ)). Resyncs s count after name (cache_at name b.boxes) (Ok Taken.0) then old new) (sym selects) resynced))
 
-    -- what is to be recorded makes the server's cache
+    -- something is to be recorded, which makes the server's cache
+    pub chosen_learns : is_some q.learns ≡ true
+    chosen_learns = ap is_some (chosen_takes p b Taken.0 name q needed Taken.2).learns
+
     pub chosen_read : (next : Resynced) → q.learns ≡ Some next →
-        Became Any AnyTwo (IsReadAt next.name (learned (cache_at next.name b.boxes) next.delta)) old new
+        (next.name ≡ name) × IsLastRead next.name (learned (cache_at next.name b.boxes) next.delta) old new
     chosen_read next is =
-        subst (λ (x : Resynced). Became Any AnyTwo (IsReadAt x.name (learned (cache_at x.name b.boxes) x.delta)) old new)
-        (same_Some (record { name = name; delta = Taken.0 }) next (sym (chosen_takes p b Taken.0 name q needed Taken.2).learns ∙ is))
-        (level_law b name (cache_at name b.boxes) Taken.0 selected count after then old new refl stands fair resynced).level
+        subst (λ (x : Resynced). (x.name ≡ name) × IsLastRead x.name (learned (cache_at x.name b.boxes) x.delta) old new)
+        (same_Some (record { name = name; delta = Taken.0 }) next (sym (chosen_takes p b Taken.0 name q needed Taken.2).learns ∙ is)) (
+          refl,
+          (level_law b name (cache_at name b.boxes) Taken.0 selected count after then old new refl stands fair resynced).last
+              stands.none_waits stands.none_arrives,
+        )
+
+    -- and no other mailbox was read
+    pub chosen_others : (other : List ℕ) → name ≢ other → Since Any (IsNotRead other) old new
+    chosen_others other apart =
+        resynced_other name other apart (cache_at name b.boxes) (Ok Taken.0) selected count after then old new stands.none_waits stands.none_arrives
+        resynced

@@ -23,7 +23,7 @@ use Rattle.playback.proofs.Ranks.{due_search_any, due_sent_any, ids_any}
 use Rattle.playback.specs.Allowed.{WhyNotChosen}
 use Rattle.playback.specs.Choosing.{IsChosen, IsChosenFault, Wanted, chosen_box, chosen_in, wanted, wanted_by}
 use Rattle.playback.specs.Needs.{due_id, need_for, need_learn, need_of}
-use Rattle.playback.specs.Steps.{step_of}
+use Rattle.playback.specs.Steps.{step_learn, step_of}
 use Rattle.playback.specs.Worlds.{name_of}
 use Rattle.playback.specs.declared.finding.Resynced.{Resynced}
 use Rattle.playback.specs.declared.need.Need.{Need}
@@ -34,6 +34,7 @@ use Rattle.std.proofs.Common.{Err, List, None, Ok, Option, Result, Some, [], ap,
 use Rattle.store_core.specs.Holding.{Holding}
 use Rattle.store_core.specs.Mail.{mail}
 use Rattle.world_traits.specs.LinkState.{LinkState}
+use Rattle.action_queue.specs.declared.event.Event.TheVariants as events
 use Rattle.playback.specs.declared.need.Need.TheVariants as needs
 use Rattle.playback.specs.declared.step.Step.TheVariants as steps
 
@@ -47,6 +48,18 @@ pub taken_delta : (p new : Player) (b : Meaning) (told : Result Delta ResyncFaul
     (delta : Delta) × (told ≡ Ok delta) × IsChosen p b (Ok delta) new
 taken_delta p new b (Ok delta) chosen = (delta, refl, chosen)
 taken_delta p new b (Err fault) chosen = absurd chosen
+
+-- a mailbox is needed only where nothing is to be recorded
+pub selects_none : (p : Player) (b : Meaning) (name : List ℕ) → need_of p b ≡ needs.Select name → p.learns ≡ None
+selects_none p b name needed = by p.learns refl
+  where
+    by : (learns : Option Resynced) → p.learns ≡ learns → p.learns ≡ None
+    by None is = is
+    by (Some told) is =
+        let learn : need_of p b ≡ needs.Commit (events.Learn told.name told.delta) =
+        ap (λ (o : Option Resynced). need_for (step_learn p b o) p b) is ∙ ap need_learn is in
+        let other : needs.Commit (events.Learn told.name told.delta) ≡ needs.Select name = sym learn ∙ needed in
+        absurd cc
 
 -- this mailbox is selected, and its delta is to be recorded
 pub record HasTaken (name : List ℕ) (delta : Delta) (new : Player) : Type 0 where

@@ -1,8 +1,8 @@
--- What a resynchronisation tells makes the cache the server's at a moment of it, and fresh from then on.
-use Rattle.std.proofs.Common.{◌≡◌, ◌≢◌, ◌⊎◌, ⊎_elim, inl, inr, ◌≤◌, ℕ, ◌+◌, Bool, true, false, not, List, Option, Some, None, is_some, Ok, Err, Result}
+-- What a resynchronisation tells makes the cache the server's at the last moment at which it reads the mailbox, and fresh from then on.
+use Rattle.std.proofs.Common.{◌≡◌, ◌≢◌, ◌⊎◌, ⊎_elim, inl, inr, ◌<◌, ◌≤◌, ℕ, ◌+◌, Bool, true, false, not, List, Option, Some, None, is_some, Ok, Err, Result}
 use Rattle.std.proofs.Common.{refl, sym, ◌∙◌, ap, subst, arith}
 use Rattle.std.specs.Prelude.{◌==◌, cond, nat_lt}
-use Rattle.std.proofs.lemmas.Bool.{cases_eq, eqb-true, false_from_ne_true}
+use Rattle.std.proofs.lemmas.Bool.{eqb-true, false_from_ne_true, ltb-false, ltb-true}
 use Rattle.std.proofs.lemmas.Option.{same_Some}
 use Rattle.mail_base.specs.declared.tag.Tag.{Tag}
 use Rattle.imap_model.specs.CarriedOut.{CarriesOut, Decides, Selects}
@@ -34,7 +34,7 @@ use Rattle.qresync_core.proofs.Judging.{memory_alone, no_fault}
 use Rattle.qresync_core.proofs.Leveling.{kept_judged, kept_levels, first_judged, first_mirrors, empty_judged, empty_mirrors, fresh_later as still_fresh}
 use Rattle.qresync_core.proofs.Replying.{codes_true, fetch_box, select_box, selecting}
 use Rattle.world_traits.specs.Links.{Any, LinkStep, Linked}
-use Rattle.world_traits.specs.Moments.{Moment, Clock, tick}
+use Rattle.world_traits.specs.Moments.{Moment, Clock, Since, tick}
 use Rattle.world_traits.proofs.Passing.{since_then, since_weaker}
 use Rattle.world_traits.proofs.Traces.{since_both, since_carry}
 use Rattle.imap_session.specs.Dialogue.{next_tag}
@@ -54,11 +54,12 @@ use Rattle.play_driver.specs.KnownAt.{StandsKept}
 use Rattle.play_driver.specs.Levelling.{IsKeptFresh, IsLevelled, IsOutdated, LeavesValidity, LinkFaultless, LinkLevels, ResyncsFaultless, ResyncsLevel}
 use Rattle.play_driver.specs.Levelling.{SameValidity, ValidityStays}
 use Rattle.play_driver.specs.Played.{played}
-use Rattle.play_driver.specs.Synced.{IsLevel, IsReadAt}
+use Rattle.play_driver.specs.Synced.{IsLevel, IsRead, IsReadAt}
 use Rattle.play_driver.proofs.Answering.{AnsweredAt, answered_at, answered_through}
 use Rattle.play_driver.proofs.Calm.{calm_now, held_now, stays_first, stays_second}
 use Rattle.play_driver.proofs.KnownWalk.{kept_here}
 use Rattle.play_driver.proofs.Links.{books_there, fair_books}
+use Rattle.play_driver.proofs.NotRead.{IsQuiet, quiet_all}
 use Rattle.play_driver.proofs.Parts.{grows}
 use Rattle.play_driver.proofs.PlayedKept.{validity_same}
 
@@ -107,20 +108,32 @@ past_on name validity highest s t well batch same p =
 module _ (name : List ℕ) where
   -- a cache that mirrors the mailbox at some clock
   mirrored : (cache : Cache) (old at new : Clock) (to : Moment) (box : Mailbox) → IsCalm at.now.outside → Linked Enquiring old at →
-      Linked Enquiring at new → Linked Enquiring (tick at to) new → (IsLevel name cache at.now → IsReadAt name cache at.now to) →
-      ValidityStays name at new → box_at name at.now.outside.server.boxes ≡ Some box → Mirrors cache box → IsLevelled name cache old new
-  mirrored cache old at new to box calm before after behind read fair there mirrors = record {
-    level = record {
-      at = at;
-      to = to;
-      before = grows Any (LinkStep Enquiring) old at before;
-      has = tt;
-      step = tt;
-      after = grows Any (LinkStep Enquiring) (tick at to) new behind;
-      is = read (record { box = box; there = there; validity = mirrors.fresh.validity; rows = mirrors.rows });
-    };
-    fresh = (held_now name (Freshly name cache) (freshly_on name cache) at new after fair (calm, record { box = box; there = there; fresh = mirrors.fresh })).1;
-  }
+      Linked Enquiring at new → Linked Enquiring (tick at to) new → IsRead name at.now to →
+      (old.now.outside.waiting ≡ None → old.now.outside.talk.arriving ≡ None → Since Any IsQuiet (tick at to) new) → ValidityStays name at new →
+      box_at name at.now.outside.server.boxes ≡ Some box → Mirrors cache box → IsLevelled name cache old new
+  mirrored cache old at new to box calm before after behind read quiet fair there mirrors =
+      let level : IsLevel name cache at.now = record { box = box; there = there; validity = mirrors.fresh.validity; rows = mirrors.rows } in
+      let first = grows Any (LinkStep Enquiring) old at before in
+      let is : IsReadAt name cache at.now to = record { read = read; level = level } in
+      record {
+        level = record {
+          at = at;
+          to = to;
+          before = first;
+          has = tt;
+          step = tt;
+          after = grows Any (LinkStep Enquiring) (tick at to) new behind;
+          is = is;
+        };
+        last = λ none no_part. record {
+          at = at;
+          to = to;
+          before = first;
+          is = is;
+          after = quiet_all name (tick at to) new (quiet none no_part);
+        };
+        fresh = (held_now name (Freshly name cache) (freshly_on name cache) at new after fair (calm, record { box = box; there = there; fresh = mirrors.fresh })).1;
+      }
 
   -- SELECT, answered by OK
   selects : (kept : Option Cache) (selected : Option (List ℕ)) (tag : Tag) (r : Replies) (old new : Clock) → r.ending ≡ endings.Ok →
@@ -138,11 +151,10 @@ module _ (name : List ℕ) where
         },
       )
 
-  -- the cache is the server's as SELECT was carried out
-  select_read : (cache : Cache) (kept : Option Cache) (selected : Option (List ℕ)) (tag : Tag) (r : Replies) (old new : Clock) → r.ending ≡ endings.Ok →
-      (a : AnsweredAt selected tag (record { asked = select_of name kept; replies = r }) old new) → IsLevel name cache a.at.now →
-      IsReadAt name cache a.at.now a.to
-  select_read cache kept selected tag r old new ok a level = record {
+  -- SELECT reads the mailbox as it is carried out
+  select_read : (kept : Option Cache) (selected : Option (List ℕ)) (tag : Tag) (r : Replies) (old new : Clock) → r.ending ≡ endings.Ok →
+      (a : AnsweredAt selected tag (record { asked = select_of name kept; replies = r }) old new) → IsRead name a.at.now a.to
+  select_read kept selected tag r old new ok a = record {
     asked = waiting_of selected tag (select_of name kept);
     rows = inl (mark_kept kept, refl);
     replies = r;
@@ -150,7 +162,6 @@ module _ (name : List ℕ) where
     selects = a.selects;
     told = a.told;
     tells = a.tells;
-    level = level;
   }
 
   -- the replies have no fault, and make a cache that is level
@@ -170,7 +181,7 @@ module _ (name : List ℕ) where
         (codes_of_box s.0, kept_judged name cache s.0 r s.2 fresh.validity fresh.facts),
         λ delta tells.
             mirrored (learned (Some cache) delta) old a.at new a.to s.0 then.0 a.before a.after a.behind
-            (select_read (learned (Some cache) delta) (Some cache) selected tag r old new ok a)
+            (select_read (Some cache) selected tag r old new ok a) a.quiet
             (stays_second name old a.at new a.before a.after fair) s.1
             (kept_levels name cache s.0 r s.2 fresh.validity fresh.facts delta tells).mirrors,
       )
@@ -185,7 +196,7 @@ module _ (name : List ℕ) where
         (codes_of_box s.0, empty_judged name None s.0 r s.2 empty),
         λ delta tells.
             mirrored (first delta) old a.at new a.to s.0 then a.before a.after a.behind
-            (select_read (first delta) None selected tag r old new ok a) (stays_second name old a.at new a.before a.after fair) s.1
+            (select_read None selected tag r old new ok a) a.quiet (stays_second name old a.at new a.before a.after fair) s.1
             (empty_mirrors name None s.0 r s.2 empty delta tells).1,
       )
 
@@ -217,7 +228,7 @@ module _ (name : List ℕ) where
         selected = refl;
         answers = record { server = f.at.now.outside.server; later = f.to.outside.server; after = f.selects; carried = f.carried; ok = fine; there = g.1 };
       } in
-      let fetch_read : ((cache : Cache) → IsLevel name cache f.at.now → IsReadAt name cache f.at.now f.to) = λ cache level. record {
+      let fetch_read : IsRead name f.at.now f.to = record {
         asked = w;
         rows = inr (refl, refl);
         replies = all;
@@ -225,12 +236,11 @@ module _ (name : List ℕ) where
         selects = f.selects;
         told = f.told;
         tells = f.tells;
-        level = level;
       } in (
         (codes_of_box s.0, first_judged name None s.0 g.0 r all s.2 fetched),
         λ delta tells.
-            mirrored (first delta) old f.at new f.to g.0 later.0 from_start f.after f.behind (fetch_read (first delta))
-            (stays_second name a.at f.at new between f.after fair_on) g.1
+            mirrored (first delta) old f.at new f.to g.0 later.0 from_start f.after f.behind fetch_read
+            (λ none no_part. f.quiet a.nothing a.no_part) (stays_second name a.at f.at new between f.after fair_on) g.1
             (first_mirrors name None s.0 g.0 r all s.2 fetched validity higher delta tells),
       )
 
@@ -244,7 +254,7 @@ module _ (name : List ℕ) where
   told_empty false is = absurd cc
 
   -- behind SELECT, answered by OK, the mailbox is selected
-  select_after : (since : Option Mark) (selected : Option (List ℕ)) (tag : Tag) (r : Replies) (s t : Server) (after : Option (List ℕ)) → r.ending ≡ endings.Ok →
+  pub select_after : (since : Option Mark) (selected : Option (List ℕ)) (tag : Tag) (r : Replies) (s t : Server) (after : Option (List ℕ)) → r.ending ≡ endings.Ok →
       CarriesOut (waiting_of selected tag (commands.Select name since)) s r t after → after ≡ Some name
   select_after since selected tag r s t after ok carried =
       let w = waiting_of selected tag (commands.Select name since) in
@@ -319,6 +329,17 @@ module _ (b : Meaning) (name : List ℕ) (old new : Clock) (has : HasBooks mail 
       (λ m n any s has. books_there Enquiring m n s.0 mail (Firm (Some b)) has) old has new
       (since_both Any Any (LinkStep Enquiring) (IsFair mail played) old new linked fair))
 
+-- a lower number is another one; and one that isn't below another is the same or higher
+pub lower_other : (m n : ℕ) → m < n → m ≢ n
+lower_other m n lower same = absurd (omega (arith, lower, same))
+
+same_or_higher : (m n : ℕ) → m ≤ n → (◌≡◌ {A = ℕ} n m) ⊎ (m < n)
+same_or_higher m n not_below = by (nat_lt m n) refl
+  where
+    by : (test : Bool) → nat_lt m n ≡ test → (◌≡◌ {A = ℕ} n m) ⊎ (m < n)
+    by true is = inr (ltb-true m n is)
+    by false is = inl (omega (arith, not_below, ltb-false m n is))
+
 -- a cache of another UIDVALIDITY than was told
 kept_other : (cache : Cache) (codes : Codes) → cache.validity ≢ codes.validity →
     kept_fault (Some cache) codes ≡ Some (resyncs.Validity cache.validity codes.validity)
@@ -364,7 +385,7 @@ under_on name validity old new calm linked stays under =
 
 -- what is told of a mailbox that was made anew since it was cached
 module _ (name : List ℕ) (cache : Cache) (old new : Clock) (calm : IsCalm old.now.outside)
-    (other : cache.validity ≢ validity_of (box_at name old.now.outside.server.boxes)) (fair : ValidityStays name old new) where
+    (lower : cache.validity < validity_of (box_at name old.now.outside.server.boxes)) (fair : ValidityStays name old new) where
   abbrev Outdated : ResyncFault
   Outdated = resyncs.Validity cache.validity (validity_of (box_at name old.now.outside.server.boxes))
 
@@ -379,7 +400,7 @@ module _ (name : List ℕ) (cache : Cache) (old new : Clock) (calm : IsCalm old.
       subst (λ (v : ℕ). judged (Some cache) r None ≡ Err (resyncs.Validity cache.validity v)) now
       (judged_other (Some cache) r None codes (resyncs.Validity cache.validity s.0.validity)
       (codes_true (Some (mark_of cache)) s.0 r (selecting name (Some (mark_of cache)) s.0 r s.2))
-      (kept_other cache codes (λ same. other (same ∙ now))))
+      (kept_other cache codes (λ same. lower_other cache.validity (validity_of (box_at name old.now.outside.server.boxes)) lower (same ∙ now))))
 
   by_exchange : (r : Replies) (all : Option Replies) (selected : Option (List ℕ)) (count : ℕ) → is_some all ≡ fetches (Some cache) r →
       AnsweredAll (exchanged name (Some cache) (record { selected = r; all = all })) selected count old new → judged (Some cache) r all ≡ Err Outdated
@@ -400,20 +421,20 @@ module _ (b : Meaning) (old : Clock) (stands : StandsKept b old) where
   -- a cache is fresh, or its mailbox was made anew
   abbrev IsRenewed : List ℕ → Option Cache → Type 0
   IsRenewed name None = ⊥
-  IsRenewed name (Some cache) = cache.validity ≢ validity_of (box_at name old.now.outside.server.boxes)
+  IsRenewed name (Some cache) = cache.validity < validity_of (box_at name old.now.outside.server.boxes)
 
   by_number : (name : List ℕ) (cache : Cache) (f : IsFreshFor name cache old.now.outside.server.boxes) →
-      (◌≡◌ {A = ℕ} f.box.validity cache.validity) ⊎ (f.box.validity ≢ cache.validity) →
+      (◌≡◌ {A = ℕ} f.box.validity cache.validity) ⊎ (cache.validity < f.box.validity) →
       IsFreshAt old.now.outside.server name cache ⊎ IsRenewed name (Some cache)
   by_number name cache f (inl same) = inl (record { box = f.box; there = f.there; fresh = record { validity = sym same; facts = f.facts same } })
-  by_number name cache f (inr other) = inr (λ same. other (sym (ap validity_of f.there) ∙ sym same))
+  by_number name cache f (inr higher) = inr (subst (λ (v : ℕ). cache.validity < v) (sym (ap validity_of f.there)) higher)
 
   fresh_or : (name : List ℕ) (cache : Option Cache) → cache_at name b.boxes ≡ cache →
       IsKeptFresh old.now.outside.server name cache ⊎ IsRenewed name cache
   fresh_or name None is = inl tt
   fresh_or name (Some cache) is =
       let f = kept.fresh name cache is in
-      by_number name cache f (cases_eq f.box.validity cache.validity)
+      by_number name cache f (same_or_higher cache.validity f.box.validity f.not_below)
 
   pub stays : (name : List ℕ) (cache : Option Cache) (delta : Result Delta ResyncFault) (selected : Option (List ℕ)) (count after : ℕ)
       (permits : Option Permits) (new : Clock) → AllFair mail played old new → Resyncs selected count after name cache delta permits old new →

@@ -13,8 +13,10 @@ pub mod Once
 pub mod BooksOn
 pub mod Gathers
 pub mod Calm
+pub mod NotRead
 pub mod Answering
 pub mod Learned
+pub mod ReadsOne
 pub mod Faulting
 pub mod Ends
 pub mod OverOne

@@ -11,18 +11,18 @@ use Rattle.literal_feed.specs.Stream.{Stream}
 use Rattle.mail_base.specs.declared.tag.Tag.{Tag}
 use Rattle.mailbox_cache.specs.declared.delta.Delta.{Delta}
 use Rattle.play_driver.proofs.Asked.{lawful_fold}
-use Rattle.play_driver.proofs.Parts.{became_earlier, became_later, grows_then}
+use Rattle.play_driver.proofs.NotRead.{last_earlier, last_later, synced_later}
+use Rattle.play_driver.proofs.Parts.{grows_then}
 use Rattle.play_driver.proofs.Progressing.{firm_left}
 use Rattle.play_driver.specs.Faults.{IsReplyFault}
-use Rattle.play_driver.specs.Joining.{AllFair, AnyTwo, Grows, IsKept}
+use Rattle.play_driver.specs.Joining.{Grows, IsKept}
 use Rattle.play_driver.specs.KnownAt.{KnownAt, StandsKept}
-use Rattle.play_driver.specs.Played.{played}
 use Rattle.play_driver.specs.Recording.{NotRecorded, recorded}
 use Rattle.play_driver.specs.Recording.NotRecorded.{disk, full, wanting}
 use Rattle.play_driver.specs.Sessions.{count_of, permits_in, selected_in}
-use Rattle.play_driver.specs.Settled.{IsSyncedSoFar, SyncedSince}
+use Rattle.play_driver.specs.Settled.{IsPending, IsSyncedSoFar, SyncedSince}
 use Rattle.play_driver.specs.Stages.{DeltaCameOf, stage_of}
-use Rattle.play_driver.specs.Synced.{IsReadAt}
+use Rattle.play_driver.specs.Synced.{IsLastRead, IsNotRead}
 use Rattle.play_driver.specs.TrueRecords.{IsTrueSince, TrueEvent}
 use Rattle.play_driver.specs.TrueRecords.IsTrueSince.{records as more_true}
 use Rattle.play_driver.specs.Turning.Turns.{asks, records, selects}
@@ -39,7 +39,8 @@ use Rattle.playback.specs.declared.finding.Resynced.{Resynced}
 use Rattle.playback.specs.declared.finding.Selected.{Selected}
 use Rattle.playback.specs.declared.need.Need.{Need}
 use Rattle.playback.specs.declared.player.Player.{Player}
-use Rattle.std.proofs.Common.{inl, inr, List, None, Ok, Option, Some, ap, refl, subst, sym, true, ℕ, ⊎_elim, ◌<◌, ◌∙◌, ◌≡◌, ◌⊎◌}
+use Rattle.std.proofs.Common.{inl, inr, List, None, Ok, Option, Some, ap, refl, subst, sym, true, ℕ, ⊎_elim, ◌<◌, ◌∙◌, ◌≡◌, ◌≢◌, ◌⊎◌}
+use Rattle.std.proofs.lemmas.Option.{none-some}
 use Rattle.std.specs.Prelude.{is_some}
 use Rattle.store_core.specs.Fold.{IsFold}
 use Rattle.store_core.specs.Holding.{Holding, IsAsLeft}
@@ -48,7 +49,7 @@ use Rattle.store_core.specs.Taking.{Takes}
 use Rattle.world_traits.specs.Files.{Files}
 use Rattle.world_traits.specs.LinkState.{Connection, LinkState}
 use Rattle.world_traits.specs.Links.{Any}
-use Rattle.world_traits.specs.Moments.{Became, Clock}
+use Rattle.world_traits.specs.Moments.{Clock, Since}
 use Rattle.playback.specs.declared.need.Need.TheVariants as needs
 use Rattle.play_driver.specs.declared.session.Session.TheVariants as sessions
 
@@ -91,40 +92,57 @@ no_reply_fault event s fault (wanting takes is) = λ told. subst IsReplyFault is
 no_reply_fault event s fault (disk is) = λ told. subst IsReplyFault is told
 no_reply_fault event s fault (full more is) = λ told. subst IsReplyFault is told
 
--- The first mailboxes stay resynchronised over a call of the link, which records nothing.
+-- The first mailboxes stay resynchronised over a call of the link, which records nothing, and reads no mailbox but that of which something
+-- is to be recorded then.
 module _ (c : Meaning) (old new : Clock) (p q : Player) (start : Clock) (more : Grows old new) (resynced : q.resynced ≡ p.resynced) where
-  synced_as : SyncedSince start old p c → ((told : Resynced) → q.learns ≡ Some told →
-      Became Any AnyTwo (IsReadAt told.name (learned (cache_at told.name c.boxes) told.delta)) old new ⊎ (p.learns ≡ Some told)) →
-      SyncedSince start new q c
-  synced_as s pending = record {
+  abbrev LeavesOthers : Type 0
+  LeavesOthers = (name : List ℕ) → (IsPending name q → ⊥) → (IsPending name p → ⊥) × Since Any (IsNotRead name) old new
+
+  abbrev IsReadHere : Resynced → Type 0
+  IsReadHere told = IsLastRead told.name (learned (cache_at told.name c.boxes) told.delta) old new
+
+  synced_as : SyncedSince start old p c → LeavesOthers → ((told : Resynced) → q.learns ≡ Some told →
+      IsReadHere told ⊎ ((p.learns ≡ Some told) × Since Any (IsNotRead told.name) old new)) → SyncedSince start new q c
+  synced_as s leaves pending = record {
     from = s.from;
     later = s.later;
     before = grows_then s.from old new s.before more;
     settled = s.settled;
-    counted = λ i known at below.
-        let was = s.counted i known at (subst (λ (n : ℕ). i < n) resynced below) in
-        record {
-          cache = was.cache;
-          there = was.there;
-          level = became_later (IsReadAt known.name was.cache) s.from old new was.level more;
-        };
+    counted = λ i known at below other.
+        let then = leaves known.name other in
+        synced_later known.name c s.from old new (s.counted i known at (subst (λ (n : ℕ). i < n) resynced below) then.0) then.1;
     pending = λ told is.
-        let level = IsReadAt told.name (learned (cache_at told.name c.boxes) told.delta) in
-        ⊎_elim (λ (read : Became Any AnyTwo level old new). became_earlier level s.from old new s.before read)
-        (λ (was : p.learns ≡ Some told). became_later level s.from old new (s.pending told was) more) (pending told is);
+        let Put = learned (cache_at told.name c.boxes) told.delta in
+        ⊎_elim (λ (read : IsReadHere told). last_earlier told.name Put s.from old new s.before read)
+        (λ (was : (p.learns ≡ Some told) × Since Any (IsNotRead told.name) old new).
+        last_later told.name Put s.from old new (s.pending told was.0) was.1) (pending told is);
   }
 
-  pub synced_asked : q.learns ≡ p.learns → IsSyncedSoFar start old p c → IsSyncedSoFar start new q c
-  synced_asked learns so_far settled = synced_as (so_far settled) (λ told is. inr (sym learns ∙ is))
-
-  abbrev Reads : Meaning → Type 0
-  Reads b =
-      StandsKept b old → AllFair mail played old new → (told : Resynced) → q.learns ≡ Some told →
-      Became Any AnyTwo (IsReadAt told.name (learned (cache_at told.name b.boxes) told.delta)) old new
-
-  pub synced_read : (b : Meaning) → b ≡ c → Reads b → StandsKept c old → AllFair mail played old new → IsSyncedSoFar start old p c →
+  pub synced_asked : q.learns ≡ p.learns → ((name : List ℕ) → Since Any (IsNotRead name) old new) → IsSyncedSoFar start old p c →
       IsSyncedSoFar start new q c
-  synced_read b same read stands fair so_far settled = synced_as (so_far settled) (λ told is. inl (subst Reads same read stands fair told is))
+  synced_asked learns unread so_far settled =
+      synced_as (so_far settled)
+      (λ name other. (
+        λ was. other (record { told = was.told; learns = learns ∙ was.learns; named = was.named }),
+        unread name,
+      )) (λ told is. inr (sym learns ∙ is, unread told.name))
+
+  -- A mailbox was resynchronised, of which nothing was to be recorded before.
+  module _ (name : List ℕ) (none : p.learns ≡ None)
+      (others : (other : List ℕ) → name ≢ other → Since Any (IsNotRead other) old new)
+      (read : (told : Resynced) → q.learns ≡ Some told → (told.name ≡ name) × IsReadHere told) (there : is_some q.learns ≡ true) where
+    not_pending : (other : List ℕ) → IsPending other p → ⊥
+    not_pending other was = none-some was.told (sym none ∙ was.learns)
+
+    pending_is : (o : Option Resynced) → q.learns ≡ o → is_some o ≡ true → (other : List ℕ) → name ≡ other → IsPending other q
+    pending_is None is some other same = absurd cc
+    pending_is (Some told) is some other same = record { told = told; learns = is; named = (read told is).0 ∙ same }
+
+    pub synced_read : IsSyncedSoFar start old p c → IsSyncedSoFar start new q c
+    synced_read so_far settled =
+        synced_as (so_far settled)
+        (λ other free. (not_pending other, others other (λ same. free (pending_is q.learns refl there other same))))
+        (λ told is. inl (read told is).1)
 
 -- A mailbox was resynchronised.
 pub selects_turn : (link later : LinkState) (session : Session) (chosen : Chosen) (s : Holding mail) (p q : Player) (b : Meaning) (name : List ℕ) →

@@ -10,12 +10,13 @@ use Rattle.action_queue.specs.declared.queued.Queued.{Queued}
 use Rattle.action_queue.specs.declared.rule.Rule.{Rule}
 use Rattle.mailbox_cache.specs.declared.cache.Cache.{Cache}
 use Rattle.mailbox_cache.specs.declared.delta.Delta.{Delta}
-use Rattle.play_driver.proofs.Parts.{became_later, grows_start, grows_then}
-use Rattle.play_driver.specs.Joining.{AnyTwo, Grows}
+use Rattle.play_driver.proofs.NotRead.{last_later, takes_not_read}
+use Rattle.play_driver.proofs.Parts.{grows_start, grows_then}
+use Rattle.play_driver.specs.Joining.{Grows}
 use Rattle.play_driver.specs.Settled.{IsSettledAt, IsSyncedSoFar, SyncedSince}
-use Rattle.play_driver.specs.Synced.{IsReadAt, IsSynced}
+use Rattle.play_driver.specs.Synced.{IsLastRead, IsNotRead, IsSynced}
 use Rattle.playback.specs.Allowed.{Records}
-use Rattle.play_driver.proofs.Progressing.{names_put}
+use Rattle.play_driver.proofs.Progressing.{names_put, takes_grows}
 use Rattle.playback.proofs.Recording.{IsRecorded, recorded}
 use Rattle.playback.specs.Choosing.{committed, counted}
 use Rattle.playback.specs.Needs.{IsBeside, IsNextBox, need_of}
@@ -31,9 +32,9 @@ use Rattle.std.specs.Option.{option_map}
 use Rattle.std.specs.Prelude.{bytes_eq, is_none, is_some, map, nat_lt, slice_get}
 use Rattle.store_core.specs.Mail.{mail}
 use Rattle.store_core.specs.Steps.{Firm}
-use Rattle.store_core.specs.Taking.{HasBooks}
+use Rattle.store_core.specs.Taking.{HasBooks, Takes}
 use Rattle.world_traits.specs.Links.{Any}
-use Rattle.world_traits.specs.Moments.{Became, Clock}
+use Rattle.world_traits.specs.Moments.{Clock, Since}
 use Rattle.action_queue.specs.declared.event.Event.TheVariants as events
 use Rattle.action_queue.specs.declared.rule.Rule.TheVariants as rule
 use Rattle.playback.specs.declared.step.Step.TheVariants as steps
@@ -124,7 +125,7 @@ next_box None (Some other) told count boxes none is next =
 
 -- one mailbox is learned of: it is synced where what was told is the server's, and the others are as they were
 module _ (b : Meaning) (name : List ℕ) (delta : Delta) (known : is_some (known_at name b.boxes) ≡ true) (from old new : Clock)
-    (more : Grows old new) where
+    (unread : (other : List ℕ) → Since Any (IsNotRead other) old new) where
   abbrev Put : Cache
   Put = learned (cache_at name b.boxes) delta
 
@@ -135,17 +136,17 @@ module _ (b : Meaning) (name : List ℕ) (delta : Delta) (known : is_some (known
   kept_synced other apart s = record {
     cache = s.cache;
     there = cache_kept name other (Some Put) b.boxes apart ∙ s.there;
-    level = became_later (IsReadAt other s.cache) from old new s.level more;
+    level = last_later other s.cache from old new s.level (unread other);
   }
 
-  put_synced : (other : List ℕ) → name ≡ other → Became Any AnyTwo (IsReadAt name Put) from old → IsSynced other Then from new
+  put_synced : (other : List ℕ) → name ≡ other → IsLastRead name Put from old → IsSynced other Then from new
   put_synced other same told = subst (λ (n : List ℕ). IsSynced n Then from new) same (record {
     cache = Put;
     there = cache_put name Put b.boxes known;
-    level = became_later (IsReadAt name Put) from old new told more;
+    level = last_later name Put from old new told (unread name);
   })
 
-  pub learned_synced : (other : List ℕ) → Became Any AnyTwo (IsReadAt name Put) from old → (bytes_eq name other ≡ false → IsSynced other b from old) →
+  pub learned_synced : (other : List ℕ) → IsLastRead name Put from old → (bytes_eq name other ≡ false → IsSynced other b from old) →
       IsSynced other Then from new
   learned_synced other told rest = by (bytes_eq name other) refl
     where
@@ -169,13 +170,13 @@ module _ (start old new : Clock) (p : Player) (b : Meaning) (beside : IsBeside p
       later = grows_then start old new first more;
       before = grows_start new;
       settled = at_new;
-      counted = λ i known at below. let less = counted_before i below in absurd (none_counted (omega (arith, less)));
+      counted = λ i known at below other. let less = counted_before i below in absurd (none_counted (omega (arith, less)));
       pending = λ told is. absurd cc;
     }
 
   -- What was told of the next mailbox is recorded.
   module _ (told : Resynced) (is : p.learns ≡ Some told) (known : is_some (known_at told.name b.boxes) ≡ true) (settled : AllSettled b.queue)
-      (s : SyncedSince start old p b) where
+      (s : SyncedSince start old p b) (unread : (other : List ℕ) → Since Any (IsNotRead other) old new) where
     abbrev Told : Event
     Told = events.Learn told.name told.delta
 
@@ -190,12 +191,22 @@ module _ (start old new : Clock) (p : Player) (b : Meaning) (beside : IsBeside p
         same_Some next.known at.known (sym next.there ∙ sym (ap (slice_get b.boxes) here) ∙ at.there) in
         sym next.named ∙ ap (λ (k : Known). k.name) same ∙ at.named
 
+    -- what is to be recorded is of no other name
+    is_other : (other : Resynced) (name : List ℕ) → p.learns ≡ Some other → other.name ≡ name → bytes_eq told.name name ≡ false → ⊥
+    is_other other name learns named apart =
+        let same : told ≡ other = same_Some told other (sym is ∙ learns) in
+        let equal : bytes_eq told.name name ≡ true = (bytes_eq-Decides told.name name).1 (ap (λ (r : Resynced). r.name) same ∙ named) in
+        absurd cc
+
     counted_one : (i : ℕ) (name : List ℕ) → IsNamedAt name b.boxes i → i < p.resynced + 1 → bytes_eq told.name name ≡ false →
         IsSynced name b s.from old
     counted_one i name at below apart = by (nat_lt i p.resynced) refl
       where
         by : (test : Bool) → nat_lt i p.resynced ≡ test → IsSynced name b s.from old
-        by true less = subst (λ (n : List ℕ). IsSynced n b s.from old) at.named (s.counted i at.known at.there (ltb-true i p.resynced less))
+        by true less =
+            subst (λ (n : List ℕ). IsSynced n b s.from old) at.named
+            (s.counted i at.known at.there (ltb-true i p.resynced less)
+            (λ pending. is_other pending.told at.known.name (pending.learns) (pending.named) (ap (bytes_eq told.name) at.named ∙ apart)))
         by false not =
             let same : told.name ≡ name = last_named i name at (ltb-false i p.resynced not) below in
             absurd (let equal : bytes_eq told.name name ≡ true = (bytes_eq-Decides told.name name).1 same in cc)
@@ -213,10 +224,10 @@ module _ (start old new : Clock) (p : Player) (b : Meaning) (beside : IsBeside p
       later = s.later;
       before = grows_then s.from old new s.before more;
       settled = s.settled;
-      counted = λ i box at below.
+      counted = λ i box at below other.
           let less : i < p.resynced + 1 =
           omega (arith, below, counted_by_one p.learns (due_action b.queue) (length (after b Told).boxes) p.resynced) in
-          learned_synced b told.name told.delta known s.from old new more box.name (s.pending told is)
+          learned_synced b told.name told.delta known s.from old new unread box.name (s.pending told is)
           (λ apart. counted_one i box.name (stands i box at) less apart);
       pending = λ other none. absurd cc;
     }
@@ -233,10 +244,13 @@ intends_open p b intent none step settled =
 
 -- So it goes on with the event that the player needs.
 pub synced_on : (start old new : Clock) (p : Player) (b : Meaning) (event : Event) → IsBeside p b → Records (need_of p b) event → IsLawful b event →
-    Grows start old → Grows old new → HasBooks mail (Firm (Some (after b event))) new.now → IsSyncedSoFar start old p b →
+    Grows start old → Takes mail (Some b) event old new → HasBooks mail (Firm (Some (after b event))) new.now → IsSyncedSoFar start old p b →
     IsSyncedSoFar start new (committed p (after b event)) (after b event)
-synced_on start old new p b event beside needed lawful first more books so_far = by (recorded p b event needed)
+synced_on start old new p b event beside needed lawful first takes books so_far = by (recorded p b event needed)
   where
+    more : Grows old new
+    more = takes_grows b event old new takes
+
     by : IsRecorded p b event → IsSyncedSoFar start new (committed p (after b event)) (after b event)
     by (inl x) = λ settled.
         absurd (intends_open p b x.intent x.none x.step (subst (λ (e : Event). AllSettled (after b e).queue) x.is settled))
@@ -246,7 +260,8 @@ synced_on start old new p b event beside needed lawful first more books so_far =
     by (inr (inr x)) =
         subst (λ (e : Event). IsSyncedSoFar start new (committed p (after b e)) (after b e)) (sym x.is)
         (λ settled. synced_more start old new p b beside first more x.told x.learns
-        (learns_known b x.told.name x.told.delta (subst (IsLawful b) x.is lawful)) settled (so_far settled))
+        (learns_known b x.told.name x.told.delta (subst (IsLawful b) x.is lawful)) settled (so_far settled)
+        (λ other. takes_not_read other b event old new takes))
 
 pub synced_then : (p q : Player) (b c : Meaning) (event : Event) → c ≡ after b event → q ≡ committed p c → (start new : Clock) →
     IsSyncedSoFar start new (committed p (after b event)) (after b event) → IsSyncedSoFar start new q c

@@ -11,7 +11,7 @@ use Rattle.mail_base.specs.declared.tag.Tag.{Tag}
 use Rattle.mailbox_cache.specs.declared.cache.Cache.{Cache}
 use Rattle.mailbox_cache.specs.declared.delta.Delta.{Delta}
 use Rattle.play_driver.proofs.KnownWalk.{kept_here}
-use Rattle.play_driver.proofs.Learned.{calm, learns_faultless, learns_level, under_on, validity_stays}
+use Rattle.play_driver.proofs.Learned.{calm, learns_faultless, learns_level, lower_other, under_on, validity_stays}
 use Rattle.play_driver.proofs.Opened.{opens_enquiring}
 use Rattle.play_driver.proofs.ToHave.{to_have_stands}
 use Rattle.play_driver.specs.Faults.{of_resync, of_session, of_unheard}
@@ -169,7 +169,7 @@ module _ (b : Meaning) (old new : Clock) (stands : StandsKept b old) (fair : All
   none_outdated : (cache : Option Cache) → cache ≡ cache_at name b.boxes → (fault : ResyncFault) →
       IsOutdated old.now.outside.server name cache fault → ⊥
   none_outdated None same fault outdated = outdated
-  none_outdated (Some cache) same fault outdated = outdated.0 (sym (none.caches name cache (sym same)))
+  none_outdated (Some cache) same fault outdated = lower_other _ _ outdated.0 (sym (none.caches name cache (sym same)))
 
   resync_valid : (fault : ResyncFault) → told ≡ Err fault → (box : List ℕ) (was now : ℕ) → of_resync name fault ≡ faults.Validity box was now → ⊥
   resync_valid fault failed box was now same =

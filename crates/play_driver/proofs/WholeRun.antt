@@ -14,15 +14,16 @@ use Rattle.play_driver.proofs.Calls.{enquires_stays, stays_then}
 use Rattle.play_driver.proofs.Folds.{fold_actions, fold_few}
 use Rattle.play_driver.proofs.Links.{books_there}
 use Rattle.play_driver.proofs.ManyTurns.{GoneOn, joined_on, so_on}
+use Rattle.play_driver.proofs.NotRead.{asked_not_read, synced_later}
 use Rattle.play_driver.proofs.KnownLaws.{known_law}
 use Rattle.play_driver.proofs.PlayedKept.{withstood}
-use Rattle.play_driver.proofs.Parts.{became_later, grows, grows_start, grows_then, since_first, since_second}
+use Rattle.play_driver.proofs.Parts.{grows, grows_start, grows_then, since_first, since_second}
 use Rattle.play_driver.proofs.Progressing.{later_start, linked_progress, progress_then}
 use Rattle.play_driver.proofs.BookAtRest.{book_rests_linked}
 use Rattle.play_driver.proofs.Opened.{opens_enquiring}
 use Rattle.play_driver.proofs.OverOne.{over_talks, run_then, talks_run, talks_then}
 use Rattle.play_driver.proofs.Shortness.{place_before, short_first, short_last}
-use Rattle.imap_session.specs.Session.{Stands}
+use Rattle.imap_session.specs.Session.{Stands, waiting_of}
 use Rattle.literal_feed.specs.Stream.{Stream}
 use Rattle.play_driver.specs.Entering.{HasEntered, OpensFrom}
 use Rattle.play_driver.specs.Faults.{of_session}
@@ -37,7 +38,7 @@ use Rattle.play_driver.specs.Progress.{IsLater, Progresses, has_name}
 use Rattle.play_driver.specs.Running.{RunsBetween, StopsBehind, first_standing}
 use Rattle.play_driver.specs.Settled.{AreSyncedBehind, IsSyncedSoFar}
 use Rattle.play_driver.specs.Stages.{Stage, stage_of}
-use Rattle.play_driver.specs.Synced.{IsReadAt, IsSynced}
+use Rattle.play_driver.specs.Synced.{AsksRows, IsNotRead, IsSynced}
 use Rattle.play_driver.specs.TrueRecords.{IsTrueBefore, IsTrueSince, RecordsTruly, StopsTruly}
 use Rattle.play_driver.specs.Turning.{Standing, standing_of}
 use Rattle.play_driver.specs.declared.fault.PlayFault.{PlayFault}
@@ -47,8 +48,9 @@ use Rattle.playback.specs.Kept.{Kept}
 use Rattle.playback.specs.Left.{left, unsettled}
 use Rattle.playback.specs.Needs.{IsFinished}
 use Rattle.playback.specs.declared.player.Player.{Player}
-use Rattle.std.proofs.Common.{arith, Bool, List, None, Option, Some, [], ap, cond, false, length, refl, subst, suc, sym, true, ℕ, ◌*◌, ◌+◌, ◌<◌}
+use Rattle.std.proofs.Common.{arith, Bool, List, None, Option, Some, [], ap, cond, false, length, inl, inr, refl, subst, suc, sym, true, ℕ, ◌*◌, ◌+◌, ◌<◌}
 use Rattle.std.proofs.Common.{◌∙◌, ◌∷◌, ◌≡◌, ◌≤◌}
+use Rattle.std.proofs.lemmas.Option.{none-some}
 use Rattle.std.proofs.lemmas.Slice.Eq.{bytes_eq-Decides}
 use Rattle.std.specs.Prelude.{bytes_eq, map, slice_get}
 use Rattle.std.specs.declared.alloc.Global.{Global}
@@ -69,9 +71,18 @@ use Rattle.play_driver.specs.declared.fault.PlayFault.TheVariants as faults
 use Rattle.play_driver.specs.declared.fault.Why.{Why}
 use Rattle.play_driver.specs.declared.session.Session.TheVariants as sessions
 
--- LOGOUT is a question
+-- LOGOUT is a question, and asks for no rows
+no_rows_left : (name : List ℕ) (selected : Option (List ℕ)) (tag : Tag) → AsksRows name (waiting_of selected tag commands.Logout) → ⊥
+no_rows_left name selected tag (inl (since, is)) = absurd cc
+no_rows_left name selected tag (inr (there, is)) = absurd cc
+
 pub leaves_asking : (told : List Response) (tag : Tag) (old new : Clock) → Linked (Asking told tag commands.Logout) old new → Linked Enquiring old new
 leaves_asking told tag old new linked = asks_enquires told tag commands.Logout refl old new linked
+
+pub leaves_unread : (tag : Tag) (old new : Clock) → old.now.outside.waiting ≡ None → old.now.outside.talk.arriving ≡ None →
+    Linked (Asking old.now.outside.talk.told tag commands.Logout) old new → (name : List ℕ) → Since Any (IsNotRead name) old new
+leaves_unread tag old new none nothing linked name =
+    asked_not_read name tag commands.Logout old new none nothing (no_rows_left name old.now.outside.talk.selected tag) linked
 
 -- questions alone, beside a firm book
 pub questions_stay : (b : Meaning) (old new : Clock) → HasBooks mail (Firm (Some b)) old.now → Linked Enquiring old new → IsKept mail Kept old.now →
@@ -177,7 +188,7 @@ module _ (b : Meaning) (p : Player) (old k : Clock) (r : HasBegun b p old k) whe
           later = first_part;
           before = grows_start k;
           settled = record { book = b; books = firm_there Enquiring b old k r.firm r.asked; settled = settled };
-          counted = λ i known there below. absurd (omega (arith, below));
+          counted = λ i known there below other. absurd (omega (arith, below));
           pending = λ told is. absurd cc;
         })
 
@@ -287,8 +298,9 @@ placed name [] is = absurd cc
 placed name (k ∷ ks) is = placed_by name k ks (placed name ks) (bytes_eq k.name name) refl is
 
 -- so each mailbox is synced where the run is finished
-pub all_synced : (old l m : Clock) (q : Player) (c : Meaning) → IsFinished q c → IsSyncedSoFar old l q c → Grows l m → AreSyncedBehind old m c
-all_synced old l m q c finished so more =
+pub all_synced : (old l m : Clock) (q : Player) (c : Meaning) → IsFinished q c → IsSyncedSoFar old l q c → Grows l m →
+    ((name : List ℕ) → Since Any (IsNotRead name) l m) → AreSyncedBehind old m c
+all_synced old l m q c finished so more unread =
     let s = so finished.settled in
     record {
       from = s.from;
@@ -298,9 +310,10 @@ all_synced old l m q c finished so more =
       each = λ name has.
           let x = placed name c.boxes has in
           let within = place_before c.boxes x.place x.known x.there in
-          let t = s.counted x.place x.known x.there (omega (arith, within, finished.resynced)) in
-          subst (λ (n : List ℕ). IsSynced n c s.from m) x.named
-          (record { cache = t.cache; there = t.there; level = became_later (IsReadAt x.known.name t.cache) s.from l m t.level more });
+          let t =
+          s.counted x.place x.known x.there (omega (arith, within, finished.resynced))
+          (λ pending. none-some pending.told (sym finished.recorded ∙ pending.learns)) in
+          subst (λ (n : List ℕ). IsSynced n c s.from m) x.named (synced_later x.known.name c s.from l m t (unread x.known.name));
     }
 
 -- how far it came

@@ -1,5 +1,5 @@
 -- What a resynchronisation makes of a cache, as long as no command that changes a mailbox waits (RFC 7162, section 3.2.5).
-use Rattle.std.specs.Prelude.{◌≡◌, ◌≢◌, ◌⊎◌, ℕ, List, Option, Some, None, Ok, Err, ⊤}
+use Rattle.std.specs.Prelude.{◌≡◌, ◌<◌, ◌⊎◌, ℕ, List, Option, Some, None, Ok, Err, ⊤}
 use Rattle.imap_model.specs.Changes.{Batch}
 use Rattle.imap_model.specs.Lookups.{box_at, validity_of}
 use Rattle.imap_model.specs.declared.server.Server.{Server}
@@ -13,7 +13,7 @@ use Rattle.world_traits.specs.Moments.{Moment, Clock, Became, Since}
 use Rattle.store_core.specs.Mail.{mail}
 use Rattle.play_driver.specs.Joining.{AllFair, AnyTwo}
 use Rattle.play_driver.specs.Resynchronising.{Resyncs}
-use Rattle.play_driver.specs.Synced.{IsReadAt}
+use Rattle.play_driver.specs.Synced.{IsLastRead, IsReadAt}
 use Rattle.play_driver.specs.KnownAt.{StandsKept}
 use Rattle.play_driver.specs.Played.{played}
 use Rattle.imap_session.specs.declared.permits.Permits.{Permits}
@@ -35,9 +35,11 @@ abbrev pub IsKeptFresh : Server → List ℕ → Option Cache → Type 0
 IsKeptFresh s name None = ⊤
 IsKeptFresh s name (Some cache) = IsFreshAt s name cache
 
--- the cache is the server's as it answered for its rows at a moment of this time, and fresh at its end
+-- The cache is the server's as it answered for its rows at a moment of this time, and fresh at its end. Where nothing waited or arrived at
+-- first, that is the last such moment.
 pub record IsLevelled (name : List ℕ) (cache : Cache) (old new : Clock) : Type 0 where
   pub level : Became Any AnyTwo (IsReadAt name cache) old new
+  pub last : old.now.outside.waiting ≡ None → old.now.outside.talk.arriving ≡ None → IsLastRead name cache old new
   pub fresh : IsFreshAt new.now.outside.server name cache
 
 -- So it is with the cache that a delta makes which a resynchronisation told. At first the server is calm, and what is kept of
@@ -55,10 +57,11 @@ LinkFaultless = (name : List ℕ) (kept : Option Cache) (fault : ResyncFault) (s
     → IsCalm old.now.outside → IsKeptFresh old.now.outside.server name kept → ValidityStays name old new
     → Resyncs selected count after name kept (Err fault) permits old new → fault ≡ resyncs.Memory
 
--- the mailbox was made anew since it was last resynchronised, and the fault says so: by the UIDVALIDITY of the cache, and by its own
+-- the mailbox was made anew since it was last resynchronised, and the fault says so: by the UIDVALIDITY of the cache, and by its own,
+-- which is higher
 abbrev pub IsOutdated : Server → List ℕ → Option Cache → ResyncFault → Type 0
 IsOutdated s name None fault = ⊥
-IsOutdated s name (Some cache) fault = (cache.validity ≢ validity_of (box_at name s.boxes))
+IsOutdated s name (Some cache) fault = (cache.validity < validity_of (box_at name s.boxes))
     × (fault ≡ resyncs.Validity cache.validity (validity_of (box_at name s.boxes)))
 
 -- The same beside a book: at first a stop leaves this book, which is kept, and nothing waits; and others are fair. Each cache is fresh

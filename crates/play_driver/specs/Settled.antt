@@ -8,11 +8,10 @@ use Rattle.playback.specs.declared.player.Player.{Player}
 use Rattle.store_core.specs.Mail.{mail}
 use Rattle.store_core.specs.Steps.{Firm}
 use Rattle.store_core.specs.Taking.{HasBooks}
-use Rattle.world_traits.specs.Links.{Any}
-use Rattle.world_traits.specs.Moments.{Became, Clock}
-use Rattle.play_driver.specs.Joining.{AnyTwo, Grows}
+use Rattle.world_traits.specs.Moments.{Clock}
+use Rattle.play_driver.specs.Joining.{Grows}
 use Rattle.play_driver.specs.Progress.{box_names, has_name}
-use Rattle.play_driver.specs.Synced.{IsReadAt, IsSynced}
+use Rattle.play_driver.specs.Synced.{IsLastRead, IsSynced}
 
 -- a stop leaves a book now whose actions all have an outcome
 pub record IsSettledAt (k : Clock) : Type 0 where
@@ -20,23 +19,30 @@ pub record IsSettledAt (k : Clock) : Type 0 where
   pub books : HasBooks mail (Firm (Some book)) k.now
   pub settled : AllSettled book.queue
 
+-- what was told of the mailbox of this name is still to be recorded
+pub record IsPending (name : List ℕ) (p : Player) : Type 0 where
+  pub told : Resynced
+  pub learns : p.learns ≡ Some told
+  pub named : told.name ≡ name
+
 -- Behind a clock of this time at which every action had an outcome: the first mailboxes of the book, as many as the player counts, each
--- have a cache that is the server's as it answered for its rows since; and what is still to be recorded of a mailbox makes such a cache.
+-- have a cache that is the server's as it answered for its rows last since; and so is the cache that what is still to be recorded of a
+-- mailbox makes.
 pub record SyncedSince (start now : Clock) (p : Player) (b : Meaning) : Type 0 where
   pub from : Clock
   pub later : Grows start from
   pub before : Grows from now
   pub settled : IsSettledAt from
-  pub counted : (i : ℕ) (known : Known) → slice_get b.boxes i ≡ Some known → i < p.resynced → IsSynced known.name b from now
-  pub pending : (told : Resynced) → p.learns ≡ Some told →
-      Became Any AnyTwo (IsReadAt told.name (learned (cache_at told.name b.boxes) told.delta)) from now
+  pub counted : (i : ℕ) (known : Known) → slice_get b.boxes i ≡ Some known → i < p.resynced → (IsPending known.name p → ⊥)
+      → IsSynced known.name b from now
+  pub pending : (told : Resynced) → p.learns ≡ Some told → IsLastRead told.name (learned (cache_at told.name b.boxes) told.delta) from now
 
 -- so it is as soon as every action is settled
 abbrev pub IsSyncedSoFar : Clock → Clock → Player → Meaning → Type 0
 IsSyncedSoFar start now p b = AllSettled b.queue → SyncedSince start now p b
 
 -- Behind a clock of this time at which every action had an outcome, each mailbox of the book has a cache that is the server's as it
--- answered for its rows since.
+-- answered for its rows last since.
 pub record AreSyncedBehind (old new : Clock) (b : Meaning) : Type 0 where
   pub from : Clock
   pub later : Grows old from

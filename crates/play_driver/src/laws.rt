@@ -100,8 +100,9 @@ pub fn books_go_on<R: Related>()
 
 /// What a resynchronisation makes of a cache. At first the server is well formed, no command that changes a mailbox waits, and
 /// what is kept of the mailbox is fresh; and others leave its UIDVALIDITY. Then the cache is the server's at a moment of the
-/// resynchronisation, and fresh at its end; and none fails to make a delta but for want of memory. Beside a kept book it is so
-/// where nothing waits at first and others are fair.
+/// resynchronisation, and fresh at its end; and none fails to make a delta but for want of memory. Where no command waits at first and
+/// no text arrives, that moment is the last one at which the mailbox is read. Beside a kept book it is so where nothing waits at first
+/// and others are fair.
 pub fn resyncs_level()
     ensures over_link { LinkLevels }
     ensures faultless { LinkFaultless }

@@ -72,8 +72,8 @@ pub fn play<W: World>(
         → EndSurely store.old.book store.new.book }
     ensures stored { Stored W.Clocked world.new (W.seen world.new) store.old.book store.new result }
 
-    // After Ok each action has an outcome, and each mailbox of the book has a cache that is the server's as it answered for its rows in
-    // this run, behind the last outcome.
+    // After Ok each action has an outcome, and each mailbox of the book has a cache that is the server's as it answered for its rows last
+    // in this run, behind the last outcome.
     ensures settled { OnOk result (AllSettled store.new.book.queue) }
     ensures synced { W.tells_server → IsKept mail Kept (W.clock world.old).now
         → AllFair mail played (W.clock world.old) (W.clock world.new)

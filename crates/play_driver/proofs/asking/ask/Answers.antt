@@ -19,7 +19,7 @@ use Rattle.play_driver.specs.Sessions.{count_of}
 use Rattle.play_driver.specs.Turning.{IsAskedFor, permits_due, standing_of}
 use Rattle.play_driver.specs.declared.fault.PlayFault.TheVariants as faults
 use Rattle.play_driver.specs.declared.session.Session.{Session}
-use Rattle.play_driver.proofs.Asked.{askable, asked_awaits, asked_remains, lawful_fold, not_answered_so, not_heard_so, only_told, unheard_told}
+use Rattle.play_driver.proofs.Asked.{askable, asked_awaits, asked_reads_none, asked_remains, lawful_fold, not_answered_so, not_heard_so, only_told, unheard_told}
 use Rattle.play_driver.proofs.AskedJoins.{asked_heard, asked_stays, heard_known}
 use Rattle.play_driver.proofs.Faulting.{told_as}
 use Rattle.play_driver.proofs.Faultless.{asked_whole, heard_faultless, session_faultless}
@@ -201,7 +201,10 @@ returns-in-Ok-clause-synced g c = λ t start first kept fair so_far.
     c.book-book.ensures c.in-Ok.ensures.value (fold_sound b c.requires.fold) in
     let only = only_told c.args.player.now b c.permits_due-permits.result c.in_ok-answer.answer.1 c.heard.new.self value in
     synced_asked _ _ _ _ _ start (grows Any (LinkStep AnyStep) _ _ (c.ask.ensures.talks.files (g.W.Clocked.server_with_files t)))
-    (ap (λ (p : Player). p.resynced) only) (ap (λ (p : Player). p.learns) only) so_far
+    (ap (λ (p : Player). p.resynced) only) (ap (λ (p : Player). p.learns) only)
+    (let stands = c.requires.rests.stands t in
+    asked_reads_none c.args.player.now b _ c.args.tag c.args.command.now _ _ c.requires.fold c.requires.rests.beside c.requires.needed stands.nothing
+    stands.no_part (c.ask.ensures.talks.told t)) so_far
 
 pub returns-in-Ok-clause-takes : goal.returns-in-Ok-clause-takes
 returns-in-Ok-clause-takes g c =

@@ -6,7 +6,7 @@ use Rattle.play_driver.proofs.RenewedEntered.{renewed_entered}
 use Rattle.play_driver.proofs.Faulting.{ok_no_err, told_as}
 use Rattle.play_driver.proofs.OverOne.{enters_run, goes_behind, leave_run, once_then, talks_run}
 use Rattle.play_driver.proofs.Progressing.{firm_left, linked_progress, linked_sides, progress_grows, rests_left, sides_then}
-use Rattle.play_driver.proofs.WholeRun.{HasBegun, all_synced, fair_run, has_begun, has_room, leaves_asking, leaves_grow, plays_so, progress_three}
+use Rattle.play_driver.proofs.WholeRun.{HasBegun, all_synced, fair_run, has_begun, has_room, leaves_asking, leaves_grow, leaves_unread, plays_so, progress_three}
 use Rattle.play_driver.proofs.WholeRun.{bad_at, begins_so, faultless_two, progress_two, questions_stay}
 use Rattle.play_driver.proofs.WholeRun.{run_grows, run_three, run_two, stays_on_line, stops_early, stopped_two, synced_two, true_one, true_three}
 use Rattle.play_driver.proofs.WholeRun.{true_two}
@@ -375,6 +375,7 @@ returns-clause-synced g c = λ t kept fair.
     (fair_run _ _ _ before c.play_on.new.store.book
     (firm_left c.play_on.new.store (g.W.Clocked.clock c.play_on.new.world) _ later) q fair)
     (λ grows here knows. c.in_ok-last.ensures.synced r.opened.made knows t (g.W.Clocked.clock c.args.world.now) grows here)) (leaves_grow _ _ q)
+    (let stands = c.in_ok-last.ensures.rests.stands t in leaves_unread _ _ _ stands.nothing stands.no_part (c.leave.ensures.talks.told t))
 
 pub returns-clause-plays : goal.returns-clause-plays
 returns-clause-plays g c = λ t.

@@ -10,7 +10,7 @@ use Rattle.store_core.specs.Taking.{HasBooks}
 use Rattle.play_driver.proofs.Folds.{fold_sound}
 use Rattle.play_driver.proofs.KnownLaws.{known_law}
 use Rattle.play_driver.proofs.OneTurn.{left_kept, no_reply_fault, records_turn, true_kept, true_more}
-use Rattle.play_driver.proofs.Progressing.{firm_left, later_event, outside_taken, takes_grows, there_or_not}
+use Rattle.play_driver.proofs.Progressing.{firm_left, later_event, outside_taken, there_or_not}
 use Rattle.play_driver.proofs.Reasons.{known_then, may_come, of_playback, ready}
 use Rattle.play_driver.proofs.Faulting.{told_as}
 use Rattle.play_driver.proofs.Recorded.{goes_recorded, stands_still, truly_recorded}
@@ -137,8 +137,7 @@ returns-clause-synced g c = λ t start first kept fair so_far.
     subst (λ (b : Meaning). HasBooks mail (Firm (Some b)) new.now) is
     (firm_left c.enter_event.new.store new _ (c.in_ok-enter_event.ensures.left files)) in
     synced_then p c.committed.new.self s.book c.enter_event.new.store.book event is (goes ∙ ap (committed p) c.book.ensures) start new
-    (synced_on start old new p s.book event c.requires.rests.beside c.requires.needed lawful first
-    (takes_grows s.book event old new (c.enter_event.ensures.takes files)) books so_far)
+    (synced_on start old new p s.book event c.requires.rests.beside c.requires.needed lawful first (c.enter_event.ensures.takes files) books so_far)
 
 pub returns-clause-reasons : goal.returns-clause-reasons
 returns-clause-reasons g c = record {

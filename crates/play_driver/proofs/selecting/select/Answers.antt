@@ -20,8 +20,8 @@ use Rattle.play_driver.specs.declared.session.Session.TheVariants as sessions
 use Rattle.play_driver.proofs.Faulting.{told_as}
 use Rattle.play_driver.proofs.Faultless.{chosen_faultless, resync_whole, session_faultless}
 use Rattle.play_driver.proofs.Folds.{fold_sound}
-use Rattle.play_driver.proofs.GatheredKnown.{asks_joined, chosen_known, chosen_read}
-use Rattle.play_driver.proofs.GatheredTaken.{came_chosen, chosen_takes, chosen_keeps, not_asked, not_taken, refused_as, taken_delta}
+use Rattle.play_driver.proofs.GatheredKnown.{asks_joined, chosen_known, chosen_learns, chosen_others, chosen_read}
+use Rattle.play_driver.proofs.GatheredTaken.{came_chosen, chosen_takes, chosen_keeps, not_asked, not_taken, refused_as, selects_none, taken_delta}
 use Rattle.play_driver.proofs.OneTurn.{selects_turn, synced_read}
 use Rattle.play_driver.proofs.OverLink.{goes_over, left_over, stands_over, true_over}
 use Rattle.play_driver.proofs.OverOne.{over_talks}
@@ -135,14 +135,23 @@ returns-in-Ok-clause-synced g c = λ t start first here fair so_far.
     c.cache_in-kept.ensures ∙ ap (λ (x : Meaning). cache_at c.args.name.now x.boxes) c.book-book.ensures in
     let value : IsChosen c.args.player.now c.args.store.now.book c.in_ok-answer.answer.1 c.chosen.new.self =
     subst (λ (x : Meaning). IsChosen c.args.player.now x c.in_ok-answer.answer.1 c.chosen.new.self) c.book-book.ensures c.in-Ok.ensures.value in
-    synced_read _ _ _ _ _ start
+    let stands = stands_over g.W.Clocked c.args.world.now c.resynchronise.new.link c.args.session c.args.player.now c.args.store.now _
+    c.requires.rests c.requires.left c.resynchronise.ensures.gathers.files t here in
+    let resyncs = c.in_ok-answer.ensures.value t in
+    let kept_as = option_copied c.cache_in-kept.result in
+    synced_read c.args.store.now.book _ _ c.args.player.now c.chosen.new.self start
     (grows Any (LinkStep AnyStep) _ _ (c.resynchronise.ensures.gathers.files (g.W.Clocked.server_with_files t)))
-    (chosen_keeps c.args.player.now c.chosen.new.self c.args.store.now.book c.in_ok-answer.answer.1 value).resynced c.args.store.now.book refl
-    (λ stands fair. chosen_read c.args.store.now.book _ _ stands c.args.player.now c.chosen.new.self c.args.name.now c.requires.needed fair
-    c.in_ok-answer.answer.1 value (option_copied c.cache_in-kept.result) kept (selected_in c.args.session)
-    (count_of c.args.session) c.in_ok-answer.answer.0.conversation.count c.in_ok-answer.answer.0.permits (c.in_ok-answer.ensures.value t))
-    (stands_over g.W.Clocked c.args.world.now c.resynchronise.new.link c.args.session c.args.player.now c.args.store.now _
-    c.requires.rests c.requires.left c.resynchronise.ensures.gathers.files t here) fair so_far
+    (chosen_keeps c.args.player.now c.chosen.new.self c.args.store.now.book c.in_ok-answer.answer.1 value).resynced c.args.name.now
+    (selects_none c.args.player.now c.args.store.now.book c.args.name.now c.requires.needed)
+    (chosen_others c.args.store.now.book _ _ stands c.args.player.now c.chosen.new.self c.args.name.now c.requires.needed fair
+    c.in_ok-answer.answer.1 value kept_as kept (selected_in c.args.session) (count_of c.args.session)
+    c.in_ok-answer.answer.0.conversation.count c.in_ok-answer.answer.0.permits resyncs)
+    (chosen_read c.args.store.now.book _ _ stands c.args.player.now c.chosen.new.self c.args.name.now c.requires.needed fair
+    c.in_ok-answer.answer.1 value kept_as kept (selected_in c.args.session) (count_of c.args.session)
+    c.in_ok-answer.answer.0.conversation.count c.in_ok-answer.answer.0.permits resyncs)
+    (chosen_learns c.args.store.now.book _ _ stands c.args.player.now c.chosen.new.self c.args.name.now c.requires.needed fair
+    c.in_ok-answer.answer.1 value kept_as kept (selected_in c.args.session) (count_of c.args.session)
+    c.in_ok-answer.answer.0.conversation.count c.in_ok-answer.answer.0.permits resyncs) so_far
 
 pub returns-in-Ok-clause-takes : goal.returns-in-Ok-clause-takes
 returns-in-Ok-clause-takes g c =
