@@ -9,10 +9,12 @@ use Rattle.imap_session.specs.declared.fault.SessionFault.TheVariants as session
 use Rattle.store_core.specs.Holding.{Holding}
 use Rattle.store_core.specs.Mail.{mail}
 use Rattle.world_traits.specs.LinkState.{Connection, LinkState}
-use Rattle.world_traits.specs.Moments.{Clock}
+use Rattle.world_traits.specs.Links.{Any}
+use Rattle.world_traits.specs.Moments.{Clock, Since}
 use Rattle.play_driver.specs.Faults.{ComesAnyway, IsReplyFault, of_session}
+use Rattle.play_driver.specs.Grounds.{AreBoxes, GroundStep}
 use Rattle.play_driver.specs.Playing.{NotLeft}
-use Rattle.play_driver.specs.Questioning.{ConnectsFirst, RunStep, TalkStep}
+use Rattle.play_driver.specs.Questioning.{ConnectsFirst, TalkStep}
 use Rattle.play_driver.specs.Refusals.{DeniesQuestion, RefusesRun}
 use Rattle.play_driver.specs.Running.{StopsBehind}
 use Rattle.play_driver.specs.Serving.{AllServing}
@@ -56,16 +58,17 @@ leaving_lacks p link f n item is =
     staying_lacks n.heard _ _ link.connection item (subst (Staying n.heard _ _ link.connection) is n.staying)
 
 -- where a turn failed, it wasn't refused
-pub unrefused_turn : (old new : Clock) → ConnectsFirst TalkStep old new → AllServing old new → (p : Standing) (store : Holding mail)
-    (link : LinkState) (fault : PlayFault) → StopsBehind p store link fault → IsHonest new.now.outside.talk.told link.connection →
-    (line : List ℕ) → fault ≡ faults.Refused line → ⊥
-unrefused_turn old new talks serving p store link fault stops honest line is =
-    never_told RefusesRun new.now.outside.talk.told (served_end old new talks serving).told
+pub unrefused_turn : (names : List (List ℕ)) (old new : Clock) → ConnectsFirst TalkStep old new → Since Any (GroundStep names) old new →
+    AreBoxes names old.now.outside.server → AllServing old new → (p : Standing) (store : Holding mail) (link : LinkState) (fault : PlayFault) →
+    StopsBehind p store link fault → IsHonest new.now.outside.talk.told link.connection → (line : List ℕ) → fault ≡ faults.Refused line → ⊥
+unrefused_turn names old new talks grounds boxes serving p store link fault stops honest line is =
+    never_told RefusesRun new.now.outside.talk.told (served_end names old new talks grounds boxes serving).told
     (turn_told stops.at link line new.now.outside.talk.told (subst (TurnFails stops.at link) is stops.fails) honest)
 
 -- nor was LOGOUT
-pub unrefused_leave : (old new : Clock) → ConnectsFirst RunStep old new → AllServing old new → (p : Stage) (link : LinkState) (f : SessionFault) →
-    NotLeft p link f → IsHonest new.now.outside.talk.told link.connection → (line : List ℕ) → f ≡ sessions.Refused line → ⊥
-unrefused_leave old new runs serving p link f n honest line is =
-    never_told DeniesQuestion new.now.outside.talk.told (denied_end old new runs serving)
+pub unrefused_leave : (names : List (List ℕ)) (old new : Clock) → Since Any (GroundStep names) old new → AreBoxes names old.now.outside.server →
+    AllServing old new → (p : Stage) (link : LinkState) (f : SessionFault) → NotLeft p link f →
+    IsHonest new.now.outside.talk.told link.connection → (line : List ℕ) → f ≡ sessions.Refused line → ⊥
+unrefused_leave names old new grounds boxes serving p link f n honest line is =
+    never_told DeniesQuestion new.now.outside.talk.told (denied_end names old new grounds boxes serving)
     (leave_told p link line new.now.outside.talk.told (subst (NotLeft p link) is n) honest)

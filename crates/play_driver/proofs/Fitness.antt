@@ -76,7 +76,8 @@ module _ (count : ℕ) (command : Command) (r : Replies) (x y : Clock) (replied 
     pub replied_begins : begins_preauth replied.answered.became.at.now.outside.talk.told ≡ begins_preauth x.now.outside.talk.told
     replied_begins = begins_on x replied.answered.became.at asked_before some
 
-    pub replied_serves : Serves replied.answered.became.at.now.outside.talk.told (waiting_of None (next_tag count) command) r
+    pub replied_serves : Serves replied.answered.became.at.now.outside.talk.told (waiting_of None (next_tag count) command)
+        replied.answered.became.at.now.outside.server r
     replied_serves =
         let b = replied.answered.became in
         let reach = grows_then old x b.at first (grows Any (LinkStep Questioning) x b.at asked_before) in

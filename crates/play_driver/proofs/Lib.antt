@@ -50,6 +50,9 @@ pub mod ManyTurns
 pub mod WholeRun
 pub mod Remaining
 pub mod ToldRefusals
+pub mod Boxes
+pub mod OnGround
+pub mod GroundChains
 pub mod Served
 pub mod MayServe
 pub mod Longer

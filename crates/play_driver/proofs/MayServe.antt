@@ -107,7 +107,7 @@ fair_step m n same = record {
 }
 
 module _ (c : Clock) (still : IsQuiet c.now.outside) (tag : Tag) (command : Command) (part : List ℕ) (text : IsPartOf tag command [] part [])
-    (r : Replies) (after : Option (List ℕ)) (serves : Serves c.now.outside.talk.told (waits_at tag command c) r)
+    (r : Replies) (after : Option (List ℕ)) (serves : Serves c.now.outside.talk.told (waits_at tag command c) c.now.outside.server r)
     (does : CarriesOut (waits_at tag command c) c.now.outside.server r c.now.outside.server after)
     (asks : Asking c.now.outside.talk.told tag command c.now.outside (asked tag command c).now.outside → RunStep c.now (asked tag command c).now) where
   abbrev P : Peer
@@ -137,12 +137,13 @@ module _ (c : Clock) (still : IsQuiet c.now.outside) (tag : Tag) (command : Comm
     greets = no_bye still.rest K.now.outside.talk still.told;
   }
 
-  answers_it : (w : Waiting) (x : Replies) → W ≡ w → P.talk.told ++ told_in tag r ≡ P.talk.told ++ told_in w.tag x → Serves P.talk.told w x
+  answers_it : (w : Waiting) (x : Replies) → W ≡ w → P.talk.told ++ told_in tag r ≡ P.talk.told ++ told_in w.tag x →
+      Serves P.talk.told w P.server x
   answers_it w x same told =
       let as_asked : P.talk.told ++ told_in tag r ≡ P.talk.told ++ told_in tag x =
       told ∙ ap (λ (v : Waiting). P.talk.told ++ told_in v.tag x) (sym same) in
-      subst (λ (v : Waiting). Serves P.talk.told v x) same
-      (subst (λ (y : Replies). Serves P.talk.told W y) (same_replies P.talk.told tag r x as_asked) serves)
+      subst (λ (v : Waiting). Serves P.talk.told v P.server x) same
+      (subst (λ (y : Replies). Serves P.talk.told W P.server y) (same_replies P.talk.told tag r x as_asked) serves)
 
   serves_answered : ServesOn K.now.outside L.now.outside
   serves_answered = record {
@@ -227,35 +228,35 @@ logout_part n some fits = record {
 greeted_so : (told rest : List Response) → told ≡ responses.Preauth codings.None ∷ rest → begins_preauth told ≡ false → ⊥
 greeted_so told rest is h = let clash : true ≡ false = sym (ap begins_preauth is) ∙ h in cc
 
-module _ (told : List Response) (selected : Option (List ℕ)) where
+module _ (told : List Response) (selected : Option (List ℕ)) (s : Server) where
   offer_serves : (n : ℕ) (rest : List Response) → told ≡ responses.Preauth codings.None ∷ rest →
-      Serves told (record { selected = selected; tag = Count n; command = commands.Capability }) offer
+      Serves told (record { selected = selected; tag = Count n; command = commands.Capability }) s offer
   offer_serves n rest is = record {
-    grants = (λ d. d, (λ d. d.1 refl, tt));
+    grants = λ g. (λ d. d, (λ d. d.1 refl, tt));
     remains = λ other. (λ e. cc, (λ e. cc, tt));
     provides = λ ok. (λ first h. absurd (greeted_so told rest is h), λ later. record { qresync = refl; moves = inl refl });
   }
 
-  enabled_serves : (n : ℕ) → Serves told (record { selected = selected; tag = Count n; command = commands.Enable true }) enabled
+  enabled_serves : (n : ℕ) → Serves told (record { selected = selected; tag = Count n; command = commands.Enable true }) s enabled
   enabled_serves n = record {
-    grants = (λ d. d, (λ d. d.1 refl, tt));
+    grants = λ g. (λ d. d, (λ d. d.1 refl, tt));
     remains = λ other. (λ e. cc, (λ e. cc, tt));
     provides = λ ok. refl;
   }
 
   select_serves : (n : ℕ) (name : List ℕ) (box : Mailbox) →
-      Serves told (record { selected = selected; tag = Count n; command = commands.Select name None }) (says (of_empty box))
+      Serves told (record { selected = selected; tag = Count n; command = commands.Select name None }) s (says (of_empty box))
   select_serves n name box = record {
-    grants = (λ d. d, (λ d. d, (λ d. d, (λ d. d, (λ d. d.1 refl, tt)))));
+    grants = λ g. (λ d. d, (λ d. d, (λ d. d, (λ d. d, (λ d. d.1 refl, tt)))));
     remains = λ other. (λ e. cc, (λ e. cc, (λ e. cc, (λ e. cc, (λ e. cc, tt)))));
     provides = λ ok. tt;
   }
 
-  fetch_serves : (n : ℕ) → Serves told (record { selected = selected; tag = Count n; command = commands.FetchAll }) (says [])
-  fetch_serves n = record { grants = (λ d. d.1 refl, tt); remains = λ other. (λ e. cc, tt); provides = λ ok. tt }
+  fetch_serves : (n : ℕ) → Serves told (record { selected = selected; tag = Count n; command = commands.FetchAll }) s (says [])
+  fetch_serves n = record { grants = λ g. (λ d. d.1 refl, tt); remains = λ other. (λ e. cc, tt); provides = λ ok. tt }
 
-  bye_serves : (n : ℕ) → Serves told (record { selected = selected; tag = Count n; command = commands.Logout }) bye
-  bye_serves n = record { grants = (λ d. d, (λ d. d.1 refl, tt)); remains = λ other. absurd (other refl); provides = λ ok. tt }
+  bye_serves : (n : ℕ) → Serves told (record { selected = selected; tag = Count n; command = commands.Logout }) s bye
+  bye_serves n = record { grants = λ g. (λ d. d, (λ d. d.1 refl, tt)); remains = λ other. absurd (other refl); provides = λ ok. tt }
 
 module _ (s : Server) (selected : Option (List ℕ)) where
   offer_does : (n : ℕ) → CarriesOut (record { selected = selected; tag = Count n; command = commands.Capability }) s offer s selected
@@ -327,7 +328,7 @@ module _ (old : Clock) (name : List ℕ) (box : Mailbox) (text : List ℕ) (whol
 
   first : IsGoing Made Ck1
   first = exchange Made begun.quiet (Count 1) commands.Capability (first_of (parts_of (Count 1) commands.Capability))
-      (capability_part 1 (omega arith) (omega arith)) offer None (offer_serves Made.now.outside.talk.told None 1 [] refl) (offer_does S None 1)
+      (capability_part 1 (omega arith) (omega arith)) offer None (offer_serves Made.now.outside.talk.told None S 1 [] refl) (offer_does S None 1)
       (by_sending Made (Count 1) commands.Capability (λ e. cc)) Made begun
 
   abbrev Ck2 : Clock
@@ -335,7 +336,7 @@ module _ (old : Clock) (name : List ℕ) (box : Mailbox) (text : List ℕ) (whol
 
   second : IsGoing Made Ck2
   second = exchange Ck1 first.quiet (Count 2) commands.Capability (first_of (parts_of (Count 2) commands.Capability))
-      (capability_part 2 (omega arith) (omega arith)) offer None (offer_serves Ck1.now.outside.talk.told None 2 first.quiet.rest first.quiet.told)
+      (capability_part 2 (omega arith) (omega arith)) offer None (offer_serves Ck1.now.outside.talk.told None S 2 first.quiet.rest first.quiet.told)
       (offer_does S None 2) (by_sending Ck1 (Count 2) commands.Capability (λ e. cc)) Made first
 
   abbrev Ck3 : Clock
@@ -343,7 +344,7 @@ module _ (old : Clock) (name : List ℕ) (box : Mailbox) (text : List ℕ) (whol
 
   third : IsGoing Made Ck3
   third = exchange Ck2 second.quiet (Count 3) (commands.Enable true) (first_of (parts_of (Count 3) (commands.Enable true)))
-      (enable_part 3 (omega arith) (omega arith)) enabled None (enabled_serves Ck2.now.outside.talk.told None 3) (enabled_does S None 3)
+      (enable_part 3 (omega arith) (omega arith)) enabled None (enabled_serves Ck2.now.outside.talk.told None S 3) (enabled_does S None 3)
       (by_sending Ck2 (Count 3) (commands.Enable true) (λ e. cc)) Made second
 
   abbrev Ck4 : Clock
@@ -351,7 +352,7 @@ module _ (old : Clock) (name : List ℕ) (box : Mailbox) (text : List ℕ) (whol
 
   fourth : IsGoing Made Ck4
   fourth = exchange Ck3 third.quiet (Count 4) (commands.Select name None) text whole (says (of_empty box)) (Some name)
-      (select_serves Ck3.now.outside.talk.told None 4 name box) (select_does S None name box there empty 4)
+      (select_serves Ck3.now.outside.talk.told None S 4 name box) (select_does S None name box there empty 4)
       (by_sending Ck3 (Count 4) (commands.Select name None) (λ e. cc)) Made third
 
   abbrev Ck5 : Clock
@@ -359,7 +360,7 @@ module _ (old : Clock) (name : List ℕ) (box : Mailbox) (text : List ℕ) (whol
 
   fifth : IsGoing Made Ck5
   fifth = exchange Ck4 fourth.quiet (Count 5) commands.FetchAll (first_of (parts_of (Count 5) commands.FetchAll))
-      (fetch_part 5 (omega arith) (omega arith)) (says []) (Some name) (fetch_serves Ck4.now.outside.talk.told (Some name) 5)
+      (fetch_part 5 (omega arith) (omega arith)) (says []) (Some name) (fetch_serves Ck4.now.outside.talk.told (Some name) S 5)
       (fetch_does S None name box there empty 5) (by_sending Ck4 (Count 5) commands.FetchAll (λ e. cc)) Made fourth
 
   abbrev Ck6 : Clock
@@ -367,7 +368,7 @@ module _ (old : Clock) (name : List ℕ) (box : Mailbox) (text : List ℕ) (whol
 
   sixth : IsGoing Made Ck6
   sixth = exchange Ck5 fifth.quiet (Count 6) commands.Logout (first_of (parts_of (Count 6) commands.Logout))
-      (logout_part 6 (omega arith) (omega arith)) bye (Some name) (bye_serves Ck5.now.outside.talk.told (Some name) 6)
+      (logout_part 6 (omega arith) (omega arith)) bye (Some name) (bye_serves Ck5.now.outside.talk.told (Some name) S 6)
       (bye_does S (Some name) 6)
       (λ a. inr (record { left = refl; right = refl; outside = record { told = Ck5.now.outside.talk.told; tag = Count 6; asks = a } })) Made fifth
 

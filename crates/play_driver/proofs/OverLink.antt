@@ -5,9 +5,11 @@ use Rattle.play_driver.proofs.Links.{left_there}
 use Rattle.play_driver.proofs.OneTurn.{stands_kept}
 use Rattle.play_driver.proofs.Progressing.{firm_left, linked_progress, linked_sides, rests_left}
 use Rattle.play_driver.specs.GoesOn.{GoesOn}
+use Rattle.play_driver.specs.Grounds.{GroundStep}
 use Rattle.play_driver.specs.Joining.{AllFair, IsKept, StaysJoined}
 use Rattle.play_driver.specs.KnownAt.{KnownAt, StandsKept}
 use Rattle.play_driver.specs.Played.{played}
+use Rattle.play_driver.specs.Progress.{box_names}
 use Rattle.play_driver.specs.Questioning.{TalkStep}
 use Rattle.play_driver.specs.Rests.{Rests}
 use Rattle.play_driver.specs.Sessions.{permits_in}
@@ -36,14 +38,16 @@ module _ {Self : Type 0} (W : Ghosts Self) (old new : Self) (session : Session) 
       StaysJoined mail Kept played (W.clock old) (W.clock new)) →
       (W.tells_server → (made : Clock) → StandsKept s.book (W.clock old) → KnownAt made (W.clock old) (permits_in session) p s.book →
       AllFair mail played (W.clock old) (W.clock new) → IfOk r (λ next. KnownAt made (W.clock new) (permits_in next) q s.book)) →
-      (W.tells_server → Since Any TalkStep (W.clock old) (W.clock new)) → (W.tells_files → (W.link new).earlier ≡ (W.link old).earlier) →
-      GoesOn W old new session p q s.book s.book r
-  goes_over q r joins knows talks earlier = record {
+      (W.tells_server → Since Any TalkStep (W.clock old) (W.clock new)) →
+      (W.tells_server → Since Any (GroundStep (box_names s.book)) (W.clock old) (W.clock new)) →
+      (W.tells_files → (W.link new).earlier ≡ (W.link old).earlier) → GoesOn W old new session p q s.book s.book r
+  goes_over q r joins knows talks grounds earlier = record {
     progress = λ t. linked_progress s.book AnyStep _ _ (firm_left s (W.clock old) _ (left t)) (files t);
     joined = λ t made kept known. joins t made (stands_over t kept) known;
     known = λ t made kept known fair. knows t made (stands_over t kept) known fair;
     each_one_side = λ t. linked_sides AnyStep _ _ (rests_left s (W.clock old) _ (left t)) (files t);
     talks = talks;
+    grounds = grounds;
     earlier = earlier;
   }
 

@@ -4,6 +4,7 @@ use Rattle.action_queue.specs.declared.event.Event.{Event}
 use Rattle.imap_session.specs.Session.{Stands}
 use Rattle.journal_core.specs.OneSide.{EachOneSide}
 use Rattle.literal_feed.specs.Stream.{Stream}
+use Rattle.play_driver.proofs.GroundChains.{record_grounded}
 use Rattle.play_driver.proofs.OneTurn.{stands_kept}
 use Rattle.play_driver.proofs.OverOne.{record_talks}
 use Rattle.play_driver.proofs.Progressing.{takes_progress}
@@ -11,6 +12,7 @@ use Rattle.play_driver.proofs.Reasons.{may_come, of_playback, ready, takes_joine
 use Rattle.play_driver.specs.GoesOn.{GoesOn}
 use Rattle.play_driver.specs.Joining.{IsKept}
 use Rattle.play_driver.specs.KnownAt.{KnownAt, StandsKept}
+use Rattle.play_driver.specs.Progress.{box_names}
 use Rattle.play_driver.specs.Rests.{Rests}
 use Rattle.play_driver.specs.Sessions.{permits_in}
 use Rattle.play_driver.specs.TrueRecords.{TrueEvent}
@@ -68,6 +70,7 @@ module _ {Self : Type 0} (W : Ghosts Self) (old new : Self) (session : Session) 
     known = λ t made kept known fair. knows t made (stands t kept) known;
     each_one_side = sides;
     talks = λ t. record_talks s event (W.clock old) (W.clock new) (takes (W.server_with_files t));
+    grounds = λ t. record_grounded (box_names s.book) s.book event (W.clock old) (W.clock new) (takes (W.server_with_files t));
     earlier = λ t. ap (λ (l : LinkState). l.earlier) link;
   }
 

@@ -91,7 +91,7 @@ module _ (b c : Meaning) (later : IsLater b c) where
 
 -- The mailboxes of the run's first book for which an action waits, those of the caches that a book has, and that of its intent, have the
 -- UIDVALIDITY that they had.
-abbrev AllStand : Meaning → Relation mail
+abbrev pub AllStand : Meaning → Relation mail
 AllStand e None s w = ⊥
 AllStand e (Some b) s w = ActionsStand e.queue s
     × ((name : List ℕ) (cache : Cache) → cache_at name b.boxes ≡ Some cache → HasValidity s.boxes name cache.validity)
@@ -143,7 +143,7 @@ module _ (e : Meaning) where
         st.2,
       )
 
-  stand_withstood : Withstands mail played (AllStand e)
+  pub stand_withstood : Withstands mail played (AllStand e)
   stand_withstood = record {
     event = λ version b event s w may permitted st. stand_event b event s w (follows version b event may) permitted st;
     sent = λ b s w of st. st;

@@ -19,11 +19,14 @@ use Rattle.world_traits.specs.Links.{Any, LinkStep}
 use Rattle.world_traits.specs.Moments.{Clock, Moment, Since}
 use Rattle.world_traits.proofs.Passing.{since_then, since_weaker}
 use Rattle.world_traits.proofs.Traces.{carried_now, since_both}
-use Rattle.play_driver.specs.Questioning.{ConnectsFirst, Conversing, RunStep, TalkStep}
+use Rattle.play_driver.specs.Grounds.{AreBoxes, Grounded, GroundStep}
+use Rattle.play_driver.specs.Grounds.Grounded.{asking, connecting}
+use Rattle.play_driver.specs.Questioning.{ConnectsFirst, Conversing, TalkStep}
 use Rattle.play_driver.specs.Questioning.Conversing.{answering, sending}
 use Rattle.play_driver.specs.Refusals.{DeniesQuestion, IsBye, NeverTold, RefusesRun}
 use Rattle.play_driver.specs.Serving.{AllServing, IsServing, ServesOn}
-use Rattle.play_driver.proofs.Parts.{grows, since_second}
+use Rattle.play_driver.proofs.OnGround.{IsOnGround, boxes_on, free_denies, ground_first, ground_on}
+use Rattle.play_driver.proofs.Parts.{grows, since_first, since_second}
 
 -- in this connection nothing was refused, and no LOGOUT waits
 pub record IsServed (p : Peer) : Type 0 where
@@ -55,18 +58,18 @@ waits_for tag command p w is =
     ap (λ (x : Waiting). x.command) (same_Some (record { selected = p.talk.selected; tag = tag; command = command }) w is)
 
 -- the server answers
-served_answer : (p q : Peer) → Answering p q → ServesOn p q → IsServed p → IsServed q
-served_answer p q stays v s = s
-served_answer p q (others t batch) v s = record { told = s.told; remains = s.remains }
-served_answer p q (goes_on a is unasked) v s =
+served_answer : (names : List (List ℕ)) (p q : Peer) → Answering p q → ServesOn p q → IsOnGround names p → IsServed p → IsServed q
+served_answer names p q stays v g s = s
+served_answer names p q (others t batch) v g s = record { told = s.told; remains = s.remains }
+served_answer names p q (goes_on a is unasked) v g s =
     record { told = never_more RefusesRun p.talk.told (responses.Go ∷ []) s.told (go_refuses, tt); remains = s.remains }
-served_answer p q (refuses a r is unasked refusal) v s =
+served_answer names p q (refuses a r is unasked refusal) v g s =
     record { told = never_more RefusesRun p.talk.told (told_in a.tag r) s.told (v.texts a r is refl); remains = s.remains }
-served_answer p q (carries w r t after is out) v s =
+served_answer names p q (carries w r t after is out) v g s =
     let serves = v.replies w r is refl in
     record {
       told = never_more RefusesRun p.talk.told (told_in w.tag r) s.told
-          (never_both (told_in w.tag r) serves.grants (serves.remains (s.remains w is)));
+          (never_both (told_in w.tag r) (free_denies w p.server r t after out serves.grants (g.waits w is)) (serves.remains (s.remains w is)));
       remains = λ x none. absurd cc;
     }
 
@@ -76,18 +79,20 @@ served_arrives : (tag : Tag) (command : Command) (before : List (List ℕ)) (par
 served_arrives tag command before part [] p remains s = record { told = s.told; remains = λ w is e. remains (waits_for tag command p w is ∙ e) }
 served_arrives tag command before part (next ∷ behind) p remains s = record { told = s.told; remains = s.remains }
 
-served_asking : (told : List Response) (tag : Tag) (command : Command) (p q : Peer) → command ≢ commands.Logout → Asking told tag command p q →
-    ServesOn p q → IsServed p → IsServed q
-served_asking told tag command p q remains (answers step) v s = served_answer p q step v s
-served_asking told tag command p q remains (arrives before part behind is awaits first) v s = served_arrives tag command before part behind p remains s
+served_asking : (names : List (List ℕ)) (told : List Response) (tag : Tag) (command : Command) (p q : Peer) → command ≢ commands.Logout →
+    Asking told tag command p q → ServesOn p q → IsOnGround names p → IsServed p → IsServed q
+served_asking names told tag command p q remains (answers step) v g s = served_answer names p q step v g s
+served_asking names told tag command p q remains (arrives before part behind is awaits first) v g s =
+    served_arrives tag command before part behind p remains s
 
-served_talk : (p q : Peer) → Conversing p q → ServesOn p q → IsServed p → IsServed q
-served_talk p q (answering step) v s = served_answer p q step v s
-served_talk p q (sending told tag command remains step) v s = served_asking told tag command p q remains step v s
+served_talk : (names : List (List ℕ)) (p q : Peer) → Conversing p q → ServesOn p q → IsOnGround names p → IsServed p → IsServed q
+served_talk names p q (answering step) v g s = served_answer names p q step v g s
+served_talk names p q (sending told tag command remains step) v g s = served_asking names told tag command p q remains step v g s
 
-served_step : (m n : Moment) → TalkStep m n → IsServing m n → IsServed m.outside → IsServed n.outside
-served_step m n (inl same) v s = subst IsServed (sym same) s
-served_step m n (inr step) v s = served_talk m.outside n.outside step.outside v s
+served_step : (names : List (List ℕ)) (m n : Moment) → TalkStep m n → IsServing m n → IsOnGround names m.outside → IsServed m.outside →
+    IsServed n.outside
+served_step names m n (inl same) v g s = subst IsServed (sym same) s
+served_step names m n (inr step) v g s = served_talk names m.outside n.outside step.outside v g s
 
 -- a connection is made: its greeting is no refusal
 greeting_denies : (r : Response) → IsGreeting r → DeniesQuestion r → ⊥
@@ -114,18 +119,19 @@ served_greeting s r greets other = record {
   remains = λ w none. absurd cc;
 }
 
-served_connecting : (p q : Peer) → Connecting p q → ServesOn p q → IsServed p → IsServed q
-served_connecting p q (as_before step) v s = served_answer p q step v s
-served_connecting p q ends v s = record { told = s.told; remains = s.remains }
-served_connecting p q (begins greeting greets) v s = served_greeting p.server greeting greets v.greets
+served_connecting : (names : List (List ℕ)) (p q : Peer) → Connecting p q → ServesOn p q → IsOnGround names p → IsServed p → IsServed q
+served_connecting names p q (as_before step) v g s = served_answer names p q step v g s
+served_connecting names p q ends v g s = record { told = s.told; remains = s.remains }
+served_connecting names p q (begins greeting greets) v g s = served_greeting p.server greeting greets v.greets
 
 -- a connection is made, or the run goes on over it
 abbrev OpenStep : Moment → Moment → Type 0
 OpenStep m n = LinkStep Connecting m n ⊎ TalkStep m n
 
-served_open : (m n : Moment) → OpenStep m n → IsServing m n → IsServed m.outside → IsServed n.outside
-served_open m n (inl step) v s = served_connecting m.outside n.outside step.outside v s
-served_open m n (inr step) v s = served_step m n step v s
+served_open : (names : List (List ℕ)) (m n : Moment) → OpenStep m n → IsServing m n → IsOnGround names m.outside → IsServed m.outside →
+    IsServed n.outside
+served_open names m n (inl step) v g s = served_connecting names m.outside n.outside step.outside v g s
+served_open names m n (inr step) v g s = served_step names m n step v g s
 
 -- as a connection has been made
 served_first : (p : Peer) → IsGreeted p → p.talk ≢ greeted responses.Bye → IsServed p
@@ -138,68 +144,66 @@ open_chain old new c =
     since_then Any OpenStep old c.at new (since_weaker Any Any (LinkStep Connecting) OpenStep (λ m p. p) (λ m n step. inl step) old c.at c.connects)
     (since_weaker Any Any TalkStep OpenStep (λ m p. p) (λ m n step. inr step) c.at new c.behind)
 
+-- From the moment on at which a connection had been made: what is asked on its ground is served.
+module _ (names : List (List ℕ)) (S : Moment → Moment → Type 0) (Q : Peer → Type 0)
+    (on : (m n : Moment) → S m n → IsServing m n → IsOnGround names m.outside → Q m.outside → Q n.outside) where
+  abbrev Both : Moment → Moment → Type 0
+  Both m n = (S m n × GroundStep names m n) × IsServing m n
+
+  abbrev Twice : Moment → Type 0
+  Twice m = (Any m × Any m) × Any m
+
+  both_on : (m n : Moment) → Twice n → Both m n → Q m.outside × IsOnGround names m.outside → Q n.outside × IsOnGround names n.outside
+  both_on m n any step so = (on m n step.0.0 step.1 so.1 so.0, ground_on names m.outside n.outside step.0.1 so.1)
+
+  ends_so : (old new : Clock) → Since Any S old new → Since Any (GroundStep names) old new → AreBoxes names old.now.outside.server →
+      (a : AllServing old new) → Q a.made.now.outside → Q new.now.outside
+  ends_so old new steps grounds boxes a first =
+      let rest = grows Any IsServing a.made new a.later in
+      let there = boxes_on names old a.made (since_first Any (GroundStep names) old a.made new a.before rest grounds) boxes in
+      let both = since_both Any Any S (GroundStep names) a.made new (since_second Any S old a.made new a.before rest steps)
+      (since_second Any (GroundStep names) old a.made new a.before rest grounds) in
+      (carried_now Twice (λ m. Q m.outside × IsOnGround names m.outside) Both both_on a.made
+      (first, ground_first names a.made.now.outside a.fresh there) new
+      (since_both (λ m. Any m × Any m) Any (λ m n. S m n × GroundStep names m n) IsServing a.made new both a.later)).0
+
 -- as a run goes on
-pub served_end : (old new : Clock) → ConnectsFirst TalkStep old new → AllServing old new → IsServed new.now.outside
-served_end old new c a =
-    let rest = grows Any IsServing a.made new a.later in
-    carried_now (λ m. Any m × Any m) (λ m. IsServed m.outside) (λ m n. OpenStep m n × IsServing m n)
-    (λ m n here step so. served_open m n step.0 step.1 so) a.made (served_first a.made.now.outside a.fresh a.hello) new
-    (since_both Any Any OpenStep IsServing a.made new (since_second Any OpenStep old a.made new a.before rest (open_chain old new c)) a.later)
+pub served_end : (names : List (List ℕ)) (old new : Clock) → ConnectsFirst TalkStep old new → Since Any (GroundStep names) old new →
+    AreBoxes names old.now.outside.server → AllServing old new → IsServed new.now.outside
+served_end names old new c grounds boxes a =
+    ends_so names OpenStep IsServed (served_open names) old new (open_chain old new c) grounds boxes a
+    (served_first a.made.now.outside a.fresh a.hello)
 
 -- behind LOGOUT no question is denied
-denied_answer : (p q : Peer) → Answering p q → ServesOn p q → NeverTold DeniesQuestion p.talk.told → NeverTold DeniesQuestion q.talk.told
-denied_answer p q stays v s = s
-denied_answer p q (others t batch) v s = s
-denied_answer p q (goes_on a is unasked) v s = never_more DeniesQuestion p.talk.told (responses.Go ∷ []) s (λ d. d, tt)
-denied_answer p q (refuses a r is unasked refusal) v s =
+abbrev DeniesNone : Peer → Type 0
+DeniesNone p = NeverTold DeniesQuestion p.talk.told
+
+denied_answer : (names : List (List ℕ)) (p q : Peer) → Answering p q → ServesOn p q → IsOnGround names p → DeniesNone p → DeniesNone q
+denied_answer names p q stays v g s = s
+denied_answer names p q (others t batch) v g s = s
+denied_answer names p q (goes_on a is unasked) v g s = never_more DeniesQuestion p.talk.told (responses.Go ∷ []) s (λ d. d, tt)
+denied_answer names p q (refuses a r is unasked refusal) v g s =
     never_more DeniesQuestion p.talk.told (told_in a.tag r) s (never_denied (told_in a.tag r) (v.texts a r is refl))
-denied_answer p q (carries w r t after is out) v s =
-    never_more DeniesQuestion p.talk.told (told_in w.tag r) s (v.replies w r is refl).grants
+denied_answer names p q (carries w r t after is out) v g s =
+    never_more DeniesQuestion p.talk.told (told_in w.tag r) s
+    (free_denies w p.server r t after out (v.replies w r is refl).grants (g.waits w is))
 
 denied_arrives : (tag : Tag) (command : Command) (before : List (List ℕ)) (part : List ℕ) (behind : List (List ℕ)) (p : Peer) →
-    NeverTold DeniesQuestion p.talk.told → NeverTold DeniesQuestion (arrived tag command before part behind p).talk.told
+    DeniesNone p → DeniesNone (arrived tag command before part behind p)
 denied_arrives tag command before part [] p s = s
 denied_arrives tag command before part (next ∷ behind) p s = s
 
-denied_asking : (told : List Response) (tag : Tag) (command : Command) (p q : Peer) → Asking told tag command p q → ServesOn p q →
-    NeverTold DeniesQuestion p.talk.told → NeverTold DeniesQuestion q.talk.told
-denied_asking told tag command p q (answers step) v s = denied_answer p q step v s
-denied_asking told tag command p q (arrives before part behind is awaits first) v s = denied_arrives tag command before part behind p s
+denied_connecting : (names : List (List ℕ)) (p q : Peer) → Connecting p q → ServesOn p q → IsOnGround names p → DeniesNone p → DeniesNone q
+denied_connecting names p q (as_before step) v g s = denied_answer names p q step v g s
+denied_connecting names p q ends v g s = s
+denied_connecting names p q (begins greeting greets) v g s = (λ d. greeting_denies greeting greets d, tt)
 
-denied_talk : (p q : Peer) → Conversing p q → ServesOn p q → NeverTold DeniesQuestion p.talk.told → NeverTold DeniesQuestion q.talk.told
-denied_talk p q (answering step) v s = denied_answer p q step v s
-denied_talk p q (sending told tag command remains step) v s = denied_asking told tag command p q step v s
+denied_on : (names : List (List ℕ)) (p q : Peer) → Grounded names p q → ServesOn p q → IsOnGround names p → DeniesNone p → DeniesNone q
+denied_on names p q (connecting step) v g s = denied_connecting names p q step v g s
+denied_on names p q (asking tag command before part behind ground) v g s = denied_arrives tag command before part behind p s
 
-denied_run : (m n : Moment) → RunStep m n → IsServing m n → NeverTold DeniesQuestion m.outside.talk.told →
-    NeverTold DeniesQuestion n.outside.talk.told
-denied_run m n (inl (inl same)) v s = subst (λ (p : Peer). NeverTold DeniesQuestion p.talk.told) (sym same) s
-denied_run m n (inl (inr step)) v s = denied_talk m.outside n.outside step.outside v s
-denied_run m n (inr step) v s =
-    denied_asking step.outside.told step.outside.tag commands.Logout m.outside n.outside step.outside.asks v s
-
-denied_connecting : (p q : Peer) → Connecting p q → ServesOn p q → NeverTold DeniesQuestion p.talk.told → NeverTold DeniesQuestion q.talk.told
-denied_connecting p q (as_before step) v s = denied_answer p q step v s
-denied_connecting p q ends v s = s
-denied_connecting p q (begins greeting greets) v s = (λ d. greeting_denies greeting greets d, tt)
-
--- a connection is made, or the run goes on over it up to its end
-abbrev EndStep : Moment → Moment → Type 0
-EndStep m n = LinkStep Connecting m n ⊎ RunStep m n
-
-denied_step : (m n : Moment) → EndStep m n → IsServing m n → NeverTold DeniesQuestion m.outside.talk.told →
-    NeverTold DeniesQuestion n.outside.talk.told
-denied_step m n (inl step) v s = denied_connecting m.outside n.outside step.outside v s
-denied_step m n (inr step) v s = denied_run m n step v s
-
-end_chain : (old new : Clock) → ConnectsFirst RunStep old new → Since Any EndStep old new
-end_chain old new c =
-    since_then Any EndStep old c.at new (since_weaker Any Any (LinkStep Connecting) EndStep (λ m p. p) (λ m n step. inl step) old c.at c.connects)
-    (since_weaker Any Any RunStep EndStep (λ m p. p) (λ m n step. inr step) c.at new c.behind)
-
-pub denied_end : (old new : Clock) → ConnectsFirst RunStep old new → AllServing old new → NeverTold DeniesQuestion new.now.outside.talk.told
-denied_end old new c a =
-    let rest = grows Any IsServing a.made new a.later in
-    carried_now (λ m. Any m × Any m) (λ m. NeverTold DeniesQuestion m.outside.talk.told) (λ m n. EndStep m n × IsServing m n)
-    (λ m n here step so. denied_step m n step.0 step.1 so) a.made
-    (never_denied a.made.now.outside.talk.told (served_first a.made.now.outside a.fresh a.hello).told) new
-    (since_both Any Any EndStep IsServing a.made new (since_second Any EndStep old a.made new a.before rest (end_chain old new c)) a.later)
+pub denied_end : (names : List (List ℕ)) (old new : Clock) → Since Any (GroundStep names) old new → AreBoxes names old.now.outside.server →
+    AllServing old new → DeniesNone new.now.outside
+denied_end names old new grounds boxes a =
+    ends_so names (GroundStep names) DeniesNone (λ m n step v g s. denied_on names m.outside n.outside step v g s) old new grounds grounds boxes a
+    (never_denied a.made.now.outside.talk.told (served_first a.made.now.outside a.fresh a.hello).told)

@@ -63,7 +63,7 @@ abbrev pub IsHonest : List Response → Option Connection → Type 0
 IsHonest told c = (k : Connection) → c ≡ Some k → ∥ Received told k.received ∥₁
 
 -- what was taken of an honest connection is a front of what was told
-took_front : (heard told : List Response) (taken : List Frame) (left : Stream) (had : List ℕ) (c : Option Connection)
+pub took_front : (heard told : List Response) (taken : List Frame) (left : Stream) (had : List ℕ) (c : Option Connection)
     → Took heard taken left had c → IsHonest told c → told ≡ heard ++ drop (length heard) told
 took_front heard told taken left had c t honest =
     goes_on_behind heard told (∥∥₁_map (honest t.connection t.there) (λ r.

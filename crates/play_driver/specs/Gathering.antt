@@ -1,5 +1,5 @@
 -- What a call says that asks for what a server has of a mailbox (RFC 7162, section 3.2.5).
-use Rattle.std.specs.Prelude.{◌≡◌, ℕ, List, Option, Result, IfSome, IsErrOf, is_some}
+use Rattle.std.specs.Prelude.{◌≡◌, ℕ, true, List, Option, Result, IfSome, IsErrOf, is_some}
 use Rattle.imap_model.specs.declared.response.Response.{Response}
 use Rattle.imap_session.specs.Blame.{Blames}
 use Rattle.imap_session.specs.Dialogue.{BrokeOff, Dialogue, SentIn}
@@ -10,9 +10,12 @@ use Rattle.imap_session.specs.declared.fault.SessionFault.{SessionFault}
 use Rattle.imap_session.specs.declared.fault.SessionFault.TheVariants as faults
 use Rattle.literal_feed.specs.Stream.{Stream}
 use Rattle.mailbox_cache.specs.declared.cache.Cache.{Cache}
-use Rattle.world_traits.specs.Links.{AnyStep, Linked}
+use Rattle.world_traits.specs.Links.{Any, AnyStep, Linked}
+use Rattle.world_traits.specs.Moments.{Since}
 use Rattle.world_traits.specs.declared.clocked.Clocked.{Ghosts}
 use Rattle.play_driver.specs.Exchanges.{AnsweredAll, CameAll}
+use Rattle.play_driver.specs.Grounds.{GroundStep}
+use Rattle.play_driver.specs.Progress.{has_name}
 use Rattle.play_driver.specs.Questioning.{Questioning}
 use Rattle.play_driver.specs.Resynchronising.{exchanged, fetches, resync}
 use Rattle.play_driver.specs.Sessions.{count_of, feed_of, selected_in}
@@ -20,12 +23,14 @@ use Rattle.play_driver.specs.declared.gathering.Gathered.{Gathered}
 use Rattle.play_driver.specs.declared.session.Session.{Session}
 
 -- However the call ends: the files stay as they were, and only the questions of a resynchronisation were asked (`sent` and `why` say it
--- for any dialogue behind them); no honest server's reply is called bad. Each fault's cause stands in the bytes received.
+-- for any dialogue behind them): this mailbox is selected, and the rows are asked for while it is. No honest server's reply is called bad.
+-- Each fault's cause stands in the bytes received.
 pub record Gathers {Self T : Type 0} (L : Ghosts Self) (name : List ℕ) (kept : Option Cache) (old new : Self) (session : Session)
     (result : Result T SessionFault) : Type 0 where
   pub files : L.tells_files → Linked AnyStep (L.clock old) (L.clock new)
   pub told : L.tells_server → Linked Enquiring (L.clock old) (L.clock new)
   pub asks : L.tells_server → Linked Questioning (L.clock old) (L.clock new)
+  pub grounds : L.tells_server → (names : List (List ℕ)) → has_name name names ≡ true → Since Any (GroundStep names) (L.clock old) (L.clock new)
   pub sent : L.tells_files → (next : Dialogue) → SentIn (resync name kept next) (count_of session) (L.link old).sent (L.link new).sent
   pub why : L.tells_files → (next : Dialogue) (heard : List Response) → (h : Hears heard (L.link old).connection (feed_of session))
       → (fault : SessionFault) → IsErrOf result fault

@@ -9,10 +9,11 @@ use Rattle.world_traits.specs.Links.{Any}
 use Rattle.world_traits.specs.Moments.{Clock, Since}
 use Rattle.world_traits.specs.declared.clocked.Clocked.{Ghosts}
 use Rattle.play_driver.specs.Accuses.{ConnectsOnce}
+use Rattle.play_driver.specs.Grounds.{GroundStep}
 use Rattle.play_driver.specs.Joining.{AllFair, Grows, IsKept, StaysJoined}
 use Rattle.play_driver.specs.KnownAt.{KnownAt}
 use Rattle.play_driver.specs.Played.{played}
-use Rattle.play_driver.specs.Progress.{Progresses}
+use Rattle.play_driver.specs.Progress.{Progresses, box_names}
 use Rattle.play_driver.specs.Questioning.{ConnectsFirst, RunStep, TalkStep}
 use Rattle.play_driver.specs.Sessions.{permits_in}
 use Rattle.play_driver.specs.Settled.{IsSyncedSoFar}
@@ -22,7 +23,7 @@ use Rattle.play_driver.specs.declared.session.Session.{Session}
 -- At every moment a stop leaves the book that was, or one further on. Where the book is kept, and the player knows the connection, which was
 -- made at some clock: up to each moment to which others were fair each one is kept, and joined to the one before it; and where others were
 -- fair all the time the player knows it still. One side of the journal rests, and no connection is made: what was sent in earlier ones is
--- what it was.
+-- what it was. Each mailbox that is selected is one of the book's, and a question about a selected mailbox is asked while one is.
 pub record GoesOn {Self : Type 0} (W : Ghosts Self) (old new : Self) (session : Session) (p q : Player) (b c : Meaning)
     (result : Result Session PlayFault) : Type 0 where
   pub progress : W.tells_files → Progresses b (W.clock old) (W.clock new)
@@ -32,6 +33,7 @@ pub record GoesOn {Self : Type 0} (W : Ghosts Self) (old new : Self) (session : 
       → AllFair mail played (W.clock old) (W.clock new) → IfOk result (λ next. KnownAt made (W.clock new) (permits_in next) q c)
   pub each_one_side : W.tells_files → EachOneSide (W.clock old) (W.clock new)
   pub talks : W.tells_server → Since Any TalkStep (W.clock old) (W.clock new)
+  pub grounds : W.tells_server → Since Any (GroundStep (box_names b)) (W.clock old) (W.clock new)
   pub earlier : W.tells_files → (W.link new).earlier ≡ (W.link old).earlier
 
 -- each mailbox that the player counts stays the server's

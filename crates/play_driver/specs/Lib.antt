@@ -20,6 +20,8 @@ pub mod Turning
 pub mod Running
 pub mod Playing
 pub mod Refusals
+pub mod Granting
+pub mod Grounds
 pub mod Serving
 pub mod MayServe
 pub mod Renewed

@@ -1,5 +1,5 @@
--- A server that serves a run: it doesn't greet with BYE, offers what this client needs, refuses no question, and says BYE to LOGOUT alone
--- (RFC 9051, sections 6.1.1, 6.2, 6.3.1 and 7.1; RFC 7162, section 3.2.3).
+-- A server that serves a run: it doesn't greet with BYE, offers what this client needs, refuses no question that has what it needs, and says BYE
+-- to LOGOUT alone (RFC 9051, sections 6.1.1, 6.2, 6.3.1 and 7.1; RFC 7162, section 3.2.3).
 use Rattle.std.specs.Prelude.{Bool, List, [], ◌∷◌, ◌≡◌, ◌≢◌, ◌⊎◌, true, false, ◌++◌, Some, codes}
 use Rattle.mail_base.specs.declared.tag.Tag.{Tag}
 use Rattle.mail_base.specs.declared.tag.Tag.TheVariants as tags
@@ -12,12 +12,14 @@ use Rattle.imap_model.specs.declared.ending.Ending.TheVariants as endings
 use Rattle.imap_model.specs.declared.replies.Replies.{Replies}
 use Rattle.imap_model.specs.declared.response.Response.{Response}
 use Rattle.imap_model.specs.declared.response.Response.TheVariants as responses
+use Rattle.imap_model.specs.declared.server.Server.{Server}
 use Rattle.imap_session.specs.Enabled.{is_enabled}
 use Rattle.imap_session.specs.Greeting.{is_preauth}
 use Rattle.imap_session.specs.Offers.{offers}
 use Rattle.world_traits.specs.Connected.{IsGreeted}
 use Rattle.world_traits.specs.Links.{Any}
 use Rattle.world_traits.specs.Moments.{Moment, Clock, Since}
+use Rattle.play_driver.specs.Granting.{IsGrantable}
 use Rattle.play_driver.specs.Joining.{Grows}
 use Rattle.play_driver.specs.Refusals.{DeniesQuestion, IsBye, NeverTold, RefusesRun}
 
@@ -56,9 +58,10 @@ Provides told (commands.Expunge uid) tag r = Unit {0}
 Provides told (commands.Append to flags text) tag r = Unit {0}
 Provides told commands.Logout tag r = Unit {0}
 
--- the reply to a command, where this was told before: it refuses no question, says BYE to LOGOUT alone, and provides what is needed
-pub record Serves (told : List Response) (w : Waiting) (r : Replies) : Type 0 where
-  pub grants : NeverTold DeniesQuestion (told_in w.tag r)
+-- The reply to a command, where this was told before, and the server was this: it refuses no question without a ground, says BYE to LOGOUT
+-- alone, and provides what is needed.
+pub record Serves (told : List Response) (w : Waiting) (s : Server) (r : Replies) : Type 0 where
+  pub grants : IsGrantable w s → NeverTold DeniesQuestion (told_in w.tag r)
   pub remains : w.command ≢ commands.Logout → NeverTold IsBye (told_in w.tag r)
   pub provides : r.ending ≡ endings.Ok → Provides told w.command w.tag r
 
@@ -66,7 +69,7 @@ pub record Serves (told : List Response) (w : Waiting) (r : Replies) : Type 0 wh
 -- that refuses no question, nor the run; and no greeting is BYE.
 pub record ServesOn (p q : Peer) : Type 0 where
   pub replies : (w : Waiting) (r : Replies) → p.waiting ≡ Some w → q.talk.told ≡ p.talk.told ++ told_in w.tag r →
-      Serves p.talk.told w r
+      Serves p.talk.told w p.server r
   pub texts : (a : Arriving) (r : Replies) → p.talk.arriving ≡ Some a → q.talk.told ≡ p.talk.told ++ told_in a.tag r →
       NeverTold RefusesRun (told_in a.tag r)
   pub greets : q.talk ≢ greeted responses.Bye

@@ -11,10 +11,12 @@ ghost use Rattle.store_core.specs.Mail.{mail};
 ghost use Rattle.world_traits.specs.Moments.{Clock};
 ghost use Rattle.play_driver.specs.Counted.{played_since};
 ghost use Rattle.play_driver.specs.Faults.{ComesAnyway};
+ghost use Rattle.play_driver.specs.Grounds.{AreBoxes};
 ghost use Rattle.play_driver.specs.Joining.{AllFair, IsKept};
 ghost use Rattle.play_driver.specs.KnownAt.{KnownAt};
 ghost use Rattle.play_driver.specs.Played.{played};
 ghost use Rattle.play_driver.specs.Playing.{EndsEarly, Plays};
+ghost use Rattle.play_driver.specs.Progress.{box_names};
 ghost use Rattle.play_driver.specs.Renewed.{NoneRenewed};
 ghost use Rattle.play_driver.specs.Serving.{AllServing};
 ghost use Rattle.play_driver.specs.Sessions.{count_of, permits_in};
@@ -91,12 +93,13 @@ pub fn play<W: World>(
         → AllFair mail played (W.clock world.old) (W.clock world.new)
         → (why : Why) → IsErrOf result (faults.BadReply why) → ⊥ }
 
-    // A server that serves it, with no mailbox made anew of which the book knows something, ends no run: what else ends one is want of
-    // memory, the disk, the link, or a limit.
+    // A server that serves it, has each mailbox of the book, and made none anew of which the book knows something, ends no run: what else
+    // ends one is want of memory, the disk, the link, or a limit.
     ensures complete { W.tells_server → IsKept mail Kept (W.clock world.old).now
         → AllFair mail played (W.clock world.old) (W.clock world.new)
         → AllServing (W.clock world.old) (W.clock world.new)
         → NoneRenewed store.old.book (W.clock world.old).now.outside.server
+        → AreBoxes (box_names store.old.book) (W.clock world.old).now.outside.server
         → (fault : PlayFault) → IsErrOf result fault → ComesAnyway fault }
 {
     let settled = store.book().queue.settled();

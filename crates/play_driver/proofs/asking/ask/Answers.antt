@@ -14,6 +14,7 @@ use Rattle.playback.specs.declared.need.Unheard.{Unheard}
 use Rattle.playback.specs.declared.player.Player.{Player}
 use Rattle.play_driver.specs.Faults.{of_session}
 use Rattle.play_driver.specs.KnownAt.{KnownAt}
+use Rattle.play_driver.specs.Progress.{box_names}
 use Rattle.play_driver.specs.Rests.{Rests}
 use Rattle.play_driver.specs.Sessions.{count_of}
 use Rattle.play_driver.specs.Turning.{IsAskedFor, permits_due, standing_of}
@@ -24,6 +25,7 @@ use Rattle.play_driver.proofs.AskedJoins.{asked_heard, asked_stays, heard_known}
 use Rattle.play_driver.proofs.Faulting.{told_as}
 use Rattle.play_driver.proofs.Faultless.{asked_whole, heard_faultless, session_faultless}
 use Rattle.play_driver.proofs.Folds.{fold_sound}
+use Rattle.play_driver.proofs.GroundChains.{needed_grounded}
 use Rattle.play_driver.proofs.OneTurn.{asked_fails, asked_selected, asks_turn, known_in, synced_asked}
 use Rattle.play_driver.proofs.OverLink.{goes_over, left_over, stands_over, true_over}
 use Rattle.play_driver.proofs.OverOne.{asked_talks}
@@ -81,7 +83,10 @@ returns-in_err-answer-clause-goes_on g c =
     (λ t made stands known fair. search rules)
     (λ t. asked_talks _ c.args.tag c.args.command.now
     (asked_remains c.args.player.now b _ c.args.tag c.args.command.now c.requires.fold c.requires.rests.beside c.requires.needed) _ _
-    (c.ask.ensures.talks.told t)) c.ask.ensures.talks.earlier
+    (c.ask.ensures.talks.told t))
+    (λ t. needed_grounded (box_names b) c.args.player.now b c.requires.fold c.requires.rests.beside c.chosen_in-chosen.result.conversation.count
+    c.args.tag c.args.command.now needed c.chosen_in-chosen.result.name _ _ _ _ (rests.stands t) (c.ask.ensures.talks.told t))
+    c.ask.ensures.talks.earlier
 
 pub returns-in_err-answer-clause-reasons : goal.returns-in_err-answer-clause-reasons
 returns-in_err-answer-clause-reasons g c = record {
@@ -177,7 +182,10 @@ returns-in-Ok-clause-goes_on g c =
     (λ w kept reply polite here. knows w kept reply (subst (λ (x : Bool). IsFair x b w) (sym permits) polite) here)))
     (λ t. asked_talks _ c.args.tag c.args.command.now
     (asked_remains c.args.player.now b _ c.args.tag c.args.command.now c.requires.fold c.requires.rests.beside c.requires.needed) _ _
-    (c.ask.ensures.talks.told t)) c.ask.ensures.talks.earlier
+    (c.ask.ensures.talks.told t))
+    (λ t. needed_grounded (box_names b) c.args.player.now b c.requires.fold c.requires.rests.beside c.chosen_in-chosen.result.conversation.count
+    c.args.tag c.args.command.now needed c.chosen_in-chosen.result.name _ _ _ _ (rests.stands t) (c.ask.ensures.talks.told t))
+    c.ask.ensures.talks.earlier
 
 pub returns-in-Ok-clause-reasons : goal.returns-in-Ok-clause-reasons
 returns-in-Ok-clause-reasons g c = record {
@@ -279,7 +287,10 @@ returns-in-Err-clause-goes_on g c =
     (λ t made stands known fair. search rules)
     (λ t. asked_talks _ c.args.tag c.args.command.now
     (asked_remains c.args.player.now b _ c.args.tag c.args.command.now c.requires.fold c.requires.rests.beside c.requires.needed) _ _
-    (c.ask.ensures.talks.told t)) c.ask.ensures.talks.earlier
+    (c.ask.ensures.talks.told t))
+    (λ t. needed_grounded (box_names b) c.args.player.now b c.requires.fold c.requires.rests.beside c.chosen_in-chosen.result.conversation.count
+    c.args.tag c.args.command.now needed c.chosen_in-chosen.result.name _ _ _ _ (rests.stands t) (c.ask.ensures.talks.told t))
+    c.ask.ensures.talks.earlier
 
 pub returns-in-Err-clause-reasons : goal.returns-in-Err-clause-reasons
 returns-in-Err-clause-reasons g c = record {

@@ -1,4 +1,4 @@
-use Rattle.std.proofs.Common.{◌∙◌, ℕ, arith, inl, inr, refl, rules, subst, sym}
+use Rattle.std.proofs.Common.{[], ◌∙◌, ℕ, arith, inl, inr, refl, rules, subst, sym}
 use Rattle.imap_session.proofs.Outcomes.{if_ok_more}
 use Rattle.imap_session.proofs.Talks.{answers_enquires, connects_enquires, enabling_asks, entering_asks}
 use Rattle.imap_session.proofs.Talking.{linked_then}
@@ -19,6 +19,7 @@ use Rattle.play_driver.proofs.Remaining.{enabling_remains, entering_remains}
 use Rattle.play_driver.proofs.Served.{served_end}
 use Rattle.play_driver.proofs.ToldRefusals.{entry_told, never_told}
 use Rattle.play_driver.proofs.Enters.{enabling_told, entered_so, entering_told, unfit_so, unknown_so}
+use Rattle.play_driver.proofs.GroundChains.{connects_grounded, enabling_grounded, entering_grounded, greets_grounded, grounds_then}
 use Rattle.play_driver.proofs.Opened.{in_any, opens_from}
 use Rattle.play_driver.proofs.entering.enter.Goals as goal
 
@@ -27,6 +28,7 @@ returns-in_err-fresh-clause-enters g c = record {
   files = search rules;
   told = λ t. connects_enquires _ _ (c.connect.ensures.told t);
   once = λ t. connects_first (LinkStep Questioning) _ _ (c.connect.ensures.told t);
+  grounds = λ t names. connects_grounded names _ _ (c.connect.ensures.told t);
   why = λ t fault is.
       unconnected (c.connect.ensures.only fault (search rules)) (c.in_err-fresh.ensures.unsent t) (c.in_err-fresh.ensures.unmade t);
   one = λ t. inl (c.in_err-fresh.ensures.unmade t);
@@ -48,6 +50,8 @@ returns-in_err-greeted-clause-enters g c = record {
   once = λ t.
       goes_behind (LinkStep Questioning) _ _ _ (connects_first (LinkStep Questioning) _ _ (c.connect.ensures.told t))
       (answers_over _ _ (c.greet.ensures.receives.told t));
+  grounds = λ t names.
+      greets_grounded names _ _ _ (c.connect.ensures.told t) (c.greet.ensures.receives.told t);
   why = λ t fault is.
       ungreeted (c.greet.ensures.why t fault (search rules)) (c.greet.ensures.receives.sent t ∙ c.in_ok-fresh.ensures.sent t);
   one = λ t.
@@ -60,7 +64,7 @@ returns-in_err-greeted-clause-enters g c = record {
 pub returns-in_err-greeted-clause-serves : goal.returns-in_err-greeted-clause-serves
 returns-in_err-greeted-clause-serves g c = λ t serving.
     let f = g.L.Clocked.server_with_files t in
-    let served = served_end _ _ (enters_talking _ _ ((returns-in_err-greeted-clause-enters g c).once t)) serving in (
+    let served = served_end [] _ _ (enters_talking _ _ ((returns-in_err-greeted-clause-enters g c).once t)) ((returns-in_err-greeted-clause-enters g c).grounds t []) (λ name has. absurd cc) serving in (
       λ line is.
           let why = (returns-in_err-greeted-clause-enters g c).why f (faults.Refused line) is in
           never_told RefusesRun _ served.told (entry_told _ _ _ line _ why (g.met.L.Link.honest c.greet.new.link t)),
@@ -81,6 +85,12 @@ returns-in_err-known-clause-enters g c = record {
       (answers_over _ _ (c.greet.ensures.receives.told t)) in
       entering_over _ _ _ first (g.L.Clocked.link c.greet.new.link) (g.L.Clocked.link c.authenticate.new.link) c.in_ok-greeted.greeted.conversation.count
       c.in_ok-greeted.greeted.preauth c.args.account.now (c.authenticate.ensures.converses.told t);
+  grounds = λ t names.
+      let first = greets_grounded names _ _ _ (c.connect.ensures.told t) (c.greet.ensures.receives.told t) in
+      grounds_then names _ _ _ first
+      (entering_grounded names c.in_ok-greeted.greeted.preauth c.args.account.now c.in_ok-greeted.greeted.conversation.count
+      (so_far (g.L.Clocked.clock c.greet.new.link) (g.L.Clocked.link c.greet.new.link))
+      (so_far (g.L.Clocked.clock c.authenticate.new.link) (g.L.Clocked.link c.authenticate.new.link)) (c.authenticate.ensures.converses.told t));
   why = λ t fault is.
       let greeted = c.in_ok-greeted.greeted in
       let p : Stage = record { link = g.L.Clocked.link c.greet.new.link; feed = greeted.conversation.feed; count = greeted.conversation.count } in
@@ -105,7 +115,7 @@ returns-in_err-known-clause-serves g c = λ t serving.
     let d = entering greeted.preauth c.args.account.now in
     let at = so_far (g.L.Clocked.clock c.greet.new.link) (g.L.Clocked.link c.greet.new.link) in
     let new = so_far (g.L.Clocked.clock c.authenticate.new.link) (g.L.Clocked.link c.authenticate.new.link) in
-    let served = served_end _ _ (enters_talking _ _ ((returns-in_err-known-clause-enters g c).once t)) serving in (
+    let served = served_end [] _ _ (enters_talking _ _ ((returns-in_err-known-clause-enters g c).once t)) ((returns-in_err-known-clause-enters g c).grounds t []) (λ name has. absurd cc) serving in (
       λ line is.
           let why = (returns-in_err-known-clause-enters g c).why f (faults.Refused line) is in
           never_told RefusesRun _ served.told (entry_told _ _ _ line _ why (g.met.L.Link.honest c.authenticate.new.link t)),
@@ -141,6 +151,16 @@ returns-clause-enters g c = record {
       c.in_ok-greeted.greeted.preauth c.args.account.now (c.authenticate.ensures.converses.told t) in
       enabling_over _ _ _ second (g.L.Clocked.link c.authenticate.new.link) (g.L.Clocked.link c.enable.new.link) c.in_ok-known.known.conversation.count
       c.in_ok-known.known.rev2 (c.enable.ensures.converses.told t);
+  grounds = λ t names.
+      let first = greets_grounded names _ _ _ (c.connect.ensures.told t) (c.greet.ensures.receives.told t) in
+      let second = grounds_then names _ _ _ first
+      (entering_grounded names c.in_ok-greeted.greeted.preauth c.args.account.now c.in_ok-greeted.greeted.conversation.count
+      (so_far (g.L.Clocked.clock c.greet.new.link) (g.L.Clocked.link c.greet.new.link))
+      (so_far (g.L.Clocked.clock c.authenticate.new.link) (g.L.Clocked.link c.authenticate.new.link)) (c.authenticate.ensures.converses.told t)) in
+      grounds_then names _ _ _ second
+      (enabling_grounded names c.in_ok-known.known.rev2 c.in_ok-known.known.conversation.count
+      (so_far (g.L.Clocked.clock c.authenticate.new.link) (g.L.Clocked.link c.authenticate.new.link))
+      (so_far (g.L.Clocked.clock c.enable.new.link) (g.L.Clocked.link c.enable.new.link)) (c.enable.ensures.converses.told t));
   why = λ t fault is.
       let greeted = c.in_ok-greeted.greeted in
       let known = c.in_ok-known.known in
@@ -202,7 +222,7 @@ returns-clause-serves g c = λ t serving.
     (entering_asks greeted.preauth c.args.account.now)
     (entering_remains greeted.preauth c.args.account.now) greeted.conversation.count (answers_over _ _ (c.greet.ensures.receives.told t))
     (c.authenticate.ensures.converses.told t) in
-    let served = served_end _ _ (enters_talking _ _ ((returns-clause-enters g c).once t)) serving in (
+    let served = served_end [] _ _ (enters_talking _ _ ((returns-clause-enters g c).once t)) ((returns-clause-enters g c).grounds t []) (λ name has. absurd cc) serving in (
       λ line is.
           let why = (returns-clause-enters g c).why f (faults.Refused line) is in
           never_told RefusesRun _ served.told (entry_told _ _ _ line _ why (g.met.L.Link.honest c.enable.new.link t)),

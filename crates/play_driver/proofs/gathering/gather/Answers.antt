@@ -6,6 +6,7 @@ use Rattle.imap_session.specs.Faults.{IsCount}
 use Rattle.imap_session.proofs.Talking.{linked_then}
 use Rattle.play_driver.specs.Sessions.{selected_in, count_of}
 use Rattle.play_driver.proofs.Gathers.{answered_by, answered_two, both_told, came_one, came_two, select_told, sent_two, why_two}
+use Rattle.play_driver.proofs.GroundChains.{both_grounded, select_grounded}
 use Rattle.play_driver.proofs.OverOne.{both_over, select_over}
 use Rattle.play_driver.proofs.gathering.gather.Goals as goal
 
@@ -14,6 +15,8 @@ returns-in_err-answer-clause-gathers g c = record {
   files = search rules;
   told = λ t. select_told c.args.name.now c.mark_kept.result (count_of c.args.session) _ _ (c.select.ensures.talks.told t);
   asks = λ t. select_over c.args.name.now c.mark_kept.result (count_of c.args.session) _ _ (c.select.ensures.talks.told t);
+  grounds = λ t names is.
+      select_grounded names c.args.name.now is c.mark_kept.result (count_of c.args.session) _ _ (c.select.ensures.talks.told t);
   sent = search rules;
   why = search rules;
   honest = search rules;
@@ -26,6 +29,8 @@ returns-then-not-is_fetch_due-clause-gathers g c = record {
   files = search rules;
   told = λ t. select_told c.args.name.now c.mark_kept.result (count_of c.args.session) _ _ (c.select.ensures.talks.told t);
   asks = λ t. select_over c.args.name.now c.mark_kept.result (count_of c.args.session) _ _ (c.select.ensures.talks.told t);
+  grounds = λ t names is.
+      select_grounded names c.args.name.now is c.mark_kept.result (count_of c.args.session) _ _ (c.select.ensures.talks.told t);
   sent = search rules;
   why = search rules;
   honest = search rules;
@@ -57,6 +62,9 @@ returns-in_err-fetched-clause-gathers g c = record {
       both_told c.args.name.now c.mark_kept.result (count_of c.args.session) c.next_tag-tag.result _ _ _ (c.select.ensures.talks.told t) (c.ask.ensures.talks.told t);
   asks = λ t.
       both_over c.args.name.now c.mark_kept.result (count_of c.args.session) c.next_tag-tag.result _ _ _ (c.select.ensures.talks.told t) (c.ask.ensures.talks.told t);
+  grounds = λ t names is.
+      both_grounded names c.args.name.now is c.mark_kept.result (count_of c.args.session) c.next_tag-tag.result _ _ _ (c.select.ensures.talks.told t)
+      _ _ (c.in_ok-answer.ensures.stands t) (c.ask.ensures.talks.told t);
   sent = λ t next.
       sent_two c.args.name.now (option_copied c.args.kept) c.mark_kept.result c.mark_kept.ensures (count_of c.args.session) next c.next_tag-tag.result
       c.in_ok-answer.answer.1 _ _ _ (c.next_tag-tag.ensures ∙ ap (λ (k : ℕ). tags.Count (k + 1)) c.in_ok-answer.ensures.counted)
@@ -80,6 +88,9 @@ returns-clause-gathers g c = record {
       both_told c.args.name.now c.mark_kept.result (count_of c.args.session) c.next_tag-tag.result _ _ _ (c.select.ensures.talks.told t) (c.ask.ensures.talks.told t);
   asks = λ t.
       both_over c.args.name.now c.mark_kept.result (count_of c.args.session) c.next_tag-tag.result _ _ _ (c.select.ensures.talks.told t) (c.ask.ensures.talks.told t);
+  grounds = λ t names is.
+      both_grounded names c.args.name.now is c.mark_kept.result (count_of c.args.session) c.next_tag-tag.result _ _ _ (c.select.ensures.talks.told t)
+      _ _ (c.in_ok-answer.ensures.stands t) (c.ask.ensures.talks.told t);
   sent = λ t next.
       sent_two c.args.name.now (option_copied c.args.kept) c.mark_kept.result c.mark_kept.ensures (count_of c.args.session) next c.next_tag-tag.result
       c.in_ok-answer.answer.1 _ _ _ (c.next_tag-tag.ensures ∙ ap (λ (k : ℕ). tags.Count (k + 1)) c.in_ok-answer.ensures.counted)

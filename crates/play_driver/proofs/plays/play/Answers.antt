@@ -1,5 +1,6 @@
 use Rattle.play_driver.proofs.CompleteRun.{comes_session, comes_turn, leaving_lacks, unrefused_leave, unrefused_turn}
 use Rattle.play_driver.proofs.EntersServed.{enters_talking}
+use Rattle.play_driver.proofs.GroundChains.{grounds_then, leave_grounded}
 use Rattle.play_driver.proofs.Links.{left_there}
 use Rattle.play_driver.proofs.Surely.{run_surely}
 use Rattle.play_driver.proofs.RenewedEntered.{renewed_entered}
@@ -12,6 +13,7 @@ use Rattle.play_driver.proofs.WholeRun.{run_grows, run_three, run_two, stays_on_
 use Rattle.play_driver.proofs.WholeRun.{true_two}
 use Rattle.play_driver.specs.Faults.{of_session}
 use Rattle.play_driver.specs.Playing.EndsEarly.{not_entered}
+use Rattle.play_driver.specs.Progress.{box_names}
 use Rattle.play_driver.specs.Questioning.{RunStep, TalkStep}
 use Rattle.play_driver.specs.Turning.{standing_of}
 use Rattle.std.proofs.Common.{Err, ap, refl, ◌≡◌, ◌∙◌}
@@ -75,7 +77,7 @@ returns-in_err-ready-clause-why g c = λ t fault is.
     not_entered x (told_as of_session c.from_residual.result x c.from_residual.ensures.1 fault is) (c.enter.ensures.enters.why t x c.in_err-ready.was) refl
 
 pub returns-in_err-ready-clause-complete : goal.returns-in_err-ready-clause-complete
-returns-in_err-ready-clause-complete g c = λ t kept fair serving renewed fault is.
+returns-in_err-ready-clause-complete g c = λ t kept fair serving renewed boxes fault is.
     let x = c.in_err-ready.field-0.0 in
     let serves = c.enter.ensures.serves t serving in
     comes_session x (λ line e. serves.0 line (c.in_err-ready.was ∙ ap (λ (f : SessionFault). Err f) e))
@@ -170,7 +172,7 @@ returns-in_err-last-clause-why g c = λ t fault is.
     (c.in_ok-ready.ensures.entered t) c.play_on.new.store _ _ fault (c.play_on.ensures.runs.why t fault (search rules))
 
 pub returns-in_err-last-clause-complete : goal.returns-in_err-last-clause-complete
-returns-in_err-last-clause-complete g c = λ t kept fair serving renewed fault is.
+returns-in_err-last-clause-complete g c = λ t kept fair serving renewed boxes fault is.
     let f = g.W.Clocked.server_with_files t in
     let r : HasBegun c.args.store.now.book c.begin-player.result (g.W.Clocked.clock c.args.world.now) (g.W.Clocked.clock c.enter.new.link) =
     has_begun c.args.alloc _ _ _ c.begin-player.ensures.value c.begin-player.ensures.entered c.book-2.ensures _ _
@@ -179,7 +181,10 @@ returns-in_err-last-clause-complete g c = λ t kept fair serving renewed fault i
     let more = progress_grows _ _ _ (c.play_on.ensures.goes_on.progress f) in
     let is_on : c.play_on.result ≡ Err fault = search rules in
     comes_turn fault
-    (unrefused_turn _ _ (goes_behind TalkStep _ _ _ (enters_talking _ _ (c.enter.ensures.enters.once t)) (c.play_on.ensures.goes_on.talks t)) serving _ _ _ fault
+    (unrefused_turn (box_names c.args.store.now.book) _ _
+    (goes_behind TalkStep _ _ _ (enters_talking _ _ (c.enter.ensures.enters.once t)) (c.play_on.ensures.goes_on.talks t))
+    (grounds_then (box_names c.args.store.now.book) _ _ _ (c.enter.ensures.enters.grounds t (box_names c.args.store.now.book))
+    (c.play_on.ensures.goes_on.grounds t)) boxes serving _ _ _ fault
     (c.play_on.ensures.runs.why f fault is_on) (g.met.W.Link.honest c.play_on.new.world t))
     (λ reply. faultless_two _ _ _ _ r kept _ more fair
     (λ here knows second. c.play_on.ensures.excuses.faultless t r.opened.made here knows second fault is_on reply))
@@ -283,12 +288,16 @@ returns-in_err-leave-clause-stored g c = record {
 }
 
 pub returns-in_err-leave-clause-complete : goal.returns-in_err-leave-clause-complete
-returns-in_err-leave-clause-complete g c = λ t kept fair serving renewed fault is.
+returns-in_err-leave-clause-complete g c = λ t kept fair serving renewed boxes fault is.
     let f = g.W.Clocked.server_with_files t in
     let x = c.in_err-leave.field-0.0 in
     let why = c.leave.ensures.why f x c.in_err-leave.was in
     comes_session x
-    (unrefused_leave _ _ ((returns-in_err-leave-clause-goes_on g c).once t) serving _ _ x why (g.met.W.Link.honest c.leave.new.link t))
+    (unrefused_leave (box_names c.args.store.now.book) _ _
+    (grounds_then (box_names c.args.store.now.book) _ _ _
+    (grounds_then (box_names c.args.store.now.book) _ _ _ (c.enter.ensures.enters.grounds t (box_names c.args.store.now.book))
+    (c.play_on.ensures.goes_on.grounds t)) (leave_grounded (box_names c.args.store.now.book) _ _ _ _ (c.leave.ensures.talks.told t)))
+    boxes serving _ _ x why (g.met.W.Link.honest c.leave.new.link t))
     (leaving_lacks _ _ x why)
     (λ at e. c.leave.ensures.talks.honest t at (c.in_err-leave.was ∙ ap (λ (f : SessionFault). Err f) e)) fault
     (told_as of_session c.from_residual-in_err-leave.result x c.from_residual-in_err-leave.ensures.1 fault is)

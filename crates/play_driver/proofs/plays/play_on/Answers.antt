@@ -1,5 +1,6 @@
 use Rattle.action_queue.specs.Book.{Meaning}
 use Rattle.play_driver.proofs.Faulting.{ok_no_err, told_as}
+use Rattle.play_driver.proofs.GroundChains.{grounds_later, grounds_start}
 use Rattle.play_driver.proofs.ManyTurns.{gone_on, gone_start, is_sound, joined_on, so_on, stops_behind, stops_wanting, talks_start}
 use Rattle.play_driver.proofs.OverOne.{talks_then}
 use Rattle.play_driver.proofs.Parts.{grows_start, grows_then}
@@ -8,6 +9,7 @@ use Rattle.play_driver.proofs.Renewing.{renewed_on}
 use Rattle.play_driver.proofs.Shortness.{runs_on, runs_start}
 use Rattle.play_driver.proofs.ValidFaults.{memory_no_disk, memory_valid}
 use Rattle.play_driver.specs.Faults.{IsReplyFault}
+use Rattle.play_driver.specs.Progress.{box_names}
 use Rattle.play_driver.specs.Sessions.{permits_in}
 use Rattle.play_driver.specs.Settled.{IsSyncedSoFar}
 use Rattle.play_driver.specs.TrueRecords.{IsTrueBefore, IsTrueSince}
@@ -35,6 +37,7 @@ loop-at-init g c = record {
   runs = λ t. runs_start _;
   each_one_side = λ t. sides_start (g.W.Clocked.clock c.args.world.now);
   talks = λ t. talks_start (g.W.Clocked.clock c.args.world.now);
+  grounds = λ t. grounds_start (box_names c.args.store.now.book) (g.W.Clocked.clock c.args.world.now);
   disk_count = omega arith;
   link_count = omega arith;
   disk_same = refl;
@@ -50,6 +53,7 @@ returns-in_err-need-clause-goes_on g c = record {
   known = search rules;
   each_one_side = search rules;
   talks = search rules;
+  grounds = c.loop-at.invariant.grounds;
   earlier = c.loop-at.invariant.earlier;
 }
 
@@ -105,6 +109,7 @@ returns-then-is_finished-clause-goes_on g c = record {
   known = λ t made kept known fair. (c.loop-at.invariant.gone t made kept known).known fair;
   each_one_side = search rules;
   talks = search rules;
+  grounds = c.loop-at.invariant.grounds;
   earlier = c.loop-at.invariant.earlier;
 }
 
@@ -159,6 +164,9 @@ returns-in_err-at-clause-goes_on g c = record {
   known = search rules;
   each_one_side = λ t. sides_then _ _ _ (c.loop-at.invariant.each_one_side t) (c.turn.ensures.goes_on.each_one_side t);
   talks = λ t. talks_then _ _ _ (c.loop-at.invariant.talks t) (c.turn.ensures.goes_on.talks t);
+  grounds = λ t.
+      grounds_later c.args.store.now.book c.loop-at.store.book c.loop-at.invariant.later _ _ _ (c.loop-at.invariant.grounds t)
+      (c.turn.ensures.goes_on.grounds t);
   earlier = λ t. c.turn.ensures.goes_on.earlier t ∙ c.loop-at.invariant.earlier t;
 }
 
@@ -276,6 +284,9 @@ loop-at-preserved g c = record {
   runs = λ t. runs_on _ _ _ (c.loop-at.invariant.runs t) (c.in_ok-at.ensures.takes.turns t) c.in_ok-at.ensures.takes.falls;
   each_one_side = λ t. sides_then _ _ _ (c.loop-at.invariant.each_one_side t) (c.turn.ensures.goes_on.each_one_side t);
   talks = λ t. talks_then _ _ _ (c.loop-at.invariant.talks t) (c.turn.ensures.goes_on.talks t);
+  grounds = λ t.
+      grounds_later c.args.store.now.book c.loop-at.store.book c.loop-at.invariant.later _ _ _ (c.loop-at.invariant.grounds t)
+      (c.turn.ensures.goes_on.grounds t);
   disk_count = omega (arith, c.loop-at.invariant.disk_count, c.turn.ensures.accuses.disk_count);
   link_count = omega (arith, c.loop-at.invariant.link_count, c.turn.ensures.accuses.link_count);
   disk_same =

@@ -10,10 +10,11 @@ use Rattle.store_core.specs.Holding.{IsAsLeft}
 use Rattle.store_core.specs.Mail.{mail}
 use Rattle.world_traits.specs.Links.{Any}
 use Rattle.world_traits.specs.Moments.{Clock, Since}
+use Rattle.play_driver.specs.Grounds.{GroundStep}
 use Rattle.play_driver.specs.Joining.{AllFair, Grows, IsKept}
 use Rattle.play_driver.specs.KnownAt.{KnownAt}
 use Rattle.play_driver.specs.Played.{played}
-use Rattle.play_driver.specs.Progress.{IsLater, Progresses}
+use Rattle.play_driver.specs.Progress.{IsLater, Progresses, box_names}
 use Rattle.play_driver.specs.Questioning.{TalkStep}
 use Rattle.play_driver.specs.Rests.{Rests}
 use Rattle.play_driver.specs.Running.{RunsBetween}
@@ -51,6 +52,7 @@ invariant-loop-at g l = record {
       (standing_of (g.W.Clocked.link l.fn.world) l.fn.session l.fn.store l.fn.player) (standing_of (g.W.Clocked.link l.world) l.at l.store l.player);
   each_one_side : g.W.Clocked.tells_files → EachOneSide (g.W.Clocked.clock l.fn.world) (g.W.Clocked.clock l.world);
   talks : g.W.Clocked.tells_server → Since Any TalkStep (g.W.Clocked.clock l.fn.world) (g.W.Clocked.clock l.world);
+  grounds : g.W.Clocked.tells_server → Since Any (GroundStep (box_names l.fn.store.book)) (g.W.Clocked.clock l.fn.world) (g.W.Clocked.clock l.world);
   disk_count : g.W.Clocked.disk_faults l.fn.world ≤ g.W.Clocked.disk_faults l.world;
   link_count : (g.W.Clocked.link l.fn.world).faults ≤ (g.W.Clocked.link l.world).faults;
   disk_same : g.W.Clocked.disk_faults l.world ≡ g.W.Clocked.disk_faults l.fn.world;

@@ -13,6 +13,7 @@ use Rattle.playback.specs.Worlds.{World, given}
 use Rattle.playback.specs.declared.need.Need.TheVariants as needs
 use Rattle.playback.specs.Sound.{IsSound}
 use Rattle.play_driver.specs.Faults.{of_session, of_unheard}
+use Rattle.play_driver.specs.Progress.{box_names}
 use Rattle.play_driver.specs.Sessions.{count_of, permits_in, selected_in}
 use Rattle.play_driver.specs.Stages.{stage_of}
 use Rattle.play_driver.specs.declared.fault.PlayFault.TheVariants as faults
@@ -22,6 +23,7 @@ use Rattle.play_driver.proofs.Faultless.{chosen_faultless, resync_whole, session
 use Rattle.play_driver.proofs.Folds.{fold_sound}
 use Rattle.play_driver.proofs.GatheredKnown.{asks_joined, chosen_known, chosen_learns, chosen_others, chosen_read}
 use Rattle.play_driver.proofs.GatheredTaken.{came_chosen, chosen_takes, chosen_keeps, not_asked, not_taken, refused_as, selects_none, taken_delta}
+use Rattle.play_driver.proofs.GroundChains.{needed_named}
 use Rattle.play_driver.proofs.OneTurn.{selects_turn, synced_read}
 use Rattle.play_driver.proofs.OverLink.{goes_over, left_over, stands_over, true_over}
 use Rattle.play_driver.proofs.OverOne.{over_talks}
@@ -37,7 +39,10 @@ returns-in_err-answer-clause-goes_on g c =
     c.requires.rests c.requires.left c.resynchronise.ensures.gathers.files _ _
     (λ t made stands known. asks_joined c.args.store.now.book _ _ stands (c.resynchronise.ensures.gathers.told t))
     (λ t made stands known fair. search rules)
-    (λ t. over_talks _ _ (c.resynchronise.ensures.gathers.asks t)) c.resynchronise.ensures.gathers.earlier
+    (λ t. over_talks _ _ (c.resynchronise.ensures.gathers.asks t))
+    (λ t. c.resynchronise.ensures.gathers.grounds t (box_names c.args.store.now.book)
+    (needed_named c.args.player.now c.args.store.now.book c.args.name.now c.requires.fold c.requires.rests.beside c.requires.needed))
+    c.resynchronise.ensures.gathers.earlier
 
 pub returns-in_err-answer-clause-reasons : goal.returns-in_err-answer-clause-reasons
 returns-in_err-answer-clause-reasons g c = record {
@@ -113,7 +118,10 @@ returns-in-Ok-clause-goes_on g c =
     c.in_ok-answer.answer.1 value (option_copied c.cache_in-kept.result) kept (selected_in c.args.session)
     (count_of c.args.session) c.in_ok-answer.answer.0.conversation.count c.in_ok-answer.answer.0.permits (c.in_ok-answer.ensures.value t) made
     (permits_in c.args.session) (c.requires.rests.stands t).selects (c.resynchronise.ensures.gathers.asks t) known knows)
-    (λ t. over_talks _ _ (c.resynchronise.ensures.gathers.asks t)) c.resynchronise.ensures.gathers.earlier
+    (λ t. over_talks _ _ (c.resynchronise.ensures.gathers.asks t))
+    (λ t. c.resynchronise.ensures.gathers.grounds t (box_names c.args.store.now.book)
+    (needed_named c.args.player.now c.args.store.now.book c.args.name.now c.requires.fold c.requires.rests.beside c.requires.needed))
+    c.resynchronise.ensures.gathers.earlier
 
 pub returns-in-Ok-clause-reasons : goal.returns-in-Ok-clause-reasons
 returns-in-Ok-clause-reasons g c = record {
@@ -205,7 +213,10 @@ returns-in-Err-clause-goes_on g c =
     c.requires.rests c.requires.left c.resynchronise.ensures.gathers.files _ _
     (λ t made stands known. asks_joined c.args.store.now.book _ _ stands (c.resynchronise.ensures.gathers.told t))
     (λ t made stands known fair. search rules)
-    (λ t. over_talks _ _ (c.resynchronise.ensures.gathers.asks t)) c.resynchronise.ensures.gathers.earlier
+    (λ t. over_talks _ _ (c.resynchronise.ensures.gathers.asks t))
+    (λ t. c.resynchronise.ensures.gathers.grounds t (box_names c.args.store.now.book)
+    (needed_named c.args.player.now c.args.store.now.book c.args.name.now c.requires.fold c.requires.rests.beside c.requires.needed))
+    c.resynchronise.ensures.gathers.earlier
 
 pub returns-in-Err-clause-reasons : goal.returns-in-Err-clause-reasons
 returns-in-Err-clause-reasons g c = record {
