@@ -17,8 +17,9 @@ use Rattle.store_core.specs.declared.fault.StoreFault.TheVariants as stores
 use Rattle.store_core.proofs.MailBook.{one_mail_event}
 use Rattle.store_core.proofs.Folding.{one_held}
 use Rattle.play_driver.specs.Faults.{ComesAnyway}
+use Rattle.play_driver.specs.Grounds.{AreBoxes}
 use Rattle.play_driver.specs.Joining.{Grows}
-use Rattle.play_driver.specs.Progress.{IsPlaying, PlayStep, Progresses}
+use Rattle.play_driver.specs.Progress.{IsPlaying, PlayStep, Progresses, box_names}
 use Rattle.play_driver.specs.Renewed.{NoneRenewed}
 use Rattle.play_driver.specs.Serving.{AllServing, IsServing}
 use Rattle.play_driver.specs.declared.fault.PlayFault.{PlayFault}
@@ -56,12 +57,19 @@ serving_behind entry b k l n opens goes a =
     (λ (g : Grows l a.made). record { made = a.made; before = g; fresh = a.fresh; hello = a.hello; later = a.later })
     (in_order k a.made l n a.before rest first more)
 
--- nor was a mailbox made anew
-pub none_behind : (files : Files) (b : Meaning) (m n : Moment) → HasBook mail b files → Within m n → WaitsForNone files m.outside.server →
-    NoneRenewed b n.outside.server
-none_behind files b m n holds within w =
-    subst (λ (p : Peer). NoneRenewed b p.server) (sym within.outside)
-    (subst (λ (x : Meaning). NoneRenewed x m.outside.server) (one_held mail one_mail_event files w.book b w.holds holds) w.none)
+-- Nor was a mailbox made anew, and each is there still.
+module _ (files : Files) (b : Meaning) (m n : Moment) (holds : HasBook mail b files) (within : Within m n) (w : WaitsForNone files m.outside.server) where
+  one_book : w.book ≡ b
+  one_book = one_held mail one_mail_event files w.book b w.holds holds
+
+  pub none_behind : NoneRenewed b n.outside.server
+  none_behind =
+      subst (λ (p : Peer). NoneRenewed b p.server) (sym within.outside) (subst (λ (x : Meaning). NoneRenewed x m.outside.server) one_book w.none)
+
+  pub boxes_behind : AreBoxes (box_names b) n.outside.server
+  boxes_behind =
+      subst (λ (p : Peer). AreBoxes (box_names b) p.server) (sym within.outside)
+      (subst (λ (x : Meaning). AreBoxes (box_names x) m.outside.server) one_book w.boxes)
 
 -- what else ends it is none of the server's
 fault_serves : (x : PlayFault) → ComesAnyway x → IsTheServers (status_of_fault x) → ⊥

@@ -7,12 +7,15 @@ use Rattle.world_traits.specs.Files.{Files}
 use Rattle.action_queue.specs.Book.{Meaning}
 use Rattle.store_core.specs.Mail.{mail}
 use Rattle.store_core.specs.Books.{HasBook}
+use Rattle.play_driver.specs.Grounds.{AreBoxes}
+use Rattle.play_driver.specs.Progress.{box_names}
 use Rattle.play_driver.specs.Renewed.{NoneRenewed}
 
--- the files hold a book, and no mailbox was made anew of which it knows something
+-- the files hold a book, each of its mailboxes is there, and none was made anew of which it knows something
 pub record WaitsForNone (files : Files) (s : Server) : Type 0 where
   pub book : Meaning
   pub holds : HasBook mail book files
+  pub boxes : AreBoxes (box_names book) s
   pub none : NoneRenewed book s
 
 -- the server refused; or what it told is at fault, tells that a thing is lacking, or names another UIDVALIDITY

@@ -88,7 +88,7 @@ CameThrough status.Input = ⊥
 CameThrough status.Shelf = ⊥
 
 -- The files hold a book. Behind a moment of this time at which every action had an outcome, each of its mailboxes has a cache that is
--- the server's as it answered for its rows since.
+-- the server's as it last answered for its rows.
 pub record AreSynced (files : Files) (old new : Clock) : Type 0 where
   pub book : Meaning
   pub holds : HasBook mail book files

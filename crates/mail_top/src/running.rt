@@ -137,7 +137,8 @@ pub fn run<W: World, I: Source, S: Sink>(
     ensures reads { ReadsInput I.Source (AsksAppend (map string_bytes words.now)) W.tells_files
         (AwaitsInput (map string_bytes words.now) (W.seen world.old)) input.old input.new result }
 
-    // What no reason, fault or limit prevents is done, or memory is wanting; `play` at a server that serves it.
+    // What no reason, fault or limit prevents is done, or memory is wanting; `play` at a server that serves it, with each mailbox of
+    // the book there and none of them made anew.
     ensures completes { W.tells_files → NoDiskFault W.Clocked world.old world.new
         → NoOutputFault S.Sink out.old out.new
         → Completes (map string_bytes words.now) (I.rest input.old) I.tells
@@ -171,7 +172,7 @@ pub fn run<W: World, I: Source, S: Sink>(
         → Fairly W.Clocked world.old world.new → EndsSurely (W.seen world.old) (W.seen world.new) }
 
     // Each intent and each conflict that a `play` recorded had its reason at that moment. One that came to its end leaves each mailbox
-    // with a cache that is the server's as it answered in this run, behind the last outcome. No reply is found at fault.
+    // with a cache that is the server's as it last answered in this run, behind the last outcome. No reply is found at fault.
     ensures truly { WritesPlay (map string_bytes words.now) → Fairly W.Clocked world.old world.new
         → PlaysTruly (W.seen world.old) (W.clock world.old) (W.clock world.new) }
     ensures synced { WritesPlay (map string_bytes words.now) → CameThrough result

@@ -12,7 +12,7 @@ use Rattle.mail_top.proofs.Headlines.{kept_last, play_once, still_once}
 use Rattle.mail_top.proofs.PlaySteps.{opening_keeps, opening_joined, play_steps, play_keeps, playing_now, playing_start, opened_kept, play_joined, play_fair}
 use Rattle.mail_top.proofs.PlaySteps.{play_synced, surely_played, surely_unopened, only_opens, opens_store, truly_stopped, one_last}
 use Rattle.mail_top.proofs.Moving.{chooses_steps}
-use Rattle.mail_top.proofs.PlayServed.{none_behind, opening_serves, played_serves, run_serves, serving_behind}
+use Rattle.mail_top.proofs.PlayServed.{boxes_behind, none_behind, opening_serves, played_serves, run_serves, serving_behind}
 use Rattle.mail_top.proofs.Openings.{never_err, opened_book, rose_later}
 use Rattle.mail_top.proofs.Sayings.{unopened_play, is_opened, played_play, played_disk, played_link, stopped_play}
 use Rattle.mail_top.proofs.Sayings.{no_place_told, opening_disk, opening_failed, opening_link, opening_reply, run_disk, run_failed, run_honest, run_link}
@@ -134,7 +134,8 @@ returns-in_err-played-clause-server g c = record {
       let spared = play_fair _ _ _ _ _ opens (c.play.ensures.goes_on.progress files) f.fair in
       let served = serving_behind _ _ _ _ _ opens (c.play.ensures.goes_on.progress files) serving in
       let waits = none_behind _ _ _ _ opened.holds within none in
-      run_serves _ _ c.from_residual-in_err-played.ensures.1 (c.play.ensures.complete f.tells here spared served waits _ c.in_err-played.was) bad;
+      let there = boxes_behind _ _ _ _ opened.holds within none in
+      run_serves _ _ c.from_residual-in_err-played.ensures.1 (c.play.ensures.complete f.tells here spared served waits there _ c.in_err-played.was) bad;
   faultless = λ f is.
       let files = g.W.Clocked.server_with_files f.tells in
       let here = opened_kept (g.W.Clocked.clock c.args.world.now) (g.W.Clocked.clock c.open.new.disk) f.kept (narrowed _ _ (c.open.ensures.told files)) in
