@@ -258,6 +258,9 @@ def too_large(c: Cases) -> None:
     script(c, 'a literal\'s size is told up to 2^63 - 1', BEGUN, [GREETING, crlf('* X {99999999999999999999}')], 14,
         'error limit literal 9223372036854775807', FIRST[:1])
     script(c, 'a line is too long', BEGUN, [b'* OK '], 14, 'error limit line 1048577', [], endless=b'x' * 1000)
+    script(c, 'a line with a literal has no end before a log-in', BEGUN, [GREETING, crlf('* X {33554432}')], 14, 'error limit reply 2097153',
+        FIRST[:1], endless=b'x' * 1000)
+    script(c, 'a reply has no end before a log-in', BEGUN, [GREETING], 14, 'error limit reply 2097153', FIRST[:1], endless=crlf('* OK still'))
     row = lambda flags: ENTERED + [selected('C5', 1, 5, 44, 715), crlf('* 1 FETCH (UID 40 FLAGS (%s) MODSEQ (700))' % flags) + ok('C6'),
         archive('C7'), left('C8')]
     known = lambda flags: journal(BEGIN, learn('INBOX', 1, 5, 715, 44, [], [(40, 700, flags)]), ARCHIVE_LEARNED)

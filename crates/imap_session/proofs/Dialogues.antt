@@ -19,7 +19,8 @@ use Rattle.imap_session.specs.Dialogue.{next_tag, next_text}
 use Rattle.imap_session.specs.Dialogue.Dialogue.{Ends, Lacks, Asks}
 use Rattle.imap_session.specs.Causes.{FailsBehind}
 use Rattle.imap_session.specs.Hearing.{Hears}
-use Rattle.imap_session.specs.Replying.{AreSmall, Came, ReceivedAtMost}
+use Rattle.imap_session.specs.Most.{most_of}
+use Rattle.imap_session.specs.Replying.{AreSmall, Came, ReceivedWithin}
 use Rattle.imap_session.specs.Sent.{SentFront}
 use Rattle.imap_session.specs.Session.{Answered, Follows, KeepsSelection, Stands, waiting_of}
 use Rattle.imap_session.proofs.Sent.{sent_none}
@@ -55,7 +56,7 @@ abbrev pub lines_of : (heard : List Response) (tag : Tag) (command : Command) (r
 lines_of heard tag command r old new feed came = came.told ++ responses.Done tag r.ending r.code ∷ []
 
 module _ (heard : List Response) (tag : Tag) (command : Command) (r : Replies) (old new : LinkState) (feed : Stream)
-    (came : Came heard tag command r old new feed) (had : List ℕ) (within : ReceivedAtMost had new.connection) where
+    (came : Came heard tag command r old new feed) (had : List ℕ) (within : ReceivedWithin (most_of command) had new.connection) where
   pub is_reply : r.ending ≡ endings.Ok → AreSmall r
       → IsReply had heard tag command r within.reply (lines_of heard tag command r old new feed came)
   is_reply ok small = record {

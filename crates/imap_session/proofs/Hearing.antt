@@ -17,7 +17,7 @@ use Rattle.imap_response.specs.Within.{SpellsWithin}
 use Rattle.world_traits.specs.LinkState.{Connection}
 use Rattle.imap_session.specs.Faults.{Reading, LineBad, of_feed}
 use Rattle.imap_session.specs.Hearing.{Hears, KeepLimits, Reads, ReadsLast, Took, TooMuch}
-use Rattle.imap_session.specs.Replying.{ReceivedAtMost}
+use Rattle.imap_session.specs.Replying.{ReceivedWithin}
 use Rattle.imap_session.specs.declared.fault.SessionFault.{SessionFault}
 use Rattle.imap_session.specs.declared.fault.SessionFault.TheVariants as faults
 
@@ -79,7 +79,7 @@ module _ (heard : List Response) (had : List ℕ) (most left n : ℕ) (c d : Opt
         room = room;
       }
 
-  pub too_many : NoWhole feed.bytes → n ≤ 4096 → left < n → TooMuch heard limits.Reply 268435457 had most d
+  pub too_many : NoWhole feed.bytes → n ≤ 4096 → left < n → TooMuch heard limits.Reply (most + 1) had most d
   unfolding took_all
   too_many none few many =
       let over : most < length (r.reply ++ take n into) = omega (arith, more_is, r.room, many) in
@@ -180,6 +180,12 @@ pub as_reads : (heard : List Response) (left : ℕ) (c : Option Connection) (fee
     → Reads heard h.connection.received left left c feed
 as_reads heard left c feed h = record { hears = h; reply = []; grown = sym (append-nil h.connection.received); room = omega arith }
 
+-- and so where all that it may have is left
+pub reads_from : (heard : List Response) (most left : ℕ) (c : Option Connection) (feed : Stream) → left ≡ most → (h : Hears heard c feed)
+    → Reads heard h.connection.received most left c feed
+reads_from heard most left c feed all h =
+    record { hears = h; reply = []; grown = sym (append-nil h.connection.received); room = omega (arith, all) }
+
 pub reads_same : (heard : List Response) (had : List ℕ) (most left : ℕ) (c : Option Connection) (feed after : Stream)
     → Reads heard had most left c feed → after ≡ feed → Reads heard had most left c after
 reads_same heard had most left c feed after r same = subst (λ (f : Stream). Reads heard had most left c f) (sym same) r
@@ -202,9 +208,9 @@ pub reads_at : (heard : List Response) (had : List ℕ) (most left : ℕ) (c d :
 reads_at heard had most left c d feed same r = subst (λ (x : Option Connection). Reads heard had most left x feed) (sym same) r
 
 -- what was received since is no more than may come
-pub at_most : (heard : List Response) (had : List ℕ) (left : ℕ) (c : Option Connection) (feed : Stream) → Reads heard had 268435456 left c feed
-    → ReceivedAtMost had c
-at_most heard had left c feed r = record {
+pub at_most : (heard : List Response) (had : List ℕ) (most left : ℕ) (c : Option Connection) (feed : Stream) → Reads heard had most left c feed
+    → ReceivedWithin most had c
+at_most heard had most left c feed r = record {
   reply = r.reply;
   there = r.hears.there ∙ ap (λ (t : List ℕ). Some (record { received = t })) r.grown;
   few = omega (arith, r.room);

@@ -24,16 +24,17 @@ use Rattle.imap_session.proofs.Reading.{Honest, heard_front, behind_heard}
 use Rattle.imap_session.proofs.Settling.{stands_at_rest}
 use Rattle.imap_session.proofs.Talking.{quiet}
 
-pub fresh_reads : (link : LinkState) (feed : Stream) (most : ℕ) → IsFresh link feed → Reads [] [] most most link.connection feed
-fresh_reads link feed most f = subst (λ (s : Stream). Reads [] [] most most link.connection s) (sym f.nothing) (record {
+pub fresh_reads : (link : LinkState) (feed : Stream) (most left : ℕ) → left ≡ most → IsFresh link feed
+    → Reads [] [] most left link.connection feed
+fresh_reads link feed most left all f = subst (λ (s : Stream). Reads [] [] most left link.connection s) (sym f.nothing) (record {
   hears = record { connection = fresh; there = f.there; taken = []; stands = nothing_came; spell = tt; limited = tt };
   reply = [];
   grown = refl;
-  room = omega arith;
+  room = omega (arith, all);
 })
 
 pub fresh_hears : (link : LinkState) (feed : Stream) → IsFresh link feed → Hears [] link.connection feed
-fresh_hears link feed f = (fresh_reads link feed 0 f).hears
+fresh_hears link feed f = (fresh_reads link feed 0 0 refl f).hears
 
 -- the greeting is owed
 pub greeting_owed : (p : Peer) (link : LinkState) (feed : Stream) → IsGreeted p → IsFresh link feed → Listening p link.connection feed

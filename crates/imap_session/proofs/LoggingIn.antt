@@ -13,6 +13,7 @@ use Rattle.imap_session.specs.Dialogue.Dialogue.{Ends, Lacks, Asks}
 use Rattle.imap_session.specs.Hearing.{Hears}
 use Rattle.imap_session.specs.Enabled.{is_enabled}
 use Rattle.imap_session.specs.LogIn.{NoWay, behind_offer, logged_in, switched_on, way_by, way_in}
+use Rattle.imap_session.specs.Most.{most_of}
 use Rattle.imap_session.specs.declared.fault.SessionFault.{SessionFault}
 use Rattle.imap_session.specs.declared.fault.SessionFault.TheVariants as faults
 use Rattle.imap_session.specs.declared.offer.Offer.{Offer}
@@ -44,7 +45,7 @@ module _ (account : Credentials) (offer : Offer) where
   no_way_broke fault count heard link feed h (inr want) =
       broke_as (Asks want.1.0 (λ s. logged_in)) (way_by account offer) count link.sent h.connection.received heard link fault want.1.1
       (broke_first want.1.0 (λ s. logged_in) count link.sent h.connection.received heard link fault (sent_none _ _ _ refl)
-      (inl (memory_fails _ heard h.connection.received 268435456 link.connection fault want.0)))
+      (inl (memory_fails _ heard h.connection.received (most_of want.1.0) link.connection fault want.0)))
 
   pub no_way_bad : (at : ℕ) → NoWay account offer (faults.BadReply at) → ⊥
   no_way_bad at (inl lack) = let e = lack.0 in absurd (cc)

@@ -117,3 +117,8 @@ module _ (heard more : List Response) (none : NoEnd false more) (had : List ℕ)
     unfit = unfit_weaker tag (requests n.line.told < parts) (requests (more ++ n.line.told) < all) n.frame n.response fault
         (λ early. omega (arith, early, few, asked_append more n.line.told)) n.unfit;
   })
+
+-- a cause where as many bytes are taken
+pub fails_of : (heard : List Response) (tag : Tag) (parts : ℕ) (had : List ℕ) (m n : ℕ) (c : Option Connection) (fault : SessionFault) → m ≡ n
+    → Fails heard tag parts had m c fault → Fails heard tag parts had n c fault
+fails_of heard tag parts had m n c fault same fails = subst (λ (k : ℕ). Fails heard tag parts had k c fault) same fails

@@ -22,7 +22,7 @@ use Rattle.imap_session.specs.Faults.{more_parts}
 use Rattle.imap_session.specs.Hearing.{Reads, told_by, all_told_by}
 use Rattle.imap_session.specs.Knowing.{IsEnd, NoEnd, request_of, requests}
 use Rattle.imap_session.specs.Permanent.{behind, behind_all, behind_code, permitted}
-use Rattle.imap_session.specs.Replying.{AllSmall, AreSmall, HeardOn, HeardTo, HeardDone, Came, ReceivedAtMost, read_as}
+use Rattle.imap_session.specs.Replying.{AllSmall, AreSmall, HeardOn, HeardTo, HeardDone, Came, ReceivedWithin, read_as}
 use Rattle.imap_session.specs.Sent.{joined}
 use Rattle.imap_session.specs.declared.permits.Permits.{Permits}
 use Rattle.imap_session.specs.declared.fault.SessionFault.TheVariants as faults
@@ -260,7 +260,7 @@ pub small_code : (r : Response) (tag : Tag) (e : Ending) (k : Code) → r ≡ re
 small_code r tag e k is small = subst IsSmall is small
 
 -- no more was received than may come
-pub done_within : (heard told : List Response) (tag : Tag) (ending : Ending) (code : Code) (parts : ℕ) (had : List ℕ) (left : ℕ)
+pub done_within : (heard told : List Response) (tag : Tag) (ending : Ending) (code : Code) (parts : ℕ) (had : List ℕ) (most left : ℕ)
     (c : Option Connection) (feed : Stream)
-    → HeardDone heard told tag ending code parts had 268435456 left c feed → ReceivedAtMost had c
-done_within heard told tag ending code parts had left c feed h = at_most _ had left c feed h.reads
+    → HeardDone heard told tag ending code parts had most left c feed → ReceivedWithin most had c
+done_within heard told tag ending code parts had most left c feed h = at_most _ had most left c feed h.reads

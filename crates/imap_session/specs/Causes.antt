@@ -10,6 +10,7 @@ use Rattle.world_traits.specs.LinkState.{Connection}
 use Rattle.imap_session.specs.Faults.{Reading, Unfit, more_parts}
 use Rattle.imap_session.specs.Hearing.{Took}
 use Rattle.imap_session.specs.Knowing.{NoEnd, requests}
+use Rattle.imap_session.specs.Most.{most_of}
 use Rattle.imap_session.specs.declared.fault.SessionFault.{SessionFault}
 
 -- Behind what was heard before, these responses came, none of which ends the reply, and then reading failed.
@@ -39,6 +40,6 @@ pub record IsNoReply (heard : List Response) (tag : Tag) (parts : ℕ) (had : Li
 abbrev pub Fails : List Response → Tag → ℕ → List ℕ → ℕ → Option Connection → SessionFault → Type 0
 Fails heard tag parts had most c fault = ReadingFails false heard had most c fault ⊎ IsNoReply heard tag parts had c fault
 
--- A reply has at most 256 MiB.
+-- A reply has at most what its command allows.
 abbrev pub FailsBehind : List Response → Tag → Command → List ℕ → Option Connection → SessionFault → Type 0
-FailsBehind heard tag command had c fault = Fails heard tag (more_parts tag command) had 268435456 c fault
+FailsBehind heard tag command had c fault = Fails heard tag (more_parts tag command) had (most_of command) c fault

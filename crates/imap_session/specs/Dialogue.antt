@@ -18,6 +18,7 @@ use Rattle.imap_session.specs.Causes.{FailsBehind}
 use Rattle.imap_session.specs.Faults.{more_parts}
 use Rattle.imap_session.specs.Hearing.{Hears, all_told_by}
 use Rattle.imap_session.specs.Knowing.{NoEnd, requests}
+use Rattle.imap_session.specs.Most.{most_of}
 use Rattle.imap_session.specs.Replying.{AreSmall}
 use Rattle.imap_session.specs.Sent.{joined, SentFront}
 use Rattle.imap_session.specs.Session.{Answered, waiting_of}
@@ -53,7 +54,7 @@ pub record IsReply (had : List ℕ) (heard : List Response) (tag : Tag) (command
   pub small : AreSmall r
   pub feed : Stream
   pub hears : Hears (heard ++ lines) (Some (record { received = had ++ came })) feed
-  pub few : length came ≤ 268435456
+  pub few : length came ≤ most_of command
 
 -- what is known at a dialogue's end: how many questions were asked in the connection, and whether the server speaks IMAP4rev2
 pub record Known : Type 0 where

@@ -14,7 +14,8 @@ use Rattle.imap_session.specs.Blame.{Blames}
 use Rattle.imap_session.specs.Causes.{FailsBehind}
 use Rattle.imap_session.specs.Faults.{IsCount}
 use Rattle.imap_session.specs.Hearing.{Hears}
-use Rattle.imap_session.specs.Replying.{AreSmall, Came, ReceivedAtMost, read_as}
+use Rattle.imap_session.specs.Most.{most_of}
+use Rattle.imap_session.specs.Replying.{AreSmall, Came, ReceivedWithin, read_as}
 use Rattle.imap_session.specs.Sent.{joined, SentFront}
 use Rattle.imap_session.specs.Session.{Answered, Stands, waiting_of}
 use Rattle.imap_session.specs.declared.fault.SessionFault.{SessionFault}
@@ -45,7 +46,7 @@ pub record HasReply {Self : Type 0} (L : Ghosts Self) (tag : Tag) (command : Com
       → Came heard tag command r (L.link old) (L.link new) after
   pub small : AreSmall r
   pub within : L.tells_files → (heard : List Response) → (h : Hears heard (L.link old).connection before)
-      → ReceivedAtMost h.connection.received (L.link new).connection
+      → ReceivedWithin (most_of command) h.connection.received (L.link new).connection
   pub whole : L.tells_files → r.ending ≡ endings.Ok
       → (L.link new).sent ≡ (L.link old).sent ++ joined (parts_of tag command)
 

@@ -17,6 +17,7 @@ use Rattle.imap_model.specs.declared.response.Response.{Response}
 use Rattle.imap_model.specs.declared.response.Response.TheVariants as responses
 use Rattle.world_traits.specs.LinkState.{Connection}
 use Rattle.imap_session.specs.Hearing.{PassesLimit, Took, Unspelled, TooMuch}
+use Rattle.imap_session.specs.Most.{most_before}
 use Rattle.imap_session.specs.declared.fault.SessionFault.{SessionFault}
 use Rattle.imap_session.specs.declared.fault.SessionFault.TheVariants as faults
 
@@ -123,4 +124,4 @@ pub record IsNoHello (c : Option Connection) (fault : SessionFault) : Type 0 whe
 
 -- what the fault of reading the greeting says of the bytes received
 abbrev pub NoHello : Option Connection → SessionFault → Type 0
-NoHello c fault = Reading [] [] 268435456 c fault ⊎ IsNoHello c fault
+NoHello c fault = Reading [] [] most_before c fault ⊎ IsNoHello c fault

@@ -135,4 +135,4 @@ pub record NextTooLarge (heard : List Response) (limit : Limit) (number : ℕ) (
 -- Behind all that was heard, the bytes received pass a limit.
 abbrev pub TooMuch : List Response → Limit → ℕ → List ℕ → ℕ → Option Connection → Type 0
 TooMuch heard limit number had most c =
-    ((limit ≡ limits.Reply) × (number ≡ 268435457) × TooLong heard had most c) ⊎ NextTooLarge heard limit number had c
+    ((limit ≡ limits.Reply) × (number ≡ most + 1) × TooLong heard had most c) ⊎ NextTooLarge heard limit number had c

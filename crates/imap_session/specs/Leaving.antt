@@ -16,6 +16,7 @@ use Rattle.imap_session.specs.Causes.{LastLine, ReadingFails}
 use Rattle.imap_session.specs.Faults.{Unfit}
 use Rattle.imap_session.specs.Hearing.{Hears}
 use Rattle.imap_session.specs.Knowing.{NoEnd}
+use Rattle.imap_session.specs.Most.{most_since}
 use Rattle.imap_session.specs.Replying.{ReceivedAtMost}
 use Rattle.imap_session.specs.Sent.{joined}
 use Rattle.imap_session.specs.declared.fault.SessionFault.{SessionFault}
@@ -43,7 +44,7 @@ pub record IsNoFarewell (heard : List Response) (tag : Tag) (had : List ℕ) (c 
 
 -- what a fault of leaving says of the bytes received behind those that were had
 abbrev pub Staying : List Response → Tag → List ℕ → Option Connection → SessionFault → Type 0
-Staying heard tag had c fault = ReadingFails false heard had 268435456 c fault ⊎ IsNoFarewell heard tag had c fault
+Staying heard tag had c fault = ReadingFails false heard had most_since c fault ⊎ IsNoFarewell heard tag had c fault
 
 -- Where a call that says LOGOUT succeeds, a farewell was read, within a reply's limit, and LOGOUT was sent whole. Where it
 -- fails, the fault's cause stands in the bytes received.

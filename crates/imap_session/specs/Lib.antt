@@ -3,6 +3,7 @@ pub mod Counting
 pub mod Faults
 pub mod Hearing
 pub mod Knowing
+pub mod Most
 pub mod Permanent
 pub mod Replying
 pub mod Sent

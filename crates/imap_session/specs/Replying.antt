@@ -18,6 +18,7 @@ use Rattle.world_traits.specs.LinkState.{Connection, LinkState}
 use Rattle.imap_session.specs.Faults.{more_parts}
 use Rattle.imap_session.specs.Hearing.{Hears, Reads, ReadsLast, all_told_by}
 use Rattle.imap_session.specs.Knowing.{NoEnd, requests}
+use Rattle.imap_session.specs.Most.{most_since}
 use Rattle.imap_session.specs.Sent.{joined}
 
 -- Behind what was heard before this was heard, and nothing that ends the reply; so many parts were asked for.
@@ -70,8 +71,12 @@ pub record AreSmall (r : Replies) : Type 0 where
   pub untagged : AllSmall r.untagged
   pub code : IsSmallCode r.code
 
--- Behind the bytes that were had, no more were received in the connection than a reply may have.
-pub record ReceivedAtMost (had : List ℕ) (c : Option Connection) : Type 0 where
+-- Behind the bytes that were had, at most so many were received in the connection.
+pub record ReceivedWithin (most : ℕ) (had : List ℕ) (c : Option Connection) : Type 0 where
   pub reply : List ℕ
   pub there : c ≡ Some (record { received = had ++ reply })
-  pub few : length reply ≤ 268435456
+  pub few : length reply ≤ most
+
+-- no more than a reply may have from the first SELECT on
+abbrev pub ReceivedAtMost : List ℕ → Option Connection → Type 0
+ReceivedAtMost had c = ReceivedWithin most_since had c

@@ -23,7 +23,8 @@ ghost use Rattle.imap_session.specs.declared.fault.SessionFault.{SessionFault};
 ghost use Rattle.imap_session.specs.declared.fault.SessionFault.TheVariants as faults;
 
 use crate::SessionFault;
-use crate::listening::{Line, MOST, listen};
+use crate::listening::{Line, listen};
+use crate::most::most_of;
 use crate::permits::{Permits, behind_code};
 use imap_command::write;
 use imap_model::{Command, Ending, Last, Listen, Response};
@@ -96,6 +97,7 @@ fn turned(line: Line, tag: Tag) -> Result<Option<Last>, SessionFault>
 fn send_on<L: Link, H: Listen>(
     alloc: Global,
     feed: &mut Feed,
+    most: u32,
     left: &mut u64,
     link: &mut L,
     heard: &mut H,
@@ -120,13 +122,13 @@ fn send_on<L: Link, H: Listen>(
     ensures early { IfOk result (λ o. IfSome o (λ d. IsEarly tag d.ending)) }
     ensures small { IfOk result (λ o. IfSome o (λ d. IsSmallCode d.code)) }
     ensures some { OnErr result (TookSome H.Stands heard.old heard.new) }
-    ensures why { L.tells_files → (heard : List Response) (had : List ℕ) (most : ℕ)
+    ensures why { L.tells_files → (heard : List Response) (had : List ℕ)
         → Reads heard had most left.old (L.link link.old).connection feed.old → (fault : SessionFault)
         → IsErrOf result fault
         → Fails heard tag 1 had most (L.link link.new).connection fault }
 {
     link.send(part)?;
-    let line = listen(alloc, feed, left, link, heard, permits, true)?;
+    let line = listen(alloc, feed, most, left, link, heard, permits, true)?;
     turned(line, tag)
 }
 
@@ -134,6 +136,7 @@ fn send_on<L: Link, H: Listen>(
 fn begin<L: Link, H: Listen>(
     alloc: Global,
     feed: &mut Feed,
+    most: u32,
     left: &mut u64,
     link: &mut L,
     heard: &mut H,
@@ -154,7 +157,7 @@ fn begin<L: Link, H: Listen>(
     ensures early { IfOk result (λ o. IfSome o (λ d. IsEarly tag d.ending)) }
     ensures small { IfOk result (λ o. IfSome o (λ d. IsSmallCode d.code)) }
     ensures some { OnErr result (TookSome H.Stands heard.old heard.new) }
-    ensures why { L.tells_files → (heard : List Response) (had : List ℕ) (most : ℕ)
+    ensures why { L.tells_files → (heard : List Response) (had : List ℕ)
         → Reads heard had most left.old (L.link link.old).connection feed.old → (fault : SessionFault)
         → IsErrOf result fault
         → Fails heard tag (more_parts tag command.now) had most (L.link link.new).connection fault }
@@ -164,7 +167,9 @@ fn begin<L: Link, H: Listen>(
     let last = parts.len() - 1;
     for index in 0..last {
         let part = part_at(parts, index);
-        if let Some(done) = send_on(alloc, feed, left, link, heard, permits, tag, command, part)? {
+        if let Some(done) = send_on(
+            alloc, feed, most, left, link, heard, permits, tag, command, part,
+        )? {
             return Ok(Some(done));
         }
     }
@@ -214,11 +219,13 @@ pub fn exchange<L: Link, H: Listen>(
     ensures fails { FailsFor L.Clocked tag command.now link.old link.new feed.old result }
 {
     let parts = write(alloc, tag, command)?;
-    let mut left = MOST;
+    let most = most_of(command);
+    let mut left = u64::from(most);
     let mut counts = permits;
     let early = begin(
         alloc,
         feed,
+        most,
         &mut left,
         link,
         heard,
@@ -230,7 +237,16 @@ pub fn exchange<L: Link, H: Listen>(
     if let Some(done) = early {
         return conclude(counts, done);
     }
-    let line = listen(alloc, feed, &mut left, link, heard, &mut counts, false)?;
+    let line = listen(
+        alloc,
+        feed,
+        most,
+        &mut left,
+        link,
+        heard,
+        &mut counts,
+        false,
+    )?;
     let done = finish(line, tag, false)?;
     conclude(counts, done)
 }

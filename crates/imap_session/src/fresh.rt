@@ -7,15 +7,17 @@ ghost use Rattle.world_traits.specs.Links.{Linked, AnyStep};
 ghost use Rattle.imap_session.specs.Blame.{Blames};
 ghost use Rattle.imap_session.specs.Faults.{NoHello};
 ghost use Rattle.imap_session.specs.Greeting.{Greets, IsBegun};
+ghost use Rattle.imap_session.specs.Most.{most_before};
 ghost use Rattle.imap_session.specs.Receiving.{Receives};
-ghost use Rattle.imap_session.specs.Replying.{ReceivedAtMost};
+ghost use Rattle.imap_session.specs.Replying.{ReceivedWithin};
 ghost use Rattle.imap_session.specs.Session.{Follows, IsFresh, Stands};
 ghost use Rattle.imap_session.specs.declared.fault.SessionFault.{SessionFault};
 ghost use Rattle.imap_session.specs.declared.fault.SessionFault.TheVariants as faults;
 
 use crate::conversation::Conversation;
 use crate::greeting::{hello, is_preauth};
-use crate::listening::{MOST, next};
+use crate::listening::next;
+use crate::most::MOST_BEFORE;
 use crate::{Greeted, SessionFault};
 use literal_feed::Feed;
 use std::alloc::Global;
@@ -65,7 +67,7 @@ impl Fresh {
         requires greeted { L.tells_server → IsGreeted (L.clock link.old).now.outside }
         ensures receives { Receives L.Clocked link.old link.new result }
         ensures within { L.tells_files
-            → OnOk result (ReceivedAtMost [] (L.link link.new).connection) }
+            → OnOk result (ReceivedWithin most_before [] (L.link link.new).connection) }
         ensures begun { L.tells_server
             → IfOk result (λ s. IsBegun s.preauth (L.clock link.new).now.outside) }
         ensures greeting { L.tells_files
@@ -87,8 +89,8 @@ impl Fresh {
                 count,
             },
         } = self;
-        let mut left = MOST;
-        let line = next(alloc, &mut feed, &mut left, link)?;
+        let mut left = u64::from(MOST_BEFORE);
+        let line = next(alloc, &mut feed, MOST_BEFORE, &mut left, link)?;
         let greeting = hello(line)?;
         let conversation = Conversation { alloc, feed, count };
         Ok(Greeted {

@@ -15,7 +15,8 @@ ghost use Rattle.imap_session.specs.declared.fault.SessionFault.{SessionFault};
 use crate::asking::finish;
 use crate::conversation::Conversation;
 use crate::discard::Discard;
-use crate::listening::{Line, MOST, listen};
+use crate::listening::{Line, listen};
+use crate::most::MOST;
 use crate::{Chosen, Ready, SessionFault};
 use imap_command::write;
 use imap_model::{Command, Response};
@@ -93,12 +94,13 @@ fn log_out<L: Link>(
     let tag = Tag::Count(count + 1);
     let parts = write(alloc, tag, &Command::Logout)?;
     link.send(only_part(parts.as_slice()))?;
-    let mut left = MOST;
+    let mut left = u64::from(MOST);
     let mut discard = Discard;
     let mut permits = None;
     let line = listen(
         alloc,
         feed,
+        MOST,
         &mut left,
         link,
         &mut discard,

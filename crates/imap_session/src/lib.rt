@@ -16,6 +16,7 @@ mod leaving;
 mod listener;
 mod listening;
 mod login;
+mod most;
 mod offer;
 mod permits;
 mod ready;

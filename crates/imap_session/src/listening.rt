@@ -30,9 +30,6 @@ use mail_base::{FeedFault, Frame};
 use std::alloc::{AllocError, Global};
 use world_traits::{Clocked, Link, LinkFailed};
 
-/// How many bytes the reply to one command may have.
-pub const MOST: u64 = 268_435_456;
-
 /// A response, and the line that spells it.
 #[derive(Drop)]
 pub struct Line {
@@ -67,8 +64,13 @@ fn check(feed: &mut Feed) -> Result<(), SessionFault>
     }
 }
 
-// Receives a piece.
-fn receive<L: Link>(feed: &mut Feed, left: &mut u64, link: &mut L) -> Result<(), SessionFault>
+// Receives a piece of a reply that may have so many bytes.
+fn receive<L: Link>(
+    feed: &mut Feed,
+    most: u32,
+    left: &mut u64,
+    link: &mut L,
+) -> Result<(), SessionFault>
     requires owed { L.tells_server → Listening (L.clock link.old).now.outside (L.link link.old).connection feed.old }
     requires cut { NoWhole feed.old.bytes }
     requires sound { NoFault feed.old }
@@ -76,10 +78,11 @@ fn receive<L: Link>(feed: &mut Feed, left: &mut u64, link: &mut L) -> Result<(),
     ensures reads { L.tells_files → (heard : List Response) (had : List ℕ) (most : ℕ)
         → Reads heard had most left.old (L.link link.old).connection feed.old
         → OnOk result (Reads heard had most left.new (L.link link.new).connection feed.new) }
-    ensures why { L.tells_files → (heard : List Response) (had : List ℕ) (most : ℕ)
+    ensures why { L.tells_files → (heard : List Response) (had : List ℕ)
         → Reads heard had most left.old (L.link link.old).connection feed.old
         → (fault : SessionFault) → IsErrOf result fault
         → Reading heard had most (L.link link.new).connection fault }
+    ensures unjudged { (at : ℕ) → IsErrOf result (faults.BadReply at) → ⊥ }
     ensures less { OnOk result (left.new < left.old) }
     ensures sum { OnOk result (length feed.new.bytes + left.new ≡ length feed.old.bytes + left.old) }
 {
@@ -89,7 +92,7 @@ fn receive<L: Link>(feed: &mut Feed, left: &mut u64, link: &mut L) -> Result<(),
     if *left < size {
         return Err(SessionFault::TooLarge {
             limit: Limit::Reply,
-            number: MOST + 1,
+            number: u64::from(most) + 1,
         });
     }
     *left -= size;
@@ -131,10 +134,11 @@ fn line_of(alloc: Global, frame: Frame) -> Result<Line, SessionFault>
     }
 }
 
-/// Waits for the next response.
+/// Waits for the next response of a reply that may have so many bytes, of which so many are left.
 pub fn next<L: Link>(
     alloc: Global,
     feed: &mut Feed,
+    most: u32,
     left: &mut u64,
     link: &mut L,
 ) -> Result<Line, SessionFault>
@@ -148,17 +152,18 @@ pub fn next<L: Link>(
     ensures spells { IfOk result (λ line. Spells line.frame line.response) }
     ensures small { IfOk result (λ line. IsSmall line.response) }
     ensures less { IfOk result (λ _. length feed.new.bytes + left.new < length feed.old.bytes + left.old) }
-    ensures why { L.tells_files → (heard : List Response) (had : List ℕ) (most : ℕ)
+    ensures why { L.tells_files → (heard : List Response) (had : List ℕ)
         → Reads heard had most left.old (L.link link.old).connection feed.old
         → (fault : SessionFault) → IsErrOf result fault
         → Reading heard had most (L.link link.new).connection fault }
+    ensures honest { L.tells_server → (at : ℕ) → IsErrOf result (faults.BadReply at) → ⊥ }
 {
     loop {
         if let Some(frame) = feed.take()? {
             return line_of(alloc, frame);
         }
         check(feed)?;
-        receive(feed, left, link)?;
+        receive(feed, most, left, link)?;
     }
 }
 
@@ -185,6 +190,7 @@ fn ends(part: bool, response: &Response) -> bool
 pub fn listen<L: Link, H: Listen>(
     alloc: Global,
     feed: &mut Feed,
+    most: u32,
     left: &mut u64,
     link: &mut L,
     heard: &mut H,
@@ -199,13 +205,14 @@ pub fn listen<L: Link, H: Listen>(
     ensures spells { IfOk result (λ line. Spells line.frame line.response) }
     ensures small { IfOk result (λ line. IsSmall line.response) }
     ensures some { OnErr result (TookSome H.Stands heard.old heard.new) }
-    ensures why { L.tells_files → (heard : List Response) (had : List ℕ) (most : ℕ)
+    ensures why { L.tells_files → (heard : List Response) (had : List ℕ)
         → Reads heard had most left.old (L.link link.old).connection feed.old
         → (fault : SessionFault) → IsErrOf result fault
         → ReadingFails part heard had most (L.link link.new).connection fault }
+    ensures honest { L.tells_server → (at : ℕ) → IsErrOf result (faults.BadReply at) → ⊥ }
 {
     loop {
-        let line = next(alloc, feed, left, link)?;
+        let line = next(alloc, feed, most, left, link)?;
         if ends(part, &line.response) {
             return Ok(line);
         }

@@ -264,16 +264,16 @@ returns-in_err-send-clause-some g c =
     on_err_always _ (some_of g.H.Listen.Stands i.0 _ _ _ _ i.1 i.2)
 
 pub returns-in_err-done-clause-why : goal.returns-in_err-done-clause-why
-returns-in_err-done-clause-why g c = λ t heard had most r fault is.
+returns-in_err-done-clause-why g c = λ t heard had r fault is.
     let i = c.loop-index.invariant.heard in
-    let h = i.3 t heard had most r in
+    let h = i.3 t heard had c.args.most r in
     let few : requests i.0 + 1 ≤ more_parts c.args.tag c.args.command.now = omega
     (arith, h.asked, c.loop-index-test.true, ap (λ (xs : List (List ℕ)). length xs) c.requires.text) in
-    fails_on heard i.0 i.1 had most _ c.args.tag 1 (more_parts c.args.tag c.args.command.now) fault few
-    (c.send_on.ensures.why t (heard ++ i.0) had most h.reads fault (search rules))
+    fails_on heard i.0 i.1 had c.args.most _ c.args.tag 1 (more_parts c.args.tag c.args.command.now) fault few
+    (c.send_on.ensures.why t (heard ++ i.0) had h.reads fault (search rules))
 
 pub returns-in_err-send-clause-why : goal.returns-in_err-send-clause-why
-returns-in_err-send-clause-why g c = λ t heard had most r fault is. inl (link_fails _ heard _ _ _ fault (search rules))
+returns-in_err-send-clause-why g c = λ t heard had r fault is. inl (link_fails _ heard _ _ _ fault (search rules))
 
 pub returns-clause-whole : goal.returns-clause-whole
 returns-clause-whole g c = λ t.

@@ -6,6 +6,7 @@ use Rattle.world_traits.specs.Links.{AnyStep}
 use Rattle.imap_session.specs.Faults.{more_parts}
 use Rattle.imap_session.specs.Hearing.{all_told_by}
 use Rattle.imap_session.specs.Knowing.{requests}
+use Rattle.imap_session.specs.Most.{most_of}
 use Rattle.imap_session.specs.Permanent.{behind_code}
 use Rattle.imap_session.specs.Replying.{read_as}
 use Rattle.imap_session.specs.Sent.{joined}
@@ -13,13 +14,12 @@ use Rattle.imap_session.specs.Session.{Answered, waiting_of}
 use Rattle.imap_session.specs.declared.asking.Answer.{Answer}
 use Rattle.imap_session.specs.declared.fault.SessionFault.TheVariants as faults
 use Rattle.imap_model.specs.declared.listen.Last.{Last}
-use Rattle.imap_session.proofs.Hearing.{as_reads, at_most}
+use Rattle.imap_session.proofs.Hearing.{as_reads, at_most, reads_from}
 use Rattle.imap_session.proofs.Outcomes.{if_ok_both, not_true}
 use Rattle.imap_session.proofs.Replying.{on_done, whole_done, done_came, all_sent, permitted_as, bad_memory, link_memory, done_within, small_code, told_behind}
 use Rattle.imap_session.proofs.Sent.{sent_none, sent_still}
 use Rattle.imap_session.proofs.Sending.{begun_asked, begun_answered, concluded_as, some_parts, begun_fit}
-use Rattle.imap_session.proofs.NoReply.{unfit_whole, fails_on, memory_fails, reading_on}
-use Rattle.imap_session.proofs.Spelled.{all_spelled}
+use Rattle.imap_session.proofs.NoReply.{unfit_whole, fails_of, fails_on, memory_fails, reading_on}
 use Rattle.imap_session.proofs.Taken.{heard_as, on_err_always, some_none, some_of, some_then, takes_then}
 use Rattle.imap_session.proofs.Talking.{linked_then, answers_asking, asking_then}
 use Rattle.imap_session.proofs.asking.exchange.Goals as goal
@@ -35,7 +35,8 @@ returns-in_err-parts-clause-fails g c = record {
 
 pub returns-in_err-early-clause-fails : goal.returns-in_err-early-clause-fails
 returns-in_err-early-clause-fails g c = record {
-  why = λ t heard h fault is. c.begin.ensures.why t heard _ _ (as_reads heard 268435456 _ _ h) fault (search rules);
+  why = λ t heard h fault is. fails_of heard c.args.tag _ _ _ _ _ fault c.most_of-most.ensures
+      (c.begin.ensures.why t heard _ (reads_from heard c.most_of-most.result _ _ _ c.from-left.ensures h) fault (search rules));
 }
 
 -- refused before the last part
@@ -49,15 +50,15 @@ returns-in-Some-clause-heard g c =
       answered = λ t selected stands. MatchOption-at_some _ _ d c.in-Some.is (h.begun t selected stands);
       accepted = early.accepted;
       came = λ t heard before.
-          let e = MatchOption-at_some _ _ d c.in-Some.is (h.reads t heard _ _ (as_reads heard 268435456 _ _ before)) in
+          let e = MatchOption-at_some _ _ d c.in-Some.is (h.reads t heard _ _ (reads_from heard (most_of c.args.command.now) _ _ _ (c.from-left.ensures ∙ c.most_of-most.ensures) before)) in
           done_came heard h.told c.args.tag c.args.command.now d.ending d.code e.parts _ _ _ _ _ _
           (e.sent ∙ ap (λ (parts : List (List ℕ)). (g.L.Clocked.link c.args.link.now).sent ++ joined (take (e.parts + 1) parts))
           (c.as_slice.ensures ∙ c.in_ok-parts.ensures.text))
           (λ ok. absurd (early.refused ok)) e.done;
       small = record { untagged = h.takes.small; code = MatchOption-at_some _ _ d c.in-Some.is c.in_ok-early.ensures.small };
       within = λ t heard before.
-          let e = MatchOption-at_some _ _ d c.in-Some.is (h.reads t heard _ _ (as_reads heard 268435456 _ _ before)) in
-          done_within heard h.told c.args.tag d.ending d.code _ _ _ _ _ e.done;
+          let e = MatchOption-at_some _ _ d c.in-Some.is (h.reads t heard _ _ (reads_from heard (most_of c.args.command.now) _ _ _ (c.from-left.ensures ∙ c.most_of-most.ensures) before)) in
+          done_within heard h.told c.args.tag d.ending d.code _ _ _ _ _ _ e.done;
       whole = λ t ok. absurd (early.refused ok);
     })
     c.conclude.result c.conclude.ensures.last c.conclude.ensures.permits
@@ -124,11 +125,7 @@ returns-in_err-line-clause-talks g c = record {
       (answers_asking _ c.args.tag c.args.command.now _ _ (c.listen.ensures.receives.told t));
   sent = λ t. sent_still _ _ _ _ (c.begin.ensures.talks.sent t) (c.listen.ensures.receives.sent t);
   honest = λ t at is.
-      let s = c.requires.stands t in
-      let b = MatchOption-at_none _ _ c.in_default.is (c.in_ok-early.ensures.heard.begun t s.0 s.1) in
-      all_spelled _ at _ (g.L.Clocked.clock c.listen.new.link).now.outside _
-      (c.listen.ensures.why (g.L.Clocked.server_with_files t) b.1.told _ _ (as_reads b.1.told c.begin.new.left _ _ b.1.hears) (faults.BadReply at)
-      (search rules)).reading (g.met.L.Link.honest c.listen.new.link t);
+      c.listen.ensures.honest t at (search rules);
   earlier = search rules;
   blames = search rules;
 }
@@ -137,8 +134,9 @@ pub returns-in_err-line-clause-fails : goal.returns-in_err-line-clause-fails
 returns-in_err-line-clause-fails g c = record {
   why = λ t heard h fault is.
       let e = c.in_ok-early.ensures.heard in
-      let r = MatchOption-at_none _ _ c.in_default.is (e.reads t heard _ _ (as_reads heard 268435456 _ _ h)) in
-      inl (reading_on heard e.told e.none _ _ _ fault (c.listen.ensures.why t (heard ++ e.told) _ _ r.reads fault (search rules)));
+      let r = MatchOption-at_none _ _ c.in_default.is (e.reads t heard _ _ (reads_from heard c.most_of-most.result _ _ _ c.from-left.ensures h)) in
+      fails_of heard c.args.tag _ _ _ _ _ fault c.most_of-most.ensures
+      (inl (reading_on heard e.told e.none _ _ _ fault (c.listen.ensures.why t (heard ++ e.told) _ r.reads fault (search rules))));
 }
 
 pub returns-in_err-done-clause-talks : goal.returns-in_err-done-clause-talks
@@ -168,7 +166,7 @@ pub returns-in_err-done-clause-fails : goal.returns-in_err-done-clause-fails
 returns-in_err-done-clause-fails g c = record {
   why = λ t heard h fault is.
       let e = c.in_ok-early.ensures.heard in
-      let r = MatchOption-at_none _ _ c.in_default.is (e.reads t heard _ _ (as_reads heard 268435456 _ _ h)) in
+      let r = MatchOption-at_none _ _ c.in_default.is (e.reads t heard _ _ (reads_from heard (most_of c.args.command.now) _ _ _ (c.from-left.ensures ∙ c.most_of-most.ensures) h)) in
       let few : requests e.told + 0 ≤ more_parts c.args.tag c.args.command.now = omega
       (arith, r.asked, ap (λ (xs : List (List ℕ)). length xs) (c.as_slice.ensures ∙ c.in_ok-parts.ensures.text)) in
       fails_on heard e.told e.none _ _ _ c.args.tag 0 (more_parts c.args.tag c.args.command.now) fault few
@@ -210,7 +208,7 @@ returns-clause-heard g c =
           (g.met.L.Link.honest c.listen.new.link t) c.args.tag d.ending d.code c.in_ok-done.ensures.value);
       accepted = c.in_ok-done.ensures.accepted;
       came = λ t heard h.
-          let r = MatchOption-at_none _ _ c.in_default.is (e.reads t heard _ _ (as_reads heard 268435456 _ _ h)) in
+          let r = MatchOption-at_none _ _ c.in_default.is (e.reads t heard _ _ (reads_from heard (most_of c.args.command.now) _ _ _ (c.from-left.ensures ∙ c.most_of-most.ensures) h)) in
           let line = l.reads t (heard ++ e.told) _ _ r.reads in
           let whole = whole_done (heard ++ e.told) l.told c.in_ok-line.line.frame c.in_ok-line.line.response _ _ _ _ _ line c.args.tag d.ending d.code
           c.in_ok-done.ensures.value in
@@ -228,8 +226,8 @@ returns-clause-heard g c =
         code = c.in_ok-done.ensures.small c.in_ok-line.ensures.small;
       };
       within = λ t heard h.
-          let r = MatchOption-at_none _ _ c.in_default.is (e.reads t heard _ _ (as_reads heard 268435456 _ _ h)) in
-          at_most _ _ _ _ _ (l.reads t (heard ++ e.told) _ _ r.reads).reads.reads;
+          let r = MatchOption-at_none _ _ c.in_default.is (e.reads t heard _ _ (reads_from heard (most_of c.args.command.now) _ _ _ (c.from-left.ensures ∙ c.most_of-most.ensures) h)) in
+          at_most _ _ _ _ _ _ (l.reads t (heard ++ e.told) _ _ r.reads).reads.reads;
       whole = λ t ok. c.listen.ensures.receives.sent t ∙ MatchOption-at_none _ _ c.in_default.is (c.in_ok-early.ensures.whole t)
           ∙ ap (λ (parts : List (List ℕ)). (g.L.Clocked.link c.args.link.now).sent ++ joined parts) (c.as_slice.ensures ∙ c.in_ok-parts.ensures.text);
     })

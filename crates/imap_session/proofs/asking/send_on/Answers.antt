@@ -7,7 +7,6 @@ use Rattle.imap_session.proofs.NoReply.{link_fails, part_fails, unfit_part}
 use Rattle.imap_session.proofs.Replying.{none_weaker}
 use Rattle.imap_session.proofs.Sent.{sent_all}
 use Rattle.imap_session.proofs.Sending.{half_asked, half_fit, half_sent, on_ok_always, one_turned, ready_arrives, ready_failed}
-use Rattle.imap_session.proofs.Spelled.{all_spelled}
 use Rattle.imap_session.proofs.Taken.{on_err_always, some_none, some_of, turned_heard}
 use Rattle.imap_session.proofs.Talking.{linked_then, answers_asking, asking_then}
 use Rattle.imap_session.proofs.asking.send_on.Goals as goal
@@ -58,15 +57,11 @@ pub returns-in_err-line-clause-goes_on : goal.returns-in_err-line-clause-goes_on
 returns-in_err-line-clause-goes_on g c = λ t selected before next behind start ready.
     let w = waiting_of selected c.args.tag c.args.command.now in
     let sent = (c.in_ok-send.ensures.told t c.args.tag c.args.command.now before (next ∷ behind) ready.part_of ready.sending.awaits).done in
-    let half = half_sent w before c.args.part.now start _ _ _ _ _ ready.sending (c.in_ok-send.ensures.received (g.L.Clocked.server_with_files t)) next
-    behind ready.part_of sent in
     record {
       told = asking_then _ c.args.tag c.args.command.now _ _ _
           (ready_arrives w before c.args.part.now (next ∷ behind) start _ _ _ _ ready sent)
           (answers_asking _ c.args.tag c.args.command.now _ _ (c.listen.ensures.receives.told t));
-      honest = λ at is. all_spelled _ at _ (g.L.Clocked.clock c.listen.new.link).now.outside _
-          (c.listen.ensures.why (g.L.Clocked.server_with_files t) half.told _ _ (as_reads half.told c.args.left.now _ _ half.hears)
-          (faults.BadReply at) (search rules)).reading (g.met.L.Link.honest c.listen.new.link t);
+      honest = λ at is. c.listen.ensures.honest t at (search rules);
     }
 
 pub returns-clause-sends : goal.returns-clause-sends
@@ -123,17 +118,17 @@ returns-clause-some g c =
     on_err_always c.turned.result (some_of g.H.Listen.Stands h.told _ _ _ _ (none_weaker h.told h.none) h.takes)
 
 pub returns-in_err-send-clause-why : goal.returns-in_err-send-clause-why
-returns-in_err-send-clause-why g c = λ t heard had most r fault is. inl (link_fails _ heard _ _ _ fault (search rules))
+returns-in_err-send-clause-why g c = λ t heard had r fault is. inl (link_fails _ heard _ _ _ fault (search rules))
 
 pub returns-in_err-line-clause-why : goal.returns-in_err-line-clause-why
-returns-in_err-line-clause-why g c = λ t heard had most r fault is.
-    inl (part_fails heard had most _ fault
-    (c.listen.ensures.why t heard had most (reads_at heard had most _ _ _ _ (c.in_ok-send.ensures.received t) r) fault (search rules)))
+returns-in_err-line-clause-why g c = λ t heard had r fault is.
+    inl (part_fails heard had c.args.most _ fault
+    (c.listen.ensures.why t heard had (reads_at heard had c.args.most _ _ _ _ (c.in_ok-send.ensures.received t) r) fault (search rules)))
 
 pub returns-clause-why : goal.returns-clause-why
-returns-clause-why g c = λ t heard had most r fault is.
-    inr (unfit_part heard _ c.in_ok-line.line.frame c.in_ok-line.line.response had most _ _ _ c.args.tag fault
-    (c.in_ok-line.ensures.heard.reads t heard had most (reads_at heard had most _ _ _ _ (c.in_ok-send.ensures.received t) r))
+returns-clause-why g c = λ t heard had r fault is.
+    inr (unfit_part heard _ c.in_ok-line.line.frame c.in_ok-line.line.response had c.args.most _ _ _ c.args.tag fault
+    (c.in_ok-line.ensures.heard.reads t heard had c.args.most (reads_at heard had c.args.most _ _ _ _ (c.in_ok-send.ensures.received t) r))
     c.in_ok-line.ensures.spells (c.turned.ensures.why fault is))
 
 pub returns-clause-small : goal.returns-clause-small

@@ -4,15 +4,15 @@ use Rattle.imap_model.specs.declared.command.Command.TheVariants as commands
 use Rattle.world_traits.specs.Links.{AnyStep}
 use Rattle.imap_session.specs.Dialogue.{next_tag}
 use Rattle.imap_session.specs.Leaving.{IsFarewell}
+use Rattle.imap_session.specs.Most.{most_since}
 use Rattle.imap_session.specs.Session.{waiting_of}
 use Rattle.imap_session.specs.declared.fault.SessionFault.TheVariants as faults
 use Rattle.imap_session.proofs.Dialogues.{on_ok_then}
 use Rattle.imap_session.proofs.Farewells.{left_so, logout_alone, logout_ready, logout_sent, stays_so}
-use Rattle.imap_session.proofs.Hearing.{as_reads, at_most, reads_at}
+use Rattle.imap_session.proofs.Hearing.{at_most, reads_at, reads_from}
 use Rattle.imap_session.proofs.NoReply.{last_whole, link_fails, memory_fails}
 use Rattle.imap_session.proofs.Sending.{begun, begun_asked, begun_fit, on_ok_always, ready_arrives, ready_failed}
 use Rattle.imap_session.proofs.Sent.{sent_all, sent_as, sent_none}
-use Rattle.imap_session.proofs.Spelled.{all_spelled}
 use Rattle.imap_session.proofs.Talking.{answers_asking, asking_then, linked_then}
 use Rattle.imap_session.proofs.leaving.log_out.Goals as goal
 
@@ -93,12 +93,7 @@ returns-in_err-line-clause-talks g c = record {
       sent_as c.only_part.result.now _ _ _ (logout_sent (next_tag c.args.count) _ _ (c.as_slice.ensures
       ∙ c.in_ok-parts.ensures.text) c.only_part.ensures)
       (sent_all c.only_part.result.now _ _ (c.listen.ensures.receives.sent t ∙ c.in_ok-send.ensures.sent t));
-  honest = λ t at is.
-      let f = g.L.Clocked.server_with_files t in
-      let s = c.requires.stands t in
-      all_spelled _ at _ (g.L.Clocked.clock c.listen.new.link).now.outside _
-      (c.listen.ensures.why f _ _ _ (reads_at _ _ _ _ _ _ _ (c.in_ok-send.ensures.received f) (as_reads _ 268435456 _ _ s.1.hears))
-      (faults.BadReply at) (search rules)).reading (g.met.L.Link.honest c.listen.new.link t);
+  honest = λ t at is. c.listen.ensures.honest t at (search rules);
   earlier = search rules;
   blames = search rules;
 }
@@ -109,7 +104,7 @@ returns-in_err-line-clause-leaves g c = record {
   within = search rules;
   whole = search rules;
   why = λ t heard h fault is.
-      inl (c.listen.ensures.why t heard _ _ (reads_at heard _ _ _ _ _ _ (c.in_ok-send.ensures.received t) (as_reads heard 268435456 _ _ h)) fault
+      inl (c.listen.ensures.why t heard _ (reads_at heard _ _ _ _ _ _ (c.in_ok-send.ensures.received t) (reads_from heard most_since _ _ _ c.from-left.ensures h)) fault
       (search rules));
 }
 
@@ -136,7 +131,7 @@ returns-clause-talks g c = record {
       (c.as_slice.ensures ∙ c.in_ok-parts.ensures.text) c.only_part.ensures in
       let started = begun w [] c.only_part.result.now _ _ _ _ _ _ ready.sending (c.in_ok-send.ensures.received f) ready.part_of
       (c.in_ok-send.ensures.told t (next_tag c.args.count) commands.Logout [] [] ready.part_of ready.sending.awaits).done in
-      let reads = c.in_ok-line.ensures.heard.reads f started.told _ _ (as_reads started.told 268435456 _ _ started.hears) in
+      let reads = c.in_ok-line.ensures.heard.reads f started.told _ _ (reads_from started.told most_since _ _ _ c.from-left.ensures started.hears) in
       begun_fit w _ _ _ _ _ _ _ c.in_ok-line.ensures.heard.told c.in_ok-line.line.response started (c.listen.ensures.receives.told t) reads.reads.reads.hears
       (g.met.L.Link.honest c.listen.new.link t) ⊥ c.in_ok-line.line.frame at (λ no. no) (c.farewell.ensures.why (faults.BadReply at) is).0;
   earlier = search rules;
@@ -152,14 +147,14 @@ pub returns-clause-leaves : goal.returns-clause-leaves
 returns-clause-leaves g c = record {
   left = λ t heard h.
       let r = c.in_ok-line.ensures.heard.reads t heard _ _
-      (reads_at heard _ _ _ _ _ _ (c.in_ok-send.ensures.received t) (as_reads heard 268435456 _ _ h)) in
+      (reads_at heard _ _ _ _ _ _ (c.in_ok-send.ensures.received t) (reads_from heard most_since _ _ _ c.from-left.ensures h)) in
       on_ok_then c.farewell.result (IsFarewell (next_tag c.args.count) c.in_ok-line.line.response) _
       (λ f. left_so heard c.in_ok-line.ensures.heard.told c.in_ok-line.line.response (next_tag c.args.count) _ _ r.reads.reads.hears r.none f)
       c.farewell.ensures.farewell;
   within = λ t heard h.
       let r = c.in_ok-line.ensures.heard.reads t heard _ _
-      (reads_at heard _ _ _ _ _ _ (c.in_ok-send.ensures.received t) (as_reads heard 268435456 _ _ h)) in
-      on_ok_always c.farewell.result (at_most _ _ _ _ _ r.reads.reads);
+      (reads_at heard _ _ _ _ _ _ (c.in_ok-send.ensures.received t) (reads_from heard most_since _ _ _ c.from-left.ensures h)) in
+      on_ok_always c.farewell.result (at_most _ _ _ _ _ _ r.reads.reads);
   whole = λ t.
       on_ok_always c.farewell.result
       (c.listen.ensures.receives.sent t ∙ c.in_ok-send.ensures.sent t
@@ -167,7 +162,7 @@ returns-clause-leaves g c = record {
       (logout_sent (next_tag c.args.count) _ _ (c.as_slice.ensures ∙ c.in_ok-parts.ensures.text) c.only_part.ensures));
   why = λ t heard h fault is.
       let r = c.in_ok-line.ensures.heard.reads t heard _ _
-      (reads_at heard _ _ _ _ _ _ (c.in_ok-send.ensures.received t) (as_reads heard 268435456 _ _ h)) in
+      (reads_at heard _ _ _ _ _ _ (c.in_ok-send.ensures.received t) (reads_from heard most_since _ _ _ c.from-left.ensures h)) in
       stays_so heard (next_tag c.args.count) _ _ c.in_ok-line.line.frame c.in_ok-line.line.response fault
       (last_whole heard _ c.in_ok-line.line.frame c.in_ok-line.line.response _ _ _ _ _ r c.in_ok-line.ensures.spells) (c.farewell.ensures.why fault is);
 }

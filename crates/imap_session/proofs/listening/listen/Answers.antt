@@ -41,12 +41,15 @@ returns-in_err-line-clause-receives g c = record {
 }
 
 pub returns-in_err-line-clause-why : goal.returns-in_err-line-clause-why
-returns-in_err-line-clause-why g c = λ t heard had most r fault is.
+returns-in_err-line-clause-why g c = λ t heard had r fault is.
     let i = c.loop-line.invariant.heard in
-    record { told = i.0; none = i.1; reading = c.next.ensures.why t (heard ++ i.0) had most (i.3 t heard had most r) fault (search rules) }
+    record { told = i.0; none = i.1; reading = c.next.ensures.why t (heard ++ i.0) had (i.3 t heard had c.args.most r) fault (search rules) }
+
+pub returns-in_err-line-clause-honest : goal.returns-in_err-line-clause-honest
+returns-in_err-line-clause-honest g c = λ t at is. c.next.ensures.honest t at (search rules)
 
 pub returns-in_err-hear-clause-why : goal.returns-in_err-hear-clause-why
-returns-in_err-hear-clause-why g c = λ t heard had most r fault is. memory_fails _ heard _ _ _ fault (search rules)
+returns-in_err-hear-clause-why g c = λ t heard had r fault is. memory_fails _ heard _ _ _ fault (search rules)
 
 pub returns-then-ends-clause-receives : goal.returns-then-ends-clause-receives
 returns-then-ends-clause-receives g c = record {

@@ -13,6 +13,7 @@ use Rattle.imap_session.specs.Faults.{Reading}
 use Rattle.imap_session.proofs.Hearing.{reads_line, line_why, as_reads, reads_same, fed_why, feed_no_link}
 use Rattle.imap_session.proofs.Outcomes.{if_ok_both, if_ok_more}
 use Rattle.imap_session.proofs.Reading.{listens_on, listens_same}
+use Rattle.imap_session.proofs.Spelled.{all_spelled}
 use Rattle.imap_session.proofs.Talking.{linked_then}
 use Rattle.imap_session.proofs.listening.next.Goals as goal
 
@@ -33,19 +34,19 @@ returns-in-Some-clause-spells g c =
     c.line_of.ensures.frame c.line_of.ensures.spells
 
 pub returns-in-Some-clause-why : goal.returns-in-Some-clause-why
-returns-in-Some-clause-why g c = λ tells heard had most r fault is.
+returns-in-Some-clause-why g c = λ tells heard had r fault is.
     let took = MatchOption-at_some _ _ c.in-Some.frame c.in-Some.is c.in_ok-frame.ensures.frame in
-    line_why _ _ c.in-Some.frame took.0 took.1 heard had most _ _ fault (c.loop-frame.invariant.reads tells heard had most r)
+    line_why _ _ c.in-Some.frame took.0 took.1 heard had c.args.most _ _ fault (c.loop-frame.invariant.reads tells heard had c.args.most r)
     (c.line_of.ensures.why fault is)
 
 pub returns-in_err-check-clause-why : goal.returns-in_err-check-clause-why
-returns-in_err-check-clause-why g c = λ tells heard had most r fault is.
+returns-in_err-check-clause-why g c = λ tells heard had r fault is.
     let none = MatchOption-at_none _ _ c.in_default.is c.in_ok-frame.ensures.none in
     let same = c.check.ensures.kept ∙ none.1 in
-    let reads = reads_same heard had most _ _ _ _ (c.loop-frame.invariant.reads tells heard had most r) same in
+    let reads = reads_same heard had c.args.most _ _ _ _ (c.loop-frame.invariant.reads tells heard had c.args.most r) same in
     let cut = subst (λ (s : Stream). NoWhole s.bytes) (sym same) none.0 in
     let bad = c.check.ensures.why fault (search rules) in
-    subst (Reading heard had most _) (sym bad.1) (fed_why heard had most _ _ _ reads cut bad.0 bad.2)
+    subst (Reading heard had c.args.most _) (sym bad.1) (fed_why heard had c.args.most _ _ _ reads cut bad.0 bad.2)
 
 pub returns-in_err-check-clause-receives : goal.returns-in_err-check-clause-receives
 returns-in_err-check-clause-receives g c = record {
@@ -99,10 +100,11 @@ returns-in_err-receive-clause-receives g c = record {
 }
 
 pub returns-in_err-receive-clause-why : goal.returns-in_err-receive-clause-why
-returns-in_err-receive-clause-why g c = λ tells heard had most r fault is.
+returns-in_err-receive-clause-why g c = λ tells heard had r fault is.
     let none = MatchOption-at_none _ _ c.in_default.is c.in_ok-frame.ensures.none in
-    c.receive.ensures.why tells heard had most
-    (reads_same heard had most _ _ _ _ (c.loop-frame.invariant.reads tells heard had most r) (c.check.ensures.kept ∙ none.1)) fault (search rules)
+    c.receive.ensures.why tells heard had
+    (reads_same heard had c.args.most _ _ _ _ (c.loop-frame.invariant.reads tells heard had c.args.most r) (c.check.ensures.kept ∙ none.1)) fault
+    (search rules)
 
 pub returns-in-Some-clause-receives : goal.returns-in-Some-clause-receives
 returns-in-Some-clause-receives g c = record {
@@ -124,3 +126,28 @@ returns-in-Some-clause-less g c =
     if_ok_more c.line_of.result (λ line. line.frame ≡ c.in-Some.frame) _
     (λ line same. omega (arith, next_size _ _ c.in-Some.frame _ took.0, c.loop-frame.invariant.sum))
     c.line_of.ensures.frame
+
+-- no honest server's line is called bad
+pub returns-in-Some-clause-honest : goal.returns-in-Some-clause-honest
+returns-in-Some-clause-honest g c = λ t at is.
+    let took = MatchOption-at_some _ _ c.in-Some.frame c.in-Some.is c.in_ok-frame.ensures.frame in
+    let l = c.loop-frame.invariant.owed t in
+    all_spelled l.heard at l.hears.connection.received (g.L.Clocked.clock c.loop-frame.link).now.outside _
+    (line_why _ _ c.in-Some.frame took.0 took.1 l.heard _ c.loop-frame.left c.loop-frame.left _ (faults.BadReply at)
+    (as_reads l.heard c.loop-frame.left _ _ l.hears) (c.line_of.ensures.why (faults.BadReply at) is))
+    (g.met.L.Link.honest c.loop-frame.link t)
+
+pub returns-in_err-check-clause-honest : goal.returns-in_err-check-clause-honest
+returns-in_err-check-clause-honest g c = λ t at is.
+    let none = MatchOption-at_none _ _ c.in_default.is c.in_ok-frame.ensures.none in
+    let same = c.check.ensures.kept ∙ none.1 in
+    let l = listens_same _ _ _ _ (c.loop-frame.invariant.owed t) same in
+    let cut = subst (λ (s : Stream). NoWhole s.bytes) (sym same) none.0 in
+    let bad = c.check.ensures.why (faults.BadReply at) (search rules) in
+    all_spelled l.heard at l.hears.connection.received (g.L.Clocked.clock c.loop-frame.link).now.outside _
+    (subst (Reading l.heard l.hears.connection.received c.loop-frame.left (g.L.Clocked.link c.loop-frame.link).connection) (sym bad.1)
+    (fed_why l.heard _ c.loop-frame.left c.loop-frame.left _ _ (as_reads l.heard c.loop-frame.left _ _ l.hears) cut bad.0 bad.2))
+    (g.met.L.Link.honest c.loop-frame.link t)
+
+pub returns-in_err-receive-clause-honest : goal.returns-in_err-receive-clause-honest
+returns-in_err-receive-clause-honest g c = λ t at is. c.receive.ensures.unjudged at (search rules)
