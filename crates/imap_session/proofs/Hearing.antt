@@ -79,15 +79,15 @@ module _ (heard : List Response) (had : List ℕ) (most left n : ℕ) (c d : Opt
         room = room;
       }
 
-  pub too_many : NoWhole feed.bytes → n ≤ 4096 → left < n → TooMuch heard limits.Reply (most + 1) had most d
+  pub too_many : (number : ℕ) → number ≡ most + 1 → NoWhole feed.bytes → n ≤ 4096 → left < n → TooMuch heard limits.Reply number had most d
   unfolding took_all
-  too_many none few many =
+  too_many number told none few many =
       let over : most < length (r.reply ++ take n into) = omega (arith, more_is, r.room, many) in
       let within : length r.reply ≤ most = omega (arith, r.room) in
       let last : length (take n into) ≤ 4096 = omega (arith, length-take n into, fits, few) in
       inl (
         refl,
-        refl,
+        told,
         record {
           before = c;
           taken = r.hears.taken;

@@ -1,4 +1,4 @@
-use Rattle.std.proofs.Common.{rules, arith, ◌≤◌, length, refl, sym, subst}
+use Rattle.std.proofs.Common.{rules, arith, ◌≤◌, ◌+◌, ap, length, refl, sym, subst, ℕ}
 use Rattle.imap_session.specs.Faults.{Reading}
 use Rattle.imap_session.specs.declared.fault.SessionFault.TheVariants as faults
 use Rattle.imap_session.proofs.Dialogues.{on_ok_then}
@@ -17,7 +17,8 @@ returns-then-left-size-clause-why g c = λ tells heard had r fault is.
     let fits : c.in_ok-count.count ≤ length c.recv.new.into = omega (arith, c.in_ok-count.ensures.fits) in
     let few : c.in_ok-count.count ≤ 4096 = omega (arith, c.in_ok-count.ensures.fits) in
     subst (Reading heard had c.args.most _) (same_err _ _ _ refl is)
-    (too_many heard had c.args.most _ c.in_ok-count.count _ _ _ _ r (c.in_ok-count.ensures.received tells) fits c.requires.cut few c.if-left-size.true)
+    (too_many heard had c.args.most _ c.in_ok-count.count _ _ _ _ r (c.in_ok-count.ensures.received tells) fits _
+    (ap (λ (n : ℕ). n + 1) c.from.ensures) c.requires.cut few c.if-left-size.true)
 
 pub returns-clause-reads : goal.returns-clause-reads
 returns-clause-reads g c = λ tells heard had most r.
