@@ -1,20 +1,17 @@
 -- A reply as it comes, one part of it behind another.
-use Rattle.std.proofs.Common.{arith, ◌≡◌, ℕ, ◌+◌, ◌-◌, ◌≤◌, length, take, Bool, true, false, List, [], ◌∷◌, ◌++◌, Option, Some, None, MatchOption}
-use Rattle.std.proofs.Common.{Result, Ok, Err}
-use Rattle.std.proofs.Common.{IfOk, refl, sym, ◌∙◌, ap, subst, append_assoc}
+use Rattle.std.proofs.Common.{arith, ◌≡◌, ℕ, ◌+◌, ◌-◌, ◌≤◌, length, take, Bool, true, false, List, [], ◌∷◌, ◌++◌, Option, MatchOption}
+use Rattle.std.proofs.Common.{refl, sym, ◌∙◌, ap, subst, append_assoc}
 use Rattle.std.proofs.lemmas.List.{append-nil, take_all}
 use Rattle.mail_base.specs.declared.frame.Frame.{Frame}
 use Rattle.mail_base.specs.declared.tag.Tag.{Tag}
 use Rattle.literal_feed.specs.Stream.{Stream}
 use Rattle.imap_model.specs.Small.{IsSmall, IsSmallCode}
 use Rattle.imap_model.specs.Untagged.{IsBefore, AreBefore}
-use Rattle.imap_model.proofs.Remarking.{all_append}
 use Rattle.imap_model.specs.CommandText.{parts_of}
 use Rattle.imap_model.specs.declared.code.Code.{Code}
 use Rattle.imap_model.specs.declared.command.Command.{Command}
 use Rattle.imap_model.specs.declared.ending.Ending.{Ending}
 use Rattle.imap_model.specs.declared.ending.Ending.TheVariants as endings
-use Rattle.imap_model.specs.declared.replies.Replies.{Replies}
 use Rattle.imap_model.specs.declared.response.Response.{Response}
 use Rattle.imap_model.specs.declared.response.Response.TheVariants as responses
 use Rattle.world_traits.specs.LinkState.{Connection, LinkState}
@@ -22,7 +19,7 @@ use Rattle.imap_session.specs.Faults.{more_parts}
 use Rattle.imap_session.specs.Hearing.{Reads, told_by, all_told_by}
 use Rattle.imap_session.specs.Knowing.{IsEnd, NoEnd, request_of, requests}
 use Rattle.imap_session.specs.Permanent.{behind, behind_all, behind_code, permitted}
-use Rattle.imap_session.specs.Replying.{AllSmall, AreSmall, HeardOn, HeardTo, HeardDone, Came, ReceivedWithin, read_as}
+use Rattle.imap_session.specs.Replying.{AllSmall, HeardOn, HeardTo, HeardDone, Came, ReceivedWithin, read_as}
 use Rattle.imap_session.specs.Sent.{joined}
 use Rattle.imap_session.specs.declared.permits.Permits.{Permits}
 use Rattle.imap_session.specs.declared.fault.SessionFault.TheVariants as faults

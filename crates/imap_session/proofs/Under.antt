@@ -4,7 +4,7 @@ use Rattle.std.proofs.lemmas.Option.{none-some}
 use Rattle.mail_base.specs.declared.tag.Tag.{Tag}
 use Rattle.imap_model.specs.CarriedOut.{told_in}
 use Rattle.imap_model.specs.Carrying.{Waiting}
-use Rattle.imap_model.specs.Talking.{Peer, Talk, Arriving, Answering, Awaits, IsPartOf, arrived}
+use Rattle.imap_model.specs.Talking.{Peer, Talk, Arriving, Answering, Awaits, arrived}
 use Rattle.imap_model.specs.Talking.Answering.{stays, others, goes_on, refuses, carries}
 use Rattle.imap_model.specs.declared.command.Command.{Command}
 use Rattle.imap_model.specs.declared.replies.Replies.{Replies}

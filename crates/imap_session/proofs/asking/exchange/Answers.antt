@@ -1,22 +1,16 @@
-use Rattle.std.proofs.Common.{◌≡◌, ◌++◌, ◌∙◌, ◌<◌, ◌≤◌, ◌+◌, ◌-◌, arith, take, refl, rules, subst, sym, ap, inl, inr, false, IsTrue, List, ℕ, length}
+use Rattle.std.proofs.Common.{◌++◌, ◌∙◌, ◌<◌, ◌≤◌, ◌+◌, ◌-◌, arith, take, refl, rules, subst, sym, ap, inl, inr, false, IsTrue, List, ℕ, length}
 use Rattle.std.proofs.lemmas.Option.{MatchOption-at_some, MatchOption-at_none}
-use Rattle.imap_model.specs.declared.replies.Replies.{Replies}
-use Rattle.imap_model.specs.declared.response.Response.{Response}
 use Rattle.world_traits.specs.Links.{AnyStep}
 use Rattle.imap_session.specs.Faults.{more_parts}
 use Rattle.imap_session.specs.Hearing.{all_told_by}
 use Rattle.imap_session.specs.Knowing.{requests}
 use Rattle.imap_session.specs.Most.{most_of}
-use Rattle.imap_session.specs.Permanent.{behind_code}
-use Rattle.imap_session.specs.Replying.{read_as}
 use Rattle.imap_session.specs.Sent.{joined}
-use Rattle.imap_session.specs.Session.{Answered, waiting_of}
-use Rattle.imap_session.specs.declared.asking.Answer.{Answer}
+use Rattle.imap_session.specs.Session.{waiting_of}
 use Rattle.imap_session.specs.declared.fault.SessionFault.TheVariants as faults
-use Rattle.imap_model.specs.declared.listen.Last.{Last}
 use Rattle.imap_session.proofs.Hearing.{as_reads, at_most, reads_from}
-use Rattle.imap_session.proofs.Outcomes.{if_ok_both, not_true}
-use Rattle.imap_session.proofs.Replying.{on_done, whole_done, done_came, all_sent, permitted_as, bad_memory, link_memory, done_within, small_code, told_behind}
+use Rattle.imap_session.proofs.Outcomes.{not_true}
+use Rattle.imap_session.proofs.Replying.{on_done, whole_done, done_came, all_sent, bad_memory, link_memory, done_within, told_behind}
 use Rattle.imap_session.proofs.Sent.{sent_none, sent_still}
 use Rattle.imap_session.proofs.Sending.{begun_asked, begun_answered, concluded_as, some_parts, begun_fit}
 use Rattle.imap_session.proofs.NoReply.{unfit_whole, fails_of, fails_on, memory_fails, reading_on}

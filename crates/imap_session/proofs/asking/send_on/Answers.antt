@@ -1,4 +1,4 @@
-use Rattle.std.proofs.Common.{List, ◌++◌, ◌∷◌, ◌∙◌, rules, inl, inr, refl, true, IsTrue}
+use Rattle.std.proofs.Common.{◌∷◌, ◌∙◌, rules, inl, inr, refl, true, IsTrue}
 use Rattle.world_traits.specs.Links.{AnyStep}
 use Rattle.imap_session.specs.Session.{waiting_of}
 use Rattle.imap_session.specs.declared.fault.SessionFault.TheVariants as faults

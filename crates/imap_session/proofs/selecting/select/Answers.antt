@@ -1,4 +1,3 @@
-use Rattle.std.proofs.Common.{[]}
 use Rattle.imap_session.proofs.Taken.{gathered, gathered_permits}
 use Rattle.imap_session.proofs.selecting.select.Goals as goal
 

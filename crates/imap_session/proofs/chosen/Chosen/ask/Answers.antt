@@ -1,4 +1,3 @@
-use Rattle.std.proofs.Common.{[]}
 use Rattle.imap_session.proofs.Taken.{gathered}
 use Rattle.imap_session.proofs.chosen.Chosen.ask.Goals as goal
 
