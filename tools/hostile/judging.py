@@ -3,19 +3,20 @@
     journal    `list`, `queue`, `report` and `history` end with 0, and show each accepted action; none that ended waits again or ends otherwise
     line       the spoiled play ends with a status of docs/COMMANDS.md, and prints its line
     memory     it takes at most 64 MB of memory, or what its way says
-    time       and ends by itself
+    time       and ends by itself, not much later than its session may last
     twice      no action's command changes something twice
     clean      the next play, at a server that tells nothing but the truth, ends with 0 or 1, and nothing waits then
     effect     what is done was done once, what ended as `nothing` never, what is unsure once or never
     cache      `list` then shows what the server has
+    anew       where the next play doesn't end well, a new journal does, as docs/TROUBLESHOOTING.md says
 """
 import re
 from typing import Dict, List, NamedTuple, Optional
 
 from servers.plain import Box
 
-from .sessions import BOXES, Program, Said, Session, effects
-from .spoiling import HostileServer
+from .sessions import BOXES, LETTER_ID, MOVED_ID, SECONDS, Program, Said, Session
+from .spoiling import Bounds, HostileServer
 
 # What a play prints, by its status.
 LINES = {
@@ -74,44 +75,64 @@ def goes_back(old: Look, new: Look) -> Optional[str]:
     return None
 
 
+def begun_anew(mine: Program, boxes: Dict[str, Box]) -> Optional[str]:
+    """What is wrong with a new journal at this server."""
+    mine.folder.mkdir()
+    mine.say("init", *BOXES)
+    told = mine.say("play")
+    listed = {name: mine.say("list", name).text.splitlines() for name in BOXES}
+    if told.status or listed != {name: box.listed() for name, box in boxes.items()}:
+        return f"a new journal's play prints {told.line}, status {told.status}, and lists {listed}"
+    return None
+
+
 class Played(NamedTuple):
     """A spoiled play and the clean one behind it: what was printed, what the journal shows before, between and behind them, and the server."""
 
     spoiled: Said
     clean: Said
     looks: List[Look]
+    anew: Optional[str]
     server: HostileServer
     boxes: Dict[str, Box]
 
-    def wrong(self, memory: int) -> Dict[str, str]:
-        """What is wrong, by the words above, where so many kilobytes may be taken."""
+    def wrong(self, bounds: Bounds) -> Dict[str, str]:
+        """What is wrong, by the words above."""
         found = {
             "journal": self.journal(),
             "line": None if re.fullmatch(LINES.get(self.spoiled.status, "-"), self.spoiled.line) else "isn't a status of the table with its line",
-            "memory": f"{self.spoiled.memory} KB" if self.spoiled.memory > memory else None,
-            "time": f"{self.spoiled.seconds:.0f} seconds" if self.spoiled.status < 0 else None,
+            "memory": f"{self.spoiled.memory} KB" if self.spoiled.memory > bounds.memory else None,
+            "time": f"{self.spoiled.seconds:.0f} seconds" if self.spoiled.seconds > bounds.seconds + SECONDS else None,
             "twice": self.twice(),
             "clean": self.cleanly(),
             "effect": self.effect(),
             "cache": self.cache(),
+            "anew": self.anew,
         }
         return {word: what for word, what in found.items() if what}
 
     def journal(self) -> Optional[str]:
+        """What is wrong with the journal."""
         first, middle, last = self.looks
         return first.wrong or middle.wrong or last.wrong or goes_back(first, middle) or goes_back(middle, last)
 
     def twice(self) -> Optional[str]:
+        """What was done twice: by the commands, and as somebody sees it who looks into the mailboxes."""
         more = {tag: count for tag, count in self.server.deeds.items() if count > 1}
-        return f"deeds: {more}" if more else effects(self.boxes)
+        if more:
+            return f"deeds: {more}"
+        letters, moved = (sum(box.having(ident) for box in self.boxes.values()) for ident in (LETTER_ID, MOVED_ID))
+        return f"{letters} letters, {moved} moved messages" if letters > 1 or moved != 1 else None
 
     def cleanly(self) -> Optional[str]:
+        """What is wrong with the clean play."""
         if self.clean.status not in (0, 1):
             return f"the next play prints {self.clean.line}, status {self.clean.status}"
         waits = [how for how in self.looks[-1].stands if not is_over(how)]
         return f"after {self.clean.line} there waits {waits}" if waits else None
 
     def effect(self) -> Optional[str]:
+        """Which action stands otherwise than it was done."""
         for number, how in enumerate(self.looks[-1].stands, 1):
             count = self.server.deeds[f"P{number}"]
             if how.startswith("done") and count != 1 or how.startswith("nothing") and count != 0:
@@ -119,6 +140,7 @@ class Played(NamedTuple):
         return None
 
     def cache(self) -> Optional[str]:
+        """Which mailbox is listed otherwise than it is, once no action waits."""
         for name, box in self.boxes.items():
             if all(map(is_over, self.looks[-1].stands)) and self.looks[-1].listed[name] != box.listed():
                 return f"list {name} prints {self.looks[-1].listed[name]} where the server has {box.listed()}"

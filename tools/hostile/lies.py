@@ -24,7 +24,7 @@ class Lie(NamedTuple):
 SYNCHRONISED = r"SELECT .*|UID FETCH 1:\* .*"
 # What a lost letter is looked for by.
 FINDING = "UID SEARCH .*|UID FETCH .*BODY.*"
-UNTOLD = r"leaves it out|tells it behind the next line|bytes above 127 in it"
+UNTOLD = r"leaves it out|tells it behind the next line|bytes above 127 in it|its numbers are -1"
 BYTE = "changed|dropped|doubled"
 STALE = "the cache keeps what wasn't told, or was told falsely, until the message changes"
 BEGIN = "the mark that was told was never the server's, so a new journal has to be begun"

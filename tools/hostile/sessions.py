@@ -1,5 +1,6 @@
 """Journals and mailboxes as a session begins with them, and the program over a journal."""
 import copy
+import functools
 import os
 import pathlib
 import shutil
@@ -7,7 +8,7 @@ import socket
 import subprocess
 import threading
 import time
-from typing import Counter, Dict, List, NamedTuple, Optional
+from typing import Counter, Dict, List, NamedTuple, Tuple
 
 from servers.plain import Box, Words, first_boxes
 
@@ -15,8 +16,9 @@ from .spoiling import HostileServer, Recorded, SpoiledLine, Step, Wire
 
 BOXES = ("INBOX", "Archive")
 LETTER_ID, MOVED_ID = b"<letter@x>", b"<moved@x>"
-LETTER = b"Message-ID: <letter@x>\nSubject: hi\n\n" + b"hello there\n" * 20
-# How long a run may take that isn't to wait for anything, on a machine that does other work too.
+LETTER = b"Message-ID: %s\nSubject: hi\n\n%s" % (LETTER_ID, b"hello there\n" * 20)
+MOVED = b"Message-ID: %s\r\n\r\nmove me\r\n" % MOVED_ID
+# How long a session may last that isn't to wait for anything, on a machine that does other work too.
 SECONDS = 90
 
 
@@ -30,6 +32,7 @@ class Said(NamedTuple):
 
     @property
     def line(self) -> str:
+        """Its line, where it is one."""
         return self.text.rstrip("\n")
 
 
@@ -114,42 +117,36 @@ def stopped(link: socket.socket, at: int) -> Wire:
     return SpoiledLine(link, at, lambda wire, step: wire.stop())
 
 
+def begun(program: pathlib.Path, folder: pathlib.Path, words: Words) -> Tuple[HostileServer, Program]:
+    """A server, and a new journal for it in this folder."""
+    folder.mkdir(parents=True)
+    boxes = first_boxes()
+    boxes["INBOX"].rows[42].text = MOVED
+    server = HostileServer(boxes, words)
+    mine = Program(program, folder, server.port)
+    mine.say("init", *BOXES)
+    return server, mine
+
+
+def session_of(name: str, mine: Program, server: HostileServer, actions: int) -> Session:
+    """The session that begins with this journal at this server, which ends."""
+    server.close()
+    session = Session(name, server.words, mine.folder, server.boxes, server.deeds, actions, [], 0)
+    return recorded(session, mine.path)
+
+
 def sessions(program: pathlib.Path, home: pathlib.Path, words: Words) -> Dict[str, Session]:
     """The sessions by name: a first play with a letter; one with a flag, a move and a letter; and three in which the play before was lost behind the
     deed of one of these."""
-    def begun(name: str) -> "tuple[pathlib.Path, HostileServer, Program]":
-        folder = home / f"{words.name}-{name}"
-        folder.mkdir(parents=True)
-        boxes = first_boxes()
-        boxes["INBOX"].rows[42].text = b"Message-ID: " + MOVED_ID + b"\r\n\r\nmove me\r\n"
-        server = HostileServer(boxes, words)
-        mine = Program(program, folder, server.port)
-        mine.say("init", *BOXES)
-        return folder, server, mine
-
-    found: Dict[str, Session] = {}
-    folder, server, mine = begun("first")
+    server, mine = begun(program, home / f"{words.name}-first", words)
     mine.say("append", "Archive", r"\Seen", given=LETTER)
-    found["first"] = recorded(Session("first", words, folder, server.boxes, server.deeds, 1, [], 0), program)
-    server.close()
-    for lost in (None, "P1", "P2", "P3"):
-        name = f"lost {lost}" if lost else "actions"
-        folder, server, mine = begun(name.replace(" ", "-"))
+    found = {"first": session_of("first", mine, server, 1)}
+    for name, lost in (("actions", ""), ("lost P1", "P1"), ("lost P2", "P2"), ("lost P3", "P3")):
+        server, mine = begun(program, home / f"{words.name}-{name.replace(' ', '-')}", words)
         mine.say("play")
         ask_all(mine)
         if lost:
-            at = lost_at(found["actions"].steps, lost)
-            server.wire = lambda link, at=at: stopped(link, at)  # type: ignore[misc]
+            server.wire = functools.partial(stopped, at=lost_at(found["actions"].steps, lost))
             mine.say("play")
-        server.close()
-        found[name] = recorded(Session(name, words, folder, server.boxes, server.deeds, 3, [], 0), program)
+        found[name] = session_of(name, mine, server, 3)
     return found
-
-
-def effects(boxes: Dict[str, Box]) -> "Optional[str]":
-    """What is wrong with the mailboxes themselves, as somebody who looks into them sees it: a message that is there twice, or not at all."""
-    letters = sum(box.having(LETTER_ID) for box in boxes.values())
-    moved = sum(box.having(MOVED_ID) for box in boxes.values())
-    if letters > 1:
-        return f"the letter is there {letters} times"
-    return None if moved == 1 else f"the moved message is there {moved} times"

@@ -31,6 +31,13 @@ class Step(NamedTuple):
         return f"{self.number} ({f'{self.tag} {self.command[:40]}' if self.tag else 'greeting'}: {self.line.splitlines()[0][:60]})"
 
 
+class Bounds(NamedTuple):
+    """How many seconds a session may last, so that the program ends by itself, and how many kilobytes of memory it may take."""
+
+    seconds: int = 20
+    memory: int = 64_000
+
+
 class Ended(ConnectionAbortedError):
     """The server ends the connection here."""
 

@@ -1,23 +1,22 @@
 """The table of all ways at all steps of the sessions, and the drawn plays, in which one byte is spoiled."""
 import collections
 import concurrent.futures
+import functools
 import itertools
 import pathlib
 import random
 import re
 import shutil
-from typing import Callable, Counter, Deque, Dict, Iterator, List, NamedTuple, Optional, Tuple
+from typing import Callable, Counter, DefaultDict, Deque, Dict, Iterator, List, NamedTuple, Optional, Tuple
 
-from .judging import Look, Played, look
+from .judging import Look, Played, begun_anew, look
 from .lies import excused
 from .sessions import Program, Said, Session
-from .spoiling import Fault, HostileServer, SpoiledByte, SpoiledLine, Step, Wire
+from .spoiling import Bounds, Fault, HostileServer, SpoiledByte, SpoiledLine, Step, Wire
 from .ways import Way, spoiled
 
 # How many trials are begun before the first of them has ended.
 AHEAD = 200
-# How many kilobytes of memory a drawn play may take.
-MEMORY = 64_000
 
 
 class Result(NamedTuple):
@@ -44,22 +43,24 @@ class Trials:
         self.passed = self.failed = self.excused = 0
         self.looks: Dict[pathlib.Path, Look] = {}
 
-    def played(self, session: Session, spoil: Callable[[HostileServer], None], seconds: int) -> Played:
+    def played(self, session: Session, spoil: Callable[[HostileServer], None], bounds: Bounds) -> Played:
         """A play at a server that is spoiled so, and a clean one."""
         folder = session.copied(self.home / f"play{next(self.numbers)}")
         server = session.server()
         mine = Program(self.program, folder, server.port)
         looks: List[Look] = [self.first_look(session, mine)]
         spoil(server)
-        first = mine.say("play", seconds=seconds)
+        first = mine.say("play", seconds=bounds.seconds)
         server.wire = Wire
         server.refuse(None, "")
         looks.append(look(mine, session))
         clean = mine.say("play")
         looks.append(look(mine, session))
+        fresh = Program(self.program, folder / "anew", server.port)
+        anew = None if clean.status in (0, 1) else begun_anew(fresh, server.boxes)
         server.close()
         shutil.rmtree(folder)
-        return Played(first, clean, looks, server, server.boxes)
+        return Played(first, clean, looks, anew, server, server.boxes)
 
     def first_look(self, session: Session, mine: Program) -> Look:
         """What the journal shows as the session begins."""
@@ -75,9 +76,9 @@ class Trials:
             else:
                 server.wire = lambda link: SpoiledLine(link, step.number, way.act)
 
-        played = self.played(session, spoil, way.seconds)
+        played = self.played(session, spoil, way.bounds)
         title = f"{session.words.name}, {session.name}: {way.name}, at {step}"
-        return Result(title, way.name, played.wrong(way.memory), excused(way.name, step), played)
+        return Result(title, way.name, played.wrong(way.bounds), excused(way.name, step), played)
 
     def byte(self, sessions: List[Session], seed: str) -> Result:
         """A play with one spoiled byte, as this seed draws it."""
@@ -89,10 +90,10 @@ class Trials:
         def spoil(server: HostileServer) -> None:
             server.wire = lambda link: SpoiledByte(link, fault, hit)
 
-        played = self.played(session, spoil, 20)
+        played = self.played(session, spoil, Bounds())
         title = f"seed {seed}: {session.words.name}, {session.name}: byte {fault.at} {fault.kind}"
         title += f", at {hit[0] if hit else 'none'}"
-        return Result(title, fault.kind, played.wrong(MEMORY), believed(played, fault.kind, hit), played)
+        return Result(title, fault.kind, played.wrong(Bounds()), believed(played, fault.kind, hit), played)
 
     def count(self, result: Result) -> None:
         """Counts a trial, and prints what is wrong."""
@@ -129,26 +130,38 @@ def believed(played: Played, kind: str, hit: List[Step]) -> Dict[str, str]:
     return {} if is_seen or not hit else excused(kind, hit[0])
 
 
+class Row:
+    """A row of the table: how the plays of a way ended."""
+
+    def __init__(self) -> None:
+        self.statuses: Counter[int] = collections.Counter()
+        self.others: Counter[str] = collections.Counter()
+
+    def add(self, result: Result) -> None:
+        """Counts a play."""
+        self.statuses[result.played.spoiled.status] += 1
+        if result.wrong:
+            self.others["failed" if result.failed else "excused"] += 1
+
+    def __str__(self) -> str:
+        statuses = " ".join(f"{status}:{count}" for status, count in sorted(self.statuses.items()))
+        return statuses + "".join(f", {count} {word}" for word, count in sorted(self.others.items()))
+
+
 def table(trials: Trials, session: Session, ways: List[Way], every: int) -> None:
-    """Tries each way at every so many of the session's steps, and prints a row for each way."""
-    rows: Dict[str, Counter[str]] = {way.name: collections.Counter() for way in ways}
+    """Tries each way at each of the session's steps, or each so many of these, and prints a row for each way."""
+    rows: DefaultDict[str, Row] = collections.defaultdict(Row)
     excuses: Counter[Tuple[str, str, str]] = collections.Counter()
-    cases = [case for number, case in enumerate(spoiled(session.steps, ways)) if number % every == 0]
-    tried = 0
+    cases = list(itertools.islice(spoiled(session.steps, ways), 0, None, every))
     print(f"{session.words.name}, {session.name}: {len(session.steps)} steps, {len(cases)} plays", flush=True)
-    for result in trials.each((lambda way=way, step=step: trials.way(session, way, step)) for way, step in cases):  # type: ignore[misc]
-        row = rows[result.way]
-        row[str(result.played.spoiled.status)] += 1
-        row["failed"] += bool(result.failed)
-        row["excused"] += bool(result.wrong) and not result.failed
+    tries = (functools.partial(trials.way, session, *case) for case in cases)
+    for number, result in enumerate(trials.each(tries), 1):
+        rows[result.way].add(result)
         excuses.update((result.way, word, result.excused[word]) for word in result.wrong if word in result.excused)
-        tried += 1
-        if tried % 500 == 0:
-            print(f"  {tried} plays, {trials.failed} failed", flush=True)
-    for name, row in ((name, row) for name, row in rows.items() if row):
-        statuses = " ".join(f"{status}:{row[status]}" for status in sorted(row, key=lambda it: (not it.isdigit(), it.zfill(3))) if status.isdigit())
-        others = "".join(f", {row[word]} {word}" for word in ("excused", "failed") if row[word])
-        print(f"  {name:<42} {statuses}{others}")
+        if number % 500 == 0:
+            print(f"  {number} plays, {trials.failed} failed", flush=True)
+    for name, row in rows.items():
+        print(f"  {name:<42} {row}")
     for (name, word, why), count in sorted(excuses.items()):
         print(f"  a lie: {name}: {count} times `{word}`: {why}")
 
@@ -156,14 +169,15 @@ def table(trials: Trials, session: Session, ways: List[Way], every: int) -> None
 def drawn(trials: Trials, sessions: List[Session], seed: str, plays: int, first: int) -> List[str]:
     """Makes so many drawn plays, and gives the seeds of those that failed."""
     failed: List[str] = []
-    statuses: Counter[int] = collections.Counter()
-    seeds = (f"{seed}.{number}" for number in range(first, first + plays))
-    for number, result in enumerate(trials.each((lambda it=it: trials.byte(sessions, it)) for it in seeds), 1):  # type: ignore[misc]
-        statuses[result.played.spoiled.status] += 1
+    row = Row()
+    seeds = [f"{seed}.{number}" for number in range(first, first + plays)]
+    tries = (functools.partial(trials.byte, sessions, one) for one in seeds)
+    for number, (drawn_by, result) in enumerate(zip(seeds, trials.each(tries)), 1):
+        row.add(result)
         if result.failed:
-            failed.append(result.title.split(":")[0].split()[1])
+            failed.append(drawn_by)
         if number % 100 == 0 or number == plays:
-            print(f"{number} plays: statuses {dict(sorted(statuses.items()))}, {trials.excused} excused, {len(failed)} failed", flush=True)
+            print(f"{number} drawn plays: {row}", flush=True)
     return failed
 
 

@@ -3,7 +3,7 @@ import itertools
 import re
 from typing import Callable, Iterator, List, NamedTuple, Optional
 
-from .spoiling import CRLF, Step, Wire
+from .spoiling import CRLF, Bounds, Step, Wire
 
 Act = Callable[[Wire, Step], None]
 Fits = Callable[[Step], bool]
@@ -20,10 +20,7 @@ class Way(NamedTuple):
     act: Act
     fits: Fits = lambda step: True
     refusal: str = ""
-    # How many seconds the session may last, so that the program ends by itself.
-    seconds: int = 20
-    # How many kilobytes of memory it may take.
-    memory: int = 64_000
+    bounds: Bounds = Bounds()
 
 
 def plain(step: Step) -> bytes:
@@ -148,8 +145,8 @@ ENDS: List[Way] = [
     Way("ends inside it", ends_inside),
     Way("ends behind it", ends_behind),
     Way("is reset before it", lambda wire, step: wire.stop(is_reset=True)),
-    Way("says nothing more", lambda wire, step: wire.say_nothing(), seconds=2),
-    Way("says nothing for a minute", lambda wire, step: wire.say_nothing(), has("UIDNEXT"), seconds=90),
+    Way("says nothing more", lambda wire, step: wire.say_nothing(), bounds=Bounds(2)),
+    Way("says nothing for a minute", lambda wire, step: wire.say_nothing(), has("UIDNEXT"), bounds=Bounds(90)),
     Way("drips it", lambda wire, step: wire.drip(plain(step))),
     Way("leaves it out", lambda wire, step: None),
     Way("tells it twice", lambda wire, step: wire.put(plain(step) * 2)),
@@ -157,7 +154,7 @@ ENDS: List[Way] = [
 ]
 BYTES: List[Way] = [
     Way("a line of 256 MiB", flood(b"* OK ", PIECE, FLOOD, CRLF)),
-    Way("lines of 256 MiB and more", flood(b"", b"* OK " + b"a" * 100_000 + CRLF, FLOOD + 1_000_000, b""), first, seconds=60),
+    Way("lines of 256 MiB and more", flood(b"", b"* OK " + b"a" * 100_000 + CRLF, FLOOD + 1_000_000, b""), first, bounds=Bounds(60)),
     Way("a NUL in it", middle(b"\0")),
     Way("bytes above 127 in it", middle(b"\x80\xff\xc3")),
     Way("bytes above 127 at its end", instead(lambda line: line[:-2] + b"\x80\xff\xc3" + CRLF)),
@@ -167,7 +164,7 @@ BYTES: List[Way] = [
     Way("a literal of -1", before(b"* 1 FETCH (UID 40 BODY[] {-1}")),
     Way("a line of 1,025 flags", before(b"* 1 FETCH (UID 40 FLAGS (" + FLAGS + b") MODSEQ (1))")),
     Way("a flag of 256 bytes", before(b"* 1 FETCH (UID 40 FLAGS (" + b"f" * 256 + b") MODSEQ (1))")),
-    Way("a million VANISHED", many_gone, first, seconds=60, memory=256_000),
+    Way("a million VANISHED", many_gone, first, bounds=Bounds(60, 256_000)),
 ]
 TAGS: List[Way] = [
     Way("another command's completion", before(b"C999 OK done")),
