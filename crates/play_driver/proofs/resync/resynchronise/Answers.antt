@@ -8,6 +8,7 @@ returns-in_err-came-clause-gathers g c = record {
   files = search rules;
   told = search rules;
   asks = search rules;
+  grounds = c.gather.ensures.gathers.grounds;
   sent = search rules;
   why = λ t next heard h fault is. c.gather.ensures.gathers.why t next heard h fault (search rules);
   honest = search rules;
