@@ -26,6 +26,8 @@ pub mod PlaysOn
 pub mod Restarts
 pub mod RoundSteps
 pub mod Seeds
+pub mod ServedSteps
+pub mod ServedTurn
 pub mod Tellings
 pub mod Untouched
 pub mod Viewing

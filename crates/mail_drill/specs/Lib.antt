@@ -8,6 +8,8 @@ pub mod Counted
 pub mod Drilled
 pub mod Held
 pub mod Misfortunes
+pub mod Offering
+pub mod Doing
 pub mod Orders
 pub mod Ran
 pub mod Rounds

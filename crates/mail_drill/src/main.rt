@@ -7,6 +7,7 @@ mod beginning;
 mod counting;
 mod drilling;
 mod examining;
+mod laws;
 mod misfortune;
 mod notices;
 mod numerals;
