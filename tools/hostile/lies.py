@@ -26,12 +26,14 @@ SYNCHRONISED = r"SELECT .*|UID FETCH 1:\* .*"
 FINDING = "UID SEARCH .*|UID FETCH .*BODY.*"
 UNTOLD = r"leaves it out|tells it behind the next line|bytes above 127 in it|its numbers are -1"
 BYTE = "changed|dropped|doubled"
+EARLY = "its own completion too early"
 STALE = "the cache keeps what wasn't told, or was told falsely, until the message changes"
 BEGIN = "the mark that was told was never the server's, so a new journal has to be begun"
 RESENT = "a letter that isn't found is sent again"
 
 LIES: List[Lie] = [
     Lie(UNTOLD, SYNCHRONISED, r"\* (VANISHED|\d+ FETCH).*", "cache", STALE),
+    Lie(EARLY, SYNCHRONISED, ".*", "cache", STALE),
     Lie("EXISTS that shrinks|its numbers are 0", "SELECT [^ ]*", r".*", "cache", STALE),
     Lie("a FETCH of another UID|a FETCH with other flags|VANISHED .*of what is there", SYNCHRONISED, ".*", "cache", STALE),
     Lie("CLOSED", r"UID FETCH 1:\* .*", ".*", "cache", STALE),
@@ -41,7 +43,8 @@ LIES: List[Lie] = [
     Lie("(NO|BAD|MODIFIED), and it was done", ".*", ".*", "effect", "what the server says wasn't done, it did"),
     Lie(UNTOLD, "UID STORE .*", r"\* \d+ FETCH.*", "effect", "a changed message without its row counts as gone"),
     Lie(UNTOLD, "UID MOVE .*", r".*COPYUID.*", "effect", "a moved message without its COPYUID counts as gone"),
-    Lie(UNTOLD, FINDING, r"\* .*", "twice effect", RESENT),
+    Lie(EARLY, "UID (STORE|MOVE) .*", ".*", "effect", "a command that is OK without what it owes did nothing"),
+    Lie(f"{UNTOLD}|{EARLY}", FINDING, r"\* .*", "twice effect", RESENT),
     Lie(BYTE, ".*", ".*", "clean effect cache", "the line changed a byte, and it was believed"),
     Lie(BYTE, FINDING, ".*", "twice", RESENT),
 ]

@@ -181,12 +181,18 @@ def drawn(trials: Trials, sessions: List[Session], seed: str, plays: int, first:
     return failed
 
 
+def show(trials: Trials, result: Result) -> None:
+    """Counts a trial, and prints how its plays ended, how the actions stand, and what was wrong."""
+    trials.count(result)
+    print(f"{result.title}: {ending(result.played.spoiled)}, then {ending(result.played.clean)}; {result.played.spoiled.memory} KB")
+    for told in result.played.looks:
+        print(f"  {told.stands}")
+    for word, what in result.wrong.items():
+        print(f"  {word}: {what} ({result.excused.get(word, 'no excuse')})")
+
+
 def one(trials: Trials, session: Session, way: Way, number: Optional[int]) -> None:
-    """Shows a way at a step, with all that is printed."""
+    """Tries a way at a step, or at all, and shows what came of it."""
     for step in session.steps:
         if way.fits(step) and number in (None, step.number):
-            result = trials.way(session, way, step)
-            trials.count(result)
-            print(f"{result.title}: {ending(result.played.spoiled)}, then {ending(result.played.clean)}; {result.played.spoiled.memory} KB")
-            for told in result.played.looks:
-                print(f"  {told.stands}")
+            show(trials, trials.way(session, way, step))

@@ -1,7 +1,7 @@
 """The ways in which a line of a server is spoiled. Each is told the connection and the step, and sends something before the line or in its place."""
-import itertools
 import re
-from typing import Callable, Iterator, List, NamedTuple, Optional
+from itertools import chain, repeat
+from typing import Callable, Iterable, Iterator, List, NamedTuple, Optional, Tuple
 
 from .spoiling import CRLF, Bounds, Step, Wire
 
@@ -10,7 +10,8 @@ Fits = Callable[[Step], bool]
 
 # More than a line may have, as a server would send that has lost its way: 256 MiB.
 FLOOD, PIECE = 268_435_456, b"a" * 65_536
-ROWS = 1_000_000
+ROW = b"* 1 FETCH (UID %d FLAGS (\\Seen) MODSEQ (600))" + CRLF
+GONE = b"* VANISHED (EARLIER) %d" + CRLF
 
 
 class Way(NamedTuple):
@@ -38,13 +39,13 @@ def instead(change: Callable[[bytes], bytes]) -> Act:
     return lambda wire, step: wire.put(change(plain(step)))
 
 
-def numbers(instead_of: bytes) -> Way:
+def numbers(instead_of: bytes, name: str = "") -> Way:
     """Each number of a line, but for a tag's, is another one."""
     def changed(wire: Wire, step: Step) -> None:
         first, rest = step.line.encode().split(b" ", 1)
         wire.put(first + b" " + re.sub(rb"\d+", instead_of, rest) + CRLF)
 
-    return Way(f"its numbers are {instead_of.decode()}", changed, lambda step: bool(re.search(r" .*\d", step.line)) and bool(step.tag))
+    return Way(f"its numbers are {name or instead_of.decode()}", changed, lambda step: bool(re.search(r" .*\d", step.line)) and bool(step.tag))
 
 
 def ends_inside(wire: Wire, step: Step) -> None:
@@ -65,25 +66,19 @@ def says_bye(wire: Wire, step: Step) -> None:
     wire.stop()
 
 
-def flood(head: bytes, piece: bytes, size: int, tail: bytes) -> Act:
-    """So many bytes stand before it."""
-    def flooded(wire: Wire, step: Step) -> None:
-        wire.put(head)
-        wire.pour(itertools.repeat(piece, size // len(piece)))
-        wire.put(tail + plain(step))
+def pours(pieces: Callable[[], Iterable[bytes]]) -> Act:
+    """Much stands before it, in pieces."""
+    def poured(wire: Wire, step: Step) -> None:
+        wire.pour(iter(pieces()))
+        wire.put(plain(step))
 
-    return flooded
-
-
-def gone(first: int) -> bytes:
-    """Ten thousand lines VANISHED, each of a UID that isn't there."""
-    return b"".join(b"* VANISHED (EARLIER) %d\r\n" % (2 * uid) for uid in range(first, first + 10_000))
+    return poured
 
 
-def many_gone(wire: Wire, step: Step) -> None:
-    """A million lines VANISHED stand before it."""
-    wire.pour(map(gone, range(1_000_000, 1_000_000 + ROWS, 10_000)))
-    wire.put(plain(step))
+def many(count: int, each: bytes, at_once: int = 1_000) -> Iterator[bytes]:
+    """So many pieces, each with another number from a million on, as no message has; some thousand at once."""
+    for first in range(1_000_000, 1_000_000 + count, at_once):
+        yield b"".join(each % number for number in range(first, first + at_once))
 
 
 def behind_next(wire: Wire, step: Step) -> None:
@@ -153,8 +148,8 @@ ENDS: List[Way] = [
     Way("tells it behind the next line", behind_next, lambda step: not step.is_last and not step.line.startswith("+") and bool(step.tag)),
 ]
 BYTES: List[Way] = [
-    Way("a line of 256 MiB", flood(b"* OK ", PIECE, FLOOD, CRLF)),
-    Way("lines of 256 MiB and more", flood(b"", b"* OK " + b"a" * 100_000 + CRLF, FLOOD + 1_000_000, b""), first, bounds=Bounds(60)),
+    Way("a line of 256 MiB", pours(lambda: chain([b"* OK "], repeat(PIECE, FLOOD // len(PIECE)), [CRLF]))),
+    Way("lines of 256 MiB and more", pours(lambda: repeat(b"* OK " + PIECE + CRLF, FLOOD // len(PIECE))), first, bounds=Bounds(60)),
     Way("a NUL in it", middle(b"\0")),
     Way("bytes above 127 in it", middle(b"\x80\xff\xc3")),
     Way("bytes above 127 at its end", instead(lambda line: line[:-2] + b"\x80\xff\xc3" + CRLF)),
@@ -164,12 +159,19 @@ BYTES: List[Way] = [
     Way("a literal of -1", before(b"* 1 FETCH (UID 40 BODY[] {-1}")),
     Way("a line of 1,025 flags", before(b"* 1 FETCH (UID 40 FLAGS (" + FLAGS + b") MODSEQ (1))")),
     Way("a flag of 256 bytes", before(b"* 1 FETCH (UID 40 FLAGS (" + b"f" * 256 + b") MODSEQ (1))")),
-    Way("a million VANISHED", many_gone, first, bounds=Bounds(60, 256_000)),
+    Way("an unclosed list of a million parentheses", pours(lambda: chain([b"* 1 FETCH (X "], repeat(b"(" * 1_000, 1_000), [CRLF])), first),
+    Way("a list 500,000 deep", pours(lambda: chain([b"* 1 FETCH (X "], repeat(b"(" * 1_000, 500), repeat(b")" * 1_000, 500), [b")" + CRLF])), first),
+    Way("a literal of {5+}", before(b"* 1 FETCH (X {5+}", b"hello)")),
+    Way("100,000 UIDs in a VANISHED", pours(lambda: chain([b"* VANISHED (EARLIER) 1000000"], many(100_000, b",%d"), [CRLF])), first),
+    # One more than a mailbox may have, at least.
+    Way("200,001 rows", pours(lambda: many(201_000, ROW)), first, bounds=Bounds(60, 256_000)),
+    Way("a million VANISHED", pours(lambda: many(1_000_000, GONE)), first, bounds=Bounds(60, 256_000)),
 ]
 TAGS: List[Way] = [
     Way("another command's completion", before(b"C999 OK done")),
     Way("an earlier command's completion", before(b"C1 OK done")),
     Way("a later action's completion", before(b"P3 OK [APPENDUID 9 77] done")),
+    Way("its own completion too early", lambda wire, step: before(f"{step.tag} OK early".encode())(wire, step), lambda step: bool(step.tag)),
     Way("a tag of nobody", before(b"XYZ OK done")),
     Way("a + that nobody asked for", before(b"+ more")),
     Way("NO in its place", lambda wire, step: None, ended, refusal="NO not so"),
@@ -184,6 +186,7 @@ TAGS: List[Way] = [
 ]
 NUMBERS: List[Way] = [
     *map(numbers, (b"-1", b"0", b"4294967296", b"99999999999999999999")),
+    numbers(b"9" * 1_000, "of 1,000 digits"),
     Way("UID 0", before(b"* 1 FETCH (UID 0 FLAGS () MODSEQ (1))")),
     Way("VANISHED 0", before(b"* VANISHED 0")),
     Way("message 0", before(b"* 0 FETCH (UID 40 FLAGS () MODSEQ (1))")),
@@ -213,6 +216,7 @@ LIES: List[Way] = [
     Way("COPYUID to another place", replaced(rb"(COPYUID \d+ \d+) \d+", rb"\1 77"), has("COPYUID")),
     Way("COPYUID of two messages", replaced(rb"(COPYUID \d+) \d+ \d+", rb"\1 41:42 77:78"), has("COPYUID")),
     Way("APPENDUID out of place", before(b"* OK [APPENDUID 9 77] other")),
+    Way("APPENDUID left out", replaced(rb"\[APPENDUID.*\] ", b""), has("APPENDUID")),
     Way("APPENDUID of another place", replaced(rb"(APPENDUID \d+) \d+", rb"\1 77"), has("APPENDUID")),
     Way("APPENDUID of another UIDVALIDITY", replaced(rb"APPENDUID \d+", rb"APPENDUID 10"), has("APPENDUID")),
     Way("MODIFIED out of place", before(b"* OK [MODIFIED 40] other")),
@@ -226,6 +230,6 @@ def named(name: str) -> Optional[Way]:
     return next((way for way in WAYS if way.name == name), None)
 
 
-def spoiled(steps: List[Step], ways: List[Way]) -> Iterator["tuple[Way, Step]"]:
+def spoiled(steps: List[Step], ways: List[Way]) -> Iterator[Tuple[Way, Step]]:
     """Each way at each step where it can be."""
     return ((way, step) for way in ways for step in steps if way.fits(step))

@@ -242,7 +242,8 @@ class Server:
         self.deeds: Counter[str] = collections.Counter()
         self.socket = socket.create_server(("127.0.0.1", 0))
         self.port: int = self.socket.getsockname()[1]
-        threading.Thread(target=self.serve, daemon=True).start()
+        self.serving = threading.Thread(target=self.serve, daemon=True)
+        self.serving.start()
 
     def serve(self) -> None:
         """Takes connections until the socket is closed."""
@@ -258,9 +259,10 @@ class Server:
         threading.Thread(target=self.talk, args=(Talk(link),), daemon=True).start()
 
     def close(self) -> None:
-        """Takes no more connections."""
+        """Takes no more connections. The socket is closed once nobody waits at it: its number may be another socket's then."""
         with contextlib.suppress(OSError):
             self.socket.shutdown(socket.SHUT_RDWR)
+        self.serving.join()
         self.socket.close()
 
     def talk(self, talk: Talk) -> None:
