@@ -94,7 +94,6 @@ class Played(NamedTuple):
     looks: List[Look]
     anew: Optional[str]
     server: HostileServer
-    boxes: Dict[str, Box]
 
     def wrong(self, bounds: Bounds) -> Dict[str, str]:
         """What is wrong, by the words above."""
@@ -121,7 +120,7 @@ class Played(NamedTuple):
         more = {tag: count for tag, count in self.server.deeds.items() if count > 1}
         if more:
             return f"deeds: {more}"
-        letters, moved = (sum(box.having(ident) for box in self.boxes.values()) for ident in (LETTER_ID, MOVED_ID))
+        letters, moved = (sum(box.having(ident) for box in self.server.boxes.values()) for ident in (LETTER_ID, MOVED_ID))
         return f"{letters} letters, {moved} moved messages" if letters > 1 or moved != 1 else None
 
     def cleanly(self) -> Optional[str]:
@@ -141,7 +140,7 @@ class Played(NamedTuple):
 
     def cache(self) -> Optional[str]:
         """Which mailbox is listed otherwise than it is, once no action waits."""
-        for name, box in self.boxes.items():
+        for name, box in self.server.boxes.items():
             if all(map(is_over, self.looks[-1].stands)) and self.looks[-1].listed[name] != box.listed():
                 return f"list {name} prints {self.looks[-1].listed[name]} where the server has {box.listed()}"
         return None

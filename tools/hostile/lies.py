@@ -34,7 +34,8 @@ RESENT = "a letter that isn't found is sent again"
 LIES: List[Lie] = [
     Lie(UNTOLD, SYNCHRONISED, r"\* (VANISHED|\d+ FETCH).*", "cache", STALE),
     Lie(EARLY, SYNCHRONISED, ".*", "cache", STALE),
-    Lie("EXISTS that shrinks|its numbers are 0", "SELECT [^ ]*", r".*", "cache", STALE),
+    Lie("EXISTS that shrinks", "SELECT [^ ]*", ".*", "cache", STALE),
+    Lie("its numbers are 0", "SELECT [^ ]*", r"\* \d+ EXISTS", "cache", STALE),
     Lie("a FETCH of another UID|a FETCH with other flags|VANISHED .*of what is there", SYNCHRONISED, ".*", "cache", STALE),
     Lie("CLOSED", r"UID FETCH 1:\* .*", ".*", "cache", STALE),
     Lie("HIGHESTMODSEQ higher", SYNCHRONISED, ".*", "clean cache", BEGIN),

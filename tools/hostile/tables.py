@@ -60,7 +60,7 @@ class Trials:
         anew = None if clean.status in (0, 1) else begun_anew(fresh, server.boxes)
         server.close()
         shutil.rmtree(folder)
-        return Played(first, clean, looks, anew, server, server.boxes)
+        return Played(first, clean, looks, anew, server)
 
     def first_look(self, session: Session, mine: Program) -> Look:
         """What the journal shows as the session begins."""

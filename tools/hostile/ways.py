@@ -11,6 +11,7 @@ Fits = Callable[[Step], bool]
 # More than a line may have, as a server would send that has lost its way: 256 MiB.
 FLOOD, PIECE = 268_435_456, b"a" * 65_536
 ROW = b"* 1 FETCH (UID %d FLAGS (\\Seen) MODSEQ (600))" + CRLF
+FLAGS = b" ".join(b"k%d" % number for number in range(1025))
 GONE = b"* VANISHED (EARLIER) %d" + CRLF
 
 
@@ -107,15 +108,9 @@ def answers(pattern: str) -> Fits:
     return lambda step: step.is_last and re.fullmatch(pattern, step.verb) is not None
 
 
-def in_middle(wire: Wire, middle: bytes, step: Step) -> None:
-    """Its line has these bytes in its middle."""
-    line = step.line.encode()
-    wire.put(line[: len(line) // 2] + middle + line[len(line) // 2 :] + CRLF)
-
-
 def middle(data: bytes) -> Act:
     """These bytes stand in the middle of its line."""
-    return lambda wire, step: in_middle(wire, data, step)
+    return instead(lambda line: line[: len(line) // 2] + data + line[len(line) // 2 :])
 
 
 def deed(step: Step) -> bool:
@@ -132,8 +127,6 @@ def ended(step: Step) -> bool:
     """Whether this ends a command, or asks for more of it: something can be refused in its place."""
     return step.is_last or step.line.startswith("+")
 
-
-FLAGS = b" ".join(b"k%d" % number for number in range(1025))
 
 ENDS: List[Way] = [
     Way("ends before it", lambda wire, step: wire.stop()),
