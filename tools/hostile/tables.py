@@ -131,17 +131,24 @@ def believed(played: Played, kind: str, hit: List[Step]) -> Dict[str, str]:
 
 
 class Row:
-    """A row of the table: how the plays of a way ended."""
+    """A row of the table: how the plays of a way ended, and what was excused, by its words and reasons."""
 
     def __init__(self) -> None:
         self.statuses: Counter[int] = collections.Counter()
         self.others: Counter[str] = collections.Counter()
+        self.lies: Counter[Tuple[str, str]] = collections.Counter()
 
     def add(self, result: Result) -> None:
         """Counts a play."""
         self.statuses[result.played.spoiled.status] += 1
         if result.wrong:
             self.others["failed" if result.failed else "excused"] += 1
+        self.lies.update((word, result.excused[word]) for word in result.wrong if word in result.excused)
+
+    def show_lies(self, name: str) -> None:
+        """Prints what was excused."""
+        for (word, why), count in sorted(self.lies.items()):
+            print(f"  a lie: {name}: {count} times `{word}`: {why}")
 
     def __str__(self) -> str:
         statuses = " ".join(f"{status}:{count}" for status, count in sorted(self.statuses.items()))
@@ -151,19 +158,17 @@ class Row:
 def table(trials: Trials, session: Session, ways: List[Way], every: int) -> None:
     """Tries each way at each of the session's steps, or each so many of these, and prints a row for each way."""
     rows: DefaultDict[str, Row] = collections.defaultdict(Row)
-    excuses: Counter[Tuple[str, str, str]] = collections.Counter()
     cases = list(itertools.islice(spoiled(session.steps, ways), 0, None, every))
     print(f"{session.words.name}, {session.name}: {len(session.steps)} steps, {len(cases)} plays", flush=True)
     tries = (functools.partial(trials.way, session, *case) for case in cases)
     for number, result in enumerate(trials.each(tries), 1):
         rows[result.way].add(result)
-        excuses.update((result.way, word, result.excused[word]) for word in result.wrong if word in result.excused)
         if number % 500 == 0:
             print(f"  {number} plays, {trials.failed} failed", flush=True)
     for name, row in rows.items():
         print(f"  {name:<42} {row}")
-    for (name, word, why), count in sorted(excuses.items()):
-        print(f"  a lie: {name}: {count} times `{word}`: {why}")
+    for name, row in rows.items():
+        row.show_lies(name)
 
 
 def drawn(trials: Trials, sessions: List[Session], seed: str, plays: int, first: int) -> List[str]:
@@ -178,6 +183,7 @@ def drawn(trials: Trials, sessions: List[Session], seed: str, plays: int, first:
             failed.append(drawn_by)
         if number % 100 == 0 or number == plays:
             print(f"{number} drawn plays: {row}", flush=True)
+    row.show_lies("a byte")
     return failed
 
 

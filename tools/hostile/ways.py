@@ -142,7 +142,7 @@ ENDS: List[Way] = [
 ]
 BYTES: List[Way] = [
     Way("a line of 256 MiB", pours(lambda: chain([b"* OK "], repeat(PIECE, FLOOD // len(PIECE)), [CRLF]))),
-    Way("lines of 256 MiB and more", pours(lambda: repeat(b"* OK " + PIECE + CRLF, FLOOD // len(PIECE))), first, bounds=Bounds(60)),
+    Way("lines of 256 MiB and more", pours(lambda: repeat(b"* OK " + PIECE + CRLF, FLOOD // len(PIECE))), first, bounds=Bounds(120)),
     Way("a NUL in it", middle(b"\0")),
     Way("bytes above 127 in it", middle(b"\x80\xff\xc3")),
     Way("bytes above 127 at its end", instead(lambda line: line[:-2] + b"\x80\xff\xc3" + CRLF)),
@@ -157,8 +157,8 @@ BYTES: List[Way] = [
     Way("a literal of {5+}", before(b"* 1 FETCH (X {5+}", b"hello)")),
     Way("100,000 UIDs in a VANISHED", pours(lambda: chain([b"* VANISHED (EARLIER) 1000000"], many(100_000, b",%d"), [CRLF])), first),
     # One more than a mailbox may have, at least.
-    Way("200,001 rows", pours(lambda: many(201_000, ROW)), first, bounds=Bounds(60, 256_000)),
-    Way("a million VANISHED", pours(lambda: many(1_000_000, GONE)), first, bounds=Bounds(60, 256_000)),
+    Way("200,001 rows", pours(lambda: many(201_000, ROW)), first, bounds=Bounds(120, 256_000)),
+    Way("a million VANISHED", pours(lambda: many(1_000_000, GONE)), first, bounds=Bounds(120, 256_000)),
 ]
 TAGS: List[Way] = [
     Way("another command's completion", before(b"C999 OK done")),
