@@ -1,2 +1,3 @@
+pub mod Muted
 pub mod Silent
 pub mod Written

@@ -16,9 +16,9 @@ use world_traits::{Disk, DiskFailed, Link, LinkFailed, Side};
 pub enum AnyWorld {
     /// Of a server.
     Served(MemWorld),
-    /// Of a server that leaves APPENDUID out. It has no moments and no plan.
+    /// Of a server that leaves APPENDUID out. It has no plan, and none of its moments is shown.
     Muted(MutedWorld),
-    /// Of a script, which has no server, no moments and no plan.
+    /// Of a script. It has no server and no plan, and none of its moments is shown.
     Scripted(ScriptWorld),
 }
 
@@ -163,7 +163,7 @@ impl AnyWorld {
         }
     }
 
-    /// An image of a moment, if there are moments.
+    /// An image of a moment, if its moments are shown.
     pub fn image(&self, moment: u64, pick: u64) -> Option<Result<Files, ImageFault>> {
         match self {
             AnyWorld::Served(world) => Some(world.images_at(moment, pick)),

@@ -11,6 +11,8 @@ mod foreign;
 mod line;
 mod looks;
 mod mishap;
+mod muted_link;
+mod muted_run;
 mod muted_world;
 mod next_run;
 mod numbers;

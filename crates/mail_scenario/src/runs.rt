@@ -1,13 +1,15 @@
 //! One call of the top call, and what is shown of it.
 
+use crate::any_world::AnyWorld;
 use crate::fault::LineFault;
+use crate::muted_run::run_muted;
 use crate::next_run::{NextRun, no_plan};
 use crate::page::Page;
 use crate::stand::Stand;
 use mail_base::Status;
 use mail_top::run;
 use std::alloc::{AllocError, Global};
-use world_traits::{FaultySink, FaultySource};
+use world_traits::{FaultySink, FaultySource, Link};
 
 /// Runs the top call in a world, whose server and files may go wrong by the plan, and shows what came of it.
 pub fn run_in(
@@ -33,7 +35,7 @@ pub fn run_in(
     show_run(page, words, status, &out)
 }
 
-// The top call, without its clauses.
+// The top call, without its clauses but at a muted server, whose connection is closed here.
 fn called(
     alloc: Global,
     words: &[String],
@@ -41,7 +43,16 @@ fn called(
     input: &mut FaultySource,
     out: &mut FaultySink,
 ) -> Status {
-    run(alloc, words, &stand.account, input, &mut stand.world, out)
+    match stand.world.world_mut() {
+        AnyWorld::Muted(world) => {
+            let status = run_muted(alloc, words, &stand.account, input, world, out);
+            world.close();
+            status
+        }
+        AnyWorld::Served(_) | AnyWorld::Scripted(_) => {
+            run(alloc, words, &stand.account, input, &mut stand.world, out)
+        }
+    }
 }
 
 // What is shown of a run. Where the output was refused room, what it has isn't what was printed.

@@ -25,7 +25,7 @@ impl Stand {
     /// Goes on from the image of the last moment that the pick takes.
     ///
     /// # Errors
-    /// `Unfit` where it has no moments, and `Memory`.
+    /// `Unfit` where its moments aren't shown, and `Memory`.
     pub fn restarted(self, pick: u64, plan: Plan) -> Result<Stand, LineFault> {
         let Stand { world, account } = self;
         let world = restarted_any(world.into_world(), pick, plan)?;

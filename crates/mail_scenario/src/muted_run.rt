@@ -1,0 +1,38 @@
+//! The top call at a server that leaves APPENDUID out.
+
+ghost use Rattle.std.specs.Prelude.{ℕ, List, map, string_bytes};
+ghost use Rattle.mail_scenario.specs.Muted.{clock_of, course_between, files_of};
+ghost use Rattle.mail_top.specs.Going.{Goes};
+ghost use Rattle.mail_top.specs.Headline.{Finishes};
+ghost use Rattle.mail_top.specs.Leaving.{LosesNone};
+ghost use Rattle.mail_top.specs.Played.{CameThrough};
+ghost use Rattle.mail_top.specs.Resting.{KeepsOneSide};
+ghost use Rattle.mail_top.specs.Words.{WritesPlay};
+
+use crate::muted_world::MutedWorld;
+use mail_base::{Account, Status};
+use mail_top::run;
+use std::alloc::Global;
+use world_traits::{FaultySink, FaultySource};
+
+/// Runs the top call. What it promises of the files it keeps, though the server isn't a lawful one:
+/// what each status says of them, what a stop leaves at each moment, and that nothing accepted is
+/// lost.
+pub fn run_muted(
+    alloc: Global,
+    words: &[String],
+    account: &Account,
+    input: &mut FaultySource,
+    world: &mut MutedWorld,
+    out: &mut FaultySink,
+) -> Status
+    ensures goes { (given : List ℕ) × (text : List ℕ)
+        × Goes account.now (map string_bytes words.now) given
+        (course_between world.old world.new) result text }
+    ensures held { LosesNone (clock_of world.old).now (clock_of world.new).now }
+    ensures sides { KeepsOneSide (clock_of world.old) (clock_of world.new) }
+    ensures finishes { WritesPlay (map string_bytes words.now) → CameThrough result
+        → Finishes (files_of world.old) (files_of world.new) (clock_of world.new).now }
+{
+    run(alloc, words, account, input, world, out)
+}
