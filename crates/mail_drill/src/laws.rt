@@ -2,8 +2,8 @@
 
 ghost use Rattle.mail_drill.specs.Doing.{ServesInMemory};
 
-/// Whatever is done in a world in memory behind a greeting, its server serves, where it offers all that a run needs: so what is
-/// said of a run at a server that serves (`complete_play` of mail_top) can be used over it.
+/// Whatever is done in a world in memory behind a greeting, its server serves, where it offers all that a run needs: the premise
+/// on the server that `complete_play` of mail_top has. That the calls of a `MemWorld` do nothing else is no clause yet.
 pub fn serves_in_memory()
     ensures { ServesInMemory }
 {}
