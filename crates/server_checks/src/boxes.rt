@@ -147,14 +147,19 @@ fn offers_of(alloc: Global, lines: &[Line<'_>]) -> Result<Words, Fault> {
     Ok(offers)
 }
 
-/// The server that a case begins with.
-pub fn listener_of(alloc: Global, head: &[Line<'_>], lines: &[Line<'_>]) -> Result<Listener, Fault>
-    ensures { IfOk result (λ listener. listener.server.muted ≡ false) }
+/// The server that a case begins with. A box keeps its many parts out of sight of the proofs that
+/// let it go.
+pub fn listener_of(
+    alloc: Global,
+    head: &[Line<'_>],
+    lines: &[Line<'_>],
+) -> Result<Box<Listener>, Fault>
+    ensures { IfOk result (λ listener. listener.value.server.muted ≡ false) }
 {
     let boxes = boxes_of(alloc, told_by(head, lines, Word::Mailbox))?;
     let offers = offers_of(alloc, told_by(head, lines, Word::Offer))?;
     match Listener::new(alloc, boxes, offers)? {
-        Some(listener) => Ok(listener),
+        Some(listener) => Ok(Box::new(alloc, listener)?),
         None => Err(Fault::Form),
     }
 }

@@ -19,7 +19,7 @@ fn first_number(lines: &[Line<'_>]) -> usize {
 }
 
 // The server that the lines begin with.
-fn begun(alloc: Global, head: &[Line<'_>], lines: &[Line<'_>]) -> Result<Listener, Stop> {
+fn begun(alloc: Global, head: &[Line<'_>], lines: &[Line<'_>]) -> Result<Box<Listener>, Stop> {
     match listener_of(alloc, head, lines) {
         Ok(listener) => Ok(listener),
         Err(fault) => Err(Stop {

@@ -80,23 +80,23 @@ fn uids_of(alloc: Global, text: &str) -> Result<Vec<Uid>, Fault> {
     Ok(uids)
 }
 
+// `expunge` or another verb, and what stands behind it.
+fn change_of(alloc: Global, verb: &str, rest: &str) -> Result<Change, Fault> {
+    match verb {
+        "expunge" => drop_of(rest),
+        "flags" => flagging_of(alloc, rest),
+        "append" => adding_of(alloc, rest),
+        "move" => moving_of(rest),
+        "reset" => reset_of(alloc, rest),
+        _ => Err(Fault::Form),
+    }
+}
+
 /// `INBOX expunge 42`, or `flags`, `append`, `move` or `reset` in its place.
 pub fn foreign_of(alloc: Global, text: &str) -> Result<Foreign, Fault> {
     let (name, rest) = split(text, " ")?;
     let (verb, rest) = split(rest, " ")?;
-    let change = if verb == "expunge" {
-        drop_of(rest)?
-    } else if verb == "flags" {
-        flagging_of(alloc, rest)?
-    } else if verb == "append" {
-        adding_of(alloc, rest)?
-    } else if verb == "move" {
-        moving_of(rest)?
-    } else if verb == "reset" {
-        reset_of(alloc, rest)?
-    } else {
-        return Err(Fault::Form);
-    };
     let name = name_of(name)?;
+    let change = change_of(alloc, verb, rest)?;
     Ok(Foreign { name, change })
 }

@@ -17,7 +17,7 @@ pub const PIECE: usize = 64;
 #[derive(Drop)]
 struct CutPlay {
     alloc: Global,
-    listener: Listener,
+    listener: Box<Listener>,
     first: usize,
     bytes: Vec<u8>,
     wanted: Vec<u8>,
@@ -49,7 +49,7 @@ fn hear(
 }
 
 impl CutPlay {
-    fn new(alloc: Global, listener: Listener, first: usize) -> CutPlay {
+    fn new(alloc: Global, listener: Box<Listener>, first: usize) -> CutPlay {
         CutPlay {
             alloc,
             listener,
@@ -116,7 +116,7 @@ pub fn length(alloc: Global, lines: &[Line<'_>]) -> Result<usize, Fault> {
 /// before which anything differs.
 pub fn play_cut(
     alloc: Global,
-    listener: Listener,
+    listener: Box<Listener>,
     lines: &[Line<'_>],
     first: usize,
 ) -> Result<(), Stop> {

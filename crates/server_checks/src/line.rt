@@ -80,8 +80,8 @@ pub enum Word {
     Cut,
 }
 
-// How the words are spelled.
-const WORDS: [(&str, Word); 36] = [
+// How the words are spelled: a table to lend, since one that is moved is dear to prove.
+static WORDS: [(&str, Word); 36] = [
     ("C", Word::Client),
     ("S", Word::Server),
     ("C bytes", Word::ClientBytes),
@@ -122,9 +122,9 @@ const WORDS: [(&str, Word); 36] = [
 
 // The word that is spelled so.
 fn word_of(text: &str) -> Option<Word> {
-    for (name, word) in WORDS {
-        if name == text {
-            return Some(word);
+    for (name, word) in &WORDS {
+        if *name == text {
+            return Some(*word);
         }
     }
     None

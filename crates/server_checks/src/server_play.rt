@@ -12,7 +12,7 @@ use std::alloc::Global;
 #[derive(Drop)]
 struct Player {
     alloc: Global,
-    listener: Listener,
+    listener: Box<Listener>,
     reading: Reading,
 }
 
@@ -56,7 +56,7 @@ impl Player {
 }
 
 /// Plays the lines to a server, and stops at the first that differs.
-pub fn play(alloc: Global, listener: Listener, lines: &[Line<'_>]) -> Result<(), Stop> {
+pub fn play(alloc: Global, listener: Box<Listener>, lines: &[Line<'_>]) -> Result<(), Stop> {
     let mut player = Player {
         alloc,
         listener,

@@ -70,19 +70,29 @@ pub fn moments(world: &MemWorld) -> Option<u64> {
     }
 }
 
-/// Goes on from an image.
-pub fn restarted(world: MemWorld, pick: u64, plan: Plan) -> Result<MemWorld, AllocError> {
-    world.restart(pick, plan)
+// What was made, in a box. It knows of no type, so that its proof sees no parts.
+fn boxed<T: Drop>(alloc: Global, made: Result<T, AllocError>) -> Result<Box<T>, AllocError> {
+    Ok(Box::new(alloc, made?)?)
 }
 
-/// A new world.
+/// Goes on from an image.
+pub fn restarted(
+    alloc: Global,
+    world: Box<MemWorld>,
+    pick: u64,
+    plan: Plan,
+) -> Result<Box<MemWorld>, AllocError> {
+    boxed(alloc, Box::into_inner(world).restart(pick, plan))
+}
+
+/// A new world. A box keeps its many parts out of sight of the proofs that let it go.
 pub fn new_world(
     alloc: Global,
     server: server_mem::MemServer,
     files: Files,
     plan: Plan,
-) -> Result<MemWorld, AllocError>
+) -> Result<Box<MemWorld>, AllocError>
     requires { server.muted ≡ false }
 {
-    MemWorld::new(alloc, server, files, plan)
+    boxed(alloc, MemWorld::new(alloc, server, files, plan))
 }

@@ -48,26 +48,48 @@ fn exchange(alloc: Global, world: &mut MemWorld, lines: &[Line<'_>]) -> Result<b
     Ok(true)
 }
 
-// Makes the exchange again in full.
-fn again(alloc: Global, world: MemWorld, lines: &[Line<'_>], there: u64) -> Result<(), Fault> {
-    let mut world = restarted(world, 0, no_plan(alloc))?;
-    if !exchange(alloc, &mut world, lines)? {
+// Makes the exchange up to the call that fails.
+fn breaks_off(alloc: Global, world: &mut MemWorld, lines: &[Line<'_>]) -> Result<(), Fault> {
+    if exchange(alloc, world, lines)? {
+        return Err(differs(alloc, b"a failure", b"an exchange"));
+    }
+    Ok(())
+}
+
+// Makes it in full, and wants so many messages to have come.
+fn is_made(
+    alloc: Global,
+    world: &mut MemWorld,
+    lines: &[Line<'_>],
+    there: u64,
+) -> Result<(), Fault> {
+    if !exchange(alloc, world, lines)? {
         return Err(differs(alloc, b"an exchange", b"a failure"));
     }
     same_number(alloc, there, appended(world.server()))
 }
 
-// `15 waits carried gives 2`: how many messages came where the connection is lost so in this call.
-fn cut(alloc: Global, head: &[Line<'_>], lines: &[Line<'_>], text: &str) -> Result<(), Fault> {
-    let (call, rest) = split(text, " ")?;
-    let (loss, there) = split(rest, " gives ")?;
-    let there = number(there)?;
+// `15 waits carried`: the world behind an exchange in which the connection is lost so in this call.
+fn cut_off(
+    alloc: Global,
+    head: &[Line<'_>],
+    lines: &[Line<'_>],
+    text: &str,
+) -> Result<Box<MemWorld>, Fault> {
+    let (call, loss) = split(text, " ")?;
     let plan = losing(alloc, number(call)?, loss_of(loss)?)?;
     let mut world = world_of(alloc, head, lines, plan)?;
-    if exchange(alloc, &mut world, lines)? {
-        return Err(differs(alloc, b"a failure", b"an exchange"));
-    }
-    again(alloc, world, lines, there)
+    breaks_off(alloc, &mut world, lines)?;
+    Ok(world)
+}
+
+// `15 waits carried gives 2`: how many messages came where the exchange is made again behind that.
+fn cut(alloc: Global, head: &[Line<'_>], lines: &[Line<'_>], text: &str) -> Result<(), Fault> {
+    let (loss, there) = split(text, " gives ")?;
+    let there = number(there)?;
+    let world = cut_off(alloc, head, lines, loss)?;
+    let mut world = restarted(alloc, world, 0, no_plan(alloc))?;
+    is_made(alloc, &mut world, lines, there)
 }
 
 /// Cuts the exchange wherever its lines say so, and says how often.

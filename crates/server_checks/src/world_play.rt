@@ -16,7 +16,7 @@ use world_traits::Side;
 #[derive(Drop)]
 struct WorldPlayer {
     alloc: Global,
-    world: MemWorld,
+    world: Box<MemWorld>,
     reading: Reading,
     holds: bool,
 }
@@ -33,6 +33,15 @@ pub fn side_of(text: &str) -> Result<Side, Fault> {
 }
 
 impl WorldPlayer {
+    fn new(alloc: Global, world: Box<MemWorld>) -> WorldPlayer {
+        WorldPlayer {
+            alloc,
+            world,
+            reading: Reading::new(alloc),
+            holds: true,
+        }
+    }
+
     // A call that failed is told by the next line, or else stops the case.
     fn hold(&self) -> Result<(), Fault> {
         if self.holds {
@@ -156,24 +165,24 @@ impl WorldPlayer {
         self.reading.want_end()
     }
 
-    // Goes on from the image that a pick takes.
-    fn restart(self, text: &str) -> Result<WorldPlayer, Fault> {
+    // `2`: the pick of the image to go on from, where the world is at rest.
+    fn pick(&self, text: &str) -> Result<u64, Fault> {
         self.end()?;
-        let pick = number(text)?;
+        number(text)
+    }
+
+    // Goes on from the image that a pick takes.
+    fn restart(self, pick: u64) -> Result<WorldPlayer, Fault> {
         let alloc = self.alloc;
-        let world = restarted(self.world, pick, no_plan(alloc))?;
-        Ok(WorldPlayer {
-            alloc,
-            world,
-            reading: Reading::new(alloc),
-            holds: true,
-        })
+        let world = restarted(alloc, self.world, pick, no_plan(alloc))?;
+        Ok(WorldPlayer::new(alloc, world))
     }
 
     // The same behind a line.
     fn behind(mut self, line: Line<'_>) -> Result<WorldPlayer, Fault> {
         if line.word == Word::Restart {
-            return self.restart(line.rest);
+            let pick = self.pick(line.rest)?;
+            return self.restart(pick);
         }
         self.step(line)?;
         Ok(self)
@@ -184,12 +193,7 @@ impl WorldPlayer {
 fn begun(alloc: Global, head: &[Line<'_>], lines: &[Line<'_>]) -> Result<WorldPlayer, Fault> {
     let plan = plan_of(alloc, lines)?;
     let world = world_of(alloc, head, lines, plan)?;
-    Ok(WorldPlayer {
-        alloc,
-        world,
-        reading: Reading::new(alloc),
-        holds: true,
-    })
+    Ok(WorldPlayer::new(alloc, world))
 }
 
 /// Plays the lines to a world, and stops at the first that differs.

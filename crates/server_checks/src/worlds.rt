@@ -26,11 +26,11 @@ pub fn world_of(
     head: &[Line<'_>],
     lines: &[Line<'_>],
     plan: Plan,
-) -> Result<MemWorld, Fault> {
-    let listener = listener_of(alloc, head, lines)?;
+) -> Result<Box<MemWorld>, Fault> {
     let left = file_of(alloc, lines, Word::Left)?;
     let right = file_of(alloc, lines, Word::Right)?;
     let files = Files { left, right };
-    let world = new_world(alloc, listener.into_server(), files, plan)?;
+    let listener = listener_of(alloc, head, lines)?;
+    let world = new_world(alloc, Box::into_inner(listener).into_server(), files, plan)?;
     Ok(world)
 }
