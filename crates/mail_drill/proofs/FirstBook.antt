@@ -1,5 +1,6 @@
 -- What a drill's world holds behind its first command, which sets up the journal.
-use Rattle.std.proofs.Common.{◌≡◌, ℕ, List, None}
+use Rattle.std.proofs.Common.{◌≡◌, ℕ, List, None, Some, sym, subst}
+use Rattle.imap_model.specs.Talking.{Peer}
 use Rattle.world_traits.specs.Moments.{OneSideAtRest}
 use Rattle.world_traits.proofs.Choosing.{rests_only}
 use Rattle.world_traits.proofs.Keeping.{since_now}
@@ -14,6 +15,7 @@ use Rattle.store_core.specs.Steps.{Firm}
 use Rattle.store_core.specs.Taking.{HasBooks}
 use Rattle.play_driver.specs.Joining.{Joined}
 use Rattle.play_driver.specs.Played.{played}
+use Rattle.play_driver.proofs.Kept.{books_kept}
 use Rattle.mail_top.specs.Course.{OnFiles}
 use Rattle.mail_top.specs.KeptNow.{IsKeptNow}
 use Rattle.mail_top.specs.Saying.{SaysReady}
@@ -21,6 +23,7 @@ use Rattle.mail_top.specs.Words.{Init, WritesInit}
 use Rattle.mail_top.proofs.Endings.{ended_as}
 use Rattle.mail_drill.specs.Beginning.{IsNew, moment_of}
 use Rattle.mail_drill.specs.Came.{files_of}
+use Rattle.mail_drill.specs.Mailboxes.{BothFit, FitsBoth}
 use Rattle.mail_drill.specs.Ran.{Ran, course_from}
 use Rattle.mail_drill.specs.Standing.{HasOne, clock_of, now_of, seen_of}
 use Rattle.mail_drill.specs.declared.quiet_world.QuietWorld.{QuietWorld}
@@ -36,13 +39,16 @@ module _ (account : Credentials) (words : List (List ℕ)) (input : List ℕ) (n
   set_up_outside = set_up_said.outside
 
   -- and the journal holds the book of the names
-  pub set_up_one : OneSideAtRest (now_of old) → HasBooks mail (Firm None) (now_of old) → IsKeptNow (now_of old) → HasOne (begun names) new
-  set_up_one side books kept = record {
+  pub set_up_one : OneSideAtRest (now_of old) → HasBooks mail (Firm None) (now_of old) → IsKeptNow (now_of old) →
+      FitsBoth (begun names) (now_of old).outside.server → HasOne (begun names) new
+  set_up_one side books kept fits = record {
     one_side = ran.one_side side;
     leaves = set_up_said.says.leaves;
     reads = set_up_said.says.leaves.each.each (seen_of new) (seen_sound (course_of new.world));
     kept = since_now IsKeptNow IsKeptNow (Joined mail played) (λ m n here step before. here) (clock_of old) kept (clock_of new)
         (ran.joined side (Firm None) books kept);
+    fits = books_kept mail BothFit (Firm (Some (begun names))) (now_of new) set_up_said.says.leaves
+        (subst (λ (p : Peer). FitsBoth (begun names) p.server) (sym set_up_outside) fits);
     sufficed = ran.sufficed;
   }
 

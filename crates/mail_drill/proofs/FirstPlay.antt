@@ -38,6 +38,7 @@ use Rattle.mail_drill.specs.Ran.{Ran, course_from}
 use Rattle.mail_drill.specs.Standing.{HasOne, Knows, clock_of, now_of, seen_of}
 use Rattle.mail_drill.specs.declared.quiet_world.QuietWorld.{QuietWorld}
 use Rattle.mail_drill.proofs.Courses.{alone_in, kept_behind}
+use Rattle.mail_drill.proofs.Mailboxes.{fits_behind}
 use Rattle.mail_drill.proofs.Untouched.{own_since, server_stays, still_empty}
 
 -- while the book that is read is played, each image holds it or one further on
@@ -75,6 +76,7 @@ module _ (account : Credentials) (words : List (List ℕ)) (input : List ℕ) (w
     leaves = play_said.leaves;
     reads = play_said.holds;
     kept = kept_behind account words input old new status.Done ran one.one_side (Firm (Some b)) one.leaves one.kept;
+    fits = fits_behind account words input old new status.Done ran one.one_side (Firm (Some b)) one.leaves one.kept one.fits;
     sufficed = ran.sufficed;
   }
 

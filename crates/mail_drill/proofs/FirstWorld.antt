@@ -1,5 +1,5 @@
 -- What a drill's world holds behind the two commands before those of its task.
-use Rattle.std.proofs.Common.{◌≡◌, ◌≢◌, ℕ, List, [], ◌∷◌, Some, slice_index, refl, ◌∙◌, ap, arith}
+use Rattle.std.proofs.Common.{◌≡◌, ◌≢◌, ℕ, List, [], Some, slice_index, refl, ◌∙◌, ap, arith}
 use Rattle.std.specs.Prelude.{codes}
 use Rattle.imap_model.specs.Lookups.{box_at}
 use Rattle.imap_model.specs.Talking.{Peer}
@@ -14,16 +14,14 @@ use Rattle.mail_drill.specs.Beginning.{IsNew}
 use Rattle.mail_drill.specs.Came.{Runs}
 use Rattle.mail_drill.specs.Held.{Gives, init_words, play_words}
 use Rattle.mail_drill.specs.Held.Gives.{sets_up}
+use Rattle.mail_drill.specs.Mailboxes.{both_names}
 use Rattle.mail_drill.specs.Ran.{Ran}
 use Rattle.mail_drill.specs.Standing.{HasOne, Knows, now_of}
 use Rattle.mail_drill.specs.declared.quiet_world.QuietWorld.{QuietWorld}
 use Rattle.mail_drill.proofs.FirstBook.{fresh_books, fresh_side, set_up_one, set_up_outside}
 use Rattle.mail_drill.proofs.FirstBoxes.{inbox_at_first, inbox_there, uids_at_first}
 use Rattle.mail_drill.proofs.FirstPlay.{book_then, then_empty, then_knows, then_one}
-
--- the names of both mailboxes
-abbrev pub both_names : List (List ℕ)
-both_names = codes "INBOX" ∷ codes "Archive" ∷ []
+use Rattle.mail_drill.proofs.Mailboxes.{fits_at_first}
 
 pub inbox_text : IsBoxText (codes "INBOX")
 inbox_text = ((is_name-Decides (codes "INBOX")).0 refl).text
@@ -59,6 +57,7 @@ module _ (account : Credentials) (size : ℕ) (old mid new : QuietWorld) (fresh 
     (second : Ran account play_words [] mid new status.Done) where
   begun_one : HasOne (begun both_names) mid
   begun_one = set_up_one account init_words [] both_names writes_init old mid first (fresh_side size old fresh) (fresh_books size old fresh) fresh.kept
+      (fits_at_first size (now_of old).outside.server fresh.boxes)
 
   still_there : box_at (codes "INBOX") (now_of mid).outside.server.boxes ≡ Some (inbox_at_first size)
   still_there =

@@ -12,6 +12,7 @@ pub mod FirstWorld
 pub mod Fitting
 pub mod Giving
 pub mod LastMoments
+pub mod Mailboxes
 pub mod Messages
 pub mod NewWorld
 pub mod OneImage

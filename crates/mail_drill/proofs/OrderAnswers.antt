@@ -36,6 +36,7 @@ use Rattle.mail_top.specs.Words.{Act, Asks, Request}
 use Rattle.mail_top.specs.declared.reason.Reason.{Reason}
 use Rattle.mail_top.specs.declared.reason.Reason.TheVariants as reasons
 use Rattle.mail_top.proofs.Wording.{one_request}
+use Rattle.mail_drill.proofs.Mailboxes.{fits_behind}
 use Rattle.mail_drill.proofs.Messages.{message_clean, message_id, message_short}
 use Rattle.mail_drill.proofs.OrderWords.{order_asked, order_becomes}
 use Rattle.mail_drill.proofs.Viewing.{in_view}
@@ -180,6 +181,7 @@ module _ (account : Credentials) (words : List (List ℕ)) (input : List ℕ) (o
     leaves = leaves;
     reads = leaves.each.each (seen_of new) (seen_sound (course_of new.world));
     kept = kept_now;
+    fits = fits_behind account words input old new s ran has.one_side (Firm (Some b)) has.leaves has.kept has.fits;
     sufficed = ran.sufficed;
   }
 

@@ -11,5 +11,6 @@ plays_on b w has = record {
   ready = record { one_side = has.one_side; books = Firm (Some b); have = has.leaves; each = tt };
   playing = record { each = λ files leaves. record { book = b; holds = has.leaves.each.each files leaves; later = later_start b } };
   kept = has.kept;
+  fits = has.fits;
   sufficed = has.sufficed;
 }

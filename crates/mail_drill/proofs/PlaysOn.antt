@@ -27,6 +27,7 @@ use Rattle.mail_drill.specs.Ran.{Ran, course_from}
 use Rattle.mail_drill.specs.Standing.{IsPlayedOut, PlaysOn, clock_of, now_of, seen_of}
 use Rattle.mail_drill.specs.declared.quiet_world.QuietWorld.{QuietWorld}
 use Rattle.mail_drill.proofs.Courses.{kept_behind}
+use Rattle.mail_drill.proofs.Mailboxes.{fits_behind}
 
 -- Each image holds a book, or one further on, and the files read as one of them.
 module _ (b : Meaning) (account : Credentials) (k : Course) (playing : IsPlaying b k.old.now) (reads : MayLeave k.old.now k.seen) where
@@ -103,6 +104,7 @@ module _ (account : Credentials) (words : List (List ℕ)) (input : List ℕ) (o
         (cuts account words input course s ran.text ran.goes ran.each_one_side (clock_of new) grown (grows_start (clock_of new))));
     playing = play_leaves b account course before.playing reads s ran.text (ends_play account words input course s ran.text writes ran.goes.ends);
     kept = kept_behind account words input old new s ran before.ready.one_side before.ready.books before.ready.have before.kept;
+    fits = fits_behind account words input old new s ran before.ready.one_side before.ready.books before.ready.have before.kept before.fits;
     sufficed = ran.sufficed;
   }
 

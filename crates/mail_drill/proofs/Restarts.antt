@@ -9,6 +9,8 @@ use Rattle.world_traits.specs.Moments.{MayLeave, Moment, restarted}
 use Rattle.world_traits.proofs.Narrowing.{restart_within}
 use Rattle.playback.specs.Kept.{Kept}
 use Rattle.store_core.specs.Mail.{mail}
+use Rattle.play_driver.specs.Joining.{IsKept}
+use Rattle.play_driver.specs.Machine.{Relation}
 use Rattle.play_driver.specs.Progress.{IsPlaying}
 use Rattle.play_driver.proofs.Calls.{stop_keeps}
 use Rattle.mail_top.specs.KeptNow.{IsKeptNow}
@@ -20,23 +22,26 @@ use Rattle.world_mem.specs.Running.{Run, waiting_of}
 use Rattle.world_mem.specs.Worlds.{course_of, run_in}
 use Rattle.world_mem.specs.declared.course.Course.{Course}
 use Rattle.world_mem.specs.declared.did.Held.{Held}
+use Rattle.mail_drill.specs.Mailboxes.{BothFit}
 use Rattle.mail_drill.specs.Standing.{PlaysOn, now_of}
 use Rattle.mail_drill.specs.declared.quiet_world.QuietWorld.{QuietWorld}
 
 -- where the moment now has become this one
-plays_at : (b : Meaning) (m : Moment) (new : QuietWorld) → now_of new ≡ m → IsReady AnyBook m → IsPlaying b m → IsKeptNow m → new.short ≡ false →
-    PlaysOn b new
-plays_at b m new now ready playing kept sufficed = record {
+plays_at : (b : Meaning) (m : Moment) (new : QuietWorld) → now_of new ≡ m → IsReady AnyBook m → IsPlaying b m → IsKeptNow m →
+    IsKept mail BothFit m → new.short ≡ false → PlaysOn b new
+plays_at b m new now ready playing kept fits sufficed = record {
   ready = subst (λ (n : Moment). IsReady AnyBook n) (sym now) ready;
   playing = subst (λ (n : Moment). IsPlaying b n) (sym now) playing;
   kept = subst (λ (n : Moment). IsKeptNow n) (sym now) kept;
+  fits = subst (λ (n : Moment). IsKept mail BothFit n) (sym now) fits;
   sufficed = sufficed;
 }
 
 -- with another plan
 pub planned_on : (b : Meaning) (old new : QuietWorld) → course_of new.world ≡ course_of old.world → new.short ≡ old.short → PlaysOn b old → PlaysOn b new
 planned_on b old new course short before =
-    plays_at b (now_of old) new (ap (λ (c : Course). (run_of c).clock.now) course) before.ready before.playing before.kept (short ∙ before.sufficed)
+    plays_at b (now_of old) new (ap (λ (c : Course). (run_of c).clock.now) course) before.ready before.playing before.kept
+    before.fits (short ∙ before.sufficed)
 
 -- a stop leaves the server's mailboxes and history, and the command that waits
 server_left : (held : Option Held) (s : State) → (left_of held s).server ≡ s.server
@@ -75,15 +80,15 @@ module _ (files : Files) (r : Run) (leaves : MayLeave r.clock.now files) (server
     each = λ f h. playing.each f ((restart_within r.clock.now files leaves).each f (as_restarted f h));
   }
 
-  kept_behind : IsKeptNow r.clock.now → IsKeptNow (behind files r)
-  kept_behind kept = record {
+  kept_behind : (R : Relation mail) → IsKept mail R r.clock.now → IsKept mail R (behind files r)
+  kept_behind R kept = record {
     each = λ f h.
-        let there = (stop_keeps mail Kept r.clock.now files leaves kept).each f (as_restarted f h) in
+        let there = (stop_keeps mail R r.clock.now files leaves kept).each f (as_restarted f h) in
         record {
           book = there.book;
           holds = there.holds;
-          related = subst (λ (w : Option Waiting). Kept there.book (behind files r).outside.server w) (sym same_waiting)
-              (subst (λ (s : Server). Kept there.book s r.clock.now.outside.waiting) (sym same_server) there.related);
+          related = subst (λ (w : Option Waiting). R there.book (behind files r).outside.server w) (sym same_waiting)
+              (subst (λ (s : Server). R there.book s r.clock.now.outside.waiting) (sym same_server) there.related);
         };
   }
 
@@ -96,5 +101,6 @@ restarted_on b old new files leaves goes short before =
     plays_at b (behind files r) new (ap (λ (x : Run). x.clock.now) goes)
     (ready_behind files r leaves stands.server_fits stands.waits before.ready)
     (playing_behind files r leaves stands.server_fits stands.waits b before.playing)
-    (kept_behind files r leaves stands.server_fits stands.waits before.kept)
+    (kept_behind files r leaves stands.server_fits stands.waits Kept before.kept)
+    (kept_behind files r leaves stands.server_fits stands.waits BothFit before.fits)
     (short ∙ before.sufficed)

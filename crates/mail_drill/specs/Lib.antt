@@ -7,6 +7,7 @@ pub mod Came
 pub mod Counted
 pub mod Drilled
 pub mod Held
+pub mod Mailboxes
 pub mod Misfortunes
 pub mod Offering
 pub mod Doing

@@ -1,5 +1,5 @@
 -- How a drill's world stands between two of its commands, and between two rounds.
-use Rattle.std.specs.Prelude.{◌≡◌, ℕ, suc, false, ◌&&◌, nat_le, is_some, List, [], ◌∷◌, codes, slice_get, Some, ⊤}
+use Rattle.std.specs.Prelude.{◌≡◌, ℕ, suc, false, ◌&&◌, nat_le, is_some, List, codes, slice_get, Some, ⊤}
 use Rattle.imap_model.specs.Ours.{ours}
 use Rattle.mailbox_cache.specs.Rows.{row_at}
 use Rattle.mailbox_cache.specs.declared.cache.Cache.{Cache}
@@ -14,11 +14,13 @@ use Rattle.store_core.specs.Books.{HasBook}
 use Rattle.store_core.specs.Mail.{mail}
 use Rattle.store_core.specs.Steps.{Firm}
 use Rattle.store_core.specs.Taking.{HasBooks}
+use Rattle.play_driver.specs.Joining.{IsKept}
 use Rattle.play_driver.specs.Progress.{IsLater, IsPlaying, actions_of, box_names}
 use Rattle.mail_top.specs.Headline.{IsOnceOrReported}
 use Rattle.mail_top.specs.KeptNow.{IsKeptNow}
 use Rattle.mail_top.specs.Runs.{AnyBook, IsReady}
 use Rattle.mail_drill.specs.Asked.{actions_for}
+use Rattle.mail_drill.specs.Mailboxes.{BothFit, both_names}
 use Rattle.mail_drill.specs.declared.orders.Order.{Order}
 use Rattle.mail_drill.specs.declared.played.Broken.{Broken}
 use Rattle.mail_drill.specs.declared.played.Broken.TheVariants as brokens
@@ -34,17 +36,18 @@ now_of w = (clock_of w).now
 abbrev pub seen_of : QuietWorld → Files
 seen_of w = (run_in w.world).seen
 
--- Each stop leaves this book, which the files read as, and it is kept beside the server. Memory sufficed so far.
+-- Each stop leaves this book, which the files read as, and it is kept beside the server, whose mailboxes it fits. Memory sufficed so far.
 pub record HasOne (b : Meaning) (w : QuietWorld) : Type 0 where
   pub one_side : OneSideAtRest (now_of w)
   pub leaves : HasBooks mail (Firm (Some b)) (now_of w)
   pub reads : HasBook mail b (seen_of w)
   pub kept : IsKeptNow (now_of w)
+  pub fits : IsKept mail BothFit (now_of w)
   pub sufficed : w.short ≡ false
 
 -- The book has both mailboxes, and a cache of INBOX: so many messages, by the UIDs from 1.
 pub record Knows (size : ℕ) (b : Meaning) : Type 0 where
-  pub names : box_names b ≡ codes "INBOX" ∷ codes "Archive" ∷ []
+  pub names : box_names b ≡ both_names
   pub inbox : Cache
   pub has_inbox : cache_at (codes "INBOX") b.boxes ≡ Some inbox
   pub validity : inbox.validity ≡ 5
@@ -55,11 +58,13 @@ pub record HasAsked (os : List Order) (b : Meaning) : Type 0 where
   pub asked : actions_of b ≡ actions_for os
   pub unsettled : AllOpen b.queue
 
--- Each stop leaves this book, or one further on, which is kept beside the server; and one side is at rest. Memory sufficed so far.
+-- Each stop leaves this book, or one further on, which is kept beside the server, whose mailboxes it fits; and one side is at rest. Memory
+-- sufficed so far.
 pub record PlaysOn (b : Meaning) (w : QuietWorld) : Type 0 where
   pub ready : IsReady AnyBook (now_of w)
   pub playing : IsPlaying b (now_of w)
   pub kept : IsKeptNow (now_of w)
+  pub fits : IsKept mail BothFit (now_of w)
   pub sufficed : w.short ≡ false
 
 -- This book is the other one, with an outcome for each of its actions, which the changes at the server fit. Each stop leaves it.
