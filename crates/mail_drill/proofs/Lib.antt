@@ -1,6 +1,8 @@
 pub mod Alone
 pub mod BoxNames
 pub mod Breaking
+pub mod CalmRuns
+pub mod CalmTimes
 pub mod Counts
 pub mod Courses
 pub mod Endings
@@ -12,9 +14,11 @@ pub mod FirstWorld
 pub mod Fitting
 pub mod Giving
 pub mod LastMoments
+pub mod LastRounds
 pub mod Mailboxes
 pub mod Messages
 pub mod NewWorld
+pub mod NothingTold
 pub mod OneImage
 pub mod OrderAnswers
 pub mod OrderWords
@@ -27,6 +31,8 @@ pub mod PlaysOn
 pub mod Restarts
 pub mod RoundSteps
 pub mod Seeds
+pub mod ServedCalls
+pub mod ServedParts
 pub mod ServedSteps
 pub mod ServedTurn
 pub mod Tellings

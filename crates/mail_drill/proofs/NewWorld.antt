@@ -1,8 +1,11 @@
 -- The world that a drill begins with: two empty files, and a server that nothing has happened to.
-use Rattle.std.proofs.Common.{◌≡◌, ℕ, List, [], ◌∷◌, None, Result, Ok, Err, IfOk, refl, sym, ◌∙◌, ap, subst, arith}
+use Rattle.std.proofs.Common.{◌≡◌, inl, inr, ℕ, Bool, true, false, List, [], ◌∷◌, None, Result, Ok, Err, IfOk, refl, sym, ◌∙◌, ap, subst, arith}
 use Rattle.std.specs.Prelude.{codes}
+use Rattle.imap_model.specs.PlainServer.{enabled_names}
 use Rattle.imap_model.specs.WellFormed.{IsWellFormed}
+use Rattle.imap_model.specs.declared.response.Response.TheVariants as responses
 use Rattle.imap_model.specs.declared.server.Mailbox.{Mailbox}
+use Rattle.imap_session.specs.Enabled.{is_enabled}
 use Rattle.journal_core.specs.Creating.{IsUnbegun}
 use Rattle.world_traits.specs.Files.{Files}
 use Rattle.world_traits.specs.Moments.{Rests}
@@ -10,17 +13,22 @@ use Rattle.world_traits.specs.declared.disk.Side.TheVariants.{Left, Right}
 use Rattle.world_traits.proofs.Resting.{resting}
 use Rattle.server_mem.specs.Offers.{atoms}
 use Rattle.server_mem.specs.States.{State, disconnected, fresh}
+use Rattle.world_mem.specs.Memory.{told_line, unmade}
 use Rattle.world_mem.specs.Planned.{unbegun}
 use Rattle.world_mem.specs.Running.{Run, start}
 use Rattle.world_mem.specs.Tally.{IsUncalled}
-use Rattle.world_mem.specs.Worlds.{planned_of, run_in}
+use Rattle.world_mem.specs.Worlds.{line_in, planned_of, run_in}
+use Rattle.world_mem.specs.declared.course.Phase.TheVariants as phases
 use Rattle.world_mem.specs.declared.mem_world.MemWorld.{MemWorld}
 use Rattle.world_mem.specs.declared.plan.Plan.{Plan}
 use Rattle.playback.proofs.Carrying.{nothing_waits}
 use Rattle.mail_top.specs.KeptNow.{IsKeptNow}
 use Rattle.mail_drill.specs.Alone.{is_alone}
 use Rattle.mail_drill.specs.Beginning.{IsNew, boxes_at_first}
+use Rattle.mail_drill.specs.Connected.{IsServed, Untouched}
 use Rattle.mail_drill.specs.Misfortunes.{nothing_fails}
+use Rattle.mail_drill.specs.Offering.{OffersAll}
+use Rattle.mail_drill.proofs.ServedCalls.{start_untouched}
 
 -- two empty files
 abbrev empty : Files
@@ -67,6 +75,33 @@ is_new size world boxes offers run plan well boxes_are offers_are = record {
   alone = ap (λ (r : Run). is_alone r.clock) run;
 }
 
+-- its server offers what a run needs
+enables_at_first : (rev2 : Bool) →
+    is_enabled (codes "QRESYNC") (responses.Enabled (enabled_names (fresh [] offers_at_first).choices rev2) ∷ []) ≡ true
+enables_at_first true = refl
+enables_at_first false = refl
+
+offers_first : OffersAll (fresh [] offers_at_first).choices
+offers_first = record {
+  login = inr refl;
+  fit = record { qresync = refl; moves = inl refl };
+  enables = enables_at_first;
+  each_open = refl;
+}
+
+-- a world of that run in which nothing was called serves
+serves_new : (world : MemWorld) (boxes : List Mailbox) (offers : List (List ℕ)) (plan : Plan) → run_in world ≡ new_run boxes offers →
+    line_in world ≡ unmade phases.Off → IsUncalled plan world → offers ≡ offers_at_first → IsServed world
+serves_new world boxes offers plan run line uncalled offers_are = record {
+  offers = subst (λ (r : Run). OffersAll r.state.choices) (sym run)
+      (subst (λ (l : List (List ℕ)). OffersAll (fresh boxes l).choices) (sym offers_are) offers_first);
+  connection = inl (record {
+    none = ap told_line line;
+    untouched = subst (λ (r : Run). Untouched r.clock) (sym run) (start_untouched empty (disconnected (fresh boxes offers)) None);
+  });
+  unfailed = λ calm. (uncalled.faults, inl uncalled.link);
+}
+
 -- two files without bytes and a server as it is made give that run
 same_run : (left right : List ℕ) (server : State) (boxes : List Mailbox) (offers : List (List ℕ)) → left ≡ [] → right ≡ [] →
     server ≡ fresh boxes offers → start (record { left = left; right = right }) (disconnected server) None ≡ new_run boxes offers
@@ -84,3 +119,13 @@ new_world (Ok world) size left right server boxes offers plan run uncalled none_
     is_new size world boxes (atoms offers) (run ∙ same_run left right server boxes (atoms offers) none_left none_right is)
     (uncalled.plan ∙ ap (λ (p : Plan). unbegun p) quiet) well boxes_are (ap (λ (l : List (List ℕ)). atoms l) offers_are)
 new_world (Err fault) size left right server boxes offers plan run uncalled none_left none_right is quiet well boxes_are offers_are = tt
+
+-- and it serves
+pub new_served : {E : Type 0} (r : Result MemWorld E) (left right : List ℕ) (server : State) (boxes : List Mailbox) (offers : List (List ℕ))
+    (plan : Plan) → IfOk r (λ world. run_in world ≡ start (record { left = left; right = right }) (disconnected server) None) →
+    IfOk r (λ world. line_in world ≡ unmade phases.Off) → IfOk r (IsUncalled plan) → left ≡ [] → right ≡ [] → server ≡ fresh boxes (atoms offers) →
+    offers ≡ offers_at_first → IfOk r IsServed
+new_served (Ok world) left right server boxes offers plan run line uncalled none_left none_right is offers_are =
+    serves_new world boxes (atoms offers) plan (run ∙ same_run left right server boxes (atoms offers) none_left none_right is) line uncalled
+    (ap (λ (l : List (List ℕ)). atoms l) offers_are)
+new_served (Err fault) left right server boxes offers plan run line uncalled none_left none_right is offers_are = tt

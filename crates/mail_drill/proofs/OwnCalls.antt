@@ -45,7 +45,7 @@ own_world w alone = record {
 }
 
 -- where a growth was refused, the count isn't 0
-none_counted : (n m : ℕ) → m ≡ 0 → m ≡ counted n → ⊥
+pub none_counted : (n m : ℕ) → m ≡ 0 → m ≡ counted n → ⊥
 none_counted n m none is = omega (arith, none, is)
 
 -- a call of the link keeps the plan

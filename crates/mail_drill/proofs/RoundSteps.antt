@@ -60,7 +60,7 @@ module _ (account : Credentials) (words : List (List ℕ)) (input : List ℕ) (o
     runs_out = (s, ran.text, done, runs_play)
 
 -- whether a play came to its end its status tells
-ended_or_not : (s : Status) → CameToItsEnd s ⊎ (CameToItsEnd s → ⊥)
+pub ended_or_not : (s : Status) → CameToItsEnd s ⊎ (CameToItsEnd s → ⊥)
 ended_or_not status.Done = inl (inl refl)
 ended_or_not status.Conflicts = inl (inr refl)
 ended_or_not status.Words = inr neither
@@ -184,6 +184,7 @@ module _ (first : MemWorld) (seed number x : ℕ) (pick : Option ℕ) (before be
     begins = begins;
     runs = runs;
   }
+  ends_by most begins (ended.Unfinished s) runs = absurd runs
 
   -- one of the first hundred
   module _ (early : number ≤ 100) (begins : Begins pick (plan_of (misfortune_at number x)) before begun) where
@@ -199,14 +200,6 @@ module _ (first : MemWorld) (seed number x : ℕ) (pick : Option ℕ) (before be
         subst (λ (n : ℕ). Plays first seed n left picks world) (sym one)
         (subst (λ (y : ℕ). Plays first seed (suc number) y picks world) (sym two)
         (subst (λ (p : Option ℕ). Plays first seed (suc number) (next (next x)) p world) (sym three) (again so_far early begins runs.4 runs.2 runs.3)))
-
--- the hundred and first one
-pub last_ends : (first : MemWorld) (seed number x : ℕ) (pick : Option ℕ) (before begun world : MemWorld) → Plays first seed number x pick before →
-    number ≡ 101 → (plan : Plan) → plan ≡ nothing_fails → Begins pick plan before begun → (e : Ended) → RunsTo (turns.Ended e) begun world →
-    RoundsEnd first seed e world
-last_ends first seed number x pick before begun world so_far last plan none begins e runs =
-    ends_by first seed 101 x pick before begun world (subst (λ (n : ℕ). Plays first seed n x pick before) last so_far) (omega arith)
-    (subst (λ (p : Plan). Begins pick p before begun) none begins) e runs
 
 -- a round is played in a world that is lent
 pub lent_runs : (turn to : Turn) → turn ≡ to → (lent begun world : QuietWorld) → lent ≡ begun → RunsTo turn lent.world world.world →

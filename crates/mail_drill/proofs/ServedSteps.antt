@@ -22,9 +22,10 @@ use Rattle.server_mem.specs.Greeting.{greeting}
 use Rattle.server_mem.specs.States.{State, turn_at}
 use Rattle.server_mem.specs.declared.outcome.Answered.{Answered}
 use Rattle.server_mem.specs.declared.outcome.Answered.TheVariants as answers
+use Rattle.world_traits.specs.Connected.{IsGreeted}
 use Rattle.world_traits.specs.Files.{Stored}
 use Rattle.world_traits.specs.Links.{Any, becomes}
-use Rattle.world_traits.specs.Moments.{Clock, Moment, Since, tick, with_stored}
+use Rattle.world_traits.specs.Moments.{Clock, Moment, tick, with_stored}
 use Rattle.world_traits.specs.declared.disk.Side.{Side}
 use Rattle.world_traits.specs.declared.disk.Side.TheVariants.{Left, Right}
 use Rattle.world_traits.proofs.Passing.{since_start, since_tick, since_weaker}
@@ -35,19 +36,10 @@ use Rattle.world_mem.specs.declared.did.Held.{Held}
 use Rattle.play_driver.specs.Refusals.{NeverTold, RefusesRun}
 use Rattle.play_driver.specs.Serving.{IsServing, Serves, ServesOn}
 use Rattle.play_driver.proofs.Longer.{longer}
+use Rattle.mail_drill.specs.Connected.{IsMade, IsServedFrom, IsTold}
 use Rattle.mail_drill.specs.Doing.{IsEnded, IsLevel, MayBeAllDone, MayBeDone, ServesInMemory}
 use Rattle.mail_drill.specs.Offering.{OffersAll}
 use Rattle.mail_drill.proofs.ServedTurn.{turn_serves}
-
--- something was told in the present connection, and not a BYE alone
-record IsTold (m : Moment) : Type 0 where
-  pub some : 1 ≤ length m.outside.talk.told
-  pub more : m.outside.talk.told ≢ responses.Bye ∷ []
-
--- from one clock on the server served up to another
-record IsServed (made c : Clock) : Type 0 where
-  pub later : Since IsTold IsServing made c
-  pub told : IsTold c.now
 
 no_bye : (p : Peer) → p.talk.told ≢ responses.Bye ∷ [] → p.talk ≢ greeted responses.Bye
 no_bye p other is = other (ap (λ (t : Talk). t.told) is)
@@ -193,18 +185,18 @@ told_greeting offers m is = record {
 
 -- What is done, one thing behind another.
 module _ (made : Clock) where
-  on_tick : (c : Clock) (m : Moment) → IsServed made c → IsServing c.now m → IsTold m → IsServed made (tick c m)
+  on_tick : (c : Clock) (m : Moment) → IsServedFrom made c → IsServing c.now m → IsTold m → IsServedFrom made (tick c m)
   on_tick c m is serves told =
       record { later = since_tick IsTold IsServing made c (tick c m) m is.later refl told serves; told = told }
 
-  on_silent : (c : Clock) (m : Moment) → m.outside.talk.told ≡ c.now.outside.talk.told → IsServed made c → IsServed made (tick c m)
+  on_silent : (c : Clock) (m : Moment) → m.outside.talk.told ≡ c.now.outside.talk.told → IsServedFrom made c → IsServedFrom made (tick c m)
   on_silent c m same is =
       on_tick c m is (silent_serves c.now.outside m.outside same is.told.more) (told_same c.now m same is.told)
 
-  on_peer : (f : Peer → Peer) (c : Clock) → (f c.now.outside).talk.told ≡ c.now.outside.talk.told → IsServed made c → IsServed made (becomes f c)
+  pub on_peer : (f : Peer → Peer) (c : Clock) → (f c.now.outside).talk.told ≡ c.now.outside.talk.told → IsServedFrom made c → IsServedFrom made (becomes f c)
   on_peer f c same is = on_silent c (record c.now { outside = f c.now.outside }) same is
 
-  on_stored : (side : Side) (file : Stored) (c : Clock) → IsServed made c → IsServed made (tick c (with_stored side file c.now))
+  pub on_stored : (side : Side) (file : Stored) (c : Clock) → IsServedFrom made c → IsServedFrom made (tick c (with_stored side file c.now))
   on_stored Left file c is = on_silent c (with_stored Left file c.now) refl is
   on_stored Right file c is = on_silent c (with_stored Right file c.now) refl is
 
@@ -216,14 +208,15 @@ module _ (made : Clock) where
     greets = no_bye (begins_with (greeting offers) p) (λ bye. greeting_no_bye offers (first_line (greeting offers) responses.Bye bye));
   }
 
-  on_greeted : (offers : List (List ℕ)) (c : Clock) → IsServed made c →
-      IsServed made (tick c (record c.now { outside = begins_with (greeting offers) c.now.outside }))
+  on_greeted : (offers : List (List ℕ)) (c : Clock) → IsServedFrom made c →
+      IsServedFrom made (tick c (record c.now { outside = begins_with (greeting offers) c.now.outside }))
   on_greeted offers c is =
       let m : Moment = record c.now { outside = begins_with (greeting offers) c.now.outside } in
       on_tick c m is (greeted_serves offers c.now.outside is.told.some) (told_greeting offers m refl)
 
   -- a part is answered
-  module _ (part : List ℕ) (r : Run) (offers : OffersAll r.state.choices) (level : IsLevel r) (is : IsServed made r.clock) where
+  module _ (t : State) (each_open : t.choices.closed ≡ None) (part : List ℕ) (r : Run) (offers : OffersAll r.state.choices) (level : IsLevel r)
+      (is : IsServedFrom made r.clock) where
     abbrev parts : List (List ℕ)
     parts = r.state.parts ++ part ∷ []
 
@@ -239,33 +232,33 @@ module _ (made : Clock) where
     then_answered : (a : Answered) (xs : List Response) → (first a).outside.talk.told ≡ here.outside.talk.told →
         (second a).outside.talk.told ≡ (first a).outside.talk.told ++ xs → 1 ≤ length xs →
         ((second a).outside.talk.told ≢ responses.Bye ∷ [] → ServesOn (first a).outside (second a).outside) →
-        IsServed made (step (did.Heard part a) r).clock
+        IsServedFrom made (step (did.Heard part a) r).clock
     then_answered a xs same more some serves =
-        let came : IsServed made (tick r.clock (first a)) = on_silent r.clock (first a) same is in
+        let came : IsServedFrom made (tick r.clock (first a)) = on_silent r.clock (first a) same is in
         let told : IsTold (second a) = told_more (first a) (second a) xs more some came.told in
         on_tick (tick r.clock (first a)) (second a) came (serves told.more) told
 
     waits_so : (tag : Tag) (command : Command) → (first (answers.Carried tag command)).outside.waiting ≡ waits_as r.state.selected tag command
     waits_so tag command = ap (λ (name : Option (List ℕ)). waits_as name tag command) level.selected
 
-    on_heard : (a : Answered) → IsAnswered r.state parts a → IsServed made (step (did.Heard part a) r).clock
-    on_heard (answers.Carried tag command) may =
+    pub on_heard : (a : Answered) (asked : List (List ℕ)) → IsAnswered t asked a → IsServedFrom made (step (did.Heard part a) r).clock
+    on_heard (answers.Carried tag command) asked may =
         then_answered (answers.Carried tag command) (told_in tag (turn_at r.state tag command).replies) refl refl
         (some_told tag (turn_at r.state tag command).replies)
         (λ other. carried_serves r.state offers tag command (first (answers.Carried tag command)).outside (waits_so tag command) refl level.server other)
-    on_heard (answers.Asked tag) may =
+    on_heard (answers.Asked tag) asked may =
         then_answered (answers.Asked tag) (responses.Go ∷ []) refl refl (omega arith)
         (λ other. one_serves (first (answers.Asked tag)).outside (second (answers.Asked tag)).outside responses.Go level.quiet refl
         (λ a x arrives none end. absurd (go_is_no_end a.tag x.ending x.code end)) other)
-    on_heard (answers.Refused tag) may = absurd (none-some may.1 (sym offers.each_open ∙ may.4))
-    on_heard (answers.Bad tag) may =
+    on_heard (answers.Refused tag) asked may = absurd (none-some may.1 (sym each_open ∙ may.4))
+    on_heard (answers.Bad tag) asked may =
         then_answered (answers.Bad tag) (bad_of tag ∷ []) refl refl (omega arith)
         (λ other. one_serves (first (answers.Bad tag)).outside (second (answers.Bad tag)).outside (bad_of tag) level.quiet refl
         (λ a x arrives none end. bad_refuses a x arrives none) other)
 
   -- what is held is carried out
-  module _ (r : Run) (offers : OffersAll r.state.choices) (ended : IsEnded r) (is : IsServed made r.clock) where
-    on_settled : (held : Option Held) → r.held ≡ held → IsServed made (carried_out held r).clock
+  module _ (r : Run) (offers : OffersAll r.state.choices) (ended : IsEnded r) (is : IsServedFrom made r.clock) where
+    on_settled : (held : Option Held) → r.held ≡ held → IsServedFrom made (carried_out held r).clock
     on_settled None same = on_silent r.clock r.clock.now refl is
     on_settled (Some held) same =
         let p : Peer = r.clock.now.outside in
@@ -277,30 +270,31 @@ module _ (made : Clock) where
         (carried_serves r.state offers held.tag held.command p (ended.waits ∙ ap (waiting_of r.state) same) ended.none ended.server told.more) told
 
   -- so it is with each
-  on_step : (d : Did) (r : Run) → OffersAll r.state.choices → MayBeDone d r → IsServed made r.clock → IsServed made (step d r).clock
+  on_step : (d : Did) (r : Run) → OffersAll r.state.choices → MayBeDone d r → IsServedFrom made r.clock → IsServedFrom made (step d r).clock
   on_step (did.Wrote side at bytes) r offers may is = on_stored side _ r.clock is
   on_step (did.Synced side) r offers may is = on_stored side _ r.clock is
   on_step (did.Changed name change) r offers may is =
       on_peer (λ (p : Peer). record p { server = with_change Other name change r.state.server }) r.clock refl is
   on_step did.Greeted r offers may is = on_greeted r.state.choices.offers r.clock is
-  on_step (did.Heard part answered) r offers may is = on_heard part r offers may.0 is answered may.1
+  on_step (did.Heard part answered) r offers may is =
+      on_heard r.state offers.each_open part r offers may.0 is answered (r.state.parts ++ part ∷ []) may.1
   on_step did.Began r offers may is = on_peer (with_front unfinished) r.clock refl is
   on_step (did.Waited held) r offers may is = on_peer (arrived held.tag held.command [] [] []) r.clock refl is
   on_step did.Settled r offers may is = on_settled r offers may is r.held refl
   on_step did.Ended r offers may is = on_peer at_end r.clock refl is
 
 -- what the server offers stays
-answered_choices : (s : State) (asked : List (List ℕ)) (a : Answered) → (after_as s asked a).choices ≡ s.choices
+pub answered_choices : (s : State) (asked : List (List ℕ)) (a : Answered) → (after_as s asked a).choices ≡ s.choices
 answered_choices s asked (answers.Carried tag command) = refl
 answered_choices s asked (answers.Asked tag) = refl
 answered_choices s asked (answers.Refused tag) = refl
 answered_choices s asked (answers.Bad tag) = refl
 
-settled_choices : (held : Option Held) (s : State) → (state_settled held s).choices ≡ s.choices
+pub settled_choices : (held : Option Held) (s : State) → (state_settled held s).choices ≡ s.choices
 settled_choices None s = refl
 settled_choices (Some held) s = refl
 
-step_choices : (d : Did) (r : Run) → (step d r).state.choices ≡ r.state.choices
+pub step_choices : (d : Did) (r : Run) → (step d r).state.choices ≡ r.state.choices
 step_choices (did.Wrote side at bytes) r = refl
 step_choices (did.Synced side) r = refl
 step_choices (did.Changed name change) r = refl
@@ -311,22 +305,42 @@ step_choices (did.Waited held) r = refl
 step_choices did.Settled r = settled_choices r.held r.state
 step_choices did.Ended r = refl
 
-all_served : (made : Clock) (ds : List Did) (r : Run) → OffersAll r.state.choices → MayBeAllDone ds r → IsServed made r.clock →
-    IsServed made (run ds r).clock
+all_served : (made : Clock) (ds : List Did) (r : Run) → OffersAll r.state.choices → MayBeAllDone ds r → IsServedFrom made r.clock →
+    IsServedFrom made (run ds r).clock
 all_served made [] r offers may is = is
 all_served made (d ∷ ds) r offers may is =
     all_served made ds (step d r) (subst OffersAll (sym (step_choices d r)) offers) may.1 (on_step made d r offers may.0 is)
 
 -- from a greeting on
+abbrev greeted_at : Run → Clock
+greeted_at r = (step did.Greeted r).clock
+
+greeted_told : (r : Run) → IsTold (greeted_at r).now
+greeted_told r = told_greeting r.state.choices.offers (greeted_at r).now refl
+
+greeted_served : (r : Run) → IsServedFrom (greeted_at r) (greeted_at r)
+greeted_served r = record { later = since_start IsTold IsServing (greeted_at r); told = greeted_told r }
+
+greeted_fresh : (r : Run) → IsGreeted (greeted_at r).now.outside
+greeted_fresh r =
+    record { greeting = greeting r.state.choices.offers; greets = greeting_may r.state.choices.offers; quiet = refl; talk = refl }
+
+pub greeted_made : (r : Run) → IsMade (greeted_at r)
+greeted_made r = record {
+  made = greeted_at r;
+  fresh = greeted_fresh r;
+  hello = no_bye (greeted_at r).now.outside (greeted_told r).more;
+  served = greeted_served r;
+}
+
 pub serves_in_memory : ServesInMemory
 serves_in_memory old first ds grows offers may =
-    let k : Clock = (step did.Greeted first).clock in
-    let begins : IsServed k k = record { later = since_start IsTold IsServing k; told = told_greeting first.state.choices.offers k.now refl } in
-    let all = all_served k ds (step did.Greeted first) offers may begins in
+    let k : Clock = greeted_at first in
+    let all = all_served k ds (step did.Greeted first) offers may (greeted_served first) in
     record {
       made = k;
       before = grows;
-      fresh = record { greeting = greeting first.state.choices.offers; greets = greeting_may first.state.choices.offers; quiet = refl; talk = refl };
-      hello = no_bye k.now.outside begins.told.more;
+      fresh = greeted_fresh first;
+      hello = no_bye k.now.outside (greeted_told first).more;
       later = since_weaker IsTold Any IsServing IsServing (λ m told. tt) (λ m n serves. serves) k (run ds (step did.Greeted first)).clock all.later;
     }

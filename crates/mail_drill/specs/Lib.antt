@@ -11,6 +11,7 @@ pub mod Mailboxes
 pub mod Misfortunes
 pub mod Offering
 pub mod Doing
+pub mod Connected
 pub mod Orders
 pub mod Ran
 pub mod Rounds

@@ -41,8 +41,9 @@ struct Ending {
 /// what became of the actions: `actions A refused R settled S twice T missing M`. The words are the seed and N.
 ///
 /// The status is 0; 2 for other words; 11 where memory is wanting; 12 where the line can't be printed; or 14 where a limit was passed.
-/// The world as the last run left it is given at 0 and 14. A run that ends as none does at a server and over a disk like these, such as
-/// one whose log-in is refused, ends the drill with 11 too. Each action is played by this client's profile of RFC 4549, section 4.2.
+/// The world as the last run left it is given at 0 and 14. A first `init` or `play`, or a command, that ends as none does at a server and
+/// over a disk like these ends the drill with 11 too. The last round, in which nothing goes wrong, comes to its end. Each action is
+/// played by this client's profile of RFC 4549, section 4.2.
 pub fn drill<S: Sink>(alloc: Global, words: &[String], out: &mut S) -> (Status, Option<MemWorld>)
     // The words ask for no drill.
     ensures words { (result.0 ≡ Status.Words) ↔ ((task : AnyTask) → WritesTask (map string_bytes words.now) task → ⊥) }
@@ -168,6 +169,11 @@ fn finished(
     let (world, ended) = both;
     match ended {
         Ended::Limit(line) => limited(alloc, world, line),
+        Ended::Unfinished(status) => Ok(Ending {
+            world,
+            line: Vec::new(alloc),
+            status,
+        }),
         Ended::Played => {
             let counts = counts_in(alloc, &world)?;
             let line = line_of(alloc, &given, &counts)?;

@@ -4,9 +4,11 @@
 
 mod account;
 mod beginning;
+mod calm_world;
 mod counting;
 mod drilling;
 mod examining;
+mod last_round;
 mod laws;
 mod misfortune;
 mod notices;

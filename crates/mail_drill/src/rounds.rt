@@ -1,15 +1,17 @@
 //! The rounds in which the actions are played back.
 
-ghost use Rattle.std.specs.Prelude.{◌≡◌, [], IfOk, OnOk};
+ghost use Rattle.std.specs.Prelude.{◌≡◌, List, [], IfOk, OnOk};
 ghost use Rattle.action_queue.specs.Book.{Meaning};
 ghost use Rattle.world_mem.specs.Draws.{next};
-ghost use Rattle.mail_drill.specs.Misfortunes.{misfortune_at, pick_of, plan_of};
+ghost use Rattle.mail_drill.specs.Misfortunes.{misfortune_at, nothing_fails, pick_of, plan_of};
 ghost use Rattle.mail_drill.specs.Came.{Begins};
 ghost use Rattle.mail_drill.specs.Held.{CameToItsEnd};
-ghost use Rattle.mail_drill.specs.Rounds.{EndsIn, RoundsEnd, RunsTo, TurnsTo};
-ghost use Rattle.mail_drill.specs.Standing.{PlaysOn};
+ghost use Rattle.mail_drill.specs.Rounds.{EndsIn, IsOver, RoundsEnd, RunsTo, TurnsTo};
+ghost use Rattle.mail_drill.specs.Standing.{HasAsked, PlaysOn};
+ghost use Rattle.mail_drill.specs.declared.orders.Order.{Order as AnyOrder};
 
-use crate::misfortune::{drawn_misfortune, no_plan};
+use crate::last_round::last_round;
+use crate::misfortune::drawn_misfortune;
 use crate::orders::words_of;
 use crate::played::{Broken, carried_out};
 use crate::quiet_world::QuietWorld;
@@ -20,13 +22,15 @@ use world_mem::{Draws, Plan};
 /// The rounds in which something goes wrong.
 pub const MAX_ROUNDS: u32 = 100;
 
-/// How the rounds end: all is played, or a limit was passed, and this line was printed.
+/// How the rounds end.
 #[derive(Drop)]
 pub enum Ended {
     /// All is played.
     Played,
     /// A limit was passed, and this line was printed.
     Limit(Bytes),
+    /// The last round didn't come to its end: its status. Where the actions are those of a drill, that doesn't come.
+    Unfinished(Status),
 }
 
 // How a round ends.
@@ -45,6 +49,7 @@ pub fn play_through(
     world: Box<QuietWorld>,
 ) -> Result<(Box<QuietWorld>, Ended), AllocError>
     ensures ends { (b : Meaning) → PlaysOn b world.value → IfOk result (λ both. EndsIn b both.1 both.0.value) }
+    ensures over { (b : Meaning) (os : List AnyOrder) → HasAsked os b → PlaysOn b world.value → IfOk result (λ both. IsOver both.1) }
     ensures rounds { IfOk result (λ both. RoundsEnd world.value.world draws.old both.1 both.0.value.world) }
 {
     let mut world = world;
@@ -58,11 +63,9 @@ pub fn play_through(
             Turn::Again => {}
         }
     }
-    let mut world = entered(alloc, world, pick, no_plan(alloc))?;
-    match played(alloc, account, &mut world)? {
-        Turn::Ended(ended) => Ok((world, ended)),
-        Turn::Again => Err(AllocError),
-    }
+    // The hundredth round is one of those that are stopped.
+    let Some(pick) = pick else { unreachable!() };
+    last_round(alloc, account, world, pick)
 }
 
 // The world as the round of this number begins, and the pick by which the next one begins, where this one is to be stopped.
@@ -92,6 +95,7 @@ fn entered(
     plan: Plan,
 ) -> Result<Box<QuietWorld>, AllocError>
     requires quiet { plan.foreign ≡ [] }
+    requires fails { plan ≡ nothing_fails → ⊥ }
     ensures begins { IfOk result (λ new. Begins pick plan world.value.world new.value.world) }
     ensures plays { (b : Meaning) → PlaysOn b world.value → IfOk result (λ new. PlaysOn b new.value) }
 {

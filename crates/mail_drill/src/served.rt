@@ -3,6 +3,7 @@
 ghost use Rattle.std.specs.Prelude.{◌≡◌, ◌≤◌, [], ◌∷◌, IfOk, codes};
 ghost use Rattle.mail_base.specs.BoxName.{KeptAs};
 ghost use Rattle.mail_drill.specs.Beginning.{IsNew, boxes_at_first, message_at_first, messages_at_first};
+ghost use Rattle.mail_drill.specs.Connected.{IsServed};
 
 use crate::misfortune::no_plan;
 use crate::numerals::put_message;
@@ -18,7 +19,8 @@ use world_mem::{Files, MemWorld};
 pub fn world_of(alloc: Global, size: u32) -> Result<MemWorld, AllocError>
     requires some { 1 ≤ size }
     requires most { size ≤ 2000 }
-    ensures { IfOk result (IsNew size) }
+    ensures new { IfOk result (IsNew size) }
+    ensures served { IfOk result IsServed }
 {
     let boxes = boxes_of(alloc, size)?;
     if !is_well_formed(&boxes) {

@@ -1,4 +1,8 @@
 -- Where all is played, the line tells what became of the actions.
+use Rattle.std.proofs.Common.{[], subst}
+use Rattle.mail_drill.specs.Accepted.{accepted}
+use Rattle.mail_drill.specs.Orders.{orders_of}
+use Rattle.mail_drill.specs.Rounds.{IsOver}
 use Rattle.mail_drill.proofs.Endings.{all_played, limit_passed}
 use Rattle.mail_drill.proofs.PlayingOn.{plays_on}
 use Rattle.mail_drill.proofs.drilling.finished.Goals as goal
@@ -15,3 +19,8 @@ returns-in_ok-line-in-Played c = λ task b has asked gives count all.
     c.in_ok-counts-in-Played.counts c.in_ok-line-in-Played.line.items c.deref.ensures c.in-Played.is
     (c.in_ok-both.ensures.ends b (plays_on b c.args.world.value has)) c.in_ok-both.ensures.rounds gives c.in_ok-counts-in-Played.ensures
     c.in_ok-line-in-Played.ensures count all
+
+pub returns-in-Unfinished : goal.returns-in-Unfinished
+returns-in-Unfinished c = λ task b has asked gives count all.
+    absurd (subst IsOver c.in-Unfinished.is
+    (c.in_ok-both.ensures.over b (accepted [] (orders_of task)) asked (plays_on b c.args.world.value has)))

@@ -1,7 +1,9 @@
 use Rattle.std.proofs.Common.{◌+◌, arith}
+use Rattle.std.proofs.lemmas.Result.{IfOk-weaker}
 use Rattle.mail_drill.specs.Held.{none}
 use Rattle.mail_drill.specs.declared.rounds.Turn.TheVariants as turns
-use Rattle.mail_drill.proofs.RoundSteps.{last_ends, lent_plays, lent_runs, round_again, round_ends}
+use Rattle.mail_drill.proofs.LastRounds.{last_ends, runs_over}
+use Rattle.mail_drill.proofs.RoundSteps.{lent_plays, lent_runs, round_again, round_ends}
 use Rattle.mail_drill.proofs.rounds.play_through.Goals as goal
 
 pub loop-round-init : goal.loop-round-init
@@ -29,11 +31,23 @@ returns-in-Ended-clause-rounds c =
     (lent_runs c.in_ok-ended.field-0 (turns.Ended c.in-Ended.ended) c.in-Ended.is c.deref_mut.result.now c.in_ok-begun.begun.value c.played.new.world
     c.deref_mut.ensures.value c.in_ok-ended.ensures.runs)
 
-pub returns-in-Ended-2-clause-rounds : goal.returns-in-Ended-2-clause-rounds
-returns-in-Ended-2-clause-rounds c =
+pub returns-in-Ended-clause-over : goal.returns-in-Ended-clause-over
+returns-in-Ended-clause-over c = λ b os asked before.
+    runs_over c.in-Ended.ended c.in_ok-begun.begun.value.world c.played.new.world.world
+    (lent_runs c.in_ok-ended.field-0 (turns.Ended c.in-Ended.ended) c.in-Ended.is c.deref_mut.result.now c.in_ok-begun.begun.value c.played.new.world
+    c.deref_mut.ensures.value c.in_ok-ended.ensures.runs)
+
+pub returns-clause-ends : goal.returns-clause-ends
+returns-clause-ends c = λ b before. c.last_round.ensures.ends b (c.loop-round.invariant.plays_on b before)
+
+pub returns-clause-over : goal.returns-clause-over
+returns-clause-over c = λ b os asked before. c.last_round.ensures.over b os asked (c.loop-round.invariant.plays_on b before)
+
+pub returns-clause-rounds : goal.returns-clause-rounds
+returns-clause-rounds c =
     let l = c.loop-round in
-    last_ends c.args.world.value.world c.args.draws.now l.round l.draws l.pick l.world.value.world c.in_ok-world.world.value.world
-    c.played-2.new.world.world l.invariant.played (omega (arith, c.loop-round-test.false, l.auto.round-end)) c.no_plan.result c.no_plan.ensures
-    c.in_ok-world.ensures.begins c.in-Ended-2.ended
-    (lent_runs c.in_ok-ended-2.field-0 (turns.Ended c.in-Ended-2.ended) c.in-Ended-2.is c.deref_mut-2.result.now c.in_ok-world.world.value
-    c.played-2.new.world c.deref_mut-2.ensures.value c.in_ok-ended-2.ensures.runs)
+    IfOk-weaker c.last_round.result _ _
+    (λ both last.
+    last_ends c.args.world.value.world c.args.draws.now l.round l.draws l.pick l.world.value.world both.0.value.world l.invariant.played
+    (omega (arith, c.loop-round-test.false, l.auto.round-end)) c.in-Some.pick c.in-Some.is both.1 last)
+    c.last_round.ensures.round

@@ -5,6 +5,8 @@ use Rattle.world_mem.specs.Image.{image_of}
 use Rattle.world_mem.specs.Running.{Run}
 use Rattle.world_mem.specs.Worlds.{run_in}
 use Rattle.mail_drill.proofs.OwnCalls.{restart_still}
+use Rattle.mail_drill.proofs.ServedCalls.{restart_served}
+use Rattle.std.proofs.Math.Logic.{∥∥₁_map}
 use Rattle.mail_drill.proofs.quiet_world.QuietWorld.restart.Goals as goal
 
 pub invariant_of-result-clause-alone : goal.invariant_of-result-clause-alone
@@ -25,3 +27,11 @@ returns-clause-run c =
 
 pub returns-clause-picked : goal.returns-clause-picked
 returns-clause-picked c = c.in_ok-world.ensures.run
+
+pub invariant_of-result-clause-served : goal.invariant_of-result-clause-served
+invariant_of-result-clause-served c =
+    let was = c.args.self in
+    let old = run_in was.world in
+    let new = c.in_ok-world.ensures in
+    ∥∥₁_map was.served (λ known sufficed. restart_served was.world c.in_ok-world.world (image_of c.args.pick (torn_at old.clock.now old.seen)) c.args.plan
+    new.run new.line new.uncalled (known sufficed))
