@@ -8,7 +8,7 @@ use Rattle.imap_model.specs.declared.command.Command.TheVariants as commands
 abbrev pub most_before : ℕ
 most_before = 2097152
 
--- a reply from the first SELECT on
+-- a reply from the first SELECT on; to LOGOUT too, as it may tell what changed in a selected mailbox
 abbrev pub most_since : ℕ
 most_since = 268435456
 

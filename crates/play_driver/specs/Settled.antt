@@ -26,8 +26,8 @@ pub record IsPending (name : List ℕ) (p : Player) : Type 0 where
   pub named : told.name ≡ name
 
 -- Behind a clock of this time at which every action had an outcome: the first mailboxes of the book, as many as the player counts, each
--- have a cache that is the server's as it answered for its rows last since; and so is the cache that what is still to be recorded of a
--- mailbox makes.
+-- have a cache that is the server's as it answered for its rows last since, but for one of which something told is still to be recorded;
+-- and so is the cache that this makes.
 pub record SyncedSince (start now : Clock) (p : Player) (b : Meaning) : Type 0 where
   pub from : Clock
   pub later : Grows start from
