@@ -2,7 +2,7 @@
 
 use crate::plain_header as plain;
 use crate::tally::Tally;
-use mail_header::{crlf_of, message_id, unfold};
+use mail_header::{IdFault, crlf_of, message_id, unfold};
 use std::alloc::{AllocError, Global};
 
 // The parts of small texts.
@@ -38,21 +38,40 @@ fn small_text(alloc: Global, number: usize) -> Result<Vec<u8>, AllocError> {
     Ok(text)
 }
 
-// Whether two calls gave one text.
-fn is_same(left: Result<Vec<u8>, AllocError>, right: Result<Vec<u8>, AllocError>) -> bool {
-    match (left, right) {
-        (Ok(left), Ok(right)) => left.as_slice() == right.as_slice(),
+// Whether a text's body, the folds taken out, is the plain program's.
+fn is_unfolded_so(alloc: Global, text: &[u8]) -> Result<bool, AllocError> {
+    let found = unfold(alloc, text)?;
+    let expected = plain::unfold(alloc, text)?;
+    Ok(found.as_slice() == expected.as_slice())
+}
+
+// Whether a text with CR LF at each line's end is the plain program's.
+fn is_ended_so(alloc: Global, text: &[u8]) -> Result<bool, AllocError> {
+    let found = crlf_of(alloc, text)?;
+    let expected = plain::crlf_of(alloc, text)?;
+    Ok(found.as_slice() == expected.as_slice())
+}
+
+// Whether the identifier of a text, or its fault, is the plain program's.
+fn is_same_id(alloc: Global, text: &[u8]) -> Result<bool, AllocError> {
+    let expected = plain::message_id(alloc, text)?;
+    let found = message_id(alloc, text);
+    Ok(is_alike(&found, &expected))
+}
+
+fn is_alike(found: &Result<Vec<u8>, IdFault>, expected: &Result<Vec<u8>, IdFault>) -> bool {
+    match (found, expected) {
+        (Ok(found), Ok(expected)) => found.as_slice() == expected.as_slice(),
+        (Err(found), Err(expected)) => found == expected,
         _ => false,
     }
 }
 
-// Whether the identifier of a text, or its fault, is the plain program's.
-fn is_same_id(alloc: Global, text: &[u8]) -> bool {
-    match (message_id(alloc, text), plain::message_id(alloc, text)) {
-        (Ok(found), Ok(Ok(expected))) => found.as_slice() == expected.as_slice(),
-        (Err(found), Ok(Err(expected))) => found == expected,
-        _ => false,
-    }
+fn compare_text(alloc: Global, text: &[u8], tally: &mut Tally) -> Result<(), AllocError> {
+    tally.count(is_same_id(alloc, text)?);
+    tally.count(is_unfolded_so(alloc, text)?);
+    tally.count(is_ended_so(alloc, text)?);
+    Ok(())
 }
 
 /// Compares the identifiers, the unfolded texts and the line ends of 10,000 texts.
@@ -60,9 +79,7 @@ pub fn compare(alloc: Global) -> Result<Tally, AllocError> {
     let mut tally = Tally::new();
     for number in 0..10_000 {
         let text = small_text(alloc, number)?;
-        tally.count(is_same_id(alloc, &text));
-        tally.count(is_same(unfold(alloc, &text), plain::unfold(alloc, &text)));
-        tally.count(is_same(crlf_of(alloc, &text), plain::crlf_of(alloc, &text)));
+        compare_text(alloc, &text, &mut tally)?;
     }
     Ok(tally)
 }

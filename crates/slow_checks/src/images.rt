@@ -56,12 +56,18 @@ fn no_plan(alloc: Global) -> Plan {
     }
 }
 
-// A world with these files.
-fn world(alloc: Global, left: &[u8], right: &[u8]) -> Option<MemWorld> {
+fn files(alloc: Global, left: &[u8], right: &[u8]) -> Option<Files> {
     let left = Bytes::of(left.to_vec(alloc).ok()?);
     let right = Bytes::of(right.to_vec(alloc).ok()?);
+    Some(Files { left, right })
+}
+
+// A world with these files.
+fn world(alloc: Global, left: &[u8], right: &[u8]) -> Option<Box<MemWorld>> {
+    let files = files(alloc, left, right)?;
     let server = server(alloc)?;
-    MemWorld::new(alloc, server, Files { left, right }, no_plan(alloc)).ok()
+    let world = MemWorld::new(alloc, server, files, no_plan(alloc)).ok()?;
+    Box::new(alloc, world).ok()
 }
 
 fn writes(world: &mut MemWorld, side: Side, at: usize, bytes: &[u8]) -> bool {
@@ -137,22 +143,36 @@ fn compare_world(
 }
 
 // A world of these files in which all calls were made.
-fn world_after(alloc: Global, left: &[u8], right: &[u8]) -> Option<MemWorld> {
+fn world_after(alloc: Global, left: &[u8], right: &[u8]) -> Option<Box<MemWorld>> {
     let mut world = world(alloc, left, right)?;
-    if !are_made(&mut world, &CALLS) {
-        return None;
+    if are_made(&mut world, &CALLS) {
+        Some(world)
+    } else {
+        None
     }
-    Some(world)
+}
+
+// Compares the images of these files at each moment.
+fn compare_files(
+    alloc: Global,
+    left: &[u8],
+    right: &[u8],
+    tally: &mut Tally,
+) -> Result<(), AllocError> {
+    match world_after(alloc, left, right) {
+        Some(world) => compare_world(alloc, &world, left, right, tally),
+        None => {
+            tally.count(false);
+            Ok(())
+        }
+    }
 }
 
 /// Compares the images of small files at each moment.
 pub fn compare(alloc: Global) -> Result<Tally, AllocError> {
     let mut tally = Tally::new();
     for (left, right) in GIVEN {
-        match world_after(alloc, left, right) {
-            Some(world) => compare_world(alloc, &world, left, right, &mut tally)?,
-            None => tally.count(false),
-        }
+        compare_files(alloc, left, right, &mut tally)?;
     }
     Ok(tally)
 }

@@ -208,8 +208,18 @@ const SECTIONS: [Lines<'static>; 3] = [
     },
 ];
 
-fn compare_all(alloc: Global, tally: &mut Tally, all: &[Lines<'static>]) -> Result<(), AllocError> {
-    for lines in all {
+const ALL: [&[Lines<'static>]; 7] = [
+    &STATUS_LINES,
+    &CODES,
+    &LISTS_OF_WORDS,
+    &NUMBERS_AND_SETS,
+    &SEARCHES,
+    &ITEMS,
+    &SECTIONS,
+];
+
+fn compare_each(alloc: Global, tally: &mut Tally, some: &[Lines<'_>]) -> Result<(), AllocError> {
+    for lines in some {
         lines.compare(alloc, tally)?;
     }
     Ok(())
@@ -218,13 +228,9 @@ fn compare_all(alloc: Global, tally: &mut Tally, all: &[Lines<'static>]) -> Resu
 /// Compares all lines.
 pub fn compare(alloc: Global) -> Result<Tally, AllocError> {
     let mut tally = Tally::new();
-    compare_all(alloc, &mut tally, &STATUS_LINES)?;
-    compare_all(alloc, &mut tally, &CODES)?;
-    compare_all(alloc, &mut tally, &LISTS_OF_WORDS)?;
-    compare_all(alloc, &mut tally, &NUMBERS_AND_SETS)?;
-    compare_all(alloc, &mut tally, &SEARCHES)?;
-    compare_all(alloc, &mut tally, &ITEMS)?;
-    compare_all(alloc, &mut tally, &SECTIONS)?;
+    for some in ALL {
+        compare_each(alloc, &mut tally, some)?;
+    }
     compare_literals(alloc, &mut tally)?;
     Ok(tally)
 }

@@ -43,11 +43,15 @@ fn compare_streams<R: Files + Env + Print + AllocGlobal>(
     all: &mut Tally,
 ) -> io::Result<()> {
     for name in env::args(rt)?.skip(1) {
-        let text = fs::read_to_string(rt, name.as_str())?;
-        let tally = frames::compare(rt.alloc(), text.as_str())?;
+        let tally = compared_file(rt, name.as_str())?;
         tell(rt, "streams", tally, all)?;
     }
     Ok(())
+}
+
+fn compared_file<R: Files + AllocGlobal>(rt: &R, name: &str) -> io::Result<Tally> {
+    let text = fs::read_to_string(rt, name)?;
+    Ok(frames::compare(rt.alloc(), text.as_str())?)
 }
 
 // Compares all.

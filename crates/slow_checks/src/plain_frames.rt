@@ -2,7 +2,7 @@
 
 use literal_feed::Feed;
 use mail_base::{FeedFault, Frame};
-use std::alloc::Global;
+use std::alloc::{AllocError, Global};
 
 // How the line that begins somewhere goes.
 enum Goes {
@@ -85,6 +85,22 @@ fn is_frame(frame: &Frame, stream: &[u8], from: usize, end: usize) -> bool {
     Some(frame.bytes.as_slice()) == stream.get(from..end) && frame.at == from as u64
 }
 
+fn is_taken(
+    taken: &Result<Option<Frame>, AllocError>,
+    stream: &[u8],
+    from: usize,
+    end: usize,
+) -> bool {
+    match taken {
+        Ok(Some(frame)) => is_frame(frame, stream, from, end),
+        Ok(None) | Err(_) => false,
+    }
+}
+
+fn is_nothing(taken: &Result<Option<Frame>, AllocError>) -> bool {
+    matches!(taken, Ok(None))
+}
+
 // Pushes a stream in two pieces.
 fn push_both(feed: &mut Feed, first: &[u8], second: &[u8]) -> Result<(), FeedFault> {
     feed.push(first)?;
@@ -101,12 +117,10 @@ enum Step {
 fn step_from(feed: &mut Feed, answer: Result<(), FeedFault>, stream: &[u8], from: usize) -> Step {
     let taken = feed.take();
     match line(stream, from) {
-        Goes::Open => Step::End(answer == Ok(()) && matches!(taken, Ok(None))),
-        Goes::Bad(fault) => Step::End(answer == Err(fault) && matches!(taken, Ok(None))),
-        Goes::Whole(end) => match taken {
-            Ok(Some(frame)) if is_frame(&frame, stream, from, end) => Step::Frame(end),
-            _ => Step::End(false),
-        },
+        Goes::Open => Step::End(answer == Ok(()) && is_nothing(&taken)),
+        Goes::Bad(fault) => Step::End(answer == Err(fault) && is_nothing(&taken)),
+        Goes::Whole(end) if is_taken(&taken, stream, from, end) => Step::Frame(end),
+        Goes::Whole(_) => Step::End(false),
     }
 }
 
@@ -117,9 +131,14 @@ pub fn agrees(alloc: Global, stream: &[u8], cut: usize) -> bool {
     };
     let mut feed = Feed::new(alloc);
     let answer = push_both(&mut feed, first, second);
+    is_given(&mut feed, answer, stream)
+}
+
+// Whether the feed gives what the slow reading tells, to the end.
+fn is_given(feed: &mut Feed, answer: Result<(), FeedFault>, stream: &[u8]) -> bool {
     let mut from = 0usize;
     for _ in 0..=stream.len() {
-        match step_from(&mut feed, answer, stream, from) {
+        match step_from(feed, answer, stream, from) {
             Step::Frame(end) => from = end.saturating_add(2),
             Step::End(same) => return same,
         }

@@ -58,23 +58,22 @@ fn header(alloc: Global, text: &[u8]) -> Result<Vec<Placed>, AllocError> {
 fn bodies(alloc: Global, text: &[u8]) -> Result<Vec<Placed>, AllocError> {
     let mut found = Vec::new(alloc);
     for (at, line) in header(alloc, text)? {
-        let mut name = Vec::new(alloc);
-        let mut body = Vec::new(alloc);
-        let mut behind = false;
-        for byte in &line {
-            if behind {
-                body.push(*byte)?;
-            } else if *byte == b':' {
-                behind = true;
-            } else {
-                name.push(byte.to_ascii_uppercase())?;
-            }
-        }
-        if behind && name.as_slice() == b"MESSAGE-ID".as_slice() {
-            found.push((at, body))?;
+        if let Some(body) = id_body(&line) {
+            found.push((at, body.to_vec(alloc)?))?;
         }
     }
     Ok(found)
+}
+
+// What stands behind the first colon, where the name in front of it is Message-ID.
+fn id_body(line: &[u8]) -> Option<&[u8]> {
+    let colon = line.iter().position(|byte| *byte == b':')?;
+    let (name, body) = line.split_at_checked(colon)?;
+    if name.eq_ignore_ascii_case(b"Message-ID") {
+        body.get(1..)
+    } else {
+        None
+    }
 }
 
 /// A field's body without its folds: CR LF goes where a blank stands behind it (RFC 5322, section 2.2.3).

@@ -74,6 +74,15 @@ fn untagged(
         let code = status::text_part(alloc, rest)?;
         return Ok(code.map(|code| Response::Preauth { code }));
     }
+    data(alloc, line, parts)
+}
+
+/// The same where the line isn't a status response.
+fn data(
+    alloc: Global,
+    line: &[Part<'_>],
+    parts: &[Part<'_>],
+) -> Result<Option<Response>, AllocError> {
     if let Some(rest) = begins(parts, b"CAPABILITY") {
         let words = words_of(alloc, rest, true)?;
         return Ok(words.filter(is_some).map(Response::Capability));

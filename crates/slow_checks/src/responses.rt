@@ -4,6 +4,7 @@ use crate::plain_response::parts::Part;
 use crate::plain_response::spelled;
 use crate::same_response::same;
 use crate::tally::Tally;
+use imap_model::Response;
 use imap_response::{ResponseFault, read};
 use mail_base::{Bytes, Frame, List, Span};
 use std::alloc::{AllocError, Global};
@@ -71,11 +72,24 @@ fn frame_around(alloc: Global, line: Literal<'_, '_, '_>) -> Result<Frame, Alloc
 // Whether the reader and the slow program say the same.
 fn agrees(alloc: Global, frame: &Frame, parts: &[Part<'_>]) -> Result<bool, AllocError> {
     let slow = spelled(alloc, parts)?;
-    Ok(match (read(alloc, frame), slow) {
-        (Ok(left), Some(right)) => same(&left, &right),
+    let same = is_read_so(alloc, frame, &slow);
+    drop(slow);
+    Ok(same)
+}
+
+fn is_read_so(alloc: Global, frame: &Frame, slow: &Option<Response>) -> bool {
+    let found = read(alloc, frame);
+    let same = is_same(&found, slow);
+    drop(found);
+    same
+}
+
+fn is_same(found: &Result<Response, ResponseFault>, slow: &Option<Response>) -> bool {
+    match (found, slow) {
+        (Ok(left), Some(right)) => same(left, right),
         (Err(ResponseFault::BadForm { .. }), None) => true,
         _ => false,
-    })
+    }
 }
 
 fn compare_line(alloc: Global, text: &[u8]) -> Result<bool, AllocError> {

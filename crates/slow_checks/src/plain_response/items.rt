@@ -17,23 +17,32 @@ pub(crate) fn fetched_of(alloc: Global, parts: &[Part<'_>]) -> Result<Option<Fet
         return Ok(None);
     };
     let mut fetched = Fetched::none();
+    if tell_all(alloc, &mut fetched, items)? {
+        Ok(Some(fetched))
+    } else {
+        Ok(None)
+    }
+}
+
+/// Whether the parts are items; what they tell is kept.
+fn tell_all(alloc: Global, fetched: &mut Fetched, items: &[Part<'_>]) -> Result<bool, AllocError> {
     let mut at = 0usize;
     for _ in 0..items.len() {
         let rest = from(items, at);
         let Some(size) = first_end(alloc, rest)? else {
-            return Ok(None);
+            return Ok(false);
         };
         let (item, later) = cut(rest, size);
-        tell(alloc, &mut fetched, item)?;
+        tell(alloc, fetched, item)?;
         if later.is_empty() {
-            return Ok(Some(fetched));
+            return Ok(true);
         }
         let Some(behind) = behind_gap(later) else {
-            return Ok(None);
+            return Ok(false);
         };
         at = items.len().saturating_sub(behind.len());
     }
-    Ok(None)
+    Ok(false)
 }
 
 /// How long the item at the front is: it ends at a space, or where the items end.
@@ -95,24 +104,27 @@ fn tells(
         });
     }
     if is_ids_name(name) {
-        return Ok(match nstring_of(alloc, value)? {
-            Some(ids) => {
-                fetched.ids = Some(ids);
-                true
-            }
-            None => false,
-        });
+        return tell_text(alloc, &mut fetched.ids, value);
     }
     if is_text_name(name) {
-        return Ok(match nstring_of(alloc, value)? {
-            Some(text) => {
-                fetched.text = Some(text);
-                true
-            }
-            None => false,
-        });
+        return tell_text(alloc, &mut fetched.text, value);
     }
     Ok((is_atom(name) || is_section_name(name)) && is_value(value))
+}
+
+/// Whether a value is a string or NIL; its bytes are kept.
+fn tell_text(
+    alloc: Global,
+    told: &mut Option<Bytes>,
+    value: &[Part<'_>],
+) -> Result<bool, AllocError> {
+    match nstring_of(alloc, value)? {
+        Some(text) => {
+            *told = Some(text);
+            Ok(true)
+        }
+        None => Ok(false),
+    }
 }
 
 /// The bytes of a string, and of NIL none.
