@@ -25,14 +25,9 @@ pub fn answers(call: &str, input: &mut Input, answer: &mut Answer) -> Result<boo
 // What each step gives.
 fn put_steps(input: &mut Input, answer: &mut Answer) -> Result<(), CaseFault> {
     let mut books = begun_both(input.alloc)?;
-    for _ in 0..input.len() {
-        if input.is_done() {
-            break;
-        }
-        books.put_step(input, answer)?;
-        input.end_step()?;
-    }
-    Ok(())
+    let told = books.take_steps(input, answer);
+    drop(books);
+    told
 }
 
 fn begun_both(alloc: Global) -> Result<Books, CaseFault> {
@@ -49,6 +44,17 @@ struct Books {
 }
 
 impl Books {
+    fn take_steps(&mut self, input: &mut Input, answer: &mut Answer) -> Result<(), CaseFault> {
+        for _ in 0..input.len() {
+            if input.is_done() {
+                break;
+            }
+            self.put_step(input, answer)?;
+            input.end_step()?;
+        }
+        Ok(())
+    }
+
     fn put_step(&mut self, input: &mut Input, answer: &mut Answer) -> Result<(), CaseFault> {
         if input.skips("show") {
             return self.put_both(input.alloc, answer);
@@ -71,7 +77,9 @@ impl Books {
 
     fn put_second(&self, input: &mut Input, answer: &mut Answer) -> Result<(), CaseFault> {
         let event = event(input)?;
-        put_rule(answer, self.entered.allows(&event, Version::Second))
+        let rule = self.entered.allows(&event, Version::Second);
+        drop(event);
+        put_rule(answer, rule)
     }
 
     // Both take an event, and tell the same rule.
@@ -81,10 +89,11 @@ impl Books {
         event: Event,
         answer: &mut Answer,
     ) -> Result<(), CaseFault> {
-        let copy = event.copy(alloc)?;
-        let rule = enter(&mut self.entered, event)?;
+        let entered = enter_copy(alloc, &mut self.entered, &event);
+        let followed = follow(&mut self.followed, event)?;
+        let rule = entered?;
         put_rule(answer, rule)?;
-        if follow(&mut self.followed, copy)? != rule {
+        if followed != rule {
             answer.word("but otherwise where it follows")?;
         }
         Ok(())
@@ -92,8 +101,7 @@ impl Books {
 
     // Both hold the same, and so does a copy of the first one.
     fn put_both(&self, alloc: Global, answer: &mut Answer) -> Result<(), CaseFault> {
-        let copy = self.entered.copy()?;
-        let entered = shown(alloc, &copy)?;
+        let entered = shown_copy(alloc, &self.entered)?;
         let followed = shown(alloc, &self.followed)?;
         answer.word(entered.as_str())?;
         if followed.as_str() != entered.as_str() {
@@ -105,9 +113,8 @@ impl Books {
 
 /// The book of a journal with the mailboxes INBOX and Archive.
 pub fn begun(alloc: Global) -> Result<Book, CaseFault> {
-    let (Ok(first), Ok(second)) = (BoxName::new(b"INBOX"), BoxName::new(b"Archive")) else {
-        return Err(CaseFault::WrongInput);
-    };
+    let first = named(b"INBOX")?;
+    let second = named(b"Archive")?;
     if second == first {
         return Err(CaseFault::WrongInput);
     }
@@ -117,9 +124,17 @@ pub fn begun(alloc: Global) -> Result<Book, CaseFault> {
     Ok(Book::new(alloc, names)?)
 }
 
+fn named(text: &[u8]) -> Result<BoxName, CaseFault> {
+    match BoxName::new(text) {
+        Ok(name) => Ok(name),
+        Err(_) => Err(CaseFault::WrongInput),
+    }
+}
+
 /// Enters an event, or tells the first rule that it breaks.
 pub fn enter(book: &mut Book, event: Event) -> Result<Option<Rule>, AllocError> {
     if let Some(rule) = book.allows(&event, Version::First) {
+        drop(event);
         return Ok(Some(rule));
     }
     let ready = book.prepare(event)?;
@@ -127,27 +142,49 @@ pub fn enter(book: &mut Book, event: Event) -> Result<Option<Rule>, AllocError> 
     Ok(None)
 }
 
+fn enter_copy(alloc: Global, book: &mut Book, event: &Event) -> Result<Option<Rule>, AllocError> {
+    enter(book, event.copy(alloc)?)
+}
+
 // Follows an event, or tells the first rule that it breaks.
 fn follow(book: &mut Book, event: Event) -> Result<Option<Rule>, AllocError> {
     if let Some(rule) = book.allows(&event, Version::First) {
+        drop(event);
         return Ok(Some(rule));
     }
     book.follow(event)?;
     Ok(None)
 }
 
-// What a book holds: its actions, the first one without an outcome, the intent that is pending, and what is known of mailboxes.
+fn shown_copy(alloc: Global, book: &Book) -> Result<Answer, CaseFault> {
+    let copy = book.copy()?;
+    let answer = shown(alloc, &copy);
+    drop(copy);
+    answer
+}
+
 fn shown(alloc: Global, book: &Book) -> Result<Answer, CaseFault> {
     let mut answer = Answer::new(alloc);
-    for queued in book.queue.as_slice() {
-        put_queued(&mut answer, queued)?;
-    }
-    put_due(&mut answer, book)?;
-    put_pending(&mut answer, &book.pending)?;
-    for known in book.boxes.as_slice() {
-        put_known(&mut answer, known)?;
-    }
+    put_book(&mut answer, book)?;
     Ok(answer)
+}
+
+// What a book holds: its actions, the first one without an outcome, the intent that is pending, and what is known of mailboxes.
+fn put_book(answer: &mut Answer, book: &Book) -> Result<(), CaseFault> {
+    put_queue(answer, book.queue.as_slice())?;
+    put_due(answer, book)?;
+    put_pending(answer, &book.pending)?;
+    for known in book.boxes.as_slice() {
+        put_known(answer, known)?;
+    }
+    Ok(())
+}
+
+fn put_queue(answer: &mut Answer, queue: &[Queued]) -> Result<(), CaseFault> {
+    for queued in queue {
+        put_queued(answer, queued)?;
+    }
+    Ok(())
 }
 
 fn put_due(answer: &mut Answer, book: &Book) -> Result<(), CaseFault> {

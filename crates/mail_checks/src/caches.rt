@@ -2,7 +2,8 @@
 
 ghost use Rattle.std.specs.Prelude.{◌≡◌, ◌≤◌, true, false, IfOk};
 
-use crate::deltas::{delta, put_row};
+use crate::compared::put_compared;
+use crate::deltas::{delta, put_row, step, whole_delta};
 use crate::numbers::known;
 use case_words::{Answer, CaseFault, Input, put_modseq, put_uid, put_validity};
 use mailbox_cache::{Cache, Delta};
@@ -22,41 +23,50 @@ pub fn answers(call: &str, input: &mut Input, answer: &mut Answer) -> Result<boo
 fn put_exceeds(input: &mut Input, answer: &mut Answer) -> Result<(), CaseFault> {
     let limit = input.short()? as usize;
     let cache = first(input)?;
+    let exceeds = exceeds(input, limit, &cache)?;
+    answer.yes(exceeds)
+}
+
+fn exceeds(input: &mut Input, limit: usize, cache: &Cache) -> Result<bool, CaseFault> {
     let delta = delta(input)?;
-    answer.yes(cache.would_exceed(limit, &delta))
+    Ok(cache.would_exceed(limit, &delta))
 }
 
 // The cache of the first step.
 fn first(input: &mut Input) -> Result<Cache, CaseFault> {
-    let delta = delta(input)?;
-    input.end_step()?;
-    if !delta.whole {
-        return Err(CaseFault::WrongInput);
-    }
+    let delta = whole_delta(input)?;
     Ok(Cache::first(input.alloc, &delta)?)
 }
 
 // The cache of each step, whose deltas are copied, and that of the last step, where they are given up.
 fn put_cache(input: &mut Input, answer: &mut Answer) -> Result<(), CaseFault> {
-    let mut cache = first_both(input)?;
+    let last = last_both(input)?;
+    let told = put_both(input.alloc, &last, answer);
+    drop(last);
+    told
+}
+
+fn put_both(alloc: Global, both: &Both, answer: &mut Answer) -> Result<(), CaseFault> {
+    let kept = shown(alloc, &both.kept)?;
+    let moved = shown(alloc, &both.moved)?;
+    put_compared(
+        answer,
+        kept.as_str(),
+        "but where rows are moved",
+        moved.as_str(),
+    )
+}
+
+fn last_both(input: &mut Input) -> Result<Both, CaseFault> {
+    let mut both = first_both(input)?;
     for _ in 0..input.len() {
         if input.is_done() {
             break;
         }
-        let delta = delta(input)?;
-        input.end_step()?;
-        cache = cache.after(input.alloc, delta)?;
+        let delta = step(input)?;
+        both = both.after(input.alloc, delta)?;
     }
-    let (kept, moved) = (
-        shown(input.alloc, &cache.kept)?,
-        shown(input.alloc, &cache.moved)?,
-    );
-    answer.word(kept.as_str())?;
-    if moved.as_str() != kept.as_str() {
-        answer.word("but where rows are moved")?;
-        answer.word(moved.as_str())?;
-    }
-    Ok(())
+    Ok(both)
 }
 
 // A cache whose deltas are kept, and one whose deltas are given up.
@@ -67,11 +77,7 @@ struct Both {
 }
 
 fn first_both(input: &mut Input) -> Result<Both, CaseFault> {
-    let delta = delta(input)?;
-    input.end_step()?;
-    if !delta.whole {
-        return Err(CaseFault::WrongInput);
-    }
+    let delta = whole_delta(input)?;
     let kept = Cache::first(input.alloc, &delta)?;
     let moved = Cache::of(delta);
     Ok(Both { kept, moved })
@@ -82,18 +88,17 @@ impl Both {
     fn after(self, alloc: Global, delta: Delta) -> Result<Both, CaseFault> {
         let kept = applied(alloc, &self.kept, &delta)?;
         let moved = moved_on(self.moved, delta)?;
-        Ok(Both {
-            kept: kept.copy()?,
-            moved,
-        })
+        Ok(Both { kept, moved })
     }
 }
 
+// The copy of what a cache and a delta give.
 fn applied(alloc: Global, cache: &Cache, delta: &Delta) -> Result<Cache, CaseFault> {
     if delta.whole || delta.validity != cache.validity || delta.highest < cache.highest {
         return Err(CaseFault::WrongInput);
     }
-    Ok(cache.apply(alloc, delta)?)
+    let applied = cache.apply(alloc, delta)?;
+    Ok(applied.copy()?)
 }
 
 fn moved_on(cache: Cache, delta: Delta) -> Result<Cache, CaseFault> {
@@ -105,11 +110,16 @@ fn moved_on(cache: Cache, delta: Delta) -> Result<Cache, CaseFault> {
 
 fn shown(alloc: Global, cache: &Cache) -> Result<Answer, CaseFault> {
     let mut answer = Answer::new(alloc);
-    put_validity(&mut answer, cache.validity)?;
-    put_modseq(&mut answer, cache.highest)?;
-    put_uid(&mut answer, cache.uidnext)?;
-    for (uid, row) in cache.rows.as_slice() {
-        put_row(&mut answer, *uid, row)?;
-    }
+    put_shown(&mut answer, cache)?;
     Ok(answer)
+}
+
+fn put_shown(answer: &mut Answer, cache: &Cache) -> Result<(), CaseFault> {
+    put_validity(answer, cache.validity)?;
+    put_modseq(answer, cache.highest)?;
+    put_uid(answer, cache.uidnext)?;
+    for (uid, row) in cache.rows.as_slice() {
+        put_row(answer, *uid, row)?;
+    }
+    Ok(())
 }

@@ -35,14 +35,22 @@ fn failed(alloc: Global, came: &str) -> Result<Verdict, CaseFault> {
 
 // Calls, and compares the printed answer with the one that is due.
 fn judged(alloc: Global, call: &str, input: &str, due: &str) -> Result<Verdict, CaseFault> {
-    let due = words_of(alloc, due)?;
-    let due = Answer::of(alloc, &due)?;
-    let input = words_of(alloc, input)?;
-    let came = answered(alloc, call, &input)?;
+    let due = one_form(alloc, due)?;
+    let came = came_of(alloc, call, input)?;
     if came.as_str() == due.as_str() {
         return Ok(Verdict::Passed);
     }
     failed(alloc, came.as_str())
+}
+
+fn one_form(alloc: Global, due: &str) -> Result<Answer, CaseFault> {
+    let words = words_of(alloc, due)?;
+    Answer::of(alloc, &words)
+}
+
+fn came_of(alloc: Global, call: &str, input: &str) -> Result<Answer, CaseFault> {
+    let words = words_of(alloc, input)?;
+    answered(alloc, call, &words)
 }
 
 // What a call answers of these words.

@@ -24,7 +24,9 @@ pub fn answers(call: &str, input: &mut Input, answer: &mut Answer) -> Result<boo
 
 fn put_mutating(input: &mut Input, answer: &mut Answer) -> Result<(), CaseFault> {
     let command = command(input)?;
-    answer.yes(command.is_mutating())
+    let is = command.is_mutating();
+    drop(command);
+    answer.yes(is)
 }
 
 fn put_parts_heard(input: &mut Input, answer: &mut Answer) -> Result<(), CaseFault> {
@@ -34,19 +36,38 @@ fn put_parts_heard(input: &mut Input, answer: &mut Answer) -> Result<(), CaseFau
 
 fn put_alike(input: &mut Input, answer: &mut Answer) -> Result<(), CaseFault> {
     let tag = tag(input)?;
-    let command = command(input)?;
-    let is = is_spoken_alike(input.alloc, tag, &command)?;
+    let is = is_next_alike(input, tag)?;
     answer.yes(is)
+}
+
+fn is_next_alike(input: &mut Input, tag: Tag) -> Result<bool, CaseFault> {
+    let command = command(input)?;
+    let is = is_spoken_alike(input.alloc, tag, &command);
+    drop(command);
+    is
 }
 
 // The parts of the text of a command's copy under a tag.
 fn put_written(input: &mut Input, answer: &mut Answer) -> Result<(), CaseFault> {
     let tag = tag(input)?;
-    let command = command(input)?.copy()?;
-    let Some(parts) = written(input.alloc, tag, &command)? else {
-        return answer.word("not writable");
-    };
-    put_parts(answer, parts.as_slice())
+    match next_written(input, tag)? {
+        Some(parts) => put_parts(answer, parts.as_slice()),
+        None => answer.word("not writable"),
+    }
+}
+
+fn next_written(input: &mut Input, tag: Tag) -> Result<Option<Parts>, CaseFault> {
+    let command = copied(input)?;
+    let parts = written(input.alloc, tag, &command);
+    drop(command);
+    parts
+}
+
+fn copied(input: &mut Input) -> Result<Command, CaseFault> {
+    let command = command(input)?;
+    let copy = command.copy();
+    drop(command);
+    Ok(copy?)
 }
 
 fn put_parts(answer: &mut Answer, parts: &[Bytes]) -> Result<(), CaseFault> {
@@ -80,10 +101,17 @@ fn put_heard(alloc: Global, parts: &[Bytes], answer: &mut Answer) -> Result<(), 
     if parts.is_empty() {
         return Err(CaseFault::WrongInput);
     }
-    match heard(alloc, parts)? {
+    let heard = heard(alloc, parts)?;
+    let told = put_what(answer, &heard);
+    drop(heard);
+    told
+}
+
+fn put_what(answer: &mut Answer, heard: &Heard) -> Result<(), CaseFault> {
+    match heard {
         Heard::Nothing => answer.word("nothing"),
-        Heard::Front { tag, append } => put_front(answer, tag, &append),
-        Heard::Command { tag, command } => put_whole(answer, tag, &command),
+        Heard::Front { tag, append } => put_front(answer, *tag, append),
+        Heard::Command { tag, command } => put_whole(answer, *tag, command),
     }
 }
 
@@ -106,10 +134,21 @@ fn put_whole(answer: &mut Answer, tag: Tag, command: &Command) -> Result<(), Cas
 fn put_spoken(input: &mut Input, answer: &mut Answer) -> Result<(), CaseFault> {
     let tag = tag(input)?;
     let command = command(input)?;
-    let Some(parts) = written(input.alloc, tag, &command)? else {
-        return answer.word("not writable");
-    };
-    put_fronts(input.alloc, parts.as_slice(), answer)
+    let told = put_whole_spoken(input.alloc, tag, &command, answer);
+    drop(command);
+    told
+}
+
+fn put_whole_spoken(
+    alloc: Global,
+    tag: Tag,
+    command: &Command,
+    answer: &mut Answer,
+) -> Result<(), CaseFault> {
+    match written(alloc, tag, command)? {
+        Some(parts) => put_fronts(alloc, parts.as_slice(), answer),
+        None => answer.word("not writable"),
+    }
 }
 
 // What each front of the parts is, and all of them.
@@ -135,8 +174,16 @@ fn is_heard_alike(alloc: Global, parts: &[Bytes]) -> Result<bool, CaseFault> {
     if parts.is_empty() {
         return Ok(false);
     }
-    match heard(alloc, parts)? {
-        Heard::Command { tag, command } => is_written_so(alloc, tag, &command, parts),
+    let heard = heard(alloc, parts)?;
+    let is = is_what(alloc, &heard, parts);
+    drop(heard);
+    is
+}
+
+// Whether it is a command that is written in these parts.
+fn is_what(alloc: Global, heard: &Heard, parts: &[Bytes]) -> Result<bool, CaseFault> {
+    match heard {
+        Heard::Command { tag, command } => is_written_so(alloc, *tag, command, parts),
         Heard::Front { .. } | Heard::Nothing => Ok(false),
     }
 }

@@ -1,7 +1,7 @@
 //! What a resynchronisation told, as words: `whole 9 7 50 none 40 7 "" 42 7 "\\Seen"`. That is whether all rows are told, the
 //! UIDVALIDITY, the highest mod-sequence, the UIDNEXT and the vanished UIDs, and for each row its UID, its mod-sequence and its flags.
 
-ghost use Rattle.std.specs.Prelude.{◌≡◌};
+ghost use Rattle.std.specs.Prelude.{◌≡◌, true, IfOk};
 ghost use Rattle.mailbox_cache.specs.Rows.{has_uid};
 
 use case_words::{
@@ -20,6 +20,24 @@ pub fn delta(input: &mut Input) -> Result<Delta, CaseFault> {
             break;
         }
         add_row(input, &mut delta)?;
+    }
+    Ok(delta)
+}
+
+/// The next step as a delta.
+pub fn step(input: &mut Input) -> Result<Delta, CaseFault> {
+    let delta = delta(input)?;
+    input.end_step()?;
+    Ok(delta)
+}
+
+/// The next step as a delta that tells all rows.
+pub fn whole_delta(input: &mut Input) -> Result<Delta, CaseFault>
+    ensures { IfOk result (λ delta. delta.whole ≡ true) }
+{
+    let delta = step(input)?;
+    if !delta.whole {
+        return Err(CaseFault::WrongInput);
     }
     Ok(delta)
 }
@@ -55,10 +73,10 @@ fn has_uid(set: &UidSet, uid: Uid) -> bool
 // Adds a row, whose UID stands behind those before it and hasn't vanished.
 fn add_row(input: &mut Input, delta: &mut Delta) -> Result<(), CaseFault> {
     let (uid, modseq) = (uid(input)?, modseq(input)?);
-    let flags = flags(input)?;
     if uid.number() <= delta.last_uid() || has_uid(&delta.vanished, uid) {
         return Err(CaseFault::WrongInput);
     }
+    let flags = flags(input)?;
     delta.push(uid, Row { flags, modseq })?;
     Ok(())
 }

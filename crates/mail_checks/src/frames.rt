@@ -36,26 +36,53 @@ struct Came {
 // The frames of a stream, which are the same wherever it is cut in two, and where it comes byte by byte.
 fn put_however_cut(alloc: Global, stream: &[u8], answer: &mut Answer) -> Result<(), CaseFault> {
     let whole = cut_at(alloc, stream, stream.len())?;
-    put_came(answer, &whole)?;
+    let told = put_whole(alloc, stream, &whole, answer);
+    drop(whole);
+    told
+}
+
+// What came in one piece, and what comes otherwise where that isn't the same.
+fn put_whole(
+    alloc: Global,
+    stream: &[u8],
+    whole: &Came,
+    answer: &mut Answer,
+) -> Result<(), CaseFault> {
+    put_came(answer, whole)?;
     for cut in 0..stream.len() {
         let came = cut_at(alloc, stream, cut)?;
-        if !is_same(&whole, &came) {
-            answer.at("but cut at", cut)?;
-            return put_came(answer, &came);
+        if !is_told_alike(whole, &came, cut, answer)? {
+            return Ok(());
         }
     }
     let came = byte_by_byte(alloc, stream)?;
-    if !is_same(&whole, &came) {
-        answer.word("but byte by byte")?;
-        return put_came(answer, &came);
+    put_unlike(whole, &came, answer)
+}
+
+fn is_told_alike(
+    whole: &Came,
+    came: &Came,
+    cut: usize,
+    answer: &mut Answer,
+) -> Result<bool, CaseFault> {
+    if is_same(whole, came) {
+        return Ok(true);
     }
-    Ok(())
+    answer.at("but cut at", cut)?;
+    put_came(answer, came)?;
+    Ok(false)
+}
+
+fn put_unlike(whole: &Came, came: &Came, answer: &mut Answer) -> Result<(), CaseFault> {
+    if is_same(whole, came) {
+        return Ok(());
+    }
+    answer.word("but byte by byte")?;
+    put_came(answer, came)
 }
 
 fn put_came(answer: &mut Answer, came: &Came) -> Result<(), CaseFault> {
-    for frame in came.frames.as_slice() {
-        put_frame(answer, frame)?;
-    }
+    put_frames(answer, came.frames.as_slice())?;
     if !came.steady {
         answer.word("unsteady")?;
     }
@@ -146,28 +173,43 @@ fn taken(alloc: Global, feed: &mut Feed, most: usize) -> Result<List<Frame>, Cas
 fn put_pieces(input: &mut Input, answer: &mut Answer) -> Result<(), CaseFault> {
     let mut feed = Feed::new(input.alloc);
     for _ in 0..input.len() {
-        let piece = input.text()?;
-        let told = feed.push(piece);
-        answer.word(if told.is_ok() { "ok" } else { "refused:" })?;
-        put_told(answer, told)?;
-        for frame in taken(input.alloc, &mut feed, piece.len())?.as_slice() {
-            put_frame(answer, frame)?;
-        }
+        put_piece(input, &mut feed, answer)?;
     }
     Ok(())
+}
+
+fn put_piece(input: &mut Input, feed: &mut Feed, answer: &mut Answer) -> Result<(), CaseFault> {
+    let piece = input.text()?;
+    let told = feed.push(piece);
+    answer.word(if told.is_ok() { "ok" } else { "refused:" })?;
+    put_told(answer, told)?;
+    let frames = taken(input.alloc, feed, piece.len())?;
+    put_frames(answer, frames.as_slice())
 }
 
 // How many bytes are kept once each frame of the pieces was taken.
 fn put_held(input: &mut Input, answer: &mut Answer) -> Result<(), CaseFault> {
     let mut feed = Feed::new(input.alloc);
     for _ in 0..input.len() {
-        let piece = input.text()?;
-        if feed.push(piece).is_err() {
-            return Err(CaseFault::WrongInput);
-        }
-        taken(input.alloc, &mut feed, piece.len())?;
+        hold_piece(input, &mut feed)?;
     }
     answer.number(feed.held())
+}
+
+fn hold_piece(input: &mut Input, feed: &mut Feed) -> Result<(), CaseFault> {
+    let piece = input.text()?;
+    if feed.push(piece).is_err() {
+        return Err(CaseFault::WrongInput);
+    }
+    taken(input.alloc, feed, piece.len())?;
+    Ok(())
+}
+
+fn put_frames(answer: &mut Answer, frames: &[Frame]) -> Result<(), CaseFault> {
+    for frame in frames {
+        put_frame(answer, frame)?;
+    }
+    Ok(())
 }
 
 // A frame's place, its bytes or how many they are, and its literals.

@@ -8,6 +8,7 @@ mod caches;
 mod calls;
 mod case;
 mod commands;
+mod compared;
 mod deltas;
 mod events;
 mod flags;

@@ -86,14 +86,20 @@ fn put_name(input: &mut Input, answer: &mut Answer) -> Result<(), CaseFault> {
 fn put_account(input: &mut Input, answer: &mut Answer) -> Result<(), CaseFault> {
     let (user, password) = (input.letters()?, input.letters()?);
     match Account::new(input.alloc, user, password) {
-        Ok(account) => {
-            let copy = account.copy()?;
-            answer.text(copy.user().as_bytes())?;
-            answer.text(copy.password().as_bytes())
-        }
+        Ok(account) => put_copy(answer, &account),
         Err(AccountFault::HasNul) => answer.word("has a nul"),
         Err(AccountFault::Memory) => Err(CaseFault::Memory),
     }
+}
+
+fn put_copy(answer: &mut Answer, account: &Account) -> Result<(), CaseFault> {
+    let copy = account.copy()?;
+    put_login(answer, &copy)
+}
+
+fn put_login(answer: &mut Answer, account: &Account) -> Result<(), CaseFault> {
+    answer.text(account.user().as_bytes())?;
+    answer.text(account.password().as_bytes())
 }
 
 // A printed line, by its name and its number where it has one.
@@ -217,9 +223,13 @@ fn put_frame(input: &mut Input, answer: &mut Answer) -> Result<(), CaseFault> {
         literals: spans(input)?,
     };
     let copy = frame.copy(input.alloc)?;
-    answer.number(copy.at)?;
-    answer.text(copy.bytes.as_slice())?;
-    put_spans(answer, copy.literals.as_slice())
+    put_frame_of(answer, &copy)
+}
+
+fn put_frame_of(answer: &mut Answer, frame: &Frame) -> Result<(), CaseFault> {
+    answer.number(frame.at)?;
+    answer.text(frame.bytes.as_slice())?;
+    put_spans(answer, frame.literals.as_slice())
 }
 
 /// The spans of all words that are left, as `5:7`.

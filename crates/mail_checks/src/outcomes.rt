@@ -34,30 +34,43 @@ fn place(input: &mut Input) -> Result<Option<Place>, CaseFault> {
     }))
 }
 
+// The kinds without numbers.
+const BARE: [Kind; 8] = [
+    Kind::MessageGone,
+    Kind::AlreadySo,
+    Kind::RefusedNo,
+    Kind::RefusedBad,
+    Kind::NotPermanent,
+    Kind::FoundSo,
+    Kind::SourceGone,
+    Kind::GoneAfterLoss,
+];
+
 fn kind(word: &str, input: &mut Input) -> Result<Kind, CaseFault> {
     Ok(match word {
-        "message-gone" => Kind::MessageGone,
-        "already-so" => Kind::AlreadySo,
         "flags-changed" => Kind::FlagsChanged { m: modseq(input)? },
-        "refused-no" => Kind::RefusedNo,
-        "refused-bad" => Kind::RefusedBad,
-        "not-permanent" => Kind::NotPermanent,
         "target-unknown" => Kind::TargetUnknown {
             k: action_id(input)?,
         },
-        "found-so" => Kind::FoundSo,
         "store-unsure" => Kind::StoreUnsure {
             m: modseq(input)?,
             f: modseq(input)?,
         },
-        "source-gone" => Kind::SourceGone,
-        "gone-after-loss" => Kind::GoneAfterLoss,
         "ambiguous" => Kind::Ambiguous {
             u: uid(input)?,
             v: uid(input)?,
         },
-        _ => return Err(CaseFault::WrongInput),
+        _ => return bare_kind(word),
     })
+}
+
+fn bare_kind(word: &str) -> Result<Kind, CaseFault> {
+    for kind in &BARE {
+        if word_of(kind) == word {
+            return Ok(*kind);
+        }
+    }
+    Err(CaseFault::WrongInput)
 }
 
 /// Adds the words of an outcome.

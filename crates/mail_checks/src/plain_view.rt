@@ -16,18 +16,8 @@ struct Placed {
 
 /// The rows of a mailbox.
 pub fn plain_view(alloc: Global, book: &Book, name: &BoxName) -> Result<Vec<Seen>, AllocError> {
-    let mut all = Vec::new(alloc);
-    for known in book.boxes.as_slice() {
-        put_cached(&mut all, known)?;
-    }
-    for (at, queued) in book.queue.as_slice().iter().enumerate() {
-        if queued.outcome.is_some() || at >= 1_000_000 {
-            continue;
-        }
-        if let Some(id) = ActionId::new(at as u32 + 1) {
-            all = acted(alloc, book, all, id, &queued.action)?;
-        }
-    }
+    let mut all = cached(alloc, book)?;
+    act_all(alloc, book, &mut all)?;
     let mut rows = Vec::new(alloc);
     for placed in all {
         if placed.name == *name {
@@ -35,6 +25,15 @@ pub fn plain_view(alloc: Global, book: &Book, name: &BoxName) -> Result<Vec<Seen
         }
     }
     Ok(rows)
+}
+
+// The cached rows of all mailboxes.
+fn cached(alloc: Global, book: &Book) -> Result<Vec<Placed>, AllocError> {
+    let mut all = Vec::new(alloc);
+    for known in book.boxes.as_slice() {
+        put_cached(&mut all, known)?;
+    }
+    Ok(all)
 }
 
 fn put_cached(all: &mut Vec<Placed>, known: &Known) -> Result<(), AllocError> {
@@ -56,64 +55,91 @@ fn put_cached(all: &mut Vec<Placed>, known: &Known) -> Result<(), AllocError> {
     Ok(())
 }
 
-// The rows after an action, each of them put into a new list.
-fn acted(
-    alloc: Global,
-    book: &Book,
-    all: Vec<Placed>,
-    id: ActionId,
-    action: &Action,
-) -> Result<Vec<Placed>, AllocError> {
-    let mut after = Vec::new(alloc);
-    let mut new = Vec::new(alloc);
-    for placed in all {
-        put_acted(book, &mut after, &mut new, placed, id, action)?;
-    }
-    for placed in new {
-        after.push(placed)?;
-    }
-    if let Action::Append { to, flags, .. } = action {
-        after.push(dummy(id, to, flags)?)?;
-    }
-    Ok(after)
-}
-
-// Puts a row back as it was or with other flags; or, where it is moved, puts a new one aside.
-fn put_acted(
-    book: &Book,
-    after: &mut Vec<Placed>,
-    new: &mut Vec<Placed>,
-    placed: Placed,
-    id: ActionId,
-    action: &Action,
-) -> Result<(), AllocError> {
-    match action {
-        Action::Flag { target, add, flags } if is_row(book, target, &placed) => {
-            let flags = if *add {
-                placed.seen.flags.with(flags)?
-            } else {
-                placed.seen.flags.without(flags)?
-            };
-            after.push(turned(placed, flags))?;
+// Each action that waits changes the rows.
+fn act_all(alloc: Global, book: &Book, all: &mut Vec<Placed>) -> Result<(), AllocError> {
+    for (at, queued) in book.queue.as_slice().iter().enumerate() {
+        if queued.outcome.is_some() || at >= 1_000_000 {
+            continue;
         }
-        Action::Move { target, to } if is_row(book, target, &placed) => {
-            new.push(dummy(id, to, &placed.seen.flags)?)?;
+        if let Some(id) = ActionId::new(at as u32 + 1) {
+            act(alloc, book, all, id, &queued.action)?;
         }
-        Action::Flag { .. } | Action::Move { .. } | Action::Append { .. } => after.push(placed)?,
     }
     Ok(())
 }
 
-fn turned(placed: Placed, flags: FlagSet) -> Placed {
-    let Placed { name, seen } = placed;
-    Placed {
-        name,
-        seen: Seen {
-            id: seen.id,
-            modseq: seen.modseq,
-            flags,
-        },
+fn act(
+    alloc: Global,
+    book: &Book,
+    all: &mut Vec<Placed>,
+    id: ActionId,
+    action: &Action,
+) -> Result<(), AllocError> {
+    match action {
+        Action::Flag { target, add, flags } => flag_rows(book, all, target, *add, flags),
+        Action::Move { target, to } => move_rows(alloc, book, all, target, id, to),
+        Action::Append { to, flags, .. } => {
+            let new = dummy(id, to, flags)?;
+            Ok(all.push(new)?)
+        }
     }
+}
+
+fn flag_rows(
+    book: &Book,
+    all: &mut [Placed],
+    target: &Target,
+    add: bool,
+    flags: &FlagSet,
+) -> Result<(), AllocError> {
+    for placed in all.iter_mut() {
+        if is_row(book, target, placed) {
+            placed.seen.flags = changed(&placed.seen.flags, add, flags)?;
+        }
+    }
+    Ok(())
+}
+
+fn changed(old: &FlagSet, add: bool, flags: &FlagSet) -> Result<FlagSet, AllocError> {
+    if add {
+        old.with(flags)
+    } else {
+        old.without(flags)
+    }
+}
+
+// The target's rows go, and new ones come behind all others.
+fn move_rows(
+    alloc: Global,
+    book: &Book,
+    all: &mut Vec<Placed>,
+    target: &Target,
+    id: ActionId,
+    to: &BoxName,
+) -> Result<(), AllocError> {
+    let new = dummies(alloc, book, all, target, id, to)?;
+    all.retain(|placed| !is_row(book, target, placed));
+    for placed in new {
+        all.push(placed)?;
+    }
+    Ok(())
+}
+
+fn dummies(
+    alloc: Global,
+    book: &Book,
+    all: &[Placed],
+    target: &Target,
+    id: ActionId,
+    to: &BoxName,
+) -> Result<Vec<Placed>, AllocError> {
+    let mut new = Vec::new(alloc);
+    for placed in all {
+        if is_row(book, target, placed) {
+            new.push(dummy(id, to, &placed.seen.flags)?)?;
+        }
+    }
+    Ok(new)
 }
 
 fn dummy(id: ActionId, to: &BoxName, flags: &FlagSet) -> Result<Placed, AllocError> {

@@ -23,15 +23,30 @@ pub fn answers(call: &str, input: &mut Input, answer: &mut Answer) -> Result<boo
 fn put_record(alloc: Global, body: &[u8], answer: &mut Answer) -> Result<(), CaseFault> {
     match decode(alloc, body) {
         Ok(event) => {
-            put_event(answer, &event)?;
-            if !is_frame(&encode(alloc, &event)?, body) {
-                answer.word("but written otherwise")?;
-            }
-            put_size(answer, &event, body)
+            let told = put_read(alloc, &event, body, answer);
+            drop(event);
+            told
         }
         Err(RecordFault::BadForm { at }) => answer.at("bad form at", at),
         Err(RecordFault::Memory) => Err(CaseFault::Memory),
     }
+}
+
+fn put_read(alloc: Global, event: &Event, body: &[u8], answer: &mut Answer) -> Result<(), CaseFault>
+    requires { Spelled body.now event.now }
+{
+    put_event(answer, event)?;
+    if !is_written_so(alloc, event, body)? {
+        answer.word("but written otherwise")?;
+    }
+    put_size(answer, event, body)
+}
+
+fn is_written_so(alloc: Global, event: &Event, body: &[u8]) -> Result<bool, CaseFault>
+    requires { Spelled body.now event.now }
+{
+    let frame = encode(alloc, event)?;
+    Ok(is_frame(&frame, body))
 }
 
 // Tells where the size of an event, or of an action alone, isn't that of its body, or an outcome is written otherwise.

@@ -19,7 +19,11 @@ pub fn answers(call: &str, input: &mut Input, answer: &mut Answer) -> Result<boo
 fn put_kind(input: &mut Input, answer: &mut Answer) -> Result<(), CaseFault> {
     let frame = frame(input)?;
     match read(input.alloc, &frame) {
-        Ok(response) => answer.word(kind_of(&response)),
+        Ok(response) => {
+            let told = answer.word(kind_of(&response));
+            drop(response);
+            told
+        }
         Err(fault) => put_fault(answer, fault),
     }
 }
@@ -27,7 +31,11 @@ fn put_kind(input: &mut Input, answer: &mut Answer) -> Result<(), CaseFault> {
 fn put_read(input: &mut Input, answer: &mut Answer) -> Result<(), CaseFault> {
     let frame = frame(input)?;
     match read(input.alloc, &frame) {
-        Ok(response) => put_response(answer, &response),
+        Ok(response) => {
+            let told = put_response(answer, &response);
+            drop(response);
+            told
+        }
         Err(fault) => put_fault(answer, fault),
     }
 }

@@ -2,7 +2,8 @@
 //! or the word `nothing`; then the lines of the reply to SELECT, and behind a semicolon those of the reply to the FETCH of all
 //! rows. The last line of a reply is its completion.
 
-use crate::deltas::{delta, put_delta};
+use crate::compared::put_compared;
+use crate::deltas::{put_delta, whole_delta};
 use crate::numbers::known;
 use crate::plain_delta::put_plain;
 use case_words::{Answer, CaseFault, Input, bytes, put_modseq, put_uid, put_validity};
@@ -35,24 +36,38 @@ pub struct Resync {
 // The delta, which the plain program tells too.
 fn put_told(input: &mut Input, answer: &mut Answer) -> Result<(), CaseFault> {
     let resync = read_resync(input)?;
-    let came = shown(input.alloc, &resync)?;
-    let plain = plainly(input.alloc, &resync)?;
-    answer.word(came.as_str())?;
-    if plain.as_str() != came.as_str() {
-        answer.word("but the plain program tells")?;
-        answer.word(plain.as_str())?;
-    }
-    Ok(())
+    let told = put_both(input.alloc, &resync, answer);
+    drop(resync);
+    told
+}
+
+fn put_both(alloc: Global, resync: &Resync, answer: &mut Answer) -> Result<(), CaseFault> {
+    let came = shown(alloc, resync)?;
+    let plain = plainly(alloc, resync)?;
+    put_compared(
+        answer,
+        came.as_str(),
+        "but the plain program tells",
+        plain.as_str(),
+    )
 }
 
 fn shown(alloc: Global, resync: &Resync) -> Result<Answer, CaseFault> {
     let mut answer = Answer::new(alloc);
+    put_shown(alloc, resync, &mut answer)?;
+    Ok(answer)
+}
+
+fn put_shown(alloc: Global, resync: &Resync, answer: &mut Answer) -> Result<(), CaseFault> {
     let (kept, all) = (resync.kept.as_ref(), resync.all.as_ref());
     match delta_of(alloc, kept, &resync.selected, all) {
-        Ok(delta) => put_delta(&mut answer, &delta)?,
-        Err(fault) => put_fault(&mut answer, &fault)?,
+        Ok(delta) => {
+            let told = put_delta(answer, &delta);
+            drop(delta);
+            told
+        }
+        Err(fault) => put_fault(answer, &fault),
     }
-    Ok(answer)
 }
 
 fn plainly(alloc: Global, resync: &Resync) -> Result<Answer, CaseFault> {
@@ -63,7 +78,13 @@ fn plainly(alloc: Global, resync: &Resync) -> Result<Answer, CaseFault> {
 
 fn put_codes(input: &mut Input, answer: &mut Answer) -> Result<(), CaseFault> {
     let selected = replies(input)?;
-    match codes_of(&selected) {
+    let told = put_codes_of(answer, &selected);
+    drop(selected);
+    told
+}
+
+fn put_codes_of(answer: &mut Answer, selected: &Replies) -> Result<(), CaseFault> {
+    match codes_of(selected) {
         Ok(codes) => {
             put_validity(answer, codes.validity)?;
             put_uid(answer, codes.uidnext)?;
@@ -77,7 +98,9 @@ fn put_codes(input: &mut Input, answer: &mut Answer) -> Result<(), CaseFault> {
 
 fn put_empty(input: &mut Input, answer: &mut Answer) -> Result<(), CaseFault> {
     let selected = replies(input)?;
-    answer.yes(is_told_empty(&selected))
+    let is = is_told_empty(&selected);
+    drop(selected);
+    answer.yes(is)
 }
 
 fn put_fault(answer: &mut Answer, fault: &ResyncFault) -> Result<(), CaseFault> {
@@ -132,12 +155,7 @@ fn kept(input: &mut Input) -> Result<Option<Cache>, CaseFault> {
         input.end_step()?;
         return Ok(None);
     }
-    let delta = delta(input)?;
-    input.end_step()?;
-    if !delta.whole {
-        return Err(CaseFault::WrongInput);
-    }
-    Ok(Some(Cache::of(delta)))
+    Ok(Some(Cache::of(whole_delta(input)?)))
 }
 
 // The lines up to a completion, and the step's end.
@@ -146,17 +164,23 @@ fn replies(input: &mut Input) -> Result<Replies, CaseFault> {
     for _ in 0..input.len() {
         match line(input)? {
             Response::Done { ending, code, .. } => {
-                input.end_step()?;
-                return Ok(Replies {
+                let replies = Replies {
                     untagged,
                     ending,
                     code,
-                });
+                };
+                return ended(input, replies);
             }
             response => untagged.push(response)?,
         }
     }
     Err(CaseFault::WrongInput)
+}
+
+// The replies of a step, which ends behind them.
+fn ended(input: &mut Input, replies: Replies) -> Result<Replies, CaseFault> {
+    input.end_step()?;
+    Ok(replies)
 }
 
 // The next text as a line of a server.

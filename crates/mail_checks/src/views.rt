@@ -2,6 +2,7 @@
 //! book of a journal with the mailboxes INBOX and Archive after events.
 
 use crate::books::{begun, enter};
+use crate::compared::put_compared;
 use crate::events::event;
 use crate::numbers::known;
 use crate::plain_view::plain_view;
@@ -9,6 +10,7 @@ use action_queue::Book;
 use case_words::{Answer, CaseFault, Input, name, put_flags, put_modseq, put_uid};
 use conflict_report::{queue_text, report};
 use local_view::{Ident, Seen, view};
+use mail_base::BoxName;
 use std::alloc::Global;
 
 /// Answers a call of this module, or tells that it is none.
@@ -27,29 +29,60 @@ fn put_view(input: &mut Input, answer: &mut Answer) -> Result<(), CaseFault> {
     let name = name(input)?;
     input.end_step()?;
     let book = book(input)?;
-    let rows = view(input.alloc, &book, &name)?;
-    put_rows(answer, &rows)?;
-    let came = told(input.alloc, &rows)?;
-    let rows = plain_view(input.alloc, &book, &name)?;
-    let plain = told(input.alloc, &rows)?;
-    if plain.as_str() != came.as_str() {
-        answer.word("but the plain program tells")?;
-        answer.word(plain.as_str())?;
-    }
-    Ok(())
+    let told = put_both(input.alloc, &book, &name, answer);
+    drop(book);
+    told
+}
+
+fn put_both(
+    alloc: Global,
+    book: &Book,
+    name: &BoxName,
+    answer: &mut Answer,
+) -> Result<(), CaseFault> {
+    let came = seen(alloc, book, name)?;
+    let plain = plainly(alloc, book, name)?;
+    put_compared(
+        answer,
+        came.as_str(),
+        "but the plain program tells",
+        plain.as_str(),
+    )
+}
+
+fn seen(alloc: Global, book: &Book, name: &BoxName) -> Result<Answer, CaseFault> {
+    let rows = view(alloc, book, name)?;
+    told(alloc, &rows)
+}
+
+fn plainly(alloc: Global, book: &Book, name: &BoxName) -> Result<Answer, CaseFault> {
+    let rows = plain_view(alloc, book, name)?;
+    told(alloc, &rows)
+}
+
+fn put_queue(input: &mut Input, answer: &mut Answer) -> Result<(), CaseFault> {
+    let book = book(input)?;
+    let told = put_queue_of(input.alloc, &book, answer);
+    drop(book);
+    told
 }
 
 // The text of the queue.
-fn put_queue(input: &mut Input, answer: &mut Answer) -> Result<(), CaseFault> {
-    let book = book(input)?;
-    let text = queue_text(input.alloc, &book)?;
+fn put_queue_of(alloc: Global, book: &Book, answer: &mut Answer) -> Result<(), CaseFault> {
+    let text = queue_text(alloc, book)?;
     answer.text(text.as_slice())
 }
 
-// The text of the report.
 fn put_report(input: &mut Input, answer: &mut Answer) -> Result<(), CaseFault> {
     let book = book(input)?;
-    let text = report(input.alloc, &book)?;
+    let told = put_report_of(input.alloc, &book, answer);
+    drop(book);
+    told
+}
+
+// The text of the report.
+fn put_report_of(alloc: Global, book: &Book, answer: &mut Answer) -> Result<(), CaseFault> {
+    let text = report(alloc, book)?;
     answer.text(text.as_slice())
 }
 
@@ -60,13 +93,17 @@ fn book(input: &mut Input) -> Result<Book, CaseFault> {
         if input.is_done() {
             break;
         }
-        let event = event(input)?;
-        if enter(&mut book, event)?.is_some() {
-            return Err(CaseFault::WrongInput);
-        }
-        input.end_step()?;
+        take_event(input, &mut book)?;
     }
     Ok(book)
+}
+
+fn take_event(input: &mut Input, book: &mut Book) -> Result<(), CaseFault> {
+    let event = event(input)?;
+    if enter(book, event)?.is_some() {
+        return Err(CaseFault::WrongInput);
+    }
+    input.end_step()
 }
 
 fn told(alloc: Global, rows: &[Seen]) -> Result<Answer, CaseFault> {
