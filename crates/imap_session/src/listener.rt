@@ -24,9 +24,18 @@ pub fn hear<H: Listen>(
     ensures kept { OnErr result (heard.new ≡ heard.old) }
 {
     if let Response::Go = response {
+        drop(response);
         return Ok(());
     }
     let before = permits.take();
-    *permits = behind(before, &response)?;
-    heard.take(response)
+    match behind(before, &response) {
+        Ok(counts) => {
+            *permits = counts;
+            heard.take(response)
+        }
+        Err(fault) => {
+            drop(response);
+            Err(fault)
+        }
+    }
 }

@@ -10,11 +10,13 @@ use Rattle.world_mem.specs.Worlds.{course_of, disk_faults_of, earlier_in, line_i
 use Rattle.world_mem.specs.Worlds.{entered, entered_anew, served_by, server_of, EntersSome, EntersSomeAnew, FailsExactly}
 use Rattle.world_mem.specs.declared.mem_world.MemWorld.{MemWorld}
 
--- A call of the disk is counted, fails exactly where it is planned to or was refused room, and leaves the link and the server as they were.
+-- A call of the disk is counted, fails exactly where it is planned to or was refused room, and leaves the link, the server and the command
+-- that waits there as they were.
 pub record CallsDisk {T E : Type 0} (old new : MemWorld) (result : Result T E) : Type 0 where
   pub next : planned_of new ≡ next_disk (planned_of old)
   pub exact : FailsExactly (DiskIsToFail (planned_of new)) result (refused_of old) (refused_of new)
   pub server : (run_in new).state ≡ (run_in old).state
+  pub held : (run_in new).held ≡ (run_in old).held
   pub line : line_in new ≡ line_in old
   pub link : link_faults_of new ≡ link_faults_of old
 

@@ -4,6 +4,8 @@ pub mod Nobody
 pub mod Asking
 pub mod Calls
 pub mod LinkState
+pub mod ConnectionMade
+pub mod ConnectionFailed
 pub mod Links
 pub mod Sends
 pub mod Owing

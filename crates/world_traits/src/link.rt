@@ -16,7 +16,7 @@ pub struct LinkFailed;
 /// call answers `LinkFailed` only where the count of faults rose in that call, leaves that count
 /// where it answers Ok, and leaves the disk as it was.
 pub trait Link: Clocked {
-    ghost use Rattle.std.specs.Prelude.{◌≡◌, ◌≤◌, ◌<◌, ◌++◌, ℕ, List, [], ◌∷◌, Option, Some, None};
+    ghost use Rattle.std.specs.Prelude.{◌≡◌, ◌≤◌, ◌<◌, ◌++◌, ℕ, List, Option, Some, None};
     ghost use Rattle.std.specs.Prelude.{take, length, OnOk, OnErr, IfOk, IfSome};
     ghost use Rattle.mail_base.specs.declared.tag.Tag.{Tag};
     ghost use Rattle.imap_model.specs.Lines.{Received};
@@ -24,7 +24,9 @@ pub trait Link: Clocked {
     ghost use Rattle.imap_model.specs.declared.command.Command.{Command};
     ghost use Rattle.world_traits.specs.Calls.{Rose};
     ghost use Rattle.world_traits.specs.Connected.{IsGreeted, IsReplyDue, WasConnected};
-    ghost use Rattle.world_traits.specs.LinkState.{Connection, fresh};
+    ghost use Rattle.world_traits.specs.ConnectionFailed.{ConnectionFailed};
+    ghost use Rattle.world_traits.specs.ConnectionMade.{ConnectionMade};
+    ghost use Rattle.world_traits.specs.LinkState.{Connection};
     ghost use Rattle.world_traits.specs.Links.{AnyStep, Linked};
     ghost use Rattle.world_traits.specs.Sends.{Sent};
 
@@ -38,21 +40,14 @@ pub trait Link: Clocked {
             Linked AnyStep (Self.clock self.old) (Self.clock self.new) }
         ensures told { Self.tells_server →
             Linked Connecting (Self.clock self.old) (Self.clock self.new) }
-        ensures begins { Self.tells_files →
-            OnOk result ((Self.link self.new).connection ≡ Some fresh) }
         ensures anew { Self.tells_server →
             OnOk result (WasConnected (Self.clock self.old) (Self.clock self.new)) }
         ensures greets { Self.tells_server →
             OnOk result (IsGreeted (Self.clock self.new).now.outside) }
-        ensures sent { Self.tells_files → OnOk result ((Self.link self.new).sent ≡ []) }
-        ensures earlier { Self.tells_files → OnOk result ((Self.link self.new).earlier
-            ≡ (Self.link self.old).sent ∷ (Self.link self.old).earlier) }
-        ensures unsent { Self.tells_files →
-            OnErr result ((Self.link self.new).sent ≡ (Self.link self.old).sent) }
-        ensures unmade { Self.tells_files →
-            OnErr result ((Self.link self.new).earlier ≡ (Self.link self.old).earlier) }
-        ensures lost { Self.tells_files →
-            OnErr result ((Self.link self.new).connection ≡ None) }
+        ensures made { Self.tells_files →
+            OnOk result (ConnectionMade (Self.link self.old) (Self.link self.new)) }
+        ensures failed { Self.tells_files →
+            OnErr result (ConnectionFailed (Self.link self.old) (Self.link self.new)) }
         ensures count { (Self.link self.old).faults ≤ (Self.link self.new).faults }
         ensures cause { OnErr result
             (Rose (Self.link self.old).faults (Self.link self.new).faults) }
