@@ -18,6 +18,8 @@ SENTENCES='
         of["source-gone"] = cut "The message was then not there any more: look for it where it was to go."
         of["gone-after-loss"] = cut "The message was then not there any more. Nothing is to do."
         of["ambiguous"] = cut "Several messages then had this Message-ID: look at the two UIDs, and keep one."
+        of["validity-changed"] = "The mailbox was made anew on the server. Nothing was done: look at it, and ask again."
+        of["reset-after-loss"] = cut "The mailbox was then made anew on the server: look at it."
     }
 '
 

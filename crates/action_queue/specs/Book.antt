@@ -9,7 +9,7 @@ use Rattle.action_queue.specs.declared.event.Event.{Event}
 use Rattle.action_queue.specs.declared.event.Event.TheVariants as events
 use Rattle.action_queue.specs.declared.book.Known.{Known}
 use Rattle.action_queue.specs.declared.book.Book.{Book}
-use Rattle.action_queue.specs.Queues.{accepted, settled, change_first}
+use Rattle.action_queue.specs.Queues.{accepted, ended, settled, tried, change_first}
 
 -- what a book means: what it knows of each mailbox, its actions, and the intent that is pending for the one that is due
 pub record Meaning : Type 0 where
@@ -58,3 +58,6 @@ after b (events.Accept id action) = record b { queue = b.queue ++ accepted actio
 after b (events.Intend id intent) = record b { pending = Some intent }
 after b (events.Settle id outcome) = record b { queue = change_first (settled outcome) b.queue; pending = None }
 after b (events.Learn name delta) = record b { boxes = put_cache name (Some (learned (cache_at name b.boxes) delta)) b.boxes }
+after b (events.Old id action outcome) = record b { queue = b.queue ++ ended action outcome ∷ [] }
+after b (events.Reset name kept told) = record b { boxes = put_cache name None b.boxes }
+after b (events.Withdraw id tries) = record b { queue = change_first (tried tries) b.queue; pending = None }

@@ -34,6 +34,9 @@ IsFirst (events.Accept id action) = ⊥
 IsFirst (events.Intend id intent) = ⊥
 IsFirst (events.Settle id outcome) = ⊥
 IsFirst (events.Learn name delta) = ⊥
+IsFirst (events.Old id action outcome) = ⊥
+IsFirst (events.Reset name kept told) = ⊥
+IsFirst (events.Withdraw id tries) = ⊥
 
 abbrev pub first_book : Event → Meaning
 first_book (events.Begin names) = begun names
@@ -41,6 +44,9 @@ first_book (events.Accept id action) = begun []
 first_book (events.Intend id intent) = begun []
 first_book (events.Settle id outcome) = begun []
 first_book (events.Learn name delta) = begun []
+first_book (events.Old id action outcome) = begun []
+first_book (events.Reset name kept told) = begun []
+first_book (events.Withdraw id tries) = begun []
 
 -- the book after the next event; no book stands for a journal without events
 abbrev pub next_book : Option Meaning → Event → Meaning

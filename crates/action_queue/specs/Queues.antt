@@ -26,9 +26,17 @@ due_action queue = slice_get queue (due queue)
 abbrev pub accepted : Action → Queued
 accepted action = record { action = action; outcome = None; tries = 0 }
 
+-- an action that ended, as it is told anew
+abbrev pub ended : Action → Outcome → Queued
+ended action outcome = record { action = action; outcome = Some outcome; tries = 0 }
+
 -- an action with this outcome
 abbrev pub settled : Outcome → Queued → Queued
 settled outcome q = record q { outcome = Some outcome; tries = 0 }
+
+-- an action whose command had no effect, with the number of its tries so far
+abbrev pub tried : ℕ → Queued → Queued
+tried tries q = record q { tries = tries }
 
 abbrev pub change_queued : (Queued → Queued) → Queued → List Queued → List Queued → Option Outcome → List Queued
 change_queued f q qs changed None = f q ∷ qs
@@ -38,6 +46,18 @@ change_queued f q qs changed (Some old) = q ∷ changed
 abbrev pub change_first : (Queued → Queued) → List Queued → List Queued
 change_first f [] = []
 change_first f (q ∷ qs) = change_queued f q qs (change_first f qs) q.outcome
+
+-- a queue as if no try of the action that is due was taken back
+abbrev pub untried : List Queued → List Queued
+untried queue = change_first (tried 0) queue
+
+abbrev pub tries_of : Option Queued → ℕ
+tries_of None = 0
+tries_of (Some q) = q.tries
+
+-- how many tries of the action that is due were taken back
+abbrev pub tries_due : List Queued → ℕ
+tries_due queue = tries_of (due_action queue)
 
 -- every action has an outcome
 abbrev pub AllSettled : List Queued → Type 0

@@ -1,5 +1,5 @@
 -- What an event needs to be entered without memory.
-use Rattle.std.specs.Prelude.{◌≡◌, ◌≤◌, ℕ, Option, Some, None, ⊤}
+use Rattle.std.specs.Prelude.{◌≤◌, ℕ, Option, Some, None, ⊤}
 use Rattle.mailbox_cache.specs.Rows.{room_for}
 use Rattle.mailbox_cache.specs.declared.cache.Cache.{Cache}
 use Rattle.mailbox_cache.specs.declared.delta.Delta.{Delta}
@@ -21,6 +21,9 @@ AtHand book (events.Accept id action) room = 1 ≤ book.queue.spare
 AtHand book (events.Intend id intent) room = ⊤
 AtHand book (events.Settle id outcome) room = ⊤
 AtHand book (events.Learn name delta) room = HasRoom (cache_at name book.boxes) delta room
+AtHand book (events.Old id action outcome) room = 1 ≤ book.queue.spare
+AtHand book (events.Reset name kept told) room = ⊤
+AtHand book (events.Withdraw id tries) room = ⊤
 
 -- the event was prepared on this book as it is
 pub record IsReady (book : Book) (event : Event) (room : ℕ) : Type 0 where

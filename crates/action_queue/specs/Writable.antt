@@ -27,3 +27,6 @@ IsWritable (events.Accept id action) = IsWritableAction action
 IsWritable (events.Intend id intent) = ⊤
 IsWritable (events.Settle id outcome) = ⊤
 IsWritable (events.Learn name delta) = (length delta.rows ≤ MAX_ROWS) × HaveFewFlags delta.rows
+IsWritable (events.Old id action outcome) = IsWritableAction action
+IsWritable (events.Reset name kept told) = ⊤
+IsWritable (events.Withdraw id tries) = ⊤

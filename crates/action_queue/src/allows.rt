@@ -1,11 +1,14 @@
 //! Which events may come: each rule as a test of its own, tried in their order.
 
-ghost use Rattle.std.specs.Prelude.{◌≡◌};
+ghost use Rattle.std.specs.Prelude.{◌≡◌, cond, Some, None};
 ghost use Rattle.action_queue.specs.Book.{meaning};
 ghost use Rattle.action_queue.specs.Rules as spec;
+ghost use Rattle.action_queue.specs.declared.rule.Rule.TheVariants as rule;
 
-use crate::{Action, Book, Event, Intent, Kind, Outcome, Place, Rule, Target, Version};
-use mail_base::{ActionId, BoxName, MAX_ACTIONS, MAX_ROWS, ModSeq};
+use crate::{
+    Action, Book, Event, Found, Intent, Kind, Outcome, Place, Queued, Rule, Target, Version,
+};
+use mail_base::{ActionId, BoxName, MAX_ACTIONS, MAX_ROWS, ModSeq, Validity};
 use mailbox_cache::{Cache, Delta};
 
 impl Book {
@@ -17,8 +20,15 @@ impl Book {
             Event::Begin { .. } => Some(Rule::BeginAgain),
             Event::Accept { id, action } => self.refuses_accept(*id, action),
             Event::Intend { id, intent } => self.refuses_intend(*id, intent),
-            Event::Settle { id, outcome } => self.refuses_settle(*id, outcome),
+            Event::Settle { id, outcome } => self.refuses_settle(version, *id, outcome),
             Event::Learn { name, delta } => self.refuses_learn(name, delta),
+            Event::Old {
+                id,
+                action,
+                outcome,
+            } => self.refuses_old(*id, action, outcome),
+            Event::Reset { name, kept, told } => self.refuses_reset(name, *kept, *told),
+            Event::Withdraw { id, tries } => self.refuses_withdraw(version, *id, *tries),
         }
     }
 
@@ -39,6 +49,86 @@ impl Book {
             return Some(Rule::TooMany);
         }
         None
+    }
+
+    // The first rule that an action that ended breaks.
+    fn refuses_old(&self, id: ActionId, action: &Action, outcome: &Outcome) -> Option<Rule>
+        ensures { result ≡ spec.first_of (spec.breaks_old (meaning self.now) id action.now outcome.now) spec.rules_in_order }
+    {
+        let next = self.queue.len() + 1;
+        if id.number() as usize != next {
+            return Some(Rule::WrongNumber);
+        }
+        if self.is_unknown_action(action) {
+            return Some(Rule::UnknownBox);
+        }
+        if self.is_bad_action(action) {
+            return Some(Rule::BadTarget);
+        }
+        if self.queue.len() >= MAX_ACTIONS {
+            return Some(Rule::TooMany);
+        }
+        if self.queue.due().is_some() {
+            return Some(Rule::NotAllSettled);
+        }
+        if is_misplaced(action, outcome) {
+            return Some(Rule::WrongPlace);
+        }
+        if self.is_misfit_old(action, outcome) {
+            return Some(Rule::WrongKind);
+        }
+        None
+    }
+
+    // Whether the outcome of an action that ended is a conflict of a kind that isn't one for it.
+    fn is_misfit_old(&self, action: &Action, outcome: &Outcome) -> bool
+        ensures { result ≡ spec.is_misfit_old (meaning self.now) action.now outcome.now }
+    {
+        match outcome {
+            Outcome::Done { .. } => false,
+            Outcome::Conflict(kind) => !self.fits_old(action, kind),
+        }
+    }
+
+    // Whether an action may have ended as a conflict of this kind, whatever was sent.
+    fn fits_old(&self, action: &Action, kind: &Kind) -> bool
+        ensures { result ≡ spec.fits_old (meaning self.now) action.now kind.now }
+    {
+        match action {
+            Action::Flag { target, .. } => self.fits_old_flag(target, kind),
+            Action::Move { target, .. } => self.fits_old_move(target, kind),
+            Action::Append { .. } => fits_old_append(kind),
+        }
+    }
+
+    // Whether a flag action may.
+    fn fits_old_flag(&self, target: &Target, kind: &Kind) -> bool
+        ensures { result ≡ spec.fits_old_flag (meaning self.now) target.now kind.now }
+    {
+        match kind {
+            Kind::TargetUnknown { k } => self.resolved(target).is_never(*k),
+            Kind::ValidityChanged { o, n } => {
+                is_found_under(&self.resolved(target), *o) && o.number() < n.number()
+            }
+            Kind::ResetAfterLoss { o, n } => o.number() < n.number(),
+            Kind::SourceGone | Kind::Ambiguous { .. } => false,
+            _ => true,
+        }
+    }
+
+    // Whether a move may.
+    fn fits_old_move(&self, target: &Target, kind: &Kind) -> bool
+        ensures { result ≡ spec.fits_old_move (meaning self.now) target.now kind.now }
+    {
+        match kind {
+            Kind::TargetUnknown { k } => self.resolved(target).is_never(*k),
+            Kind::ValidityChanged { o, n } => {
+                is_found_under(&self.resolved(target), *o) && o.number() < n.number()
+            }
+            Kind::ResetAfterLoss { o, n } => o.number() < n.number(),
+            Kind::MessageGone | Kind::RefusedNo | Kind::RefusedBad | Kind::SourceGone => true,
+            _ => false,
+        }
     }
 
     // The first rule that an intent breaks.
@@ -64,8 +154,8 @@ impl Book {
     }
 
     // The first rule that an outcome breaks.
-    fn refuses_settle(&self, id: ActionId, outcome: &Outcome) -> Option<Rule>
-        ensures { result ≡ spec.first_of (spec.breaks_settle (meaning self.now) id outcome.now) spec.rules_in_order }
+    fn refuses_settle(&self, version: Version, id: ActionId, outcome: &Outcome) -> Option<Rule>
+        ensures { result ≡ spec.first_of (spec.breaks_settle version (meaning self.now) id outcome.now) spec.rules_in_order }
     {
         let Some(queued) = self.queue.due() else {
             return Some(Rule::NothingWaiting);
@@ -82,8 +172,27 @@ impl Book {
         if is_misplaced(&queued.action, outcome) {
             return Some(Rule::WrongPlace);
         }
-        if self.is_misfit(&queued.action, outcome) {
+        if self.is_misfit(&queued.action, outcome) || is_early(version, queued, outcome) {
             return Some(Rule::WrongKind);
+        }
+        None
+    }
+
+    // The first rule that a command that is taken back breaks.
+    fn refuses_withdraw(&self, version: Version, id: ActionId, tries: u8) -> Option<Rule>
+        ensures { result ≡ spec.first_of (spec.breaks_withdraw version (meaning self.now) id tries) spec.rules_in_order }
+    {
+        let Some(queued) = self.queue.due() else {
+            return Some(Rule::NothingWaiting);
+        };
+        if id.number() as usize != self.queue.settled() + 1 {
+            return Some(Rule::WrongAction);
+        }
+        if !matches!(queued.action, Action::Flag { .. }) {
+            return Some(Rule::WrongIntent);
+        }
+        if version == Version::First || is_wrong_turn(queued.tries, &self.pending, tries) {
+            return Some(Rule::WrongTries);
         }
         None
     }
@@ -105,6 +214,16 @@ impl Book {
         match self.known(name) {
             None => Some(Rule::UnknownBox),
             Some(known) => refuses_delta(&known.cache, delta),
+        }
+    }
+
+    // The first rule that taking a cache away breaks.
+    fn refuses_reset(&self, name: &BoxName, kept: Validity, told: Validity) -> Option<Rule>
+        ensures { result ≡ spec.first_of (spec.breaks_reset (meaning self.now) name.now kept told) spec.rules_in_order }
+    {
+        match self.known(name) {
+            None => Some(Rule::UnknownBox),
+            Some(known) => refuses_taking(&known.cache, kept, told),
         }
     }
 
@@ -206,7 +325,7 @@ impl Book {
         match action {
             Action::Flag { target, .. } => self.fits_flag(target, kind),
             Action::Move { target, .. } => self.fits_move(target, kind),
-            Action::Append { .. } => fits_append(kind),
+            Action::Append { .. } => self.fits_append(kind),
         }
     }
 
@@ -217,6 +336,12 @@ impl Book {
         match kind {
             Kind::FlagsChanged { m } | Kind::StoreUnsure { m, .. } => names_mark(&self.pending, *m),
             Kind::TargetUnknown { k } => self.resolved(target).is_never(*k),
+            Kind::ValidityChanged { o, n } => {
+                is_found_under(&self.resolved(target), *o) && o.number() < n.number()
+            }
+            Kind::ResetAfterLoss { o, n } => {
+                names_validity(&self.pending, *o) && o.number() < n.number()
+            }
             Kind::SourceGone | Kind::Ambiguous { .. } => false,
             _ => true,
         }
@@ -228,7 +353,26 @@ impl Book {
     {
         match kind {
             Kind::TargetUnknown { k } => self.resolved(target).is_never(*k),
+            Kind::ValidityChanged { o, n } => {
+                is_found_under(&self.resolved(target), *o) && o.number() < n.number()
+            }
+            Kind::ResetAfterLoss { o, n } => {
+                names_validity(&self.pending, *o) && o.number() < n.number()
+            }
             Kind::MessageGone | Kind::RefusedNo | Kind::RefusedBad | Kind::SourceGone => true,
+            _ => false,
+        }
+    }
+
+    // Whether an append may.
+    fn fits_append(&self, kind: &Kind) -> bool
+        ensures { result ≡ spec.fits_append (meaning self.now) kind.now }
+    {
+        match kind {
+            Kind::ResetAfterLoss { o, n } => {
+                names_validity(&self.pending, *o) && o.number() < n.number()
+            }
+            Kind::RefusedNo | Kind::RefusedBad | Kind::Ambiguous { .. } => true,
             _ => false,
         }
     }
@@ -241,14 +385,84 @@ fn makes(action: &Action) -> bool
     matches!(action, Action::Move { .. } | Action::Append { .. })
 }
 
-// Whether an append may end as a conflict of this kind.
-fn fits_append(kind: &Kind) -> bool
-    ensures { result ≡ spec.fits_append kind.now }
+// Whether an append may have ended as a conflict of this kind, whatever was sent.
+fn fits_old_append(kind: &Kind) -> bool
+    ensures { result ≡ spec.fits_old_append kind.now }
 {
-    matches!(
-        kind,
-        Kind::RefusedNo | Kind::RefusedBad | Kind::Ambiguous { .. }
-    )
+    match kind {
+        Kind::ResetAfterLoss { o, n } => o.number() < n.number(),
+        Kind::RefusedNo | Kind::RefusedBad | Kind::Ambiguous { .. } => true,
+        _ => false,
+    }
+}
+
+// Whether a further try of the action that is due may come before this outcome.
+fn is_early(version: Version, queued: &Queued, outcome: &Outcome) -> bool
+    ensures { result ≡ spec.is_early version (Some queued.now) outcome.now }
+{
+    match (version, outcome) {
+        (Version::Second, Outcome::Conflict(Kind::FlagsChanged { .. })) => queued.tries != 2,
+        _ => false,
+    }
+}
+
+// Whether this number of tries may not come next, in a second version.
+fn is_wrong_turn(old: u8, pending: &Option<Intent>, tries: u8) -> bool
+    ensures { result ≡ spec.is_wrong_number pending.now old tries }
+{
+    if tries != 1 && tries != 2 {
+        return true;
+    }
+    match pending {
+        Some(_) => tries - 1 != old,
+        None => old != 0,
+    }
+}
+
+// Whether what a target resolved to has this UIDVALIDITY.
+fn is_found_under(found: &Found, o: Validity) -> bool
+    ensures { result ≡ spec.is_found_under found.now o }
+{
+    match found {
+        Found::Real { validity, .. } => validity.number() == o.number(),
+        Found::NotYet { .. } | Found::Never { .. } => false,
+    }
+}
+
+// Whether the pending intent names this UIDVALIDITY.
+fn names_validity(pending: &Option<Intent>, o: Validity) -> bool
+    ensures { result ≡ spec.names_validity pending.now o }
+{
+    match pending {
+        None => false,
+        Some(intent) => intent_validity(intent).number() == o.number(),
+    }
+}
+
+fn intent_validity(intent: &Intent) -> Validity
+    ensures { result ≡ spec.intent_validity intent.now }
+{
+    match intent {
+        Intent::Store { validity, .. } => *validity,
+        Intent::Shift { validity, .. } => *validity,
+        Intent::Put { validity, .. } => *validity,
+    }
+}
+
+// The first rule that taking this cache away breaks.
+fn refuses_taking(cache: &Option<Cache>, kept: Validity, told: Validity) -> Option<Rule>
+    ensures { result ≡ cond (spec.is_wrong_reset cache.now kept told) (Some rule.WrongValidity) None }
+{
+    let Some(cache) = cache else {
+        return Some(Rule::WrongValidity);
+    };
+    if cache.validity.number() != kept.number() {
+        return Some(Rule::WrongValidity);
+    }
+    if told.number() <= kept.number() {
+        return Some(Rule::WrongValidity);
+    }
+    None
 }
 
 // Whether the pending intent is a STORE that names this mod-sequence.
@@ -287,7 +501,11 @@ fn follows_intent(kind: &Kind) -> bool
 {
     !matches!(
         kind,
-        Kind::MessageGone | Kind::AlreadySo | Kind::NotPermanent | Kind::TargetUnknown { .. }
+        Kind::MessageGone
+            | Kind::AlreadySo
+            | Kind::NotPermanent
+            | Kind::TargetUnknown { .. }
+            | Kind::ValidityChanged { .. }
     )
 }
 
@@ -297,7 +515,10 @@ fn precedes_intent(kind: &Kind) -> bool
 {
     matches!(
         kind,
-        Kind::AlreadySo | Kind::NotPermanent | Kind::TargetUnknown { .. }
+        Kind::AlreadySo
+            | Kind::NotPermanent
+            | Kind::TargetUnknown { .. }
+            | Kind::ValidityChanged { .. }
     )
 }
 

@@ -3,7 +3,7 @@
 ghost use Rattle.std.specs.Prelude.{◌≡◌, IfOk};
 
 use crate::{Action, Intent, Outcome};
-use mail_base::{ActionId, BoxName, List};
+use mail_base::{ActionId, BoxName, List, Validity};
 use mailbox_cache::Delta;
 use std::alloc::{AllocError, Global};
 
@@ -11,15 +11,47 @@ use std::alloc::{AllocError, Global};
 #[derive(Drop)]
 pub enum Event {
     /// The journal begins, with the names of its mailboxes.
-    Begin { names: List<BoxName> },
+    Begin {
+        names: List<BoxName>,
+    },
     /// An action is accepted.
-    Accept { id: ActionId, action: Action },
+    Accept {
+        id: ActionId,
+        action: Action,
+    },
     /// A command is about to be sent for the action that is due.
-    Intend { id: ActionId, intent: Intent },
+    Intend {
+        id: ActionId,
+        intent: Intent,
+    },
     /// The action that is due ended.
-    Settle { id: ActionId, outcome: Outcome },
+    Settle {
+        id: ActionId,
+        outcome: Outcome,
+    },
     /// A mailbox was resynchronised.
-    Learn { name: BoxName, delta: Delta },
+    Learn {
+        name: BoxName,
+        delta: Delta,
+    },
+    /// An action that ended. It comes where a book is told anew, and nowhere else.
+    Old {
+        id: ActionId,
+        action: Action,
+        outcome: Outcome,
+    },
+    /// A mailbox's UIDVALIDITY rose, so that its cache is taken away (RFC 4549, section 4.1).
+    Reset {
+        name: BoxName,
+        kept: Validity,
+        told: Validity,
+    },
+    /// The command of the action that is due had no effect and is taken back, so that it may be tried once more. It tells how many
+    /// tries were taken back.
+    Withdraw {
+        id: ActionId,
+        tries: u8,
+    },
 }
 
 impl Event {
@@ -53,6 +85,27 @@ impl Event {
                     delta,
                 })
             }
+            Event::Old {
+                id,
+                action,
+                outcome,
+            } => {
+                let action = action.copy()?;
+                Ok(Event::Old {
+                    id: *id,
+                    action,
+                    outcome: *outcome,
+                })
+            }
+            Event::Reset { name, kept, told } => Ok(Event::Reset {
+                name: name.copy(),
+                kept: *kept,
+                told: *told,
+            }),
+            Event::Withdraw { id, tries } => Ok(Event::Withdraw {
+                id: *id,
+                tries: *tries,
+            }),
         }
     }
 }

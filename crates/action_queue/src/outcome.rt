@@ -10,8 +10,8 @@ pub struct Place {
     pub uid: Uid,
 }
 
-/// Why an action ended as a conflict. The first seven say that it had no effect, the others that it had its one effect
-/// or none.
+/// Why an action ended as a conflict. The first seven, and `ValidityChanged`, say that it had no effect, the others that it
+/// had its one effect or none.
 #[derive(Clone, Copy, Debug, PartialEq, Eq)]
 pub enum Kind {
     /// The message isn't there any more.
@@ -38,6 +38,10 @@ pub enum Kind {
     GoneAfterLoss,
     /// After a lost reply there are two or more messages with the Message-ID.
     Ambiguous { u: Uid, v: Uid },
+    /// The message's mailbox was recreated under the greater UIDVALIDITY `n`: `o` names a message that can't be found any more.
+    ValidityChanged { o: Validity, n: Validity },
+    /// After a lost reply the intent's mailbox was recreated under a greater UIDVALIDITY.
+    ResetAfterLoss { o: Validity, n: Validity },
 }
 
 /// How an action ended: its effect is there, or it is a conflict.

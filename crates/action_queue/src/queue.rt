@@ -1,8 +1,8 @@
 //! The queue of actions, with the number of those that are settled.
 
-ghost use Rattle.std.specs.Prelude.{◌≡◌, ◌≤◌, ◌<◌, ◌∷◌, ◌++◌, [], length, IfOk, OnOk};
+ghost use Rattle.std.specs.Prelude.{◌≡◌, ◌≤◌, ◌<◌, ◌∷◌, ◌++◌, [], length, IfOk, OnOk, None};
 ghost use Rattle.std.specs.Option.{option_copied};
-ghost use Rattle.action_queue.specs.Queues.{due, due_action, accepted, settled, change_first};
+ghost use Rattle.action_queue.specs.Queues.{due, due_action, accepted, ended, settled, tried, change_first};
 
 use crate::{Action, Outcome, Queued};
 use mail_base::MAX_ACTIONS;
@@ -97,6 +97,21 @@ impl Queue {
         });
     }
 
+    // Puts an action that ended behind the others, which all have an outcome.
+    pub(crate) fn add_ended(&mut self, action: Action, outcome: Outcome)
+        requires room { 1 ≤ self.old.spare }
+        requires few { length self.old.items < 1000000 }
+        requires all { due_action self.old.items ≡ None }
+        ensures { self.new.items ≡ self.old.items ++ ended action outcome ∷ [] }
+    {
+        self.items.push_reserved(Queued {
+            action,
+            outcome: Some(outcome),
+            tries: 0,
+        });
+        self.settled += 1;
+    }
+
     // Gives the action that is due its outcome.
     pub(crate) fn settle(&mut self, outcome: Outcome)
         requires { due self.old.items < length self.old.items }
@@ -106,6 +121,15 @@ impl Queue {
         queued.outcome = Some(outcome);
         queued.tries = 0;
         self.settled += 1;
+    }
+
+    // Tells how many tries of the action that is due were taken back.
+    pub(crate) fn withdraw(&mut self, tries: u8)
+        requires { due self.old.items < length self.old.items }
+        ensures { self.new.items ≡ change_first (tried tries) self.old.items }
+    {
+        let queued = &mut self.items[self.settled];
+        queued.tries = tries;
     }
 
     /// The same actions once more. Fails for want of memory alone.

@@ -5,7 +5,7 @@ ghost use Rattle.std.specs.List.{position};
 ghost use Rattle.action_queue.specs.Book.{meaning, after, learned, cache_at, cache_of, put_cache};
 ghost use Rattle.action_queue.specs.declared.book.Known.{Known};
 ghost use Rattle.action_queue.specs.Events.{IsLawful};
-ghost use Rattle.action_queue.specs.Queues.{accepted};
+ghost use Rattle.action_queue.specs.Queues.{accepted, due_action, ended};
 ghost use Rattle.action_queue.specs.Readiness.{IsReady, AtHand, HasRoom};
 ghost use Rattle.action_queue.specs.Rules.{delta_of};
 ghost use Rattle.action_queue.specs.declared.event.Event.TheVariants as events;
@@ -43,14 +43,16 @@ impl Book {
         ensures at_hand { IfOk result (AtHand self.new event.now) }
     {
         match event {
-            Event::Accept { .. } => {
+            Event::Accept { .. } | Event::Old { .. } => {
                 self.queue.reserve()?;
                 Ok(Room::none(self.queue.allocator()))
             }
             Event::Learn { name, delta } => self.room(name, delta),
-            Event::Begin { .. } | Event::Intend { .. } | Event::Settle { .. } => {
-                Ok(Room::none(self.queue.allocator()))
-            }
+            Event::Begin { .. }
+            | Event::Intend { .. }
+            | Event::Settle { .. }
+            | Event::Reset { .. }
+            | Event::Withdraw { .. } => Ok(Room::none(self.queue.allocator())),
         }
     }
 
@@ -83,6 +85,17 @@ impl Book {
             Event::Intend { id: _id, intent } => self.pending = Some(intent),
             Event::Settle { id, outcome } => self.settle(id, outcome),
             Event::Learn { name, delta } => self.learn(&name, delta, room),
+            Event::Old {
+                id: _id,
+                action,
+                outcome,
+            } => self.queue.add_ended(action, outcome),
+            Event::Reset {
+                name,
+                kept: _kept,
+                told: _told,
+            } => self.forget(&name),
+            Event::Withdraw { id, tries } => self.withdraw(id, tries),
         }
     }
 
@@ -93,6 +106,16 @@ impl Book {
     {
         self.queue.settle(outcome);
         self.pending = None;
+    }
+
+    /// Takes the command of the action that is due back, so that it may be tried once more, behind this many that were taken
+    /// back. It takes no memory, and never fails.
+    pub fn withdraw(&mut self, id: ActionId, tries: u8)
+        requires { IsLawful (meaning self.old) (events.Withdraw id tries) }
+        ensures { meaning self.new ≡ after (meaning self.old) (events.Withdraw id tries) }
+    {
+        self.queue.withdraw(tries);
+        let _intent = self.pending.take();
     }
 
     /// Enters an event that stands in the journal already, and moves what it holds. For want of memory, which alone
@@ -113,6 +136,23 @@ impl Book {
                 Ok(())
             }
             Event::Learn { name, delta } => self.follow_delta(&name, delta),
+            Event::Old {
+                id: _id,
+                action,
+                outcome,
+            } => self.follow_ended(action, outcome),
+            Event::Reset {
+                name,
+                kept: _kept,
+                told: _told,
+            } => {
+                self.forget(&name);
+                Ok(())
+            }
+            Event::Withdraw { id, tries } => {
+                self.withdraw(id, tries);
+                Ok(())
+            }
         }
     }
 
@@ -128,6 +168,19 @@ impl Book {
         Ok(())
     }
 
+    // Puts an action that ended behind the others.
+    fn follow_ended(&mut self, action: Action, outcome: Outcome) -> Result<(), AllocError>
+        requires few { length self.old.queue.items < MAX_ACTIONS }
+        requires all { due_action self.old.queue.items ≡ None }
+        ensures queue { OnOk result (self.new.queue.items ≡ self.old.queue.items ++ ended action outcome ∷ []) }
+        ensures boxes { self.new.boxes ≡ self.old.boxes }
+        ensures pending { self.new.pending ≡ self.old.pending }
+    {
+        self.queue.reserve()?;
+        self.queue.add_ended(action, outcome);
+        Ok(())
+    }
+
     // Changes a mailbox's cache by a delta.
     fn follow_delta(&mut self, name: &BoxName, delta: Delta) -> Result<(), AllocError>
         requires { delta_of (cache_at name.now self.old.boxes) delta ≡ None }
@@ -138,6 +191,17 @@ impl Book {
         let room = self.room(name, &delta)?;
         self.learn(name, delta, room);
         Ok(())
+    }
+
+    // Takes a mailbox's cache away.
+    fn forget(&mut self, name: &BoxName)
+        ensures boxes { self.new.boxes ≡ put_cache name.now None self.old.boxes }
+        ensures queue { self.new.queue ≡ self.old.queue }
+        ensures pending { self.new.pending ≡ self.old.pending }
+    {
+        let none = List::new(self.queue.allocator());
+        let boxes = mem::replace(&mut self.boxes, none);
+        self.boxes = without_cache(boxes, name);
     }
 
     // Changes a mailbox's cache by a delta, with the room that it needs.
@@ -179,6 +243,19 @@ fn with_delta(boxes: List<Known>, name: &BoxName, delta: Delta, room: Room) -> L
     let name = name.copy();
     let mut boxes = List::of(content);
     boxes.put(at, Known { name, cache });
+    boxes
+}
+
+// The mailboxes without the cache of this name.
+fn without_cache(boxes: List<Known>, name: &BoxName) -> List<Known>
+    ensures { result ≡ put_cache name.now None boxes }
+{
+    let Some(at) = place_of(boxes.as_slice(), name) else {
+        return boxes;
+    };
+    let mut boxes = boxes;
+    let name = name.copy();
+    boxes.put(at, Known { name, cache: None });
     boxes
 }
 

@@ -1,6 +1,6 @@
 //! The rules of the book, which say which events may come.
 
-/// The version of a journal. Both have the same rules so far.
+/// The version of a journal. A first one knows no further tries.
 #[derive(Clone, Copy, Debug, PartialEq, Eq)]
 pub enum Version {
     First,
@@ -20,6 +20,8 @@ pub enum Rule {
     BadTarget,
     /// The queue would have more than `MAX_ACTIONS` actions.
     TooMany,
+    /// Some action is unsettled.
+    NotAllSettled,
     /// An intent is pending already.
     PendingAlready,
     /// Every action is settled.
@@ -28,6 +30,8 @@ pub enum Rule {
     WrongAction,
     /// The intent isn't one for the action.
     WrongIntent,
+    /// The number of tries isn't the next one, is above two, or stands in a journal of the first version.
+    WrongTries,
     /// The outcome rests on an intent, and none is pending.
     NeedsIntent,
     /// The outcome is told before an intent, and one is pending.
@@ -38,7 +42,8 @@ pub enum Rule {
     WrongKind,
     /// A mailbox with a cache learns all its rows, or one without a cache only some.
     WrongWhole,
-    /// The delta has another UIDVALIDITY than the cache.
+    /// The delta has another UIDVALIDITY than the cache; or a cache that is taken away isn't there, has another one than is said,
+    /// or none below the one that was told.
     WrongValidity,
     /// The delta's highest mod-sequence is below the cache's.
     LowerMark,

@@ -21,6 +21,8 @@ effect_text (kinds.StoreUnsure m f) = codes " unsure"
 effect_text kinds.SourceGone = codes " unsure"
 effect_text kinds.GoneAfterLoss = codes " unsure"
 effect_text (kinds.Ambiguous u v) = codes " unsure"
+effect_text (kinds.ValidityChanged o n) = codes " nothing"
+effect_text (kinds.ResetAfterLoss o n) = codes " unsure"
 
 -- the conflict's name
 abbrev pub kind_text : Kind → List ℕ
@@ -36,18 +38,23 @@ kind_text (kinds.StoreUnsure m f) = codes " store-unsure"
 kind_text kinds.SourceGone = codes " source-gone"
 kind_text kinds.GoneAfterLoss = codes " gone-after-loss"
 kind_text (kinds.Ambiguous u v) = codes " ambiguous"
+kind_text (kinds.ValidityChanged o n) = codes " validity-changed"
+kind_text (kinds.ResetAfterLoss o n) = codes " reset-after-loss"
 
 -- a number behind a space
 abbrev pub number_text : ℕ → List ℕ
 number_text n = 32 ∷ decimal n
 
 -- the conflict's numbers: the mod-sequence that the message was seen with; the action that was to make it; the mod-sequences that it
--- was seen with and found with; the UIDs of two messages with the Message-ID
+-- was seen with and found with; the UIDs of two messages with the Message-ID; the UIDVALIDITY that was meant, and the greater one of the
+-- mailbox
 abbrev pub numbers_text : Kind → List ℕ
 numbers_text (kinds.FlagsChanged m) = number_text m
 numbers_text (kinds.TargetUnknown k) = number_text k
 numbers_text (kinds.StoreUnsure m f) = number_text m ++ number_text f
 numbers_text (kinds.Ambiguous u v) = number_text u ++ number_text v
+numbers_text (kinds.ValidityChanged o n) = number_text o ++ number_text n
+numbers_text (kinds.ResetAfterLoss o n) = number_text o ++ number_text n
 numbers_text kinds.MessageGone = []
 numbers_text kinds.AlreadySo = []
 numbers_text kinds.RefusedNo = []

@@ -11,8 +11,8 @@ use std::alloc::{AllocError, Global};
 
 /// The report, a line for each action that ended as a conflict, in order: `n nothing KIND NUMBERS` where the conflict says that it
 /// had no effect, and `n unsure KIND NUMBERS` where it had its one effect or none. KIND is the conflict's name, as `message-gone`,
-/// and NUMBERS are its own, each behind a space: `flags-changed M`, `target-unknown K`, `store-unsure M F`, `ambiguous U V`, and
-/// none behind the others. Fails for want of memory alone.
+/// and NUMBERS are its own, each behind a space: `flags-changed M`, `target-unknown K`, `store-unsure M F`, `ambiguous U V`,
+/// `validity-changed O N`, `reset-after-loss O N`, and none behind the others. Fails for want of memory alone.
 pub fn report(alloc: Global, book: &Book) -> Result<Bytes, AllocError>
     ensures { IfOk result (λ text. text ≡ report_text (meaning book.now)) }
 {
@@ -64,12 +64,14 @@ pub fn effect_text(kind: &Kind) -> &'static [u8]
         | Kind::RefusedNo
         | Kind::RefusedBad
         | Kind::NotPermanent
-        | Kind::TargetUnknown { .. } => b" nothing",
+        | Kind::TargetUnknown { .. }
+        | Kind::ValidityChanged { .. } => b" nothing",
         Kind::FoundSo
         | Kind::StoreUnsure { .. }
         | Kind::SourceGone
         | Kind::GoneAfterLoss
-        | Kind::Ambiguous { .. } => b" unsure",
+        | Kind::Ambiguous { .. }
+        | Kind::ResetAfterLoss { .. } => b" unsure",
     }
 }
 
@@ -90,6 +92,8 @@ pub fn kind_text(kind: &Kind) -> &'static [u8]
         Kind::SourceGone => b" source-gone",
         Kind::GoneAfterLoss => b" gone-after-loss",
         Kind::Ambiguous { .. } => b" ambiguous",
+        Kind::ValidityChanged { .. } => b" validity-changed",
+        Kind::ResetAfterLoss { .. } => b" reset-after-loss",
     }
 }
 
@@ -102,6 +106,12 @@ pub fn put_numbers(text: &mut Vec<u8>, kind: &Kind) -> Result<(), AllocError>
         Kind::TargetUnknown { k } => put_behind(text, u64::from(k.number())),
         Kind::StoreUnsure { m, f } => put_two(text, m.number(), f.number()),
         Kind::Ambiguous { u, v } => put_two(text, u64::from(u.number()), u64::from(v.number())),
+        Kind::ValidityChanged { o, n } => {
+            put_two(text, u64::from(o.number()), u64::from(n.number()))
+        }
+        Kind::ResetAfterLoss { o, n } => {
+            put_two(text, u64::from(o.number()), u64::from(n.number()))
+        }
         Kind::MessageGone
         | Kind::AlreadySo
         | Kind::RefusedNo

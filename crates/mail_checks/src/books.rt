@@ -1,7 +1,8 @@
 //! Calls of `action_queue`: the book of a journal with the mailboxes INBOX and Archive, step by step.
 //!
-//! A step is an event, of which the rule that it breaks is told, or else `entered`. `second` and an event ask for the rule of a
-//! journal of the second version alone. `show` tells what the book holds, and `where` and a message what the message is.
+//! A step is an event, of which the rule that it breaks is told, or else `entered`. `book` is that of a journal of the first version,
+//! `book-2` that of one of the second. `second` and an event ask for the rule of the second version alone, and `both` for that of each.
+//! `show` tells what the book holds, and `where` and a message what the message is.
 
 ghost use Rattle.std.specs.Prelude.{◌≡◌};
 
@@ -15,30 +16,37 @@ use std::alloc::{AllocError, Global};
 
 /// Answers a call of this module, or tells that it is none.
 pub fn answers(call: &str, input: &mut Input, answer: &mut Answer) -> Result<bool, CaseFault> {
-    if call != "book" {
-        return Ok(false);
-    }
-    put_steps(input, answer)?;
+    let version = match call {
+        "book" => Version::First,
+        "book-2" => Version::Second,
+        _ => return Ok(false),
+    };
+    put_steps(version, input, answer)?;
     Ok(true)
 }
 
 // What each step gives.
-fn put_steps(input: &mut Input, answer: &mut Answer) -> Result<(), CaseFault> {
-    let mut books = begun_both(input.alloc)?;
+fn put_steps(version: Version, input: &mut Input, answer: &mut Answer) -> Result<(), CaseFault> {
+    let mut books = begun_both(input.alloc, version)?;
     let told = books.take_steps(input, answer);
     drop(books);
     told
 }
 
-fn begun_both(alloc: Global) -> Result<Books, CaseFault> {
+fn begun_both(alloc: Global, version: Version) -> Result<Books, CaseFault> {
     let entered = begun(alloc)?;
     let followed = begun(alloc)?;
-    Ok(Books { entered, followed })
+    Ok(Books {
+        version,
+        entered,
+        followed,
+    })
 }
 
-// A book whose events are made ready and entered, and one that follows them.
+// A book whose events are made ready and entered, and one that follows them, of a journal of this version.
 #[derive(Drop)]
 struct Books {
+    version: Version,
     entered: Book,
     followed: Book,
 }
@@ -65,6 +73,9 @@ impl Books {
         if input.skips("second") {
             return self.put_second(input, answer);
         }
+        if input.skips("both") {
+            return self.put_each(input, answer);
+        }
         let event = event(input)?;
         self.put_event(input.alloc, event, answer)
     }
@@ -82,6 +93,15 @@ impl Books {
         put_rule(answer, rule)
     }
 
+    fn put_each(&self, input: &mut Input, answer: &mut Answer) -> Result<(), CaseFault> {
+        let event = event(input)?;
+        let first = self.entered.allows(&event, Version::First);
+        let second = self.entered.allows(&event, Version::Second);
+        drop(event);
+        put_rule(answer, first)?;
+        put_rule(answer, second)
+    }
+
     // Both take an event, and tell the same rule.
     fn put_event(
         &mut self,
@@ -89,8 +109,8 @@ impl Books {
         event: Event,
         answer: &mut Answer,
     ) -> Result<(), CaseFault> {
-        let entered = enter_copy(alloc, &mut self.entered, &event);
-        let followed = follow(&mut self.followed, event)?;
+        let entered = enter_copy(alloc, self.version, &mut self.entered, &event);
+        let followed = follow(self.version, &mut self.followed, event)?;
         let rule = entered?;
         put_rule(answer, rule)?;
         if followed != rule {
@@ -131,9 +151,13 @@ fn named(text: &[u8]) -> Result<BoxName, CaseFault> {
     }
 }
 
-/// Enters an event, or tells the first rule that it breaks.
+/// Enters an event of a journal of the first version, or tells the first rule that it breaks.
 pub fn enter(book: &mut Book, event: Event) -> Result<Option<Rule>, AllocError> {
-    if let Some(rule) = book.allows(&event, Version::First) {
+    enter_by(Version::First, book, event)
+}
+
+fn enter_by(version: Version, book: &mut Book, event: Event) -> Result<Option<Rule>, AllocError> {
+    if let Some(rule) = book.allows(&event, version) {
         drop(event);
         return Ok(Some(rule));
     }
@@ -142,13 +166,18 @@ pub fn enter(book: &mut Book, event: Event) -> Result<Option<Rule>, AllocError> 
     Ok(None)
 }
 
-fn enter_copy(alloc: Global, book: &mut Book, event: &Event) -> Result<Option<Rule>, AllocError> {
-    enter(book, event.copy(alloc)?)
+fn enter_copy(
+    alloc: Global,
+    version: Version,
+    book: &mut Book,
+    event: &Event,
+) -> Result<Option<Rule>, AllocError> {
+    enter_by(version, book, event.copy(alloc)?)
 }
 
 // Follows an event, or tells the first rule that it breaks.
-fn follow(book: &mut Book, event: Event) -> Result<Option<Rule>, AllocError> {
-    if let Some(rule) = book.allows(&event, Version::First) {
+fn follow(version: Version, book: &mut Book, event: Event) -> Result<Option<Rule>, AllocError> {
+    if let Some(rule) = book.allows(&event, version) {
         drop(event);
         return Ok(Some(rule));
     }

@@ -1,4 +1,5 @@
-//! The events of a journal, as words: `begin`, `accept`, `intend`, `settle` and `learn`, with what they tell.
+//! The events of a journal, as words: `begin`, `accept`, `intend`, `settle`, `learn`, `old`, `reset` and `withdraw`, with
+//! what they tell.
 
 use crate::deltas::{delta, put_delta};
 use crate::outcomes::{outcome, put_outcome};
@@ -19,6 +20,9 @@ pub fn event(input: &mut Input) -> Result<Event, CaseFault> {
         "intend" => intend(input),
         "settle" => settle(input),
         "learn" => learn(input),
+        "old" => old(input),
+        "reset" => reset(input),
+        "withdraw" => withdraw(input),
         _ => Err(CaseFault::WrongInput),
     }
 }
@@ -45,6 +49,36 @@ fn learn(input: &mut Input) -> Result<Event, CaseFault> {
     let name = name(input)?;
     let delta = delta(input)?;
     Ok(Event::Learn { name, delta })
+}
+
+fn old(input: &mut Input) -> Result<Event, CaseFault> {
+    let id = action_id(input)?;
+    let action = action(input)?;
+    let outcome = outcome(input)?;
+    Ok(Event::Old {
+        id,
+        action,
+        outcome,
+    })
+}
+
+fn reset(input: &mut Input) -> Result<Event, CaseFault> {
+    let name = name(input)?;
+    let kept = validity(input)?;
+    let told = validity(input)?;
+    Ok(Event::Reset { name, kept, told })
+}
+
+fn withdraw(input: &mut Input) -> Result<Event, CaseFault> {
+    let id = action_id(input)?;
+    let tries = input.short()?;
+    if tries > 255 {
+        return Err(CaseFault::WrongInput);
+    }
+    Ok(Event::Withdraw {
+        id,
+        tries: tries as u8,
+    })
 }
 
 // The names to the end of the step.
@@ -171,6 +205,25 @@ pub fn put_event(answer: &mut Answer, event: &Event) -> Result<(), CaseFault> {
             put_outcome(answer, outcome)
         }
         Event::Learn { name, delta } => put_learn(answer, name, delta),
+        Event::Old {
+            id,
+            action,
+            outcome,
+        } => {
+            put_numbered(answer, "old", *id)?;
+            put_action(answer, action)?;
+            put_outcome(answer, outcome)
+        }
+        Event::Reset { name, kept, told } => {
+            answer.word("reset")?;
+            put_name(answer, name)?;
+            put_validity(answer, *kept)?;
+            put_validity(answer, *told)
+        }
+        Event::Withdraw { id, tries } => {
+            put_numbered(answer, "withdraw", *id)?;
+            answer.number(u64::from(*tries))
+        }
     }
 }
 

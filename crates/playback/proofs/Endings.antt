@@ -45,7 +45,7 @@ use Rattle.playback.specs.Knows.{IsSent, WasSeen}
 use Rattle.playback.specs.Needs.{due_id}
 use Rattle.playback.specs.Of.{IsOf, command_of, tag_of}
 use Rattle.playback.specs.Once.{Fits, FitsConflict, is_unsure}
-use Rattle.playback.specs.Open.{IsOpen, intent_name, intent_validity}
+use Rattle.playback.specs.Open.{intent_name, intent_validity}
 use Rattle.playback.specs.Replying.{copied_code, flag_gone, last_copied, last_fetch, move_gone, names_modified, read_append, read_append_by}
 use Rattle.playback.specs.Replying.{read_appended, read_copied, read_move, read_move_by, read_moved, read_sent, read_store, read_stored}
 use Rattle.playback.specs.Sound.{HasIntent, IsSound}

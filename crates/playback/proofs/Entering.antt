@@ -189,6 +189,9 @@ event_keeps b (events.Learn name delta) s waiting kept follows permitted =
     let new : Option Cache = Some (learned (cache_at name b.boxes) delta) in
     caches_keep b (after b (events.Learn name delta)) s waiting kept (caches_sound b name new kept.sound) refl refl
     (λ n cache e. learned_fresh b name delta s kept.fresh permitted n cache (cache_put name n new b.boxes cache e))
+event_keeps b (events.Old id action outcome) s waiting kept follows permitted = absurd permitted
+event_keeps b (events.Reset name before told) s waiting kept follows permitted = absurd permitted
+event_keeps b (events.Withdraw id tries) s waiting kept follows permitted = absurd permitted
 
 pub book_keeps : (b : Option Meaning) (event : Event) (s : Server) (waiting : Option Waiting) → Kept b s waiting → MayFollow b event →
     Permits b event s waiting → KeptBook (next_book b event) s waiting
@@ -197,4 +200,7 @@ book_keeps None (events.Accept id action) s waiting kept follows permitted = abs
 book_keeps None (events.Intend id intent) s waiting kept follows permitted = absurd permitted
 book_keeps None (events.Settle id outcome) s waiting kept follows permitted = absurd permitted
 book_keeps None (events.Learn name delta) s waiting kept follows permitted = absurd permitted
+book_keeps None (events.Old id action outcome) s waiting kept follows permitted = absurd permitted
+book_keeps None (events.Reset name before told) s waiting kept follows permitted = absurd permitted
+book_keeps None (events.Withdraw id tries) s waiting kept follows permitted = absurd permitted
 book_keeps (Some b) event s waiting kept follows permitted = event_keeps b event s waiting kept follows permitted

@@ -8,7 +8,7 @@ use Rattle.imap_model.proofs.Evolution.{box_same}
 use Rattle.imap_model.specs.Carrying.{Waiting}
 use Rattle.imap_model.specs.Changes.{floor_of}
 use Rattle.imap_model.specs.Evolving.{FindsEvolved}
-use Rattle.imap_model.specs.Lookups.{box_at, validity_of}
+use Rattle.imap_model.specs.Lookups.{box_at}
 use Rattle.imap_model.specs.Mutating.{is_mutating}
 use Rattle.imap_model.specs.declared.command.Command.{Command}
 use Rattle.imap_model.specs.declared.ending.Ending.{Ending}

@@ -1,6 +1,6 @@
 -- What is needed here of an event that breaks no rule.
 use Rattle.std.proofs.Common.{◌≡◌, ℕ, Bool, true, false, not, length, Option, Some, None, refl}
-use Rattle.std.specs.Prelude.{is_none, is_some, cond, ◌&&◌, ◌==◌, ◌+◌}
+use Rattle.std.specs.Prelude.{is_none, is_some, nat_le, cond, ◌&&◌, ◌==◌, ◌+◌}
 use Rattle.action_queue.specs.Queues.{due, due_action}
 use Rattle.action_queue.specs.Rules.{suits, is_unsuited, is_unknown_intent, is_unknown_action, is_bad_action}
 use Rattle.action_queue.specs.Rules.{rests_on_intent, comes_before_intent, is_misplaced, is_misplaced_of}
@@ -53,6 +53,27 @@ accept_known b id action l = (accept_both b id action l).0
 
 pub accept_good : (b : Meaning) (id : ℕ) (action : Action) → IsLawful b (events.Accept id action) → is_bad_action b.queue action ≡ false
 accept_good b id action l = (accept_both b id action l).1
+
+-- An action that ended and is told anew: besides, every other one ended, and its outcome has a place exactly where it makes a message.
+pub record IsEnded (b : Meaning) (action : Action) (outcome : Outcome) : Type 0 where
+  pub known : is_unknown_action b.boxes action ≡ false
+  pub good : is_bad_action b.queue action ≡ false
+  pub all : due_action b.queue ≡ None
+  pub placed : is_misplaced_of action outcome ≡ false
+
+none_there : (o : Option Queued) → is_some o ≡ false → o ≡ None
+none_there None e = refl
+none_there (Some q) e = absurd (cc)
+
+pub old_ended : (b : Meaning) (id : ℕ) (action : Action) (outcome : Outcome) → IsLawful b (events.Old id action outcome) → IsEnded b action outcome
+old_ended b id action outcome l =
+    let number = both_unbroken (not (id == length b.queue + 1)) _ _ l.unbroken in
+    let known = both_unbroken (is_unknown_action b.boxes action) _ _ number.1 in
+    let good = both_unbroken (is_bad_action b.queue action) _ _ known.1 in
+    let few = both_unbroken (nat_le 1000000 (length b.queue)) _ _ good.1 in
+    let all = both_unbroken (is_some (due_action b.queue)) _ _ few.1 in
+    let placed = both_unbroken (is_misplaced_of action outcome) _ _ all.1 in
+    record { known = known.0; good = good.0; all = none_there (due_action b.queue) all.0; placed = placed.0 }
 
 pub intend_due : (b : Meaning) (id : ℕ) (intent : Intent) → IsLawful b (events.Intend id intent) → HasIntent b intent
 intend_due b id intent l =

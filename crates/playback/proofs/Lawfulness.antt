@@ -23,7 +23,7 @@ use Rattle.action_queue.specs.Writable.{IsWritableAction}
 use Rattle.append_probe.specs.Laws.{PartsAreParts}
 use Rattle.playback.specs.declared.finding.Selected.{Selected}
 use Rattle.action_queue.specs.Queues.{due, due_action}
-use Rattle.action_queue.specs.Rules.{comes_before_intent, fits, follows_intent, is_misfit, is_misfit_of, is_misplaced, is_misplaced_of}
+use Rattle.action_queue.specs.Rules.{comes_before_intent, fits, follows_intent, is_early, is_misfit, is_misfit_of, is_misplaced, is_misplaced_of}
 use Rattle.action_queue.specs.Rules.{is_unknown, is_unknown_action, is_unknown_intent, is_unknown_target, is_unsuited, names_mark}
 use Rattle.action_queue.specs.Rules.{rests_on_intent, suits}
 use Rattle.action_queue.specs.Targets.{resolved}
@@ -116,7 +116,9 @@ module _ (b : Meaning) (q : Queued) (e : due_action b.queue ≡ Some q) where
           (skip (is_none b.pending && rests_on_intent outcome) _ _ needs_it
           (skip (is_some b.pending && comes_before_intent outcome) _ _ before
           (skip (is_misplaced (due_action b.queue) outcome) _ _ (ap (λ (o : Option Queued). is_misplaced o outcome) e ∙ placed)
-          (skip (is_misfit b (due_action b.queue) outcome) _ _ (ap (λ (o : Option Queued). is_misfit b o outcome) e ∙ fit) refl)))));
+          (skip (is_misfit b (due_action b.queue) outcome || is_early First (due_action b.queue) outcome) _ _
+          (neither_or (is_misfit b (due_action b.queue) outcome) (is_early First (due_action b.queue) outcome)
+          (ap (λ (o : Option Queued). is_misfit b o outcome) e ∙ fit) refl) refl)))));
     };
     writable = tt;
   }

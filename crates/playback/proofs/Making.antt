@@ -6,7 +6,7 @@ use Rattle.std.proofs.lemmas.Bool.{cond_both}
 use Rattle.std.proofs.lemmas.Option.{same_Some, slice_get_within}
 use Rattle.imap_model.proofs.Finding.{cond_two}
 use Rattle.mailbox_cache.specs.declared.cache.Cache.{Cache}
-use Rattle.action_queue.specs.Queues.{due_action, accepted, settled}
+use Rattle.action_queue.specs.Queues.{due_action, accepted, settled, tried}
 use Rattle.action_queue.specs.Targets.{action_at}
 use Rattle.action_queue.specs.Rules.{is_unknown, is_unknown_target, is_unknown_action, is_misplaced_of}
 use Rattle.action_queue.specs.Rules.{makes, makes_queued, is_bad_target, is_bad_action}
@@ -122,10 +122,10 @@ module _ (queue : List Queued) (placed : AllPlaced queue) where
 pub accepted_placed : (action : Action) → IsPlaced (accepted action)
 accepted_placed action outcome e = absurd (cc)
 
-pub accepted_good : (queue : List Queued) (action : Action) → AllGood queue → IsTargetGood queue (length queue) action →
-    (i : ℕ) (q : Queued) → (slice_get queue i ≡ Some q) ⊎ ((i ≡ length queue) × (q ≡ accepted action)) → IsTargetGood queue i q.action
-accepted_good queue action all good i q (inl e) = all i q e
-accepted_good queue action all good i q (inr e) =
+pub accepted_good : (queue : List Queued) (new : Queued) → AllGood queue → IsTargetGood queue (length queue) new.action →
+    (i : ℕ) (q : Queued) → (slice_get queue i ≡ Some q) ⊎ ((i ≡ length queue) × (q ≡ new)) → IsTargetGood queue i q.action
+accepted_good queue new all good i q (inl e) = all i q e
+accepted_good queue new all good i q (inr e) =
     subst (λ (j : ℕ). IsTargetGood queue j q.action) (sym e.0)
     (subst (λ (x : Queued). IsTargetGood queue (length queue) x.action) (sym e.1) good)
 
@@ -168,3 +168,9 @@ module _ (old new : List Known) (same : (n : List ℕ) → is_unknown new n ≡ 
   action_same (actions.Move target to) =
       ap (λ (t : Bool). t || is_unknown new to) (target_same target) ∙ ap (λ (t : Bool). is_unknown_target old target || t) (same to)
   action_same (actions.Append to flags text id) = same to
+
+-- so it is where a try of it is taken back
+pub tried_good : (queue : List Queued) (tries : ℕ) → AllGood queue →
+    (i : ℕ) (q : Queued) → IsChangedAt (tried tries) queue i q → IsTargetGood queue i q.action
+tried_good queue tries all i q (inl h) = all i q h.there
+tried_good queue tries all i q (inr h) = subst (λ (x : Queued). IsTargetGood queue i x.action) (sym h.is) (all i h.queued h.there)

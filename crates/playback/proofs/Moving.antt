@@ -1,5 +1,5 @@
 -- No step touches a UIDVALIDITY.
-use Rattle.std.proofs.Common.{◌≡◌, inl, inr, ℕ, List, Option, ◌∙◌, ap}
+use Rattle.std.proofs.Common.{◌≡◌, inl, inr, ℕ, List, Option, ap}
 use Rattle.mail_base.specs.declared.tag.Tag.{Tag}
 use Rattle.imap_model.specs.Lookups.{box_at, validity_of}
 use Rattle.imap_model.specs.Carrying.{Waiting, Accepted, Carries}

@@ -6,7 +6,7 @@ use Rattle.std.proofs.lemmas.Bool.{cond_both, eq-eqb, eqb-true}
 use Rattle.std.proofs.lemmas.Option.{same_Some}
 use Rattle.imap_model.proofs.Finding.{cond_two, same_name, names_same}
 use Rattle.mailbox_cache.specs.declared.cache.Cache.{Cache}
-use Rattle.action_queue.specs.Queues.{due, settled_then, settled, change_first, change_queued}
+use Rattle.action_queue.specs.Queues.{due, settled_then, settled, tried, change_first, change_queued}
 use Rattle.action_queue.specs.Targets.{landed, landed_queued, resolved, is_at}
 use Rattle.action_queue.specs.Rules.{suits}
 use Rattle.action_queue.specs.Book.{known_at, cache_of, cache_at, put_cache}
@@ -128,6 +128,9 @@ grown_changed f stays (q ∷ qs) i x = λ e. one_grown f stays q qs q.outcome re
 
 pub grows_settle : (outcome : Outcome) (queue : List Queued) → Grows queue (change_first (settled outcome) queue)
 grows_settle outcome queue = record { each = grown_changed (settled outcome) (λ q. refl) queue }
+
+pub grows_try : (tries : ℕ) (queue : List Queued) → Grows queue (change_first (tried tries) queue)
+grows_try tries queue = record { each = grown_changed (tried tries) (λ q. refl) queue }
 
 -- where all are unsettled, the first one is due
 none_due : (queue : List Queued) → ((i : ℕ) (q : Queued) → slice_get queue i ≡ Some q → q.outcome ≡ None) → due queue ≡ 0

@@ -1,11 +1,11 @@
 -- What lawful events keep of a book.
-use Rattle.std.proofs.Common.{◌≡◌, ◌⊎◌, inl, inr, ℕ, suc, ◌≤◌, false, List, [], ◌∷◌, ◌++◌, length, Option, Some, None}
-use Rattle.std.proofs.Common.{refl, sym, ◌∙◌, ap, subst, arith}
+use Rattle.std.proofs.Common.{◌≡◌, ◌⊎◌, inl, inr, ℕ, suc, ◌<◌, ◌≤◌, false, List, [], ◌∷◌, ◌++◌, length, Option, Some, None}
+use Rattle.std.proofs.Common.{refl, sym, ◌∙◌, ap, subst, arith, length-append}
 use Rattle.std.specs.Prelude.{slice_get}
-use Rattle.std.proofs.lemmas.Option.{same_Some}
+use Rattle.std.proofs.lemmas.Option.{same_Some, slice_get_within}
 use Rattle.mailbox_cache.specs.declared.cache.Cache.{Cache}
-use Rattle.action_queue.specs.Queues.{due, accepted, settled, change_first}
-use Rattle.action_queue.specs.Rules.{is_unknown_action, is_bad_action}
+use Rattle.action_queue.specs.Queues.{due, accepted, ended, settled, tried, change_first}
+use Rattle.action_queue.specs.Rules.{is_unknown_action, is_bad_action, is_misplaced_of}
 use Rattle.action_queue.specs.Book.{Meaning, begun, after, put_cache, learned, cache_at}
 use Rattle.action_queue.specs.Events.{IsLawful}
 use Rattle.action_queue.specs.Writable.{IsWritable, IsWritableAction}
@@ -15,11 +15,12 @@ use Rattle.action_queue.specs.declared.outcome.Outcome.{Outcome}
 use Rattle.action_queue.specs.declared.queued.Queued.{Queued}
 use Rattle.action_queue.specs.declared.event.Event.{Event}
 use Rattle.action_queue.specs.declared.event.Event.TheVariants as events
+use Rattle.action_queue.proofs.Queueing.{due_ended, due_try, none_due}
 use Rattle.playback.specs.Sound.{HasIntent, IsPlaced, IsSound}
-use Rattle.playback.proofs.Queueing.{get_push, get_pushed, grows_push, due_push, IsChangedAt, changed_at, grows_settle, due_settle, suits_stays}
-use Rattle.playback.proofs.Making.{AllPlaced, good_grows, good_new, accepted_placed, accepted_good, settled_placed, settled_good}
+use Rattle.playback.proofs.Queueing.{get_push, get_pushed, grows_push, due_push, IsChangedAt, changed_at, grows_settle, grows_try, due_settle, suits_stays}
+use Rattle.playback.proofs.Making.{AllPlaced, good_grows, good_new, accepted_placed, accepted_good, settled_placed, settled_good, tried_good}
 use Rattle.playback.proofs.Making.{unknown_put, action_same}
-use Rattle.playback.proofs.Lawful.{accept_known, accept_good, intend_due, settle_due, IsDue}
+use Rattle.playback.proofs.Lawful.{accept_known, accept_good, intend_due, old_ended, settle_due, IsDue, IsEnded}
 
 accepted_rest : (b : Meaning) (q : Queued) → IsSound b → (i : ℕ) (x : Queued) → q.outcome ≡ None → due b.queue ≤ i →
     (slice_get b.queue i ≡ Some x) ⊎ ((i ≡ length b.queue) × (x ≡ q)) → x.outcome ≡ None
@@ -75,7 +76,49 @@ accept_sound b action s w known good =
       places = placed;
       targets = λ i x e.
           good_grows b.queue new (grows_push b.queue q) placed i x.action
-          (accepted_good b.queue action s.targets (good_new b.queue s.places action good) i x (get_push b.queue q x i e));
+          (accepted_good b.queue q s.targets (good_new b.queue s.places action good) i x (get_push b.queue q x i e));
+    }
+
+pub old_sound : (b : Meaning) (action : Action) (outcome : Outcome) → IsSound b → IsWritableAction action → IsEnded b action outcome →
+    IsSound (record b { queue = b.queue ++ ended action outcome ∷ [] })
+old_sound b action outcome s w h =
+    let q : Queued = ended action outcome in
+    let new : List Queued = b.queue ++ q ∷ [] in
+    let d : due new ≡ suc (length b.queue) = due_ended action outcome b.queue (none_due b.queue h.all) in
+    let fits : IsPlaced q = λ other e. subst (λ (o : Outcome). is_misplaced_of action o ≡ false) (same_Some outcome other e) h.placed in
+    let placed : AllPlaced new = λ i x e. accepted_all IsPlaced b.queue q fits s.places i x (get_push b.queue q x i e) in
+    record {
+      rest = λ i x e l. let here : i < length new = slice_get_within new i x e in
+          absurd (omega (arith, here, d, l, length-append b.queue (q ∷ [])));
+      intent = λ intent p. let has : HasIntent b intent = s.intent intent p in absurd (cc (has.there, h.all));
+      writable = λ i x e. accepted_all (λ y. IsWritableAction y.action) b.queue q w s.writable i x (get_push b.queue q x i e);
+      boxes = λ i x e. accepted_all (λ y. is_unknown_action b.boxes y.action ≡ false) b.queue q h.known s.boxes i x (get_push b.queue q x i e);
+      places = placed;
+      targets = λ i x e.
+          good_grows b.queue new (grows_push b.queue q) placed i x.action
+          (accepted_good b.queue q s.targets (good_new b.queue s.places action h.good) i x (get_push b.queue q x i e));
+    }
+
+tried_rest : (b : Meaning) (tries : ℕ) → IsSound b → (i : ℕ) (x : Queued) → due b.queue ≤ i → IsChangedAt (tried tries) b.queue i x → x.outcome ≡ None
+tried_rest b tries s i x l (inl h) = s.rest i x h.there l
+tried_rest b tries s i x l (inr h) = ap (λ (y : Queued). y.outcome) h.is ∙ s.rest i h.queued h.there l
+
+pub withdraw_sound : (b : Meaning) (tries : ℕ) → IsSound b → IsSound (record b { queue = change_first (tried tries) b.queue; pending = None })
+withdraw_sound b tries s =
+    let new : List Queued = change_first (tried tries) b.queue in
+    let d : due new ≡ due b.queue = due_try tries b.queue in
+    let placed : AllPlaced new = λ i x e. changed_all IsPlaced (tried tries) b.queue (λ y p. p) s.places i x (changed_at (tried tries) b.queue i x e) in
+    record {
+      rest = λ i x e l. tried_rest b tries s i x (omega (arith, d, l)) (changed_at (tried tries) b.queue i x e);
+      intent = λ other p. absurd (cc);
+      writable = λ i x e. changed_all (λ y. IsWritableAction y.action) (tried tries) b.queue (λ y w. w) s.writable i x
+          (changed_at (tried tries) b.queue i x e);
+      boxes = λ i x e. changed_all (λ y. is_unknown_action b.boxes y.action ≡ false) (tried tries) b.queue (λ y w. w) s.boxes i x
+          (changed_at (tried tries) b.queue i x e);
+      places = placed;
+      targets = λ i x e.
+          good_grows b.queue new (grows_try tries b.queue) placed i x.action
+          (tried_good b.queue tries s.targets i x (changed_at (tried tries) b.queue i x e));
     }
 
 pub intend_sound : (b : Meaning) (intent : Intent) → IsSound b → HasIntent b intent → IsSound (record b { pending = Some intent })
@@ -127,3 +170,6 @@ sound_behind b (events.Accept id action) l w s = accept_sound b action s w (acce
 sound_behind b (events.Intend id intent) l w s = intend_sound b intent s (intend_due b id intent l)
 sound_behind b (events.Settle id outcome) l w s = settle_sound b outcome s (settle_due b id outcome l)
 sound_behind b (events.Learn name delta) l w s = caches_sound b name (Some (learned (cache_at name b.boxes) delta)) s
+sound_behind b (events.Old id action outcome) l w s = old_sound b action outcome s w (old_ended b id action outcome l)
+sound_behind b (events.Reset name kept told) l w s = caches_sound b name None s
+sound_behind b (events.Withdraw id tries) l w s = withdraw_sound b tries s

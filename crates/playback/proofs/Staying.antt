@@ -1,5 +1,5 @@
 -- No change that a command makes touches a UIDVALIDITY.
-use Rattle.std.proofs.Common.{◌≡◌, ◌⊎◌, inl, inr, ℕ, true, false, List, refl, sym, ◌∙◌, ap, subst}
+use Rattle.std.proofs.Common.{◌≡◌, ◌⊎◌, inl, inr, ℕ, true, false, List, sym, ◌∙◌, ap, subst}
 use Rattle.std.specs.Prelude.{bytes_eq}
 use Rattle.std.proofs.lemmas.Bool.{cases_Bool}
 use Rattle.imap_model.specs.Lookups.{box_at, validity_of}
@@ -9,7 +9,6 @@ use Rattle.imap_model.proofs.Going.{names_apart}
 use Rattle.imap_model.proofs.Evolution.{adds_name, sets_name, drops_name}
 use Rattle.imap_model.proofs.Effects.{rewritten_there, rewritten_other}
 use Rattle.imap_model.specs.declared.server.Mailbox.{Mailbox}
-use Rattle.imap_model.specs.declared.server.Server.{Server}
 use Rattle.imap_model.specs.declared.deed.Change.TheVariants as changes
 
 rewritten_validity : (Becomes : Mailbox → Mailbox → Type 0) (name n : List ℕ) (old new : List Mailbox) → ((b c : Mailbox) → Becomes b c → c.name ≡ b.name) →

@@ -50,6 +50,9 @@ WhyCommit (events.Accept n action) b c = ⊥
 WhyCommit (events.Intend n intent) b c = WhyIntent intent b c
 WhyCommit (events.Settle n outcome) b c = ⊥
 WhyCommit (events.Learn name delta) b c = Unit {0}
+WhyCommit (events.Old n action outcome) b c = ⊥
+WhyCommit (events.Reset name before told) b c = ⊥
+WhyCommit (events.Withdraw n tries) b c = ⊥
 
 -- the event may be recorded now, the outcome too, each for its reason; the command may be sent
 abbrev pub IsAllowed : Need → Player → Meaning → World → Type 0

@@ -1,6 +1,5 @@
 -- What is so of every list of steps (this client's profile of RFC 4549, section 4.2).
 use Rattle.std.specs.Prelude.{◌≡◌, ◌≤◌, ℕ, List, length}
-use Rattle.imap_model.specs.Lookups.{box_at, validity_of}
 use Rattle.imap_model.specs.Ours.{ours}
 use Rattle.playback.specs.Machine.{State, KeptState, Label, Begin, Choose, Send, Carry, Other, Connect, Ask, Step, Run}
 

@@ -67,6 +67,8 @@ is_unsure (kinds.StoreUnsure m f) = true
 is_unsure kinds.SourceGone = true
 is_unsure kinds.GoneAfterLoss = true
 is_unsure (kinds.Ambiguous u v) = true
+is_unsure (kinds.ValidityChanged o n) = false
+is_unsure (kinds.ResetAfterLoss o n) = true
 
 abbrev pub FitsConflict : Bool → List Deed → Type 0
 FitsConflict true mine = length mine ≤ 1

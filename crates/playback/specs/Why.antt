@@ -258,6 +258,8 @@ WhyKind (kinds.StoreUnsure m f) resumed b c = IsOpenStill resumed b c × IsMark 
 WhyKind kinds.SourceGone resumed b c = IsOpenStill resumed b c × RowWas NoRow b c
 WhyKind kinds.GoneAfterLoss resumed b c = IsOpenStill resumed b c × RowWas NoRow b c
 WhyKind (kinds.Ambiguous u v) resumed b c = IsOpenStill resumed b c × OfDue (TwoWere u v c b.pending) b
+WhyKind (kinds.ValidityChanged o n) resumed b c = ⊥
+WhyKind (kinds.ResetAfterLoss o n) resumed b c = ⊥
 
 -- Why an intent of the action that is due was recorded: at a moment the row had the intent's mod-sequence and flags that weren't as
 -- asked; the message that is to be moved was there; a SELECT told the UIDNEXT.
@@ -279,3 +281,6 @@ WhyEvent (events.Accept id action) entry b c = Unit {0}
 WhyEvent (events.Intend id intent) entry b c = WhyIntent intent b c
 WhyEvent (events.Settle id outcome) entry b c = WhyOutcome outcome (is_open entry b) b c
 WhyEvent (events.Learn name delta) entry b c = Unit {0}
+WhyEvent (events.Old id action outcome) entry b c = ⊥
+WhyEvent (events.Reset name before told) entry b c = ⊥
+WhyEvent (events.Withdraw id tries) entry b c = ⊥

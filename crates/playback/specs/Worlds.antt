@@ -2,13 +2,11 @@
 -- wasn't given yet (RFC 9051, sections 2.2 and 3).
 use Rattle.imap_model.specs.Carrying.{Waiting}
 use Rattle.imap_model.specs.Evolving.{EvolvesFrom}
-use Rattle.imap_model.specs.Lookups.{box_at, validity_of}
 use Rattle.imap_model.specs.Ours.{ours}
 use Rattle.imap_model.specs.WellFormed.{IsWellFormed}
 use Rattle.imap_model.specs.declared.command.Command.{Command}
 use Rattle.imap_model.specs.declared.ending.Ending.{Ending}
 use Rattle.imap_model.specs.declared.replies.Replies.{Replies}
-use Rattle.imap_model.specs.declared.server.Mailbox.{Mailbox}
 use Rattle.imap_model.specs.declared.server.Server.{Server}
 use Rattle.playback.specs.Course.{Course, IsOneOf, Said}
 use Rattle.playback.specs.InBox.{InBoxNow}

@@ -122,14 +122,16 @@ fn leaves_open(kind: Kind) -> bool
         | Kind::StoreUnsure { .. }
         | Kind::SourceGone
         | Kind::GoneAfterLoss
-        | Kind::Ambiguous { .. } => true,
+        | Kind::Ambiguous { .. }
+        | Kind::ResetAfterLoss { .. } => true,
         Kind::MessageGone
         | Kind::AlreadySo
         | Kind::FlagsChanged { .. }
         | Kind::RefusedNo
         | Kind::RefusedBad
         | Kind::NotPermanent
-        | Kind::TargetUnknown { .. } => false,
+        | Kind::TargetUnknown { .. }
+        | Kind::ValidityChanged { .. } => false,
     }
 }
 

@@ -201,6 +201,9 @@ pub fn put_event(answer: &mut Answer, event: &Event) -> Result<(), CaseFault> {
             put_outcome(answer, outcome)
         }
         Event::Learn { name, delta } => put_learn(answer, name, delta),
+        Event::Old { .. } => answer.word("old"),
+        Event::Reset { .. } => answer.word("reset"),
+        Event::Withdraw { .. } => answer.word("withdraw"),
     }
 }
 

@@ -56,6 +56,14 @@ fn kind(word: &str, input: &mut Input) -> Result<Kind, CaseFault> {
             u: uid(input)?,
             v: uid(input)?,
         },
+        "validity-changed" => Kind::ValidityChanged {
+            o: validity(input)?,
+            n: validity(input)?,
+        },
+        "reset-after-loss" => Kind::ResetAfterLoss {
+            o: validity(input)?,
+            n: validity(input)?,
+        },
         _ => return Err(CaseFault::WrongInput),
     })
 }
@@ -92,6 +100,8 @@ fn word_of(kind: &Kind) -> &'static str {
         Kind::SourceGone => "source-gone",
         Kind::GoneAfterLoss => "gone-after-loss",
         Kind::Ambiguous { .. } => "ambiguous",
+        Kind::ValidityChanged { .. } => "validity-changed",
+        Kind::ResetAfterLoss { .. } => "reset-after-loss",
     }
 }
 
@@ -106,6 +116,10 @@ fn put_numbers(answer: &mut Answer, kind: &Kind) -> Result<(), CaseFault> {
         Kind::Ambiguous { u, v } => {
             put_uid(answer, *u)?;
             put_uid(answer, *v)
+        }
+        Kind::ValidityChanged { o, n } | Kind::ResetAfterLoss { o, n } => {
+            put_validity(answer, *o)?;
+            put_validity(answer, *n)
         }
         _ => Ok(()),
     }

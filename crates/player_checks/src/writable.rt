@@ -15,8 +15,13 @@ use uid_sets::Uid;
 pub fn is_writable(alloc: Global, event: &Event) -> Result<bool, AllocError> {
     match event {
         Event::Begin { .. } => Ok(false),
-        Event::Accept { action, .. } => is_writable_action(alloc, action),
-        Event::Intend { .. } | Event::Settle { .. } => Ok(true),
+        Event::Accept { action, .. } | Event::Old { action, .. } => {
+            is_writable_action(alloc, action)
+        }
+        Event::Intend { .. }
+        | Event::Settle { .. }
+        | Event::Reset { .. }
+        | Event::Withdraw { .. } => Ok(true),
         Event::Learn { delta, .. } => {
             let rows = delta.rows.as_slice();
             Ok(rows.len() <= MAX_ROWS && have_few_flags(rows))

@@ -1,5 +1,5 @@
 -- Whole events: what is read is spelled so.
-use Rattle.std.proofs.Common.{◌≡◌, ◌≤◌, inl, inr, ℕ, Bool, true, false, ◌&&◌, ◌==◌, List, [], ◌∷◌, ◌++◌, length, Option, Some, None}
+use Rattle.std.proofs.Common.{◌≡◌, ◌<◌, ◌≤◌, inl, inr, ℕ, Bool, true, false, ◌&&◌, ◌==◌, List, [], ◌∷◌, ◌++◌, length, Option, Some, None}
 use Rattle.std.proofs.Common.{Result, Ok, Err, nat_le, refl, sym, ap, subst, ◌∙◌, append_assoc, arith, if◌then◌else◌}
 use Rattle.std.specs.Int.{w32, w64, to_be_bytes}
 use Rattle.std.specs.List.{flat_map}
@@ -26,16 +26,17 @@ use Rattle.record_codec.specs.Fields.{counted, flag_field, target_field, sign, b
 use Rattle.record_codec.specs.Bodies.{action_fields, intent_fields, place_fields, kind_fields, outcome_fields, mark_fields, range_fields}
 use Rattle.record_codec.specs.Bodies.{row_fields, delta_fields, body_of}
 use Rattle.record_codec.specs.Spelling.{IsNumber, IsModSeq, IsKeptTarget, IsKeptAction, IsKeptIntent, IsKeptPlace, IsKeptKind, IsKeptOutcome, IsKept, Spelled}
-use Rattle.record_codec.specs.Reading.{Reading, ◌>>=◌, AreBytes, Told, Plain, Begin, Accept, Intend, Settle, Learn, plain, number_at}
+use Rattle.record_codec.specs.Reading.{Reading, ◌>>=◌, AreBytes, Told, Plain, Begin, Accept, Intend, Settle, Learn, Old, Reset, Withdraw}
+use Rattle.record_codec.specs.Reading.{plain, byte_at, number_at}
 use Rattle.record_codec.specs.Reading.{nonzero_at, modseq_at, name_at, octets_at, real_at, dummy_at, target_at, sign_at, flags_at, the_id}
 use Rattle.record_codec.specs.Reading.{with_id, text_at, flag_at, move_at, append_at, action_at, store_at, shift_at, put_at, intent_at}
-use Rattle.record_codec.specs.Reading.{landed_at, place_at, changed_at, unknown_at, unsure_at, ambiguous_at, kind_by, kind_at, done_at}
+use Rattle.record_codec.specs.Reading.{landed_at, place_at, changed_at, unknown_at, unsure_at, ambiguous_at, changed_validity_at, reset_loss_at, kind_by, kind_at, done_at}
 use Rattle.record_codec.specs.Reading.{conflict_at, outcome_at, bit_at, vanished_at, row_list_at, told_at, name_list_at, begin_at}
-use Rattle.record_codec.specs.Reading.{accept_at, intend_at, settle_at, learn_at, plain_at, place_of, all_of, body_at}
+use Rattle.record_codec.specs.Reading.{accept_at, intend_at, settle_at, learn_at, old_at, reset_at, withdraw_at, plain_at, place_of, all_of, body_at}
 use Rattle.record_codec.proofs.Ids.{told_id, same-true}
 use Rattle.record_codec.proofs.OneByOne.{four, target_apart}
 use Rattle.record_codec.proofs.Taking.{bound, ok_same, chosen, Sound, Reads, reads_same, lettered, number_reads, nonzero_reads}
-use Rattle.record_codec.proofs.Taking.{modseq_reads, name_reads, octets_reads, sign_reads, bit_reads}
+use Rattle.record_codec.proofs.Taking.{modseq_reads, name_reads, octets_reads, sign_reads, bit_reads, byte_reads}
 use Rattle.record_codec.proofs.Items.{flags_reads, vanished_reads, AreKeptRows, row_list_reads, AreKeptNames, name_list_reads}
 
 -- a byte in front of what was read
@@ -397,6 +398,32 @@ ambiguous_reads bytes y all is =
     (follow (kind_fields (kinds.Ambiguous u.0 v.0)) 12 bytes v.1 (IsKeptKind (kinds.Ambiguous u.0 v.0)) b.clean
     (front 12 _ _ (a.is ∙ behind (to_be_bytes w32 u.0) _ _ b.is)) (a.kept, b.kept))
 
+changed_validity_reads : (bytes : List ℕ) (y : Kind × List ℕ) → AreBytes bytes → changed_validity_at bytes ≡ Ok y → Follows kind_fields IsKeptKind 13 bytes y
+unfolding changed_validity_at
+changed_validity_reads bytes y all is =
+    let one = bound (nonzero_at bytes) (λ u. nonzero_at u.1 >>= (λ v. Ok (kinds.ValidityChanged u.0 v.0, v.1))) y is in
+    let u = one.value in
+    let two = bound (nonzero_at u.1) (λ v. Ok (kinds.ValidityChanged u.0 v.0, v.1)) y one.later in
+    let v = two.value in
+    let a = nonzero_reads bytes u all one.first in
+    let b = nonzero_reads u.1 v a.clean two.first in
+    follows_same kind_fields IsKeptKind 13 bytes (kinds.ValidityChanged u.0 v.0, v.1) y two.later
+    (follow (kind_fields (kinds.ValidityChanged u.0 v.0)) 13 bytes v.1 (IsKeptKind (kinds.ValidityChanged u.0 v.0)) b.clean
+    (front 13 _ _ (a.is ∙ behind (to_be_bytes w32 u.0) _ _ b.is)) (a.kept, b.kept))
+
+reset_loss_reads : (bytes : List ℕ) (y : Kind × List ℕ) → AreBytes bytes → reset_loss_at bytes ≡ Ok y → Follows kind_fields IsKeptKind 14 bytes y
+unfolding reset_loss_at
+reset_loss_reads bytes y all is =
+    let one = bound (nonzero_at bytes) (λ u. nonzero_at u.1 >>= (λ v. Ok (kinds.ResetAfterLoss u.0 v.0, v.1))) y is in
+    let u = one.value in
+    let two = bound (nonzero_at u.1) (λ v. Ok (kinds.ResetAfterLoss u.0 v.0, v.1)) y one.later in
+    let v = two.value in
+    let a = nonzero_reads bytes u all one.first in
+    let b = nonzero_reads u.1 v a.clean two.first in
+    follows_same kind_fields IsKeptKind 14 bytes (kinds.ResetAfterLoss u.0 v.0, v.1) y two.later
+    (follow (kind_fields (kinds.ResetAfterLoss u.0 v.0)) 14 bytes v.1 (IsKeptKind (kinds.ResetAfterLoss u.0 v.0)) b.clean
+    (front 14 _ _ (a.is ∙ behind (to_be_bytes w32 u.0) _ _ b.is)) (a.kept, b.kept))
+
 -- a kind without numbers
 bare_reads : (kind : Kind) (b k : ℕ) (bytes more : List ℕ) (y : Kind × List ℕ) → AreBytes more → bytes ≡ b ∷ more →
     kind_fields kind ≡ k ∷ [] → IsKeptKind kind → (b ≡ k) × ◌≡◌ {A = Reading Kind} (Ok (kind, more)) (Ok y) →
@@ -404,6 +431,20 @@ bare_reads : (kind : Kind) (b k : ℕ) (bytes more : List ℕ) (y : Kind × List
 bare_reads kind b k bytes more y all is spelled kept w =
     reads_same kind_fields IsKeptKind bytes (kind, more) y w.1
     (record { is = is ∙ ap (λ (c : ℕ). c ∷ more) w.0 ∙ ap (λ (t : List ℕ). t ++ more) (sym spelled); kept = kept; clean = all })
+
+-- the kinds behind the twelfth
+renewed_reads : (bytes : List ℕ) (b : ℕ) (more : List ℕ) (y : Kind × List ℕ) → bytes ≡ b ∷ more → AreBytes more →
+    (if b == 13 then changed_validity_at more else if b == 14 then reset_loss_at more else Err (length bytes)) ≡ Ok y →
+    Reads kind_fields IsKeptKind bytes y
+renewed_reads bytes b more y is clean v13 =
+    elim (chosen b 13 (changed_validity_at more) (if b == 14 then reset_loss_at more else Err (length bytes)) y v13) [
+      | inl w ↦ lead kind_fields IsKeptKind bytes b 13 more y is w.0 (changed_validity_reads more y clean w.1)
+      | inr v14 ↦
+          elim (chosen b 14 (reset_loss_at more) (Err (length bytes)) y v14) [
+            | inl w ↦ lead kind_fields IsKeptKind bytes b 14 more y is w.0 (reset_loss_reads more y clean w.1)
+            | inr w ↦ absurd (cc w)
+          ]
+    ]
 
 kind_reads : (bytes : List ℕ) (y : Kind × List ℕ) → AreBytes bytes → kind_at bytes ≡ Ok y → Reads kind_fields IsKeptKind bytes y
 unfolding kind_at
@@ -446,11 +487,10 @@ kind_reads bytes y all is =
                                                                 elim (chosen b 11 (Ok (kinds.GoneAfterLoss, more)) _ y v11) [
                                                                   | inl w ↦ bare kinds.GoneAfterLoss 11 refl tt w
                                                                   | inr v12 ↦
-                                                                      elim (chosen b 12 (ambiguous_at more) (Err
-                                                                      (length bytes)) y v12) [
+                                                                      elim (chosen b 12 (ambiguous_at more) _ y v12) [
                                                                         | inl w ↦ led 12 w.0
                                                                             (ambiguous_reads more y l.clean w.1)
-                                                                        | inr w ↦ absurd (cc w)
+                                                                        | inr v13 ↦ renewed_reads bytes b more y l.is l.clean v13
                                                                       ]
                                                                 ]
                                                           ]
@@ -579,6 +619,9 @@ plain_fields (Accept id action) = 65 ∷ to_be_bytes w32 id ++ action_fields act
 plain_fields (Intend id intent) = 73 ∷ to_be_bytes w32 id ++ intent_fields intent
 plain_fields (Settle id outcome) = 83 ∷ to_be_bytes w32 id ++ outcome_fields outcome
 plain_fields (Learn name told) = 76 ∷ counted name ++ told_fields told
+plain_fields (Old id action outcome) = 79 ∷ to_be_bytes w32 id ++ (action_fields action ++ outcome_fields outcome)
+plain_fields (Reset name kept told) = 82 ∷ counted name ++ (to_be_bytes w32 kept ++ to_be_bytes w32 told)
+plain_fields (Withdraw id tries) = 87 ∷ to_be_bytes w32 id ++ (tries ∷ [])
 
 abbrev pub IsKeptPlain : Plain → Type 0
 IsKeptPlain (Begin names) = AreKeptNames names
@@ -586,6 +629,9 @@ IsKeptPlain (Accept id action) = IsNumber id × IsReadAction action
 IsKeptPlain (Intend id intent) = IsNumber id × IsKeptIntent intent
 IsKeptPlain (Settle id outcome) = IsNumber id × IsKeptOutcome outcome
 IsKeptPlain (Learn name told) = IsBoxName name × IsKeptTold told
+IsKeptPlain (Old id action outcome) = IsNumber id × IsReadAction action × IsKeptOutcome outcome
+IsKeptPlain (Reset name kept told) = IsBoxName name × IsNumber kept × IsNumber told
+IsKeptPlain (Withdraw id tries) = IsNumber id × (tries < 256)
 
 begin_reads : (bytes : List ℕ) (y : Plain × List ℕ) → AreBytes bytes → begin_at bytes ≡ Ok y → Follows plain_fields IsKeptPlain 66 bytes y
 unfolding begin_at
@@ -647,35 +693,117 @@ learn_reads bytes y all is =
     (follow (plain_fields (Learn name.0 told.0)) 76 bytes told.1 (IsKeptPlain (Learn name.0 told.0)) a.clean
     (front 76 _ _ (n.is ∙ behind (counted name.0) _ _ a.is) ∙ sym (append_assoc (76 ∷ counted name.0) (told_fields told.0) told.1)) (n.kept, a.kept))
 
+old_reads : (bytes : List ℕ) (y : Plain × List ℕ) → AreBytes bytes → old_at bytes ≡ Ok y → Follows plain_fields IsKeptPlain 79 bytes y
+unfolding old_at
+old_reads bytes y all is =
+    let one = bound (nonzero_at bytes) (λ id. action_at id.1 >>= (λ action. outcome_at action.1 >>=
+    (λ outcome. Ok (Old id.0 action.0 outcome.0, outcome.1)))) y is in
+    let id = one.value in
+    let two = bound (action_at id.1) (λ action. outcome_at action.1 >>= (λ outcome. Ok (Old id.0 action.0 outcome.0, outcome.1))) y one.later in
+    let action = two.value in
+    let three = bound (outcome_at action.1) (λ outcome. Ok (Old id.0 action.0 outcome.0, outcome.1)) y two.later in
+    let outcome = three.value in
+    let n = nonzero_reads bytes id all one.first in
+    let a = action_reads id.1 action n.clean two.first in
+    let o = outcome_reads action.1 outcome a.clean three.first in
+    let event = Old id.0 action.0 outcome.0 in
+    follows_same plain_fields IsKeptPlain 79 bytes (event, outcome.1) y three.later
+    (follow (plain_fields event) 79 bytes outcome.1 (IsKeptPlain event) o.clean
+    (front 79 _ _ (n.is ∙ behind (to_be_bytes w32 id.0) _ _ (a.is ∙ behind (action_fields action.0) _ _ o.is
+    ∙ sym (append_assoc (action_fields action.0) (outcome_fields outcome.0) outcome.1)))) (n.kept, a.kept, o.kept))
+
+pub reset_apart : (name : List ℕ) (kept told : ℕ) (rest : List ℕ) → plain_fields (Reset name kept told) ++ rest
+    ≡ 82 ∷ (counted name ++ (to_be_bytes w32 kept ++ (to_be_bytes w32 told ++ rest)))
+reset_apart name kept told rest =
+    append_assoc (82 ∷ counted name) (to_be_bytes w32 kept ++ to_be_bytes w32 told) rest
+    ∙ behind (82 ∷ counted name) _ _ (append_assoc (to_be_bytes w32 kept) (to_be_bytes w32 told) rest)
+
+reset_reads : (bytes : List ℕ) (y : Plain × List ℕ) → AreBytes bytes → reset_at bytes ≡ Ok y → Follows plain_fields IsKeptPlain 82 bytes y
+unfolding reset_at
+reset_reads bytes y all is =
+    let one = bound (name_at bytes) (λ name. nonzero_at name.1 >>= (λ kept. nonzero_at kept.1 >>=
+    (λ told. Ok (Reset name.0 kept.0 told.0, told.1)))) y is in
+    let name = one.value in
+    let two = bound (nonzero_at name.1) (λ kept. nonzero_at kept.1 >>= (λ told. Ok (Reset name.0 kept.0 told.0, told.1))) y one.later in
+    let kept = two.value in
+    let three = bound (nonzero_at kept.1) (λ told. Ok (Reset name.0 kept.0 told.0, told.1)) y two.later in
+    let told = three.value in
+    let n = name_reads bytes name all one.first in
+    let k = nonzero_reads name.1 kept n.clean two.first in
+    let t = nonzero_reads kept.1 told k.clean three.first in
+    let event = Reset name.0 kept.0 told.0 in
+    follows_same plain_fields IsKeptPlain 82 bytes (event, told.1) y three.later
+    (follow (plain_fields event) 82 bytes told.1 (IsKeptPlain event) t.clean
+    (front 82 _ _ (n.is ∙ behind (counted name.0) _ _ (k.is ∙ behind (to_be_bytes w32 kept.0) _ _ t.is))
+    ∙ sym (reset_apart name.0 kept.0 told.0 told.1)) (n.kept, k.kept, t.kept))
+
+withdraw_reads : (bytes : List ℕ) (y : Plain × List ℕ) → AreBytes bytes → withdraw_at bytes ≡ Ok y → Follows plain_fields IsKeptPlain 87 bytes y
+unfolding withdraw_at
+withdraw_reads bytes y all is =
+    let one = bound (nonzero_at bytes) (λ id. byte_at id.1 >>= (λ tries. Ok (Withdraw id.0 tries.0, tries.1))) y is in
+    let id = one.value in
+    let two = bound (byte_at id.1) (λ tries. Ok (Withdraw id.0 tries.0, tries.1)) y one.later in
+    let tries = two.value in
+    let n = nonzero_reads bytes id all one.first in
+    let t = byte_reads id.1 tries n.clean two.first in
+    let event = Withdraw id.0 tries.0 in
+    follows_same plain_fields IsKeptPlain 87 bytes (event, tries.1) y two.later
+    (follow (plain_fields event) 87 bytes tries.1 (IsKeptPlain event) t.clean
+    (front 87 _ _ (n.is ∙ behind (to_be_bytes w32 id.0) _ _ t.is ∙ sym (append_assoc (to_be_bytes w32 id.0) (tries.0 ∷ []) tries.1)))
+    (n.kept, t.kept))
+
+-- the events of letters behind the sixth
+later_reads : (bytes : List ℕ) (b : ℕ) (more : List ℕ) (y : Plain × List ℕ) → bytes ≡ b ∷ more → AreBytes more →
+    (if b == 82 then reset_at more else if b == 87 then withdraw_at more else Err (length bytes)) ≡ Ok y →
+    Reads plain_fields IsKeptPlain bytes y
+later_reads bytes b more y is clean v =
+    elim (chosen b 82 (reset_at more) (if b == 87 then withdraw_at more else Err (length bytes)) y v) [
+      | inl w ↦ lead plain_fields IsKeptPlain bytes b 82 more y is w.0 (reset_reads more y clean w.1)
+      | inr u ↦
+          elim (chosen b 87 (withdraw_at more) (Err (length bytes)) y u) [
+            | inl w ↦ lead plain_fields IsKeptPlain bytes b 87 more y is w.0 (withdraw_reads more y clean w.1)
+            | inr w ↦ absurd (cc w)
+          ]
+    ]
+
 plain_reads : (bytes : List ℕ) (y : Plain × List ℕ) → AreBytes bytes → plain_at bytes ≡ Ok y → Reads plain_fields IsKeptPlain bytes y
 unfolding plain_at
 plain_reads bytes y all is =
     let l = lettered bytes
     (λ letter. if letter.0 == 66 then begin_at letter.1 else if letter.0 == 65 then accept_at letter.1 else if letter.0 == 73 then
-    intend_at letter.1 else if letter.0 == 83 then settle_at letter.1 else if letter.0 == 76 then learn_at letter.1 else Err (length bytes)) y all is in
+    intend_at letter.1 else if letter.0 == 83 then settle_at letter.1 else if letter.0 == 76 then learn_at letter.1 else
+    if letter.0 == 79 then old_at letter.1 else if letter.0 == 82 then reset_at letter.1 else
+    if letter.0 == 87 then withdraw_at letter.1 else Err (length bytes)) y all is in
     let b = l.b in
     let more = l.more in
+    let later : Reading Plain = if b == 82 then reset_at more else if b == 87 then withdraw_at more else Err (length bytes) in
     let led = λ (k : ℕ). lead plain_fields IsKeptPlain bytes b k more y l.is in
     elim (chosen b 66 (begin_at more)
     (if b == 65 then accept_at more else if b == 73 then intend_at more else if b == 83 then settle_at more else if b == 76 then
-    learn_at more else Err (length bytes)) y l.later) [
+    learn_at more else if b == 79 then old_at more else later) y l.later) [
       | inl w ↦ led 66 w.0 (begin_reads more y l.clean w.1)
       | inr v2 ↦
           elim (chosen b 65 (accept_at more)
-          (if b == 73 then intend_at more else if b == 83 then settle_at more else if b == 76 then learn_at more else Err
-          (length bytes)) y v2) [
+          (if b == 73 then intend_at more else if b == 83 then settle_at more else if b == 76 then learn_at more else
+          if b == 79 then old_at more else later) y v2) [
             | inl w ↦ led 65 w.0 (accept_reads more y l.clean w.1)
             | inr v3 ↦
-                elim (chosen b 73 (intend_at more) (if b == 83 then settle_at more else if b == 76 then learn_at more else Err (length bytes)) y v3) [
+                elim (chosen b 73 (intend_at more) (if b == 83 then settle_at more else if b == 76 then learn_at more else
+                if b == 79 then old_at more else later) y v3) [
                   | inl w ↦ led 73 w.0 (intend_reads more y l.clean w.1)
                   | inr v4 ↦
-                      elim (chosen b 83 (settle_at more) (if b == 76 then learn_at more else Err (length bytes)) y v4) [
+                      elim (chosen b 83 (settle_at more) (if b == 76 then learn_at more else
+                      if b == 79 then old_at more else later) y v4) [
                         | inl w ↦ led 83 w.0 (settle_reads more y l.clean w.1)
                         | inr v5 ↦
-                            elim (chosen b 76 (learn_at more) (Err (length bytes)) y v5) [
-                              | inl w ↦
-                                  led 76 w.0 (learn_reads more y l.clean w.1)
-                              | inr w ↦ absurd (cc w)
+                            elim (chosen b 76 (learn_at more) (if b == 79 then old_at more else later) y v5) [
+                              | inl w ↦ led 76 w.0 (learn_reads more y l.clean w.1)
+                              | inr v6 ↦
+                                  elim (chosen b 79 (old_at more) later y v6) [
+                                    | inl w ↦
+                                        led 79 w.0 (old_reads more y l.clean w.1)
+                                    | inr v7 ↦ later_reads bytes b more y l.is l.clean v7
+                                  ]
                             ]
                       ]
                 ]
@@ -731,6 +859,9 @@ fields_of (events.Accept id action) = refl
 fields_of (events.Intend id intent) = refl
 fields_of (events.Settle id outcome) = refl
 fields_of (events.Learn name delta) = refl
+fields_of (events.Old id action outcome) = refl
+fields_of (events.Reset name kept told) = refl
+fields_of (events.Withdraw id tries) = refl
 
 kept_of : (event : Event) → IsKeptPlain (plain event) → IsKept event
 kept_of (events.Begin names) kept = kept.kept
@@ -748,6 +879,9 @@ kept_of (events.Learn name delta) kept = (
     rows = kept.1.rows.kept;
   },
 )
+kept_of (events.Old id action outcome) kept = (kept.0, kept.1.kept, kept.2)
+kept_of (events.Reset name old told) kept = kept
+kept_of (events.Withdraw id tries) kept = kept
 
 writable_of : (event : Event) → IsKeptPlain (plain event) → IsWritable event
 writable_of (events.Begin names) kept = kept.list
@@ -755,6 +889,9 @@ writable_of (events.Accept id action) kept = kept.1.writable
 writable_of (events.Intend id intent) kept = tt
 writable_of (events.Settle id outcome) kept = tt
 writable_of (events.Learn name delta) kept = (kept.1.rows.few, kept.1.rows.flags)
+writable_of (events.Old id action outcome) kept = kept.1.writable
+writable_of (events.Reset name old told) kept = tt
+writable_of (events.Withdraw id tries) kept = tt
 
 -- an event that was read is the one that the body spells
 pub read_spelled : (body : List ℕ) (event : Event) → AreBytes body → body_at body ≡ Ok (plain event) → Spelled body event
@@ -786,6 +923,9 @@ event_of (Learn name told) kept = record {
   });
   is = refl;
 }
+event_of (Old id action outcome) kept = record { event = events.Old id action outcome; is = refl }
+event_of (Reset name old told) kept = record { event = events.Reset name old told; is = refl }
+event_of (Withdraw id tries) kept = record { event = events.Withdraw id tries; is = refl }
 
 pub read_event : (body : List ℕ) (p : Plain) → AreBytes body → body_at body ≡ Ok p → HasEvent p
 read_event body p all is = event_of p (body_reads body p all is).kept

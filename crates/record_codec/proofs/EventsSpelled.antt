@@ -4,7 +4,7 @@ use Rattle.std.proofs.Common.{◌∙◌, append_assoc, arith, if◌then◌else�
 use Rattle.std.specs.Int.{w32, w64, to_be_bytes}
 use Rattle.std.specs.List.{flat_map}
 use Rattle.std.proofs.lemmas.Bool.{le-leb}
-use Rattle.std.proofs.lemmas.List.{append-nil}
+use Rattle.std.proofs.lemmas.List.{append-nil, length-append}
 use Rattle.mail_base.specs.declared.limits.TheConstants.{MAX_ROWS}
 use Rattle.mail_header.specs.Identifier.{id_bodies, HasMessageId}
 use Rattle.mailbox_cache.specs.declared.delta.Delta.{Delta}
@@ -26,17 +26,17 @@ use Rattle.record_codec.specs.Fields.{counted, flag_field, target_field, sign, b
 use Rattle.record_codec.specs.Bodies.{action_fields, intent_fields, place_fields, kind_fields, outcome_fields, mark_fields, range_fields}
 use Rattle.record_codec.specs.Bodies.{row_fields, delta_fields, body_of}
 use Rattle.record_codec.specs.Spelling.{IsKeptTarget, IsKeptAction, IsKeptIntent, IsKeptPlace, IsKeptKind, IsKeptOutcome, IsKeptDelta, IsKept, Spelled}
-use Rattle.record_codec.specs.Reading.{Reading, ◌>>=◌, Told, Plain, Begin, Accept, Intend, Settle, Learn, told_of, plain, byte_at}
+use Rattle.record_codec.specs.Reading.{Reading, ◌>>=◌, Told, Plain, Begin, Accept, Intend, Settle, Learn, Old, Reset, Withdraw, told_of, plain, byte_at}
 use Rattle.record_codec.specs.Reading.{number_at, nonzero_at, modseq_at, name_at, octets_at, real_at, dummy_at, target_at, sign_at}
 use Rattle.record_codec.specs.Reading.{flags_at, the_id, with_id, text_at, flag_at, move_at, append_at, action_at, store_at, shift_at}
-use Rattle.record_codec.specs.Reading.{put_at, intent_at, landed_at, place_at, changed_at, unknown_at, unsure_at, ambiguous_at, kind_at}
+use Rattle.record_codec.specs.Reading.{put_at, intent_at, landed_at, place_at, changed_at, unknown_at, unsure_at, ambiguous_at, changed_validity_at, reset_loss_at, kind_at}
 use Rattle.record_codec.specs.Reading.{done_at, conflict_at, outcome_at, bit_at, vanished_at, row_list_at, told_at, name_list_at}
-use Rattle.record_codec.specs.Reading.{begin_at, accept_at, intend_at, settle_at, learn_at, plain_at, place_of, all_of, body_at}
+use Rattle.record_codec.specs.Reading.{begin_at, accept_at, intend_at, settle_at, learn_at, old_at, reset_at, withdraw_at, plain_at, place_of, all_of, body_at}
 use Rattle.record_codec.proofs.Ids.{id_told}
 use Rattle.record_codec.proofs.OneByOne.{four, target_apart, text_fits}
 use Rattle.record_codec.proofs.Taking.{then_by, number_read, nonzero_read, modseq_read, name_read, octets_read, sign_read, bit_read}
 use Rattle.record_codec.proofs.Items.{flags_read, vanished_read, row_list_read, name_list_read}
-use Rattle.record_codec.proofs.EventsRead.{append_apart, store_apart, shift_apart, told_fields, told_apart}
+use Rattle.record_codec.proofs.EventsRead.{append_apart, reset_apart, store_apart, shift_apart, told_fields, told_apart}
 
 -- ---- messages
 
@@ -164,7 +164,7 @@ place_read (Some place) rest kept =
     (Ok (Some place, rest)) (nonzero_read place.uid rest kept.1) refl)
 
 kind_read : (kind : Kind) (rest : List ℕ) → IsKeptKind kind → kind_at (kind_fields kind ++ rest) ≡ Ok (kind, rest)
-unfolding kind_at changed_at unknown_at unsure_at ambiguous_at byte_at
+unfolding kind_at changed_at unknown_at unsure_at ambiguous_at changed_validity_at reset_loss_at byte_at
 kind_read kinds.MessageGone rest kept = refl
 kind_read kinds.AlreadySo rest kept = refl
 kind_read (kinds.FlagsChanged m) rest kept = then_by (modseq_at (to_be_bytes w64 m ++ rest)) (m, rest)
@@ -187,6 +187,16 @@ kind_read (kinds.Ambiguous u v) rest kept =
     then_by (nonzero_at (to_be_bytes w32 u ++ last)) (u, last) (λ a. nonzero_at a.1 >>= (λ b. Ok (kinds.Ambiguous a.0 b.0, b.1)))
     (Ok (kinds.Ambiguous u v, rest)) (nonzero_read u last kept.0)
     (then_by (nonzero_at last) (v, rest) (λ b. Ok (kinds.Ambiguous u b.0, b.1)) (Ok (kinds.Ambiguous u v, rest)) (nonzero_read v rest kept.1) refl)
+kind_read (kinds.ValidityChanged o n) rest kept =
+    let last = to_be_bytes w32 n ++ rest in
+    then_by (nonzero_at (to_be_bytes w32 o ++ last)) (o, last) (λ a. nonzero_at a.1 >>= (λ b. Ok (kinds.ValidityChanged a.0 b.0, b.1)))
+    (Ok (kinds.ValidityChanged o n, rest)) (nonzero_read o last kept.0)
+    (then_by (nonzero_at last) (n, rest) (λ b. Ok (kinds.ValidityChanged o b.0, b.1)) (Ok (kinds.ValidityChanged o n, rest)) (nonzero_read n rest kept.1) refl)
+kind_read (kinds.ResetAfterLoss o n) rest kept =
+    let last = to_be_bytes w32 n ++ rest in
+    then_by (nonzero_at (to_be_bytes w32 o ++ last)) (o, last) (λ a. nonzero_at a.1 >>= (λ b. Ok (kinds.ResetAfterLoss a.0 b.0, b.1)))
+    (Ok (kinds.ResetAfterLoss o n, rest)) (nonzero_read o last kept.0)
+    (then_by (nonzero_at last) (n, rest) (λ b. Ok (kinds.ResetAfterLoss o b.0, b.1)) (Ok (kinds.ResetAfterLoss o n, rest)) (nonzero_read n rest kept.1) refl)
 
 outcome_read : (outcome : Outcome) (rest : List ℕ) → IsKeptOutcome outcome → outcome_at (outcome_fields outcome ++ rest) ≡ Ok (outcome, rest)
 unfolding outcome_at done_at conflict_at byte_at
@@ -237,7 +247,7 @@ told_read delta rest kept few flags =
 
 event_read : (event : Event) (rest : List ℕ) → IsKept event → IsWritable event → length (body_of event) ≤ 1073741824 →
     plain_at (body_of event ++ rest) ≡ Ok (plain event, rest)
-unfolding plain_at begin_at accept_at intend_at settle_at learn_at byte_at delta_fields mark_fields
+unfolding plain_at begin_at accept_at intend_at settle_at learn_at old_at reset_at withdraw_at byte_at delta_fields mark_fields
 event_read (events.Begin names) rest kept can fits =
     then_by (name_list_at (length names ∷ flat_map counted names ++ rest)) (names, rest) (λ n. Ok (Begin n.0, n.1))
     (Ok (Begin names, rest)) (name_list_read names rest (record { kept = kept; list = can })) refl
@@ -264,6 +274,31 @@ event_read (events.Learn name delta) rest kept can fits =
     (Ok (Learn name (told_of delta), rest)) (name_read name last kept.0)
     (then_by (told_at last) (told_of delta, rest) (λ d. Ok (Learn name d.0, d.1)) (Ok (Learn name (told_of delta), rest))
     (told_read delta rest kept.1 can.0 can.1) refl)
+event_read (events.Old id action outcome) rest kept can fits =
+    let last = outcome_fields outcome ++ rest in
+    let later = action_fields action ++ last in
+    let goal : Reading Plain = Ok (Old id action outcome, rest) in
+    ap (λ (t : List ℕ). plain_at (79 ∷ (to_be_bytes w32 id ++ t))) (append_assoc (action_fields action) (outcome_fields outcome) rest)
+    ∙ then_by (nonzero_at (to_be_bytes w32 id ++ later)) (id, later) (λ n. action_at n.1 >>= (λ a. outcome_at a.1 >>= (λ o.
+    Ok (Old n.0 a.0 o.0, o.1)))) goal (nonzero_read id later kept.0)
+    (then_by (action_at later) (action, last) (λ a. outcome_at a.1 >>= (λ o. Ok (Old id a.0 o.0, o.1))) goal
+    (action_read action last kept.1 can (omega (arith, fits, length-append (action_fields action) (outcome_fields outcome))))
+    (then_by (outcome_at last) (outcome, rest) (λ o. Ok (Old id action o.0, o.1)) goal (outcome_read outcome rest kept.2) refl))
+event_read (events.Reset name old told) rest kept can fits =
+    let last = to_be_bytes w32 told ++ rest in
+    let later = to_be_bytes w32 old ++ last in
+    let goal : Reading Plain = Ok (Reset name old told, rest) in
+    ap plain_at (reset_apart name old told rest)
+    ∙ then_by (name_at (counted name ++ later)) (name, later) (λ n. nonzero_at n.1 >>= (λ k. nonzero_at k.1 >>= (λ t.
+    Ok (Reset n.0 k.0 t.0, t.1)))) goal (name_read name later kept.0)
+    (then_by (nonzero_at later) (old, last) (λ k. nonzero_at k.1 >>= (λ t. Ok (Reset name k.0 t.0, t.1))) goal (nonzero_read old last kept.1)
+    (then_by (nonzero_at last) (told, rest) (λ t. Ok (Reset name old t.0, t.1)) goal (nonzero_read told rest kept.2) refl))
+event_read (events.Withdraw id tries) rest kept can fits =
+    let last = tries ∷ rest in
+    let goal : Reading Plain = Ok (Withdraw id tries, rest) in
+    ap (λ (t : List ℕ). plain_at (87 ∷ t)) (append_assoc (to_be_bytes w32 id) (tries ∷ []) rest)
+    ∙ then_by (nonzero_at (to_be_bytes w32 id ++ last)) (id, last) (λ n. byte_at n.1 >>= (λ t. Ok (Withdraw n.0 t.0, t.1))) goal
+    (nonzero_read id last kept.0) refl
 
 whole_all : (body : List ℕ) (p : Plain) → length body ≤ 1073741824 → all_of body (Ok (p, [])) ≡ Ok p
 whole_all body p fits = ap (λ (t : Bool). if t then Ok p else Err (place_of body 0)) (le-leb (length body) 1073741824 fits)

@@ -12,3 +12,4 @@ pub mod EventsRead
 pub mod EventsSpelled
 pub mod Lists
 pub mod Verdicts
+pub mod RestatedSizes

@@ -6,6 +6,7 @@ use Rattle.std.specs.List.{flat_map, AllByRecursion}
 use Rattle.std.proofs.lemmas.List.{length-append}
 use Rattle.mail_base.specs.declared.limits.TheConstants.{MAX_ROWS}
 use Rattle.mail_header.specs.Identifier.{PlacedBody, id_bodies, id_of, HasMessageId}
+use Rattle.mail_base.proofs.SameFront.{length_same}
 use Rattle.uid_sets.specs.UidSet.{RisesAbove, IsCanonical}
 use Rattle.uid_sets.specs.declared.uid.UidRange.{UidRange}
 use Rattle.mailbox_cache.specs.Rows.{Rises, Rises-prop, AreApart, AreApart-prop}
@@ -88,34 +89,49 @@ pub text_fits : (to : List ℕ) (flags : List (List ℕ)) (text id : List ℕ) �
 text_fits to flags text id fits =
     omega (arith, fits, length-append (80 ∷ counted to ++ flag_field flags ++ to_be_bytes w32 (length text)) text)
 
+five : (a b c d e : List ℕ) → (((a ++ b) ++ c) ++ d) ++ e ≡ a ++ (b ++ (c ++ (d ++ e)))
+five a b c d e = append_assoc ((a ++ b) ++ c) d e ∙ four a b c (d ++ e)
+
+-- an action's fields tell it, whatever stands behind them
+action_cut : (a b : Action) (r s : List ℕ) → IsKeptAction a → IsKeptAction b → IsWritableAction a → IsWritableAction b →
+    length (action_fields a) ≤ 1073741824 → length (action_fields b) ≤ 1073741824 → action_fields a ++ r ≡ action_fields b ++ s → (a ≡ b) × (r ≡ s)
+action_cut (actions.Flag t add flags) (actions.Flag t' add' flags') r s kept kept' can can' fits fits' same =
+    let last = flag_field flags ++ r in
+    let last' = flag_field flags' ++ s in
+    let whole = sym (append_assoc (70 ∷ target_field t) (sign add ∷ flag_field flags) r) ∙ same
+    ∙ append_assoc (70 ∷ target_field t') (sign add' ∷ flag_field flags') s in
+    let fields = byte_same 70 70 (target_field t ++ sign add ∷ last) (target_field t' ++ sign add' ∷ last') whole in
+    let messages = target_same t t' (sign add ∷ last) (sign add' ∷ last') kept.0 kept'.0 fields.1 in
+    let signs = byte_same (sign add) (sign add') last last' messages.1 in
+    let sets = flags_same flags flags' r s can.1 can'.1 signs.1 in
+    let adds = sign_same add add' signs.0 in
+    (λ i. actions.Flag (messages.0 i) (adds i) (sets.0 i), sets.1)
+action_cut (actions.Flag t add flags) b r s kept kept' can can' fits fits' same = let first = byte_same _ _ _ _ same in absurd (omega (arith, first.0))
+action_cut (actions.Move t to) (actions.Move t' to') r s kept kept' can can' fits fits' same =
+    let whole = sym (append_assoc (77 ∷ target_field t) (counted to) r) ∙ same ∙ append_assoc (77 ∷ target_field t') (counted to') s in
+    let fields = byte_same 77 77 (target_field t ++ (counted to ++ r)) (target_field t' ++ (counted to' ++ s)) whole in
+    let messages = target_same t t' (counted to ++ r) (counted to' ++ s) kept.0 kept'.0 fields.1 in
+    let names = counted_same to to' r s messages.1 in
+    (λ i. actions.Move (messages.0 i) (names.0 i), names.1)
+action_cut (actions.Move t to) b r s kept kept' can can' fits fits' same = let first = byte_same _ _ _ _ same in absurd (omega (arith, first.0))
+action_cut (actions.Append to flags text id) (actions.Append to' flags' text' id') r s kept kept' can can' fits fits' same =
+    let last = to_be_bytes w32 (length text) ++ (text ++ r) in
+    let last' = to_be_bytes w32 (length text') ++ (text' ++ s) in
+    let whole = sym (five (80 ∷ counted to) (flag_field flags) (to_be_bytes w32 (length text)) text r) ∙ same
+    ∙ five (80 ∷ counted to') (flag_field flags') (to_be_bytes w32 (length text')) text' s in
+    let fields = byte_same 80 80 (counted to ++ (flag_field flags ++ last)) (counted to' ++ (flag_field flags' ++ last')) whole in
+    let names = counted_same to to' (flag_field flags ++ last) (flag_field flags' ++ last') fields.1 in
+    let sets = flags_same flags flags' last last' can.0 can'.0 names.1 in
+    let sizes = number_same (length text) (length text') (text ++ r) (text' ++ s) (text_fits to flags text id fits)
+    (text_fits to' flags' text' id' fits') sets.1 in
+    let texts = length_same text text' r s sizes.0 sizes.1 in
+    let ids = id_same text text' id id' texts.0 can.1 can'.1 in
+    (λ i. actions.Append (names.0 i) (sets.0 i) (texts.0 i) (ids i), texts.1)
+action_cut (actions.Append to flags text id) b r s kept kept' can can' fits fits' same = let first = byte_same _ _ _ _ same in absurd (omega (arith, first.0))
+
 action_same : (a b : Action) → IsKeptAction a → IsKeptAction b → IsWritableAction a → IsWritableAction b →
     length (action_fields a) ≤ 1073741824 → length (action_fields b) ≤ 1073741824 → action_fields a ≡ action_fields b → a ≡ b
-action_same (actions.Flag t add flags) (actions.Flag t' add' flags') kept kept' can can' fits fits' same =
-    let fields = byte_same 70 70 (target_field t ++ sign add ∷ flag_field flags) (target_field t' ++ sign add' ∷ flag_field flags') same in
-    let messages = target_same t t' (sign add ∷ flag_field flags) (sign add' ∷ flag_field flags') kept.0 kept'.0 fields.1 in
-    let signs = byte_same (sign add) (sign add') (flag_field flags) (flag_field flags') messages.1 in
-    let sets = flags_same flags flags' [] [] can.1 can'.1 (ap ended signs.1) in
-    let adds = sign_same add add' signs.0 in
-    λ i. actions.Flag (messages.0 i) (adds i) (sets.0 i)
-action_same (actions.Flag t add flags) b kept kept' can can' fits fits' same = let first = byte_same _ _ _ _ same in absurd (omega (arith, first.0))
-action_same (actions.Move t to) (actions.Move t' to') kept kept' can can' fits fits' same =
-    let fields = byte_same 77 77 (target_field t ++ counted to) (target_field t' ++ counted to') same in
-    let messages = target_same t t' (counted to) (counted to') kept.0 kept'.0 fields.1 in
-    let names = counted_same to to' [] [] (ap ended messages.1) in
-    λ i. actions.Move (messages.0 i) (names.0 i)
-action_same (actions.Move t to) b kept kept' can can' fits fits' same = let first = byte_same _ _ _ _ same in absurd (omega (arith, first.0))
-action_same (actions.Append to flags text id) (actions.Append to' flags' text' id') kept kept' can can' fits fits' same =
-    let whole = sym (four (80 ∷ counted to) (flag_field flags) (to_be_bytes w32 (length text)) text) ∙ same
-    ∙ four (80 ∷ counted to') (flag_field flags') (to_be_bytes w32 (length text')) text' in
-    let fields = byte_same 80 80 (counted to ++ (flag_field flags ++ (to_be_bytes w32 (length text) ++ text)))
-    (counted to' ++ (flag_field flags' ++ (to_be_bytes w32 (length text') ++ text'))) whole in
-    let names = counted_same to to' (flag_field flags ++ (to_be_bytes w32 (length text) ++ text))
-    (flag_field flags' ++ (to_be_bytes w32 (length text') ++ text')) fields.1 in
-    let sets = flags_same flags flags' (to_be_bytes w32 (length text) ++ text) (to_be_bytes w32 (length text') ++ text') can.0 can'.0 names.1 in
-    let texts = number_same (length text) (length text') text text' (text_fits to flags text id fits) (text_fits to' flags' text' id' fits') sets.1 in
-    let ids = id_same text text' id id' texts.1 can.1 can'.1 in
-    λ i. actions.Append (names.0 i) (sets.0 i) (texts.1 i) (ids i)
-action_same (actions.Append to flags text id) b kept kept' can can' fits fits' same = let first = byte_same _ _ _ _ same in absurd (omega (arith, first.0))
+action_same a b kept kept' can can' fits fits' same = (action_cut a b [] [] kept kept' can can' fits fits' (ap ended same)).0
 
 intent_same : (a b : Intent) → IsKeptIntent a → IsKeptIntent b → intent_fields a ≡ intent_fields b → a ≡ b
 intent_same (intents.Store n v u m) (intents.Store n' v' u' m') kept kept' same =
@@ -199,6 +215,18 @@ kind_same (kinds.Ambiguous u v) (kinds.Ambiguous u' v') kept kept' same =
     let seconds = number_same v v' [] [] kept.1.1 kept'.1.1 (ap ended firsts.1) in
     λ i. kinds.Ambiguous (firsts.0 i) (seconds.0 i)
 kind_same (kinds.Ambiguous u v) b kept kept' same = let first = byte_same _ _ _ _ same in absurd (omega (arith, first.0))
+kind_same (kinds.ValidityChanged o n) (kinds.ValidityChanged o' n') kept kept' same =
+    let fields = byte_same 13 13 (to_be_bytes w32 o ++ to_be_bytes w32 n) (to_be_bytes w32 o' ++ to_be_bytes w32 n') same in
+    let firsts = number_same o o' (to_be_bytes w32 n) (to_be_bytes w32 n') kept.0.1 kept'.0.1 fields.1 in
+    let seconds = number_same n n' [] [] kept.1.1 kept'.1.1 (ap ended firsts.1) in
+    λ i. kinds.ValidityChanged (firsts.0 i) (seconds.0 i)
+kind_same (kinds.ValidityChanged o n) b kept kept' same = let first = byte_same _ _ _ _ same in absurd (omega (arith, first.0))
+kind_same (kinds.ResetAfterLoss o n) (kinds.ResetAfterLoss o' n') kept kept' same =
+    let fields = byte_same 14 14 (to_be_bytes w32 o ++ to_be_bytes w32 n) (to_be_bytes w32 o' ++ to_be_bytes w32 n') same in
+    let firsts = number_same o o' (to_be_bytes w32 n) (to_be_bytes w32 n') kept.0.1 kept'.0.1 fields.1 in
+    let seconds = number_same n n' [] [] kept.1.1 kept'.1.1 (ap ended firsts.1) in
+    λ i. kinds.ResetAfterLoss (firsts.0 i) (seconds.0 i)
+kind_same (kinds.ResetAfterLoss o n) b kept kept' same = let first = byte_same _ _ _ _ same in absurd (omega (arith, first.0))
 
 outcome_same : (a b : Outcome) → IsKeptOutcome a → IsKeptOutcome b → outcome_fields a ≡ outcome_fields b → a ≡ b
 outcome_same (outcomes.Done p) (outcomes.Done q) kept kept' same =
@@ -370,6 +398,32 @@ event_same (events.Learn name delta) (events.Learn name' delta') kept kept' can 
     let deltas = delta_same delta delta' kept.1 kept'.1 can can' names.1 in
     λ i. events.Learn (names.0 i) (deltas i)
 event_same (events.Learn name delta) b kept kept' can can' fits fits' same = let first = byte_same _ _ _ _ same in absurd (omega (arith, first.0))
+event_same (events.Old id action outcome) (events.Old id' action' outcome') kept kept' can can' fits fits' same =
+    let last = action_fields action ++ outcome_fields outcome in
+    let last' = action_fields action' ++ outcome_fields outcome' in
+    let fields = byte_same 79 79 (to_be_bytes w32 id ++ last) (to_be_bytes w32 id' ++ last') same in
+    let ids = number_same id id' last last' kept.0.1 kept'.0.1 fields.1 in
+    let asked = action_cut action action' (outcome_fields outcome) (outcome_fields outcome') kept.1 kept'.1 can can'
+    (omega (arith, fits, length-append (action_fields action) (outcome_fields outcome)))
+    (omega (arith, fits', length-append (action_fields action') (outcome_fields outcome'))) ids.1 in
+    let ends = outcome_same outcome outcome' kept.2 kept'.2 asked.1 in
+    λ i. events.Old (ids.0 i) (asked.0 i) (ends i)
+event_same (events.Old id action outcome) b kept kept' can can' fits fits' same = let first = byte_same _ _ _ _ same in absurd (omega (arith, first.0))
+event_same (events.Reset name old told) (events.Reset name' old' told') kept kept' can can' fits fits' same =
+    let last = to_be_bytes w32 old ++ to_be_bytes w32 told in
+    let last' = to_be_bytes w32 old' ++ to_be_bytes w32 told' in
+    let fields = byte_same 82 82 (counted name ++ last) (counted name' ++ last') same in
+    let names = counted_same name name' last last' fields.1 in
+    let olds = number_same old old' (to_be_bytes w32 told) (to_be_bytes w32 told') kept.1.1 kept'.1.1 names.1 in
+    let tolds = number_same told told' [] [] kept.2.1 kept'.2.1 (ap ended olds.1) in
+    λ i. events.Reset (names.0 i) (olds.0 i) (tolds.0 i)
+event_same (events.Reset name old told) b kept kept' can can' fits fits' same = let first = byte_same _ _ _ _ same in absurd (omega (arith, first.0))
+event_same (events.Withdraw id tries) (events.Withdraw id' tries') kept kept' can can' fits fits' same =
+    let fields = byte_same 87 87 (to_be_bytes w32 id ++ (tries ∷ [])) (to_be_bytes w32 id' ++ (tries' ∷ [])) same in
+    let ids = number_same id id' (tries ∷ []) (tries' ∷ []) kept.0.1 kept'.0.1 fields.1 in
+    let turns = byte_same tries tries' [] [] ids.1 in
+    λ i. events.Withdraw (ids.0 i) (turns.0 i)
+event_same (events.Withdraw id tries) b kept kept' can can' fits fits' same = let first = byte_same _ _ _ _ same in absurd (omega (arith, first.0))
 
 -- no bytes are the bodies of two events' records
 pub one_event : OneEvent

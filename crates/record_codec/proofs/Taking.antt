@@ -228,6 +228,12 @@ bit_reads bytes y all is =
       | inr v ↦ elim (chosen l.b 1 (Ok (true, l.more)) (Err (length bytes)) y v) [ inl w ↦ from 1 true w.0 refl w.1 | inr w ↦ absurd (cc w) ]
     ]
 
+pub byte_reads : (bytes : List ℕ) (y : ℕ × List ℕ) → AreBytes bytes → byte_at bytes ≡ Ok y → Reads (λ (b : ℕ). b ∷ []) (λ b. b < 256) bytes y
+unfolding byte_at
+byte_reads [] y all is = absurd (cc)
+byte_reads (b ∷ more) y all is =
+    reads_same (λ (n : ℕ). n ∷ []) (λ n. n < 256) (b ∷ more) (b, more) y is (record { is = refl; kept = all 0; clean = λ i. all (suc i) })
+
 -- ---- what is spelled is read
 
 pub byte_read : (b : ℕ) (rest : List ℕ) → byte_at (b ∷ rest) ≡ Ok (b, rest)

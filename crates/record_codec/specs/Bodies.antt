@@ -50,6 +50,8 @@ kind_fields (kinds.StoreUnsure m f) = 9 ∷ to_be_bytes w64 m ++ to_be_bytes w64
 kind_fields kinds.SourceGone = 10 ∷ []
 kind_fields kinds.GoneAfterLoss = 11 ∷ []
 kind_fields (kinds.Ambiguous u v) = 12 ∷ to_be_bytes w32 u ++ to_be_bytes w32 v
+kind_fields (kinds.ValidityChanged o n) = 13 ∷ to_be_bytes w32 o ++ to_be_bytes w32 n
+kind_fields (kinds.ResetAfterLoss o n) = 14 ∷ to_be_bytes w32 o ++ to_be_bytes w32 n
 
 -- how an action ended: `D` and the place, or `C` and the kind
 abbrev pub outcome_fields : Outcome → List ℕ
@@ -79,3 +81,6 @@ body_of (events.Accept id action) = 65 ∷ to_be_bytes w32 id ++ action_fields a
 body_of (events.Intend id intent) = 73 ∷ to_be_bytes w32 id ++ intent_fields intent
 body_of (events.Settle id outcome) = 83 ∷ to_be_bytes w32 id ++ outcome_fields outcome
 body_of (events.Learn name delta) = 76 ∷ counted name ++ delta_fields delta
+body_of (events.Old id action outcome) = 79 ∷ to_be_bytes w32 id ++ (action_fields action ++ outcome_fields outcome)
+body_of (events.Reset name kept told) = 82 ∷ counted name ++ (to_be_bytes w32 kept ++ to_be_bytes w32 told)
+body_of (events.Withdraw id tries) = 87 ∷ to_be_bytes w32 id ++ (tries ∷ [])

@@ -6,3 +6,4 @@ pub mod Giving
 pub mod Reading
 pub mod Refusing
 pub mod BothWays
+pub mod Restated

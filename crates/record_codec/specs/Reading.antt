@@ -279,6 +279,18 @@ ambiguous_at bytes = do
   v ← nonzero_at u.1
   Ok (kinds.Ambiguous u.0 v.0, v.1)
 
+unfoldable pub changed_validity_at : List ℕ → Reading Kind
+changed_validity_at bytes = do
+  o ← nonzero_at bytes
+  n ← nonzero_at o.1
+  Ok (kinds.ValidityChanged o.0 n.0, n.1)
+
+unfoldable pub reset_loss_at : List ℕ → Reading Kind
+reset_loss_at bytes = do
+  o ← nonzero_at bytes
+  n ← nonzero_at o.1
+  Ok (kinds.ResetAfterLoss o.0 n.0, n.1)
+
 -- the kind with this number, whose own numbers begin these bytes; or how many bytes there were from its number on
 abbrev pub kind_by : ℕ → ℕ → List ℕ → Reading Kind
 kind_by b left bytes =
@@ -294,6 +306,8 @@ kind_by b left bytes =
     else if b == 10 then Ok (kinds.SourceGone, bytes)
     else if b == 11 then Ok (kinds.GoneAfterLoss, bytes)
     else if b == 12 then ambiguous_at bytes
+    else if b == 13 then changed_validity_at bytes
+    else if b == 14 then reset_loss_at bytes
     else Err left
 
 unfoldable pub kind_at : List ℕ → Reading Kind
@@ -418,6 +432,9 @@ pub data Plain : Type 0 where
   Intend : ℕ → Intent → Plain
   Settle : ℕ → Outcome → Plain
   Learn : List ℕ → Told → Plain
+  Old : ℕ → Action → Outcome → Plain
+  Reset : List ℕ → ℕ → ℕ → Plain
+  Withdraw : ℕ → ℕ → Plain
 
 abbrev pub told_of : Delta → Told
 told_of delta = record {
@@ -436,6 +453,9 @@ plain (events.Accept id action) = Accept id action
 plain (events.Intend id intent) = Intend id intent
 plain (events.Settle id outcome) = Settle id outcome
 plain (events.Learn name delta) = Learn name (told_of delta)
+plain (events.Old id action outcome) = Old id action outcome
+plain (events.Reset name kept told) = Reset name kept told
+plain (events.Withdraw id tries) = Withdraw id tries
 
 unfoldable pub begin_at : List ℕ → Reading Plain
 begin_at bytes = do
@@ -466,6 +486,26 @@ learn_at bytes = do
   told ← told_at name.1
   Ok (Learn name.0 told.0, told.1)
 
+unfoldable pub old_at : List ℕ → Reading Plain
+old_at bytes = do
+  id ← nonzero_at bytes
+  action ← action_at id.1
+  outcome ← outcome_at action.1
+  Ok (Old id.0 action.0 outcome.0, outcome.1)
+
+unfoldable pub reset_at : List ℕ → Reading Plain
+reset_at bytes = do
+  name ← name_at bytes
+  kept ← nonzero_at name.1
+  told ← nonzero_at kept.1
+  Ok (Reset name.0 kept.0 told.0, told.1)
+
+unfoldable pub withdraw_at : List ℕ → Reading Plain
+withdraw_at bytes = do
+  id ← nonzero_at bytes
+  tries ← byte_at id.1
+  Ok (Withdraw id.0 tries.0, tries.1)
+
 -- the event that the bytes begin with
 unfoldable pub plain_at : List ℕ → Reading Plain
 plain_at bytes = do
@@ -475,6 +515,9 @@ plain_at bytes = do
       else if letter.0 == 73 then intend_at letter.1
       else if letter.0 == 83 then settle_at letter.1
       else if letter.0 == 76 then learn_at letter.1
+      else if letter.0 == 79 then old_at letter.1
+      else if letter.0 == 82 then reset_at letter.1
+      else if letter.0 == 87 then withdraw_at letter.1
       else Err (length bytes)
 
 -- the place of a field in front of which so many bytes of a body are; no field stands behind 2^30 bytes, the most that a body has

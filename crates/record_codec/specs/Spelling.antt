@@ -67,6 +67,8 @@ IsKeptKind (kinds.StoreUnsure m f) = IsModSeq m × IsModSeq f
 IsKeptKind kinds.SourceGone = ⊤
 IsKeptKind kinds.GoneAfterLoss = ⊤
 IsKeptKind (kinds.Ambiguous u v) = IsNumber u × IsNumber v
+IsKeptKind (kinds.ValidityChanged o n) = IsNumber o × IsNumber n
+IsKeptKind (kinds.ResetAfterLoss o n) = IsNumber o × IsNumber n
 
 -- an outcome as its type keeps it
 abbrev pub IsKeptOutcome : Outcome → Type 0
@@ -100,6 +102,9 @@ IsKept (events.Accept id action) = IsNumber id × IsKeptAction action
 IsKept (events.Intend id intent) = IsNumber id × IsKeptIntent intent
 IsKept (events.Settle id outcome) = IsNumber id × IsKeptOutcome outcome
 IsKept (events.Learn name delta) = IsBoxName name × IsKeptDelta delta
+IsKept (events.Old id action outcome) = IsNumber id × IsKeptAction action × IsKeptOutcome outcome
+IsKept (events.Reset name kept told) = IsBoxName name × IsNumber kept × IsNumber told
+IsKept (events.Withdraw id tries) = IsNumber id × (tries < 256)
 
 -- the bytes are the body of the event's record
 pub record Spelled (body : List ℕ) (event : Event) : Type 0 where

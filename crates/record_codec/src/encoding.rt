@@ -70,6 +70,28 @@ fn put_body(out: &mut Vec<u8>, event: &Event) -> Result<(), AllocError>
             put_name(out, name)?;
             put_delta(out, delta)
         }
+        Event::Old {
+            id,
+            action,
+            outcome,
+        } => {
+            out.push(b'O')?;
+            put_u32(out, id.number())?;
+            put_action(out, action)?;
+            out.extend_from_slice(&outcome_bytes(outcome))
+        }
+        Event::Reset { name, kept, told } => {
+            out.push(b'R')?;
+            put_name(out, name)?;
+            put_u32(out, kept.number())?;
+            put_u32(out, told.number())
+        }
+        Event::Withdraw { id, tries } => {
+            out.push(b'W')?;
+            put_u32(out, id.number())?;
+            out.push(*tries)?;
+            Ok(())
+        }
     }
 }
 

@@ -1,4 +1,5 @@
-//! How an action ended, as bytes. They take no memory, so that what was done can be recorded whatever memory is left.
+//! How an action ended, and that its command was taken back, as bytes. They take no memory, so that what was done can be recorded
+//! whatever memory is left.
 
 ghost use Rattle.std.specs.Prelude.{◌≡◌, ◌≤◌, ◌∷◌, ◌++◌, [], length};
 ghost use Rattle.std.specs.Int.{w32, w64, to_be_bytes};
@@ -26,6 +27,23 @@ pub fn encode_outcome(id: ActionId, outcome: &Outcome) -> ArrayVec<u8, 64>
     let _ = frame.try_push(b'S');
     let _ = frame.try_extend_from_slice(&id.number().to_be_bytes());
     let _ = frame.try_extend_from_slice(&fields);
+    let _ = frame.try_push(CLOSED);
+    frame
+}
+
+/// The frame of the record that a command of an action was taken back, behind this many that were: the body behind its length,
+/// and the next gate, closed. It takes no memory.
+pub fn encode_withdraw(id: ActionId, tries: u8) -> ArrayVec<u8, 64>
+    ensures frame { result.items ≡ frame_of (body_of (events.Withdraw id tries)) }
+    ensures body { IsBody (body_of (events.Withdraw id tries)) }
+    ensures most { length result.items ≤ 11 }
+    ensures spelled { Spelled (body_of (events.Withdraw id tries)) (events.Withdraw id tries) }
+{
+    let mut frame = ArrayVec::new();
+    let _ = frame.try_extend_from_slice(&6u32.to_be_bytes());
+    let _ = frame.try_push(b'W');
+    let _ = frame.try_extend_from_slice(&id.number().to_be_bytes());
+    let _ = frame.try_push(tries);
     let _ = frame.try_push(CLOSED);
     frame
 }
@@ -86,6 +104,8 @@ fn kind_bytes(kind: &Kind) -> ArrayVec<u8, 17>
         Kind::SourceGone => code(10),
         Kind::GoneAfterLoss => code(11),
         Kind::Ambiguous { u, v } => with_u32(with_u32(code(12), u.number()), v.number()),
+        Kind::ValidityChanged { o, n } => with_u32(with_u32(code(13), o.number()), n.number()),
+        Kind::ResetAfterLoss { o, n } => with_u32(with_u32(code(14), o.number()), n.number()),
     }
 }
 

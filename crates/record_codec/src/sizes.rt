@@ -24,6 +24,13 @@ pub fn size(event: &Event) -> u64
         Event::Intend { id: _id, intent } => 5 + intent_size(intent),
         Event::Settle { id: _id, outcome } => 5 + outcome_size(outcome),
         Event::Learn { name, delta } => 1 + name_size(name) + delta_size(delta),
+        Event::Old {
+            id: _id,
+            action,
+            outcome,
+        } => old_size(action, outcome),
+        Event::Reset { name, .. } => 9 + name_size(name),
+        Event::Withdraw { .. } => 6,
     }
 }
 
@@ -49,8 +56,27 @@ pub fn action_size(action: &Action) -> u64
     }
 }
 
+/// The number of bytes of the body of an action that ended, as it is told anew. It takes no memory.
+pub fn old_size(action: &Action, outcome: &Outcome) -> u64
+    requires { IsWritableAction action.now }
+    ensures value { result ≡ 5 + length (action_fields action.now) + length (outcome_fields outcome.now) }
+    ensures most { result < 2 ^ 63 + 1048599 }
+{
+    5 + action_size(action) + outcome_size(outcome)
+}
+
+/// The number of bytes of the body that tells these rows of a mailbox, where no UID vanished. It takes no memory.
+pub fn learn_size(name: &BoxName, rows: &[(Uid, Row)]) -> u64
+    requires few { length rows.now ≤ MAX_ROWS }
+    requires flags { HaveFewFlags rows.now }
+    ensures value { result ≡ 26 + length (counted name.now) + length (flat_map row_field rows.now) }
+    ensures most { result ≤ 155 + length rows.now * 262158 }
+{
+    26 + name_size(name) + rows_size(rows)
+}
+
 // What is about to be sent.
-fn intent_size(intent: &Intent) -> u64
+pub(crate) fn intent_size(intent: &Intent) -> u64
     ensures value { result ≡ length (intent_fields intent.now) }
     ensures most { result ≤ 512 }
 {
@@ -81,7 +107,7 @@ fn target_size(target: &Target) -> u64
 }
 
 // A name behind its length.
-fn name_size(name: &BoxName) -> u64
+pub(crate) fn name_size(name: &BoxName) -> u64
     ensures value { result ≡ length (counted name.now) }
     ensures most { result ≤ 129 }
 {

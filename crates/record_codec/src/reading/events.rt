@@ -1,7 +1,7 @@
 //! Reads an event.
 
 ghost use Rattle.std.specs.Prelude.{◌≡◌};
-ghost use Rattle.record_codec.specs.Reading.{plain, begin_at, accept_at, intend_at, settle_at, learn_at, plain_at};
+ghost use Rattle.record_codec.specs.Reading.{plain, begin_at, accept_at, intend_at, settle_at, learn_at, old_at, reset_at, withdraw_at, plain_at};
 ghost use Rattle.record_codec.specs.Giving.{Gives};
 
 use super::Fields;
@@ -31,6 +31,15 @@ impl Fields<'_> {
         }
         if letter == b'L' {
             return self.learn(alloc);
+        }
+        if letter == b'O' {
+            return self.ended(alloc);
+        }
+        if letter == b'R' {
+            return self.reset();
+        }
+        if letter == b'W' {
+            return self.withdraw();
         }
         Err(Misfit::Left(left))
     }
@@ -82,5 +91,41 @@ impl Fields<'_> {
         let name = self.name()?;
         let delta = self.delta(alloc)?;
         Ok(Event::Learn { name, delta })
+    }
+
+    // An action that has ended, with how it did.
+    #[tactic(auto, unfolding(crate::specs::Reading::old_at))]
+    fn ended(&mut self, alloc: Global) -> Result<Event, Misfit>
+        ensures { Gives plain result self.new.rest.now (old_at self.old.rest.now) }
+    {
+        let id = self.id()?;
+        let action = self.action(alloc)?;
+        let outcome = self.outcome()?;
+        Ok(Event::Old {
+            id,
+            action,
+            outcome,
+        })
+    }
+
+    // A mailbox whose UIDVALIDITY rose.
+    #[tactic(auto, unfolding(crate::specs::Reading::reset_at))]
+    fn reset(&mut self) -> Result<Event, Misfit>
+        ensures { Gives plain result self.new.rest.now (reset_at self.old.rest.now) }
+    {
+        let name = self.name()?;
+        let kept = self.validity()?;
+        let told = self.validity()?;
+        Ok(Event::Reset { name, kept, told })
+    }
+
+    // A command that was taken back.
+    #[tactic(auto, unfolding(crate::specs::Reading::withdraw_at))]
+    fn withdraw(&mut self) -> Result<Event, Misfit>
+        ensures { Gives plain result self.new.rest.now (withdraw_at self.old.rest.now) }
+    {
+        let id = self.id()?;
+        let tries = self.byte()?;
+        Ok(Event::Withdraw { id, tries })
     }
 }

@@ -1,7 +1,7 @@
 //! Reads how an action ended.
 
 ghost use Rattle.std.specs.Prelude.{◌≡◌};
-ghost use Rattle.record_codec.specs.Reading.{landed_at, place_at, changed_at, unknown_at, unsure_at, ambiguous_at, kind_by, kind_at, done_at, conflict_at, outcome_at};
+ghost use Rattle.record_codec.specs.Reading.{landed_at, place_at, changed_at, unknown_at, unsure_at, ambiguous_at, changed_validity_at, reset_loss_at, kind_by, kind_at, done_at, conflict_at, outcome_at};
 ghost use Rattle.record_codec.specs.Giving.{Gives};
 
 use super::Fields;
@@ -96,6 +96,8 @@ impl Fields<'_> {
             10 => Ok(Kind::SourceGone),
             11 => Ok(Kind::GoneAfterLoss),
             12 => self.ambiguous(),
+            13 => self.changed_validity(),
+            14 => self.reset_loss(),
             _ => Err(Misfit::Left(left)),
         }
     }
@@ -136,5 +138,25 @@ impl Fields<'_> {
         let u = self.uid()?;
         let v = self.uid()?;
         Ok(Kind::Ambiguous { u, v })
+    }
+
+    // The UIDVALIDITY of a message, and the greater one of its mailbox.
+    #[tactic(auto, unfolding(crate::specs::Reading::changed_validity_at))]
+    fn changed_validity(&mut self) -> Result<Kind, Misfit>
+        ensures { Gives (λ x. x) result self.new.rest.now (changed_validity_at self.old.rest.now) }
+    {
+        let o = self.validity()?;
+        let n = self.validity()?;
+        Ok(Kind::ValidityChanged { o, n })
+    }
+
+    // The UIDVALIDITY of an intent, and the greater one of its mailbox.
+    #[tactic(auto, unfolding(crate::specs::Reading::reset_loss_at))]
+    fn reset_loss(&mut self) -> Result<Kind, Misfit>
+        ensures { Gives (λ x. x) result self.new.rest.now (reset_loss_at self.old.rest.now) }
+    {
+        let o = self.validity()?;
+        let n = self.validity()?;
+        Ok(Kind::ResetAfterLoss { o, n })
     }
 }
