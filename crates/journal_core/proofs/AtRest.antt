@@ -1,5 +1,5 @@
 -- What the calls of a journal leave has one side at rest, and so has each moment on the way.
-use Rattle.std.proofs.Common.{◌≡◌, ◌⊎◌, inl, inr, ⊎_elim, ℕ, List, refl, sym, ◌∙◌, ap, subst, Result, Ok, Err}
+use Rattle.std.proofs.Common.{◌≡◌, ◌⊎◌, inl, ⊎_elim, ℕ, List, refl, sym, ◌∙◌, ap, subst, Result}
 use Rattle.world_traits.specs.Files.{Files, Stored, other}
 use Rattle.world_traits.specs.Moments.{Moment, Clock, Rests, OneSideAtRest, stored}
 use Rattle.world_traits.specs.Calls.{Looked, Wrote, Synced}

@@ -21,7 +21,7 @@ module _ (pre : List ℕ) (place : ℕ) (at : place ≡ length pre) where
   front_long : (gate : ℕ) → length (pre ++ gate ∷ []) ≡ place + 1
   front_long gate = omega (arith, at, length-append pre (gate ∷ []))
 
-  to_gate : (gate : ℕ) (rest : List ℕ) → take (place + 1) (pre ++ gate ∷ rest) ≡ pre ++ gate ∷ []
+  pub to_gate : (gate : ℕ) (rest : List ℕ) → take (place + 1) (pre ++ gate ∷ rest) ≡ pre ++ gate ∷ []
   to_gate gate rest = ap (take (place + 1)) (split gate rest) ∙ take_at (pre ++ gate ∷ []) rest (place + 1) (front_long gate)
 
   behind_gate : (gate : ℕ) (rest : List ℕ) → drop (place + 1) (pre ++ gate ∷ rest) ≡ rest
@@ -35,7 +35,7 @@ module _ (pre : List ℕ) (place : ℕ) (at : place ≡ length pre) where
       let front : take (place + 1) bytes ≡ pre ++ gate ∷ [] = image_front (place + 1) _ bytes h (omega arith, tt) le ∙ to_gate gate rest in
       sym (take-append-drop (place + 1) bytes) ∙ ap (λ (l : List ℕ). l ++ drop (place + 1) bytes) front ∙ append_assoc pre (gate ∷ []) (drop (place + 1) bytes)
 
-  no_gap : (n : ℕ) (bytes : List ℕ) → n ≤ length bytes → replicate {A = ℕ} (n - length bytes) 0 ≡ []
+  pub no_gap : (n : ℕ) (bytes : List ℕ) → n ≤ length bytes → replicate {A = ℕ} (n - length bytes) 0 ≡ []
   no_gap n bytes le = let e : n - length bytes ≡ 0 = omega arith in ap (λ (k : ℕ). replicate {A = ℕ} k 0) e
 
   pub put_behind : (gate : ℕ) (rest fresh : List ℕ) → put (place + 1) fresh (pre ++ gate ∷ rest)

@@ -8,16 +8,12 @@ use Rattle.world_traits.specs.Moments.{Moment, Rests}
 use Rattle.world_traits.specs.declared.disk.Side.{Side}
 use Rattle.world_traits.specs.declared.disk.Side.TheVariants.{Left, Right}
 use Rattle.journal_core.specs.declared.version.Version.{Version}
-use Rattle.journal_core.specs.declared.version.Version.TheVariants.{First}
 use Rattle.journal_core.specs.Sides.{head_of, IsBegun, IsSetUp, HasWrongHeader}
 use Rattle.journal_core.specs.Holds.{IsPresent}
 use Rattle.journal_core.specs.Standing.{Standing, IsStill}
 use Rattle.journal_core.specs.Reading.{IsAtFirst, at_first}
-use Rattle.journal_core.proofs.HeadBytes.{set_up_long}
+use Rattle.journal_core.proofs.HeadBytes.{generation_bytes, set_up_long}
 use Rattle.journal_core.proofs.Presence.{head_long}
-
-generation_bytes : (v : Version) (g : ℕ) (bytes : List ℕ) → IsSetUp v g bytes → take 4 (drop 9 bytes) ≡ to_be_bytes w32 g
-generation_bytes First g bytes s = ap (λ (l : List ℕ). take 4 (drop 9 l)) s.is
 
 -- a side has one generation
 pub one_generation : (v w : Version) (g h : ℕ) (bytes : List ℕ) → IsSetUp v g bytes → IsSetUp w h bytes → g ≡ h
@@ -27,9 +23,9 @@ one_generation v w g h bytes s t =
     ∙ from_be_bytes-to_be_bytes_4 h t.number.fits
 
 pub open_head : (v : Version) (g : ℕ) (bytes : List ℕ) → IsSetUp v g bytes → IsBegun bytes
-open_head First g bytes s = record { long = set_up_long First g bytes s; open_gate = ap (λ (l : List ℕ). slice_index l 0) s.is }
+open_head v g bytes s = record { long = set_up_long v g bytes s; open_gate = ap (λ (l : List ℕ). slice_index l 0) s.is }
 
-right_both : (side any : Side) (files : Files) → (HasWrongHeader (file_of side files) → ⊥) →
+pub right_both : (side any : Side) (files : Files) → (HasWrongHeader (file_of side files) → ⊥) →
     (HasWrongHeader (file_of (other side) files) → ⊥) → HasWrongHeader (file_of any files) → ⊥
 right_both Left Left files here there w = here w
 right_both Left Right files here there w = there w

@@ -6,35 +6,45 @@ use Rattle.std.proofs.lemmas.List.{append-nil, take_more}
 use Rattle.world_traits.specs.Files.{Files}
 use Rattle.world_traits.specs.Moments.{Clock, Images, Within, GoesOn, Narrows, Rests}
 use Rattle.world_traits.specs.declared.disk.Side.TheVariants.{Left, Right}
+use Rattle.world_traits.proofs.OneSide.{one_left}
 use Rattle.world_traits.proofs.Passing.{since_start, since_then, since_weaker}
-use Rattle.journal_core.specs.declared.version.Version.TheVariants.{First}
 use Rattle.mail_base.specs.Bodies.{IsBody}
 use Rattle.journal_core.specs.Records.{AreBodies, open_record, records}
-use Rattle.journal_core.specs.Sides.{head_of, IsBegun, IsGeneration}
+use Rattle.journal_core.specs.Sides.{head_of, version_written, IsBegun, IsGeneration}
 use Rattle.journal_core.specs.Holds.{Holds, IsPresent}
 use Rattle.journal_core.specs.Standing.{Standing, IsStill}
 use Rattle.journal_core.specs.Gates.{IsShut, Beside, Passes}
 use Rattle.journal_core.specs.Appending.{told_end}
-use Rattle.journal_core.specs.Settling.{Settles}
-use Rattle.journal_core.specs.Creating.{AsBefore, SetsUp, NoneEmpty, IsUnbegun, CreatesThrough, CreatesBehind, created, end_of}
+use Rattle.journal_core.specs.OneSide.{IsAside}
+use Rattle.journal_core.specs.Settling.{Settles, Syncs}
+use Rattle.journal_core.specs.Creating.{AsBefore, SetsUp, NoneEmpty, IsUnbegun, CreatesThrough, CreatesBehind, CreatesJournal, created, end_of}
 use Rattle.journal_core.proofs.Aside.{passes_as}
-use Rattle.journal_core.proofs.Choice.{open_head, alone}
+use Rattle.journal_core.proofs.AtRest.{each_then, rests_side}
+use Rattle.journal_core.proofs.Choice.{alone}
 use Rattle.journal_core.proofs.Lists.{records-push}
 use Rattle.journal_core.proofs.Presence.{head_long, set_up_shut, from_behind}
 
-pub narrows_creates : (bodies : List (List ℕ)) (old new : Clock) → Narrows old new → CreatesThrough bodies old new
+narrows_creates : (bodies : List (List ℕ)) (old new : Clock) → Narrows old new → CreatesThrough bodies old new
 narrows_creates bodies old new n =
-    since_weaker (Within old.now) (λ m. Within old.now m ⊎ Images (λ files. IsUnbegun files ⊎ Holds First bodies files) m) Within
-    (λ m n. Within m n ⊎ GoesOn IsUnbegun (Holds First bodies) m n)
+    since_weaker (Within old.now) (λ m. Within old.now m ⊎ Images (λ files. IsUnbegun files ⊎ Holds version_written bodies files) m) Within
+    (λ m n. Within m n ⊎ GoesOn IsUnbegun (Holds version_written bodies) m n)
     (λ m w. inl w) (λ m n s. inl s) old new n
 
 -- where nothing was written
-pub settles_creates : (bodies : List (List ℕ)) (old new : Clock) (seen : Files) → Settles old new seen → Narrows old new → CreatesBehind bodies old new seen
+settles_creates : (bodies : List (List ℕ)) (old new : Clock) (seen : Files) → Settles old new seen → Narrows old new → CreatesBehind bodies old new seen
 settles_creates bodies old new seen settles narrows = record {
   at = new;
   settles = settles;
   narrows = narrows;
-  passes = since_start (Images (λ files. IsUnbegun files ⊎ Holds First bodies files)) (GoesOn IsUnbegun (Holds First bodies)) new;
+  passes = since_start (Images (λ files. IsUnbegun files ⊎ Holds version_written bodies files)) (GoesOn IsUnbegun (Holds version_written bodies)) new;
+}
+
+pub syncs_creates : (bodies : List (List ℕ)) (old new : Clock) (seen : Files) → Syncs old new seen → CreatesJournal bodies old new seen
+syncs_creates bodies old new seen syncs = record {
+  told = narrows_creates bodies old new syncs.told;
+  exact = λ one. settles_creates bodies old new seen (syncs.exact one) syncs.told;
+  one_side = syncs.one_side;
+  each_one_side = syncs.each_one_side;
 }
 
 one_generation_is : IsGeneration 1
@@ -47,48 +57,57 @@ free_beside f1 none files b Left o =
 free_beside f1 none files b Right o = none Right (subst IsBegun b.there o)
 
 present_beside : (f1 : Files) → IsUnbegun f1 → (bodies : List (List ℕ)) (files : Files) →
-    Beside Left f1.right (IsShut (head_of First 1 ++ records bodies)) files → IsPresent Left First 1 files
+    Beside Left f1.right (IsShut (head_of version_written 1 ++ records bodies)) files → IsPresent Left version_written 1 files
 present_beside f1 none bodies files b =
-    alone Left First 1 files (set_up_shut First 1 bodies files.left b.here.gate b.here.rest one_generation_is b.here.is)
+    alone Left version_written 1 files (set_up_shut version_written 1 bodies files.left b.here.gate b.here.rest one_generation_is b.here.is)
     (λ (o : IsBegun files.right). none Right (subst IsBegun b.there o))
 
 holds_beside : (f1 : Files) → IsUnbegun f1 → (bodies : List (List ℕ)) → AreBodies bodies → (files : Files) →
-    Beside Left f1.right (IsShut (head_of First 1 ++ records bodies)) files → Holds First bodies files
+    Beside Left f1.right (IsShut (head_of version_written 1 ++ records bodies)) files → Holds version_written bodies files
 holds_beside f1 none bodies sizes files b = record {
   side = Left;
   generation = 1;
   present = present_beside f1 none bodies files b;
-  records = from_behind First 1 bodies files.left sizes b.here;
+  records = from_behind version_written 1 bodies files.left sizes b.here;
 }
 
-module _ (bodies : List (List ℕ)) (sizes : AreBodies bodies) (k0 k1 k2 : Clock) (f0 f1 f2 : Files) (narrow : Narrows k0 k1)
+module _ (bodies : List (List ℕ)) (sizes : AreBodies bodies) (k0 k1 k2 : Clock) (f0 f1 f2 : Files) (syncs : Syncs k0 k1 f0)
     (rests : Rests k1.now f1) (same : f1 ≡ f0) (unbegun : IsUnbegun f0) {T E : Type 0} (r : Result T E)
-    (s : SetsUp Left First 1 bodies k1 k2 f1 f2 r) where
+    (s : SetsUp Left version_written 1 bodies k1 k2 f1 f2 r) where
   none_now : IsUnbegun f1
   none_now = subst IsUnbegun (sym same) unbegun
 
-  sets_passes : Passes IsUnbegun (Holds First bodies) k1 k2
+  sets_passes : Passes IsUnbegun (Holds version_written bodies) k1 k2
   sets_passes = passes_as _ _ _ _ (free_beside f1 none_now) (holds_beside f1 none_now bodies sizes) k1 k2 (s.passing rests)
 
-  pub sets_creates : CreatesThrough bodies k0 k2
+  sets_creates : CreatesThrough bodies k0 k2
   sets_creates =
-      since_then _ _ k0 k1 k2 (narrows_creates bodies k0 k1 narrow)
-      (since_weaker (Images (λ files. IsUnbegun files ⊎ Holds First bodies files))
-      (λ m. Within k0.now m ⊎ Images (λ files. IsUnbegun files ⊎ Holds First bodies files) m) (GoesOn IsUnbegun (Holds First bodies))
-      (λ m n. Within m n ⊎ GoesOn IsUnbegun (Holds First bodies) m n)
+      since_then _ _ k0 k1 k2 (narrows_creates bodies k0 k1 syncs.told)
+      (since_weaker (Images (λ files. IsUnbegun files ⊎ Holds version_written bodies files))
+      (λ m. Within k0.now m ⊎ Images (λ files. IsUnbegun files ⊎ Holds version_written bodies files) m) (GoesOn IsUnbegun (Holds version_written bodies))
+      (λ m n. Within m n ⊎ GoesOn IsUnbegun (Holds version_written bodies) m n)
       (λ m i. inr i) (λ m n g. inr g) k1 k2 sets_passes)
 
-  pub sets_behind : (seen : Files) → Settles k0 k1 seen → CreatesBehind bodies k0 k2 seen
-  sets_behind seen settles = record { at = k1; settles = settles; narrows = narrow; passes = sets_passes }
+  sets_behind : (seen : Files) → Settles k0 k1 seen → CreatesBehind bodies k0 k2 seen
+  sets_behind seen settles = record { at = k1; settles = settles; narrows = syncs.told; passes = sets_passes }
+
+  -- syncs, and then the first side is set up
+  pub creates_set_up : IsAside Left k1 k2 → CreatesJournal bodies k0 k2 f0
+  creates_set_up aside = record {
+    told = sets_creates;
+    exact = λ one. sets_behind f0 (syncs.exact one);
+    one_side = λ one. one_left Left k1.now k2.now f1 rests aside.beside;
+    each_one_side = λ one. each_then k0 k1 k2 (syncs.each_one_side one) (aside.each (rests_side Right k1.now f1 rests));
+  }
 
 -- the journal behind its first bodies
 module _ (bodies : List (List ℕ)) (sizes : AreBodies bodies) (k1 k2 : Clock) (f0 f1 f2 : Files) (rests : Rests k1.now f1) (same : f1 ≡ f0)
-    (unbegun : IsUnbegun f0) {T E : Type 0} (r : Result T E) (x : T) (ok : r ≡ Ok x) (s : SetsUp Left First 1 bodies k1 k2 f1 f2 r) where
+    (unbegun : IsUnbegun f0) {T E : Type 0} (r : Result T E) (x : T) (ok : r ≡ Ok x) (s : SetsUp Left version_written 1 bodies k1 k2 f1 f2 r) where
   rests_there : Rests k2.now f2
   rests_there = subst (λ (q : Result T E). OnOk q (Rests k2.now f2)) ok (s.rests rests)
 
-  held_there : Beside Left f1.right (IsShut (head_of First 1 ++ records bodies)) f2
-  held_there = subst (λ (q : Result T E). OnOk q (Beside Left f1.right (IsShut (head_of First 1 ++ records bodies)) f2)) ok (s.done rests)
+  held_there : Beside Left f1.right (IsShut (head_of version_written 1 ++ records bodies)) f2
+  held_there = subst (λ (q : Result T E). OnOk q (Beside Left f1.right (IsShut (head_of version_written 1 ++ records bodies)) f2)) ok (s.done rests)
 
   pub still_created : (journal : Standing) → journal ≡ created bodies → IsStill journal bodies k2.now f2
   still_created journal is = subst (λ (j : Standing). IsStill j bodies k2.now f2) (sym is) (record {
@@ -98,7 +117,7 @@ module _ (bodies : List (List ℕ)) (sizes : AreBodies bodies) (k1 k2 : Clock) (
     gate = held_there.here.gate;
     rest = held_there.here.rest;
     is = held_there.here.is;
-    next = sym (length-append (head_of First 1) (records bodies) ∙ ap (λ (n : ℕ). n + length (records bodies)) (head_long First 1));
+    next = sym (length-append (head_of version_written 1) (records bodies) ∙ ap (λ (n : ℕ). n + length (records bodies)) (head_long version_written 1));
     closed = λ t. held_there.here.closed;
   })
 
@@ -126,10 +145,10 @@ records_take bodies i x lt is =
 
 -- the created journal at this place
 abbrev pub created_at : ℕ → Standing
-created_at n = record { side = Left; version = First; generation = 1; place = n; all_read = true; failed = false }
+created_at n = record { side = Left; version = version_written; generation = 1; place = n; all_read = true; failed = false }
 
 module _ (bodies : List (List ℕ)) (i : ℕ) (x y : List ℕ) (lt : i < length bodies) (is : x ≡ get_or bodies i x) (given : y ≡ x) where
-  more : records (take (i + 1) bodies) ≡ records (take i bodies) ++ open_record y
+  pub more : records (take (i + 1) bodies) ≡ records (take i bodies) ++ open_record y
   more = records_take bodies i x lt is ∙ ap (λ (b : List ℕ). records (take i bodies) ++ open_record b) (sym given)
 
   pub place_more : (place mid new : ℕ) → place ≡ told_end (end_of (take i bodies)) → mid ≡ min (place + 5) 18446744073709551615 →

@@ -47,7 +47,7 @@ module _ (side : Side) (others front fresh : List ℕ) (place : ℕ) (next : pla
   New = Beside side others (IsOpened front fresh)
 
   -- the images of a side whose file is clean, is written behind the gate, or at it
-  shut_clean : (gate : ℕ) (rest : List ℕ) → gate ≢ 1 → (m : Moment) → stored (other side) m ≡ clean others →
+  pub shut_clean : (gate : ℕ) (rest : List ℕ) → gate ≢ 1 → (m : Moment) → stored (other side) m ≡ clean others →
       stored side m ≡ clean (front ++ gate ∷ rest) → Only Old m
   shut_clean gate rest closed m there is = only_beside side others m there (IsShut front) (clean (front ++ gate ∷ rest)) (front ++ gate ∷ rest) is
       (λ b h. record { gate = gate; rest = rest; closed = closed; is = image_clean (front ++ gate ∷ rest) b h })
@@ -60,7 +60,7 @@ module _ (side : Side) (others front fresh : List ℕ) (place : ℕ) (next : pla
       (λ b h. record { gate = gate; rest = drop (place + 1) b; closed = closed; is = behind_image front place next size gate rest b h })
       (image_self (touch (place + 1) size (clean (front ++ gate ∷ rest))) (omega arith))
 
-  at_gate : (gate : ℕ) (tail : List ℕ) → gate ≢ 1 → (m : Moment) → stored (other side) m ≡ clean others →
+  pub at_gate : (gate : ℕ) (tail : List ℕ) → gate ≢ 1 → (m : Moment) → stored (other side) m ≡ clean others →
       stored side m ≡ touch place 1 (clean (front ++ gate ∷ (fresh ++ tail))) → Both Old New m
   at_gate gate tail closed m there is =
       let X = front ++ gate ∷ (fresh ++ tail) in
@@ -75,7 +75,7 @@ module _ (side : Side) (others front fresh : List ℕ) (place : ℕ) (next : pla
       self (record { gate = gate; rest = fresh ++ tail; closed = closed; is = refl })
       open_there (record { rest = tail; is = refl })
 
-  opened_clean : (tail : List ℕ) (m : Moment) → stored (other side) m ≡ clean others → stored side m ≡ clean (front ++ 1 ∷ (fresh ++ tail)) → Only New m
+  pub opened_clean : (tail : List ℕ) (m : Moment) → stored (other side) m ≡ clean others → stored side m ≡ clean (front ++ 1 ∷ (fresh ++ tail)) → Only New m
   opened_clean tail m there is = only_beside side others m there (IsOpened front fresh) (clean (front ++ 1 ∷ (fresh ++ tail))) (front ++ 1 ∷ (fresh ++ tail)) is
       (λ b h. record { rest = tail; is = image_clean (front ++ 1 ∷ (fresh ++ tail)) b h })
       (holds_clean (front ++ 1 ∷ (fresh ++ tail)))

@@ -1,22 +1,20 @@
 -- The head of a side, byte by byte.
-use Rattle.std.proofs.Common.{◌≡◌, ℕ, zero, suc, ◌-◌, ◌≤◌, ◌<◌, ◌^◌, min, List, [], ◌∷◌, ◌++◌, length, get_or, take, drop, codes, eqb}
-use Rattle.std.proofs.Common.{not, Bool, true, false, refl, sym, ◌∙◌, ap, subst, arith, append_assoc, length-take, take-append-drop}
+use Rattle.std.proofs.Common.{◌≡◌, ℕ, zero, suc, ◌-◌, ◌≤◌, ◌<◌, ◌^◌, min, List, [], ◌∷◌, ◌++◌, length, get_or, take, drop}
+use Rattle.std.proofs.Common.{refl, sym, ◌∙◌, ap, subst, arith, append_assoc, length-take, take-append-drop}
 use Rattle.std.proofs.Common.{get_or-take}
-use Rattle.std.specs.Int.{w32, from_be_bytes}
-use Rattle.std.proofs.lemmas.Nat.{be_bytes_4}
+use Rattle.std.specs.Int.{w32, from_be_bytes, to_be_bytes}
+use Rattle.std.proofs.lemmas.Nat.{be_bytes_4, from_be_bytes-to_be_bytes_4}
 use Rattle.std.proofs.lemmas.List.{drop_more, drop-drop}
-use Rattle.std.proofs.lemmas.Slice.Eq.{bytes_eq-Decides}
-use Rattle.std.specs.Cmp.Lexicographic.{pointwise}
 use Rattle.journal_core.specs.declared.version.Version.{Version}
-use Rattle.journal_core.specs.declared.version.Version.TheVariants.{First}
+use Rattle.journal_core.specs.declared.version.Version.TheVariants.{First, Second}
 use Rattle.journal_core.specs.declared.heads.Head.{Head}
 use Rattle.journal_core.specs.declared.heads.Head.TheVariants.{Closed, Wrong, SetUp}
-use Rattle.journal_core.specs.Sides.{head_of, IsSetUp, IsBegun}
+use Rattle.journal_core.specs.Sides.{head_of, magic_of, IsSetUp, IsBegun, HasWrongHeader}
 use Rattle.journal_core.specs.Heads.{HeadIs}
 
-not_false : (b : Bool) → not b ≡ false → b ≡ true
-not_false true is = refl
-not_false false is = sym is
+pub generation_bytes : (v : Version) (g : ℕ) (bytes : List ℕ) → IsSetUp v g bytes → take 4 (drop 9 bytes) ≡ to_be_bytes w32 g
+generation_bytes First g bytes s = ap (λ (l : List ℕ). take 4 (drop 9 l)) s.is
+generation_bytes Second g bytes s = ap (λ (l : List ℕ). take 4 (drop 9 l)) s.is
 
 module _ (bytes : List ℕ) (long : 14 ≤ length bytes) where
   split : bytes ≡ get_or bytes 0 0 ∷ drop 1 bytes
@@ -38,34 +36,64 @@ module _ (bytes : List ℕ) (long : 14 ≤ length bytes) where
   four_small small (suc (suc (suc zero))) = small 12
   four_small small (suc (suc (suc (suc i)))) = omega arith
 
-  -- two bytes lists that `!=` found the same
-  same_word : (r : Bool) (word : List ℕ) → r ≡ not (pointwise eqb (take 8 (drop 1 bytes)) word) → r ≡ false → take 8 (drop 1 bytes) ≡ word
-  same_word r word is same = (bytes_eq-Decides (take 8 (drop 1 bytes)) word).0 (not_false (pointwise eqb (take 8 (drop 1 bytes)) word) (sym is ∙ same))
+  -- a generation that is 0
+  pub no_generation : get_or bytes 0 0 ≡ 1 → (n : ℕ) → n ≡ from_be_bytes w32
+      (get_or bytes 9 0 ∷ get_or bytes 10 0 ∷ get_or bytes 11 0 ∷ get_or bytes 12 0 ∷ []) → n ≡ 0 → HasWrongHeader bytes
+  no_generation open_gate n is none = record {
+    begun = record { long = long; open_gate = open_gate };
+    wrong = λ v g s.
+        let told : g ≡ n = sym (from_be_bytes-to_be_bytes_4 g s.number.fits)
+        ∙ ap (from_be_bytes w32) (sym (generation_bytes v g bytes s) ∙ ap (take 4) behind_magic) ∙ sym is in
+        omega (arith, s.number.some, told, none);
+  }
 
   -- the magic word and a generation behind an open gate
-  pub set_up_read : get_or bytes 0 0 ≡ 1 → (r : Bool) → r ≡ not (pointwise eqb (take 8 (drop 1 bytes)) (codes "ODMAILJ1")) → r ≡ false →
+  pub set_up_read : get_or bytes 0 0 ≡ 1 → (v : Version) → take 8 (drop 1 bytes) ≡ magic_of v →
       ((i : ℕ) → get_or bytes i 0 < 256) → (n : ℕ) → n ≡ from_be_bytes w32
-      (get_or bytes 9 0 ∷ get_or bytes 10 0 ∷ get_or bytes 11 0 ∷ get_or bytes 12 0 ∷ []) → 0 < n → n < 2 ^ 32 → IsSetUp First n bytes
-  set_up_read open_gate r word same small n is some fits = record {
+      (get_or bytes 9 0 ∷ get_or bytes 10 0 ∷ get_or bytes 11 0 ∷ get_or bytes 12 0 ∷ []) → 0 < n → n < 2 ^ 32 → IsSetUp v n bytes
+  set_up_read open_gate v word small n is some fits = record {
     number = record { some = some; fits = fits };
     gate = get_or bytes 13 0;
     rest = drop 14 bytes;
     is = split
         ∙ ap (λ (x : ℕ). x ∷ drop 1 bytes) open_gate
         ∙ ap (λ (l : List ℕ). 1 ∷ l) (sym (take-append-drop 8 (drop 1 bytes)))
-        ∙ ap (λ (l : List ℕ). 1 ∷ (l ++ drop 8 (drop 1 bytes))) (same_word r (codes "ODMAILJ1") word same)
-        ∙ ap (λ (l : List ℕ). 1 ∷ (codes "ODMAILJ1" ++ l)) (drop-drop 8 1 bytes ∙ behind_magic)
-        ∙ ap (λ (l : List ℕ). 1 ∷ (codes "ODMAILJ1" ++ (l ++ get_or bytes 13 0 ∷ drop 14 bytes)))
+        ∙ ap (λ (l : List ℕ). 1 ∷ (l ++ drop 8 (drop 1 bytes))) word
+        ∙ ap (λ (l : List ℕ). 1 ∷ (magic_of v ++ l)) (drop-drop 8 1 bytes ∙ behind_magic)
+        ∙ ap (λ (l : List ℕ). 1 ∷ (magic_of v ++ (l ++ get_or bytes 13 0 ∷ drop 14 bytes)))
         (sym (be_bytes_4 (get_or bytes 9 0 ∷ get_or bytes 10 0 ∷ get_or bytes 11 0 ∷ get_or bytes 12 0 ∷ []) n refl
-        (four_small small) is));
+        (four_small small) is))
+        ∙ ap (λ (l : List ℕ). 1 ∷ l) (sym (append_assoc (magic_of v) (to_be_bytes w32 n) (get_or bytes 13 0 ∷ drop 14 bytes)));
   }
+
+-- the word that a head begins with
+word_there : (v : Version) (g : ℕ) (rest : List ℕ) → take 8 (drop 1 (head_of v g ++ rest)) ≡ magic_of v
+word_there First g rest = refl
+word_there Second g rest = refl
+
+pub word_of : (v : Version) (g : ℕ) (bytes : List ℕ) → IsSetUp v g bytes → take 8 (drop 1 bytes) ≡ magic_of v
+word_of v g bytes s = ap (λ (l : List ℕ). take 8 (drop 1 l)) s.is ∙ word_there v g (s.gate ∷ s.rest)
+
+pub no_word : (word : List ℕ) → (word ≡ magic_of First → ⊥) → (word ≡ magic_of Second → ⊥) → (v : Version) → word ≡ magic_of v → ⊥
+no_word word first second First = first
+no_word word first second Second = second
+
+-- no version has this word
+pub wrong_word : (bytes : List ℕ) → 14 ≤ length bytes → get_or bytes 0 0 ≡ 1 → ((v : Version) → take 8 (drop 1 bytes) ≡ magic_of v → ⊥) →
+    HasWrongHeader bytes
+wrong_word bytes long open_gate none = record {
+  begun = record { long = long; open_gate = open_gate };
+  wrong = λ v g s. none v (word_of v g bytes s);
+}
 
 -- a side that is set up has at least 14 bytes, and they decide
 pub set_up_long : (v : Version) (g : ℕ) (bytes : List ℕ) → IsSetUp v g bytes → 14 ≤ length bytes
 set_up_long First g bytes s = omega (arith, ap length s.is)
+set_up_long Second g bytes s = omega (arith, ap length s.is)
 
 set_up_take : (v : Version) (g : ℕ) (bytes : List ℕ) → IsSetUp v g bytes → IsSetUp v g (take 14 bytes)
 set_up_take First g bytes s = record { number = s.number; gate = s.gate; rest = []; is = ap (take 14) s.is }
+set_up_take Second g bytes s = record { number = s.number; gate = s.gate; rest = []; is = ap (take 14) s.is }
 
 module _ (n : ℕ) (file : List ℕ) (all : n ≡ min 14 (length file)) where
   is_14 : 14 ≤ length file → n ≡ 14

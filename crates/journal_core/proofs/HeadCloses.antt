@@ -4,29 +4,28 @@ use Rattle.std.proofs.Common.{replicate, slice_index, refl, sym, ◌∙◌, ap, 
 use Rattle.std.proofs.lemmas.List.{drop_more}
 use Rattle.std.proofs.lemmas.Bool.{cases_eq}
 use Rattle.world_traits.specs.Files.{MayHold, Files, clean, touch, put, file_of, other}
-use Rattle.world_traits.specs.Moments.{Moment, Clock, stored, Only, GoesOn, Since, Rests}
+use Rattle.world_traits.specs.Moments.{Moment, Clock, stored, Only, Since, Rests}
 use Rattle.world_traits.specs.Calls.{written, settled, Looked, Wrote, Synced}
 use Rattle.world_traits.specs.declared.disk.Side.{Side}
 use Rattle.world_traits.specs.Sound.{holds_clean}
 use Rattle.world_traits.proofs.Images.{image_clean, image_self}
-use Rattle.world_traits.proofs.Passing.{since_start, since_then, since_weaker}
+use Rattle.world_traits.proofs.Passing.{since_start, since_then}
 use Rattle.world_traits.proofs.Calls.{SideAt, at_rest, rests_again, written_state, settled_state, since_write, since_sync, since_look}
 use Rattle.world_traits.proofs.Sides.{outside_written, outside_settled, stored_there}
 use Rattle.journal_core.specs.declared.version.Version.{Version}
-use Rattle.journal_core.specs.declared.version.Version.TheVariants.{First}
 use Rattle.journal_core.specs.Records.{records}
 use Rattle.journal_core.specs.Sides.{head_of, header_of, IsBegun}
-use Rattle.journal_core.specs.Gates.{IsShut, IsOpened, Beside, OpensGate, Passes}
+use Rattle.journal_core.specs.Gates.{IsShut, IsOpened, Beside, OpensGate, Passes, Remains}
 use Rattle.journal_core.specs.Creating.{AsBefore, set_up_bytes, SetsUp, ClosesHead}
 use Rattle.journal_core.proofs.Bytes.{gate_image}
 use Rattle.journal_core.proofs.Aside.{only_beside, At, away, resting_at, write_at, sync_at, passes_as}
-use Rattle.journal_core.proofs.GateOpens.{old_is_either, old_to_old}
+use Rattle.journal_core.proofs.Remaining.{remains, stay_passes}
 use Rattle.journal_core.proofs.Looking.{looks, rests_look}
 
 at_err : {T E : Type 0} (r : Result T E) (e : E) (Q : Type 0) → r ≡ Err e → OnOk r Q
 at_err r e Q is = rw is tt
 
-shut_gate : (gate : ℕ) (rest bytes : List ℕ) → gate ≢ 1 → bytes ≡ gate ∷ rest → IsBegun bytes → ⊥
+pub shut_gate : (gate : ℕ) (rest bytes : List ℕ) → gate ≢ 1 → bytes ≡ gate ∷ rest → IsBegun bytes → ⊥
 shut_gate gate rest bytes shut is b = shut (sym (ap (λ (l : List ℕ). slice_index l 0) is) ∙ b.open_gate)
 
 -- a byte 0 put at place 0
@@ -54,7 +53,7 @@ closing before bytes (inr o) h =
     (λ (shut : get_or bytes 0 0 ≢ 1). inr (shut_gate (get_or bytes 0 0) (drop 1 before) bytes shut is))
     (cases_eq (get_or bytes 0 0) 1)
 
-module _ (side : Side) (version : Version) (generation : ℕ) (bodies : List (List ℕ)) (k0 : Clock) (f0 : Files) (rests : Rests k0.now f0) where
+module _ (side : Side) (k0 : Clock) (f0 : Files) (rests : Rests k0.now f0) where
   abbrev pub others : List ℕ
   others = file_of (other side) f0
 
@@ -64,11 +63,8 @@ module _ (side : Side) (version : Version) (generation : ℕ) (bodies : List (Li
   abbrev pub B : Files → Type 0
   B = Beside side others (AsBefore before)
 
-  abbrev pub A : Files → Type 0
-  A = Beside side others (IsShut (head_of version generation ++ records bodies))
-
   abbrev pub To : Moment → Moment → Type 0
-  To = GoesOn B A
+  To = Remains B
 
   at0 : At side others before (clean before) k0 f0
   at0 = resting_at side before k0 f0 rests refl
@@ -78,7 +74,7 @@ module _ (side : Side) (version : Version) (generation : ℕ) (bodies : List (Li
       (λ b h. inl (image_clean before b h)) (holds_clean before)
 
   same : (m : Moment) → Only B m → To m m
-  same m o = old_to_old B A m m refl o o
+  same m o = remains B m m refl o o
 
   pub close_look : (k1 : Clock) (f1 : Files) → Looked k0 k1 f0 f1 → Since (Only B) To k0 k1
   close_look k1 f1 l = since_look (Only B) To side k0 k0 k1 f0 f1 (since_start (Only B) To k0) only0 (same k0.now only0) l
@@ -114,7 +110,7 @@ module _ (side : Side) (version : Version) (generation : ℕ) (bodies : List (Li
           ∙ away side others before (clean before) k1 f1 at1) (written_state side before (clean before) k1 k2 f1 f2 at1.here 0
           (0 ∷ [])) in
           since_write (Only B) To side k0 k1 k2 f1 f2 (close_look k1 f1 l1) only1 (same k1.now only1) 0 (0 ∷ []) r w there
-          (old_to_old B A k1.now _ (outside_written side 0 (0 ∷ []) k1.now) only1 there)
+          (remains B k1.now _ (outside_written side 0 (0 ∷ []) k1.now) only1 there)
 
       module _ {V E : Type 0} (x : V) (w : Wrote {T = V} {E = E} side 0 (0 ∷ []) k1 k2 f1 f2 (Ok x)) where
         at2 : At side others zeroed (touch 0 1 (clean before)) k2 f2
@@ -132,7 +128,7 @@ module _ (side : Side) (version : Version) (generation : ℕ) (bodies : List (Li
             let there = zeroed_only (settled side (file_of side f2) k2.now) (stored_there side _ k2.now ∙ away2)
             (settled_state side zeroed _ k2 k3 f2 f3 at2.here) in
             since_sync (Only B) To side k0 k2 k3 f2 f3 (close_write (Ok x) w) only2 (same k2.now only2) r s there
-            (old_to_old B A k2.now _ (outside_settled side (file_of side f2) k2.now) only2 there)
+            (remains B k2.now _ (outside_settled side (file_of side f2) k2.now) only2 there)
 
         pub close_rests : (r : Result V E) → Synced side k2 k3 f2 f3 r → OnOk r (Rests k3.now f3)
         close_rests (Ok y) s = rests_again side zeroed k3 f3 (sync_at side others zeroed _ k2 k3 f2 f3 at2 y s).here
@@ -166,7 +162,7 @@ module _ (n : ℕ) (file into : List ℕ) (all : n ≡ min 14 (length file - 0))
 module _ (side : Side) where
   pub closed_looked : {X F : Type 0} (k0 k1 : Clock) (f0 f1 : Files) (s : Result X F) (e : F) → s ≡ Err e → Looked k0 k1 f0 f1 → ClosesHead side k0 k1 f0 f1 s
   closed_looked k0 k1 f0 f1 s e is l = record {
-    passing = λ v g bodies rests. close_look side v g bodies k0 f0 rests k1 f1 l;
+    passing = λ rests. close_look side k0 f0 rests k1 f1 l;
     rests = λ rests. at_err s e _ is;
     done = λ rests. at_err s e _ is;
   }
@@ -174,7 +170,7 @@ module _ (side : Side) where
   pub closed_already : {X F : Type 0} (k0 k1 : Clock) (f0 f1 : Files) (x : X) → Looked k0 k1 f0 f1 → IsShut [] (file_of side f0) →
       ClosesHead {E = F} side k0 k1 f0 f1 (Ok x)
   closed_already k0 k1 f0 f1 x l shut = record {
-    passing = λ v g bodies rests. close_look side v g bodies k0 f0 rests k1 f1 l;
+    passing = λ rests. close_look side k0 f0 rests k1 f1 l;
     rests = λ rests. rests_look k0 k1 f0 f1 rests (looks k0 k1 f0 f1 l);
     done = λ rests. record { here = subst (λ (f : Files). IsShut [] (file_of side f)) (sym l.seen_same) shut; there = ap (file_of (other side)) l.seen_same };
   }
@@ -182,7 +178,7 @@ module _ (side : Side) where
   pub closed_unwritten : {V E X F : Type 0} (k0 k1 k2 : Clock) (f0 f1 f2 : Files) (r : Result V E) (s : Result X F) (e : F) → s ≡ Err e →
       Looked k0 k1 f0 f1 → IsToClose (file_of side f0) → Wrote side 0 (0 ∷ []) k1 k2 f1 f2 r → ClosesHead side k0 k2 f0 f2 s
   closed_unwritten k0 k1 k2 f0 f1 f2 r s e is l close w = record {
-    passing = λ v g bodies rests. close_write side v g bodies k0 f0 rests close k1 k2 k2 f1 f2 f2 l r w;
+    passing = λ rests. close_write side k0 f0 rests close k1 k2 k2 f1 f2 f2 l r w;
     rests = λ rests. at_err s e _ is;
     done = λ rests. at_err s e _ is;
   }
@@ -191,15 +187,15 @@ pub closed_synced : {V E : Type 0} (side : Side) (k0 k1 k2 k3 : Clock) (f0 f1 f2
     Looked k0 k1 f0 f1 → IsToClose (file_of side f0) → Wrote {T = V} {E = E} side 0 (0 ∷ []) k1 k2 f1 f2 (Ok x) →
     Synced side k2 k3 f2 f3 r → ClosesHead side k0 k3 f0 f3 r
 closed_synced side k0 k1 k2 k3 f0 f1 f2 f3 x r l close w s = record {
-  passing = λ v g bodies rests. close_sync side v g bodies k0 f0 rests close k1 k2 k3 f1 f2 f3 l x w r s;
-  rests = λ rests. close_rests side First 0 [] k0 f0 rests close k1 k2 k3 f1 f2 f3 l x w r s;
-  done = λ rests. close_done side First 0 [] k0 f0 rests close k1 k2 k3 f1 f2 f3 l x w r s;
+  passing = λ rests. close_sync side k0 f0 rests close k1 k2 k3 f1 f2 f3 l x w r s;
+  rests = λ rests. close_rests side k0 f0 rests close k1 k2 k3 f1 f2 f3 l x w r s;
+  done = λ rests. close_done side k0 f0 rests close k1 k2 k3 f1 f2 f3 l x w r s;
 }
 
 -- a closed gate, and then the bytes behind it
 module _ (side : Side) (version : Version) (generation : ℕ) (bodies : List (List ℕ)) (fresh : List ℕ)
     (is : fresh ≡ set_up_bytes version generation bodies) where
-  set_up_shut_gate : (bytes : List ℕ) → IsOpened [] fresh bytes → IsShut (head_of version generation ++ records bodies) bytes
+  pub set_up_shut_gate : (bytes : List ℕ) → IsOpened [] fresh bytes → IsShut (head_of version generation ++ records bodies) bytes
   set_up_shut_gate bytes o = record {
     gate = 0;
     rest = o.rest;
@@ -212,7 +208,7 @@ module _ (side : Side) (version : Version) (generation : ℕ) (bodies : List (Li
     pub not_set_up : {V E X F : Type 0} (r : Result V E) (s : Result X F) (e : F) → s ≡ Err e → ClosesHead side k0 k1 f0 f1 r →
         SetsUp side version generation bodies k0 k1 f0 f1 s
     not_set_up r s e err c = record {
-      passing = λ rests. since_weaker _ _ _ _ (old_is_either _ _) (λ m n t. t) k0 k1 (c.passing version generation bodies rests);
+      passing = λ rests. stay_passes _ _ k0 k1 (c.passing rests);
       rests = λ rests. at_err s e _ err;
       done = λ rests. at_err s e _ err;
     }
@@ -224,7 +220,7 @@ module _ (side : Side) (version : Version) (generation : ℕ) (bodies : List (Li
       sets_passing rests =
           let d = c.done rests in
           since_then _ _ k0 k1 k2
-          (since_weaker _ _ _ _ (old_is_either _ _) (λ m n t. t) k0 k1 (c.passing version generation bodies rests))
+          (stay_passes _ _ k0 k1 (c.passing rests))
           (passes_as _ _ _ _
           (λ files b. record { here = inr (shut_gate b.here.gate b.here.rest (file_of side files) b.here.closed b.here.is); there = b.there ∙ d.there })
           (λ files a. record { here = set_up_shut_gate (file_of side files) a.here; there = a.there ∙ d.there })

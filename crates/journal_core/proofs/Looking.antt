@@ -1,5 +1,5 @@
 -- Calls that only look, one after the other.
-use Rattle.std.proofs.Common.{◌≡◌, ◌⊎◌, inl, inr, refl, sym, ◌∙◌, subst}
+use Rattle.std.proofs.Common.{◌≡◌, ◌⊎◌, inl, refl, sym, ◌∙◌, subst}
 use Rattle.world_traits.specs.Files.{Files}
 use Rattle.world_traits.specs.Moments.{Moment, Clock, Rests, Within, Narrows}
 use Rattle.world_traits.specs.Calls.{Looked}

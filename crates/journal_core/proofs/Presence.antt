@@ -5,7 +5,7 @@ use Rattle.world_traits.specs.Files.{Files, file_of, other}
 use Rattle.world_traits.specs.declared.disk.Side.{Side}
 use Rattle.world_traits.specs.declared.disk.Side.TheVariants.{Left, Right}
 use Rattle.journal_core.specs.declared.version.Version.{Version}
-use Rattle.journal_core.specs.declared.version.Version.TheVariants.{First}
+use Rattle.journal_core.specs.declared.version.Version.TheVariants.{First, Second}
 use Rattle.journal_core.specs.Records.{AreBodies, From, records}
 use Rattle.journal_core.specs.Sides.{head_of, IsGeneration, IsSetUp, HasWrongHeader}
 use Rattle.journal_core.specs.Holds.{IsPresent, Holds}
@@ -13,6 +13,7 @@ use Rattle.journal_core.specs.Gates.{IsShut, Beside}
 
 pub head_long : (v : Version) (g : ℕ) → length (head_of v g) ≡ 13
 head_long First g = refl
+head_long Second g = refl
 
 -- behind the records a gate: so the side is set up
 pub set_up_shut : (v : Version) (g : ℕ) (bodies : List (List ℕ)) (bytes : List ℕ) (gate : ℕ) (rest : List ℕ) → IsGeneration g →

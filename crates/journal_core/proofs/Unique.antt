@@ -1,13 +1,14 @@
 -- Two files hold one list of bodies.
-use Rattle.std.proofs.Common.{◌≡◌, ◌≢◌, ℕ, List, [], ◌∷◌, ◌++◌, refl, sym, ◌∙◌, ap, arith, append_assoc}
+use Rattle.std.proofs.Common.{◌≡◌, ◌≢◌, ℕ, List, [], ◌∷◌, ◌++◌, get_or, refl, sym, ◌∙◌, ap, arith, append_assoc}
 use Rattle.world_traits.specs.Files.{Files, file_of}
 use Rattle.world_traits.specs.declared.disk.Side.{Side}
 use Rattle.world_traits.specs.declared.disk.Side.TheVariants.{Left, Right}
 use Rattle.journal_core.specs.declared.version.Version.{Version}
-use Rattle.journal_core.specs.declared.version.Version.TheVariants.{First}
-use Rattle.journal_core.specs.Sides.{IsSetUp}
+use Rattle.journal_core.specs.declared.version.Version.TheVariants.{First, Second}
+use Rattle.journal_core.specs.Sides.{magic_of, IsSetUp}
 use Rattle.journal_core.specs.Records.{AreBodies, From, open_record, records}
 use Rattle.journal_core.specs.Holds.{IsPresent, Holds}
+use Rattle.journal_core.proofs.HeadBytes.{word_of}
 use Rattle.journal_core.proofs.Nexting.{one_body, one_rest}
 
 one_list : (bs cs : List (List ℕ)) (g h : ℕ) (r s : List ℕ) → g ≢ 1 → h ≢ 1 → AreBodies bs → AreBodies cs → records bs ++ g ∷ r ≡ records cs ++ h ∷ s → bs ≡ cs
@@ -34,9 +35,16 @@ by_sides Right Left v w g h bs cs files p q a b = let x = p.newer w h q.set_up i
 pub one_book : (v w : Version) (bs cs : List (List ℕ)) (files : Files) → Holds v bs files → Holds w cs files → bs ≡ cs
 one_book v w bs cs files a b = by_sides a.side b.side v w a.generation b.generation bs cs files a.present b.present a.records b.records
 
+-- the words of the versions differ in their last byte
+differ : magic_of First ≡ magic_of Second → ⊥
+differ same = let never : 49 ≡ 50 = ap (λ (l : List ℕ). get_or l 7 0) same in omega (arith, never)
+
 -- a side is set up in one version
 version_of : (v w : Version) (g h : ℕ) (bytes : List ℕ) → IsSetUp v g bytes → IsSetUp w h bytes → v ≡ w
 version_of First First g h bytes s t = refl
+version_of First Second g h bytes s t = absurd (differ (sym (word_of First g bytes s) ∙ word_of Second h bytes t))
+version_of Second First g h bytes s t = absurd (differ (sym (word_of First h bytes t) ∙ word_of Second g bytes s))
+version_of Second Second g h bytes s t = refl
 
 -- and so is the side that is the journal
 pub one_presence : (s t : Side) (v w : Version) (g h : ℕ) (files : Files) → IsPresent s v g files → IsPresent t w h files → v ≡ w

@@ -1,5 +1,5 @@
 -- The records of a journal at rest stand up to its place.
-use Rattle.std.proofs.Common.{◌≡◌, ℕ, ◌+◌, List, ◌∷◌, ◌++◌, length, drop, ◌∙◌, ap, append_assoc, length-append}
+use Rattle.std.proofs.Common.{ℕ, ◌+◌, List, ◌∷◌, ◌++◌, length, drop, ◌∙◌, ap, append_assoc, length-append}
 use Rattle.std.proofs.lemmas.List.{drop_at}
 use Rattle.world_traits.specs.Files.{Files, file_of}
 use Rattle.world_traits.specs.Moments.{Moment}

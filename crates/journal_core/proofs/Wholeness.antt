@@ -11,7 +11,7 @@ use Rattle.journal_core.specs.declared.fault.Place9.{Place9}
 use Rattle.journal_core.specs.declared.fault.Place9.TheVariants as places
 use Rattle.journal_core.specs.Records.{AreBodies, From, open_record, records}
 use Rattle.journal_core.specs.Holds.{IsPresent, Holds}
-use Rattle.journal_core.specs.Reading.{HasClosedGate, StandsAt, SameGenerations, IsNoJournal}
+use Rattle.journal_core.specs.Reading.{StandsAt, SameGenerations, IsNoJournal}
 use Rattle.journal_core.specs.Broken.{StandUpTo, IsNotDue, torn, other, missing, BrokenBehind}
 use Rattle.journal_core.proofs.Choice.{one_generation, open_head}
 use Rattle.journal_core.proofs.Nexting.{one_body, one_rest}

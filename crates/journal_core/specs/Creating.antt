@@ -2,16 +2,16 @@
 use Rattle.std.specs.Prelude.{◌≡◌, ◌⊎◌, ℕ, ◌+◌, ◌<◌, true, false, List, [], ◌∷◌, ◌++◌, length, Result, OnOk}
 use Rattle.std.specs.List.{AllByRecursion}
 use Rattle.world_traits.specs.Files.{Files, file_of, other}
-use Rattle.world_traits.specs.Moments.{Clock, Rests, Since, Only, GoesOn, Images, Within, Narrows}
+use Rattle.world_traits.specs.Moments.{Clock, Rests, Since, Only, GoesOn, Images, Within, Narrows, OneSideAtRest}
 use Rattle.world_traits.specs.declared.disk.Side.{Side}
 use Rattle.journal_core.specs.declared.version.Version.{Version}
 use Rattle.journal_core.specs.Records.{records}
-use Rattle.journal_core.specs.Sides.{head_of, header_of, IsBegun, IsSetUp, HasWrongHeader}
+use Rattle.journal_core.specs.Sides.{head_of, header_of, version_written, IsBegun, IsSetUp, HasWrongHeader}
 use Rattle.journal_core.specs.Holds.{Holds}
 use Rattle.journal_core.specs.Standing.{Standing}
-use Rattle.journal_core.specs.declared.version.Version.TheVariants.{First}
 use Rattle.world_traits.specs.declared.disk.Side.TheVariants.{Left}
-use Rattle.journal_core.specs.Gates.{Beside, IsShut, Passes}
+use Rattle.journal_core.specs.Gates.{Beside, IsShut, Passes, Remains}
+use Rattle.journal_core.specs.OneSide.{EachOneSide}
 use Rattle.journal_core.specs.Settling.{Settles}
 
 -- the bytes of a file that was never begun, or as it was
@@ -33,13 +33,11 @@ pub record SetsUp {T E : Type 0} (side : Side) (version : Version) (generation :
   pub done : Rests old.now seen →
       OnOk result (Beside side (file_of (other side) seen) (IsShut (head_of version generation ++ records bodies)) seen_after)
 
--- The head gate of a side is closed, and the other side stays. (The images to come stand here too, whatever side is
--- to be set up: none of these moments has one.)
+-- The head gate of a side is closed, and the other side stays.
 pub record ClosesHead {T E : Type 0} (side : Side) (old new : Clock) (seen seen_after : Files) (result : Result T E) : Type 0 where
-  pub passing : (version : Version) (generation : ℕ) (bodies : List (List ℕ)) → Rests old.now seen →
+  pub passing : Rests old.now seen →
       Since (Only (Beside side (file_of (other side) seen) (AsBefore (file_of side seen))))
-      (GoesOn (Beside side (file_of (other side) seen) (AsBefore (file_of side seen)))
-      (Beside side (file_of (other side) seen) (IsShut (head_of version generation ++ records bodies)))) old new
+      (Remains (Beside side (file_of (other side) seen) (AsBefore (file_of side seen)))) old new
   pub rests : Rests old.now seen → OnOk result (Rests new.now seen_after)
   pub done : Rests old.now seen → OnOk result (Beside side (file_of (other side) seen) (IsShut []) seen_after)
 
@@ -71,7 +69,7 @@ end_of bodies = 14 + length (records bodies)
 abbrev pub created : List (List ℕ) → Standing
 created bodies = record {
   side = Left;
-  version = First;
+  version = version_written;
   generation = 1;
   place = 13 + length (records bodies);
   all_read = true;
@@ -82,8 +80,8 @@ created bodies = record {
 -- hold the bodies.
 abbrev pub CreatesThrough : List (List ℕ) → Clock → Clock → Type 0
 CreatesThrough bodies old new =
-    Since (λ m. Within old.now m ⊎ Images (λ files. IsUnbegun files ⊎ Holds First bodies files) m)
-    (λ m n. Within m n ⊎ GoesOn IsUnbegun (Holds First bodies) m n) old new
+    Since (λ m. Within old.now m ⊎ Images (λ files. IsUnbegun files ⊎ Holds version_written bodies files) m)
+    (λ m n. Within m n ⊎ GoesOn IsUnbegun (Holds version_written bodies) m n) old new
 
 -- The same where one side was on the disk: the first syncs come to what is read, at a clock between the two, and behind it
 -- the images go from those with no side begun to those that hold the bodies.
@@ -91,4 +89,12 @@ pub record CreatesBehind (bodies : List (List ℕ)) (old new : Clock) (seen : Fi
   pub at : Clock
   pub settles : Settles old at seen
   pub narrows : Narrows old at
-  pub passes : Passes IsUnbegun (Holds First bodies) at new
+  pub passes : Passes IsUnbegun (Holds version_written bodies) at new
+
+-- What creating a journal does at every moment. Where one side was on the disk the syncs come to what is read, and one side
+-- is on the disk at each moment.
+pub record CreatesJournal (bodies : List (List ℕ)) (old new : Clock) (seen : Files) : Type 0 where
+  pub told : CreatesThrough bodies old new
+  pub exact : OneSideAtRest old.now → CreatesBehind bodies old new seen
+  pub one_side : OneSideAtRest old.now → OneSideAtRest new.now
+  pub each_one_side : OneSideAtRest old.now → EachOneSide old new

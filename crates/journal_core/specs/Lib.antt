@@ -15,3 +15,6 @@ pub mod Settling
 pub mod OneSide
 pub mod Limits
 pub mod Broken
+pub mod Drafts
+pub mod Turning
+pub mod Blames

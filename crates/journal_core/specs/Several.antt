@@ -1,11 +1,8 @@
 -- What reading several records by one call answers.
 use Rattle.std.specs.Prelude.{◌≡◌, ℕ, ◌+◌, ◌<◌, ◌≤◌, List, [], ◌∷◌, ◌++◌, length, take, drop, Option, Some, None, Result, Ok, Err}
-use Rattle.std.specs.Prelude.{IfNone, IfOk, IfSome, IsErrOf, IsTrue, OnErr}
-use Rattle.world_traits.specs.Calls.{Rose}
-use Rattle.world_traits.specs.LinkState.{LinkState}
+use Rattle.std.specs.Prelude.{IfNone, IfOk, IfSome, IsTrue, OnErr}
 use Rattle.journal_core.specs.declared.bodies.Part.{Part}
 use Rattle.journal_core.specs.declared.fault.OpenFault.{OpenFault}
-use Rattle.journal_core.specs.declared.fault.OpenFault.TheVariants as faults
 use Rattle.journal_core.specs.Records.{AreBodies, From, records}
 use Rattle.journal_core.specs.Standing.{Standing}
 use Rattle.journal_core.specs.Reading.{NextIs}
@@ -60,9 +57,3 @@ GoesFew journal after next =
     × IfOk next (λ few. IfNone few (IsTrue after.all_read))
     × (after.failed ≡ journal.failed)
     × (after.version ≡ journal.version)
-
--- the link stays; a fault of the disk is told only where its count rose, and the count stays where none is told
-abbrev pub CountsFaults : {T : Type 0} → LinkState → LinkState → ℕ → ℕ → Result T OpenFault → Type 0
-CountsFaults link link_after count count_after result =
-    (link_after ≡ link) × (count ≤ count_after) × (IsErrOf result faults.Disk → Rose count count_after)
-    × ((IsErrOf result faults.Disk → ⊥) → count_after ≡ count)

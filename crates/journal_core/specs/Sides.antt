@@ -2,11 +2,16 @@
 use Rattle.std.specs.Prelude.{◌≡◌, ℕ, ◌≤◌, ◌<◌, ◌^◌, List, ◌∷◌, ◌++◌, length, slice_index, codes}
 use Rattle.std.specs.Int.{w32, to_be_bytes}
 use Rattle.journal_core.specs.declared.version.Version.{Version}
-use Rattle.journal_core.specs.declared.version.Version.TheVariants.{First}
+use Rattle.journal_core.specs.declared.version.Version.TheVariants.{First, Second}
 
 -- the word that tells the version
 abbrev pub magic_of : Version → List ℕ
 magic_of First = codes "ODMAILJ1"
+magic_of Second = codes "ODMAILJ2"
+
+-- the version that is written; a side of another one is only read
+abbrev pub version_written : Version
+version_written = First
 
 -- the bytes from 1 to 12
 abbrev pub header_of : Version → ℕ → List ℕ

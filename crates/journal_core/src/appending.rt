@@ -1,7 +1,5 @@
 //! A record is added behind the others.
 
-ghost use Rattle.world_traits.specs.Files.{other};
-ghost use Rattle.world_traits.specs.Moments.{stored};
 ghost use Rattle.std.specs.Prelude.{◌≡◌, ◌≤◌, ◌<◌, ◌+◌, ◌^◌, ℕ, IsTrue, OnErr, length};
 ghost use Rattle.std.specs.Prelude.{IsErrOf, OnOk, true};
 
@@ -23,10 +21,10 @@ pub enum AppendFault {
 }
 
 impl Journal {
-    ghost use Rattle.world_traits.specs.Calls.{Rose};
+    ghost use Rattle.journal_core.specs.Blames.{BlamesWhere};
     ghost use Rattle.journal_core.specs.declared.appending.AppendFault.TheVariants as faults;
     ghost use Rattle.journal_core.specs.Appending.{IsFrame, Appends, end_with, told_end};
-    ghost use Rattle.journal_core.specs.OneSide.{EachOneSide, SideAtRest};
+    ghost use Rattle.journal_core.specs.OneSide.{IsAside};
 
     /// Adds a record, given as the frame of its body: the length in four bytes, high byte first,
     /// the body, and a closed gate. It takes no memory.
@@ -56,19 +54,9 @@ impl Journal {
         ensures disk_within { IsErrOf result faults.Disk →
             end_with (length frame.now) self.old ≤ limit }
         ensures broken { IsErrOf result faults.Disk → self.new ≡ record self.old { failed = true } }
-        ensures beside { D.tells_files → stored (other self.old.side) (D.clock disk.new).now
-            ≡ stored (other self.old.side) (D.clock disk.old).now }
-
-        // Where the other side was at rest, each moment has one side at rest.
-        ensures each_one_side { D.tells_files →
-            SideAtRest (other self.old.side) (D.clock disk.old).now →
-            EachOneSide (D.clock disk.old) (D.clock disk.new) }
-        ensures link { D.link disk.new ≡ D.link disk.old }
-        ensures count { D.disk_faults disk.old ≤ D.disk_faults disk.new }
-        ensures cause { IsErrOf result faults.Disk →
-            Rose (D.disk_faults disk.old) (D.disk_faults disk.new) }
-        ensures unfailed { (IsErrOf result faults.Disk → ⊥) →
-            D.disk_faults disk.new ≡ D.disk_faults disk.old }
+        ensures aside { D.tells_files →
+            IsAside self.old.side (D.clock disk.old) (D.clock disk.new) }
+        ensures blames { BlamesWhere D.Clocked disk.old disk.new (IsErrOf result faults.Disk) }
     {
         let end = self.place.saturating_add(1);
         let wanted = end.saturating_add(frame.len() as u64);

@@ -2,15 +2,15 @@
 
 ghost use Rattle.std.specs.Prelude.{◌≡◌, ◌≤◌, ◌<◌, ◌+◌, ◌^◌, ◌++◌, ℕ, IsErr, IfOk, IsErrOf};
 ghost use Rattle.std.specs.Prelude.{length, OnOk, IsNone, IfSome};
-ghost use Rattle.world_traits.specs.Calls.{Rose};
+ghost use Rattle.journal_core.specs.Blames.{BlamesWhere};
 ghost use Rattle.world_traits.specs.Files.{Files};
-ghost use Rattle.world_traits.specs.Moments.{Narrows, OneSideAtRest};
+ghost use Rattle.world_traits.specs.Moments.{Narrows};
 ghost use Rattle.journal_core.specs.Appending.{told_end};
-ghost use Rattle.journal_core.specs.Creating.{NoneEmpty, IsTaken, IsUnbegun, CreatesThrough, CreatesBehind};
+ghost use Rattle.journal_core.specs.Creating.{NoneEmpty, IsTaken, IsUnbegun, CreatesJournal};
 ghost use Rattle.journal_core.specs.Creating.{set_up_bytes, end_of, created};
 ghost use Rattle.journal_core.specs.Heads.{HeadIs};
-ghost use Rattle.journal_core.specs.OneSide.{EachOneSide};
 ghost use Rattle.journal_core.specs.Reading.{AnyWrong};
+ghost use Rattle.journal_core.specs.Sides.{version_written};
 ghost use Rattle.journal_core.specs.Records.{AreBodies, records, open_record};
 ghost use Rattle.journal_core.specs.Standing.{IsStill};
 ghost use Rattle.journal_core.specs.Taken.{IsWhyTaken};
@@ -19,10 +19,11 @@ ghost use Rattle.journal_core.specs.declared.fault.Place9.TheVariants as places;
 ghost use Rattle.journal_core.specs.declared.creating.CreateFault.TheVariants as faults;
 
 use crate::gated::{CLOSED, OPEN};
-use crate::heads::{Head, MAGIC};
+use crate::heads::Head;
 use crate::opening::read_sides;
 use crate::setting_up::set_up;
-use crate::{Journal, Place9, Version};
+use crate::version::{MAGIC, WRITTEN};
+use crate::{Journal, Place9};
 use mail_base::Bytes;
 use std::alloc::{AllocError, Global};
 use thiserror::Error;
@@ -78,27 +79,13 @@ impl Journal {
             (2 ^ 30 < end_of bodies.now) × (end ≡ 0) × (wanted ≡ told_end (end_of bodies.now)) }
         ensures full_unbegun { D.tells_files → (end wanted : ℕ) →
             IsErrOf result (faults.Full end wanted) → IsUnbegun (D.seen disk.old) }
-        ensures told { D.tells_files →
-            CreatesThrough bodies.now (D.clock disk.old) (D.clock disk.new) }
-
-        // Where one side was at rest the syncs come to what is read, and one side is at rest at
-        // each moment.
-        ensures exact { D.tells_files → OneSideAtRest (D.clock disk.old).now →
-            CreatesBehind bodies.now (D.clock disk.old) (D.clock disk.new) (D.seen disk.old) }
-        ensures one_side { D.tells_files → OneSideAtRest (D.clock disk.old).now →
-            OneSideAtRest (D.clock disk.new).now }
-        ensures each_one_side { D.tells_files → OneSideAtRest (D.clock disk.old).now →
-            EachOneSide (D.clock disk.old) (D.clock disk.new) }
+        ensures creates { D.tells_files →
+            CreatesJournal bodies.now (D.clock disk.old) (D.clock disk.new) (D.seen disk.old) }
 
         // But after a failure of the disk, an error leaves the files as they were.
         ensures kept { D.tells_files → IsErr result → (IsErrOf result faults.Disk → ⊥) →
             Narrows (D.clock disk.old) (D.clock disk.new) × (D.seen disk.new ≡ D.seen disk.old) }
-        ensures link { D.link disk.new ≡ D.link disk.old }
-        ensures count { D.disk_faults disk.old ≤ D.disk_faults disk.new }
-        ensures cause { IsErrOf result faults.Disk →
-            Rose (D.disk_faults disk.old) (D.disk_faults disk.new) }
-        ensures unfailed { (IsErrOf result faults.Disk → ⊥) →
-            D.disk_faults disk.new ≡ D.disk_faults disk.old }
+        ensures blames { BlamesWhere D.Clocked disk.old disk.new (IsErrOf result faults.Disk) }
     {
         let (left, right) = match read_sides(disk) {
             Ok(heads) => heads,
@@ -111,14 +98,14 @@ impl Journal {
         if wanted > MAX_SIDE {
             return Err(CreateFault::Full { end: 0, wanted });
         }
-        let Ok(fresh) = side_bytes(alloc, Version::First, 1, bodies) else {
+        let Ok(fresh) = side_bytes(alloc, 1, bodies) else {
             return Err(CreateFault::Memory);
         };
         match set_up(disk, Side::Left, &fresh) {
             Err(_failed) => Err(CreateFault::Disk),
             Ok(()) => Ok(Journal {
                 side: Side::Left,
-                version: Version::First,
+                version: WRITTEN,
                 generation: 1,
                 place: wanted - 1,
                 all_read: true,
@@ -152,20 +139,13 @@ fn why_taken(left: Head, right: Head) -> Option<CreateFault>
 }
 
 // The bytes of a side from place 1 on.
-fn side_bytes(
-    alloc: Global,
-    version: Version,
-    generation: u32,
-    bodies: &[Bytes],
-) -> Result<Vec<u8>, AllocError>
+fn side_bytes(alloc: Global, generation: u32, bodies: &[Bytes]) -> Result<Vec<u8>, AllocError>
     requires sizes { AreBodies bodies.now }
     ensures { IfOk result (λ bytes.
-        bytes.items ≡ set_up_bytes version generation bodies.now) }
+        bytes.items ≡ set_up_bytes version_written generation bodies.now) }
 {
     let mut bytes = Vec::new(alloc);
-    match version {
-        Version::First => bytes.extend_from_slice(&MAGIC)?,
-    }
+    bytes.extend_from_slice(&MAGIC)?;
     bytes.extend_from_slice(&generation.to_be_bytes())?;
     for body in bodies {
         push_record(&mut bytes, body.as_slice())?;
@@ -184,8 +164,8 @@ fn push_record(bytes: &mut Vec<u8>, body: &[u8]) -> Result<(), AllocError>
     bytes.extend_from_slice(body)
 }
 
-// The place behind the closed gate behind these records, or 2^64 - 1 where it is past that.
-fn place_behind(bodies: &[Bytes]) -> u64
+/// The place behind the closed gate behind these records, or 2^64 - 1 where it is past that.
+pub fn place_behind(bodies: &[Bytes]) -> u64
     ensures { result ≡ told_end (end_of bodies.now) }
 {
     let mut place: u64 = 14;

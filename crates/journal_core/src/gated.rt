@@ -1,11 +1,9 @@
 //! Bytes are put behind a closed gate, and count once it is open.
 
 ghost use Rattle.std.specs.Prelude.{◌≡◌, ◌≤◌, ◌+◌, ◌^◌, length, OnErr, OnOk};
-ghost use Rattle.world_traits.specs.Calls.{Rose};
-ghost use Rattle.world_traits.specs.Files.{other};
-ghost use Rattle.world_traits.specs.Moments.{stored};
+ghost use Rattle.journal_core.specs.Blames.{Blames};
 ghost use Rattle.journal_core.specs.Gates.{OpensGate};
-ghost use Rattle.journal_core.specs.OneSide.{EachOneSide, SideAtRest};
+ghost use Rattle.journal_core.specs.OneSide.{IsAside};
 
 use world_traits::{Clocked, Disk, DiskFailed, Side};
 
@@ -27,14 +25,8 @@ pub fn write_gated<D: Disk>(
     requires room { place + 1 + length fresh.now ≤ 2 ^ 32 }
     ensures told { D.tells_files → OpensGate side place fresh.now (D.clock disk.old)
         (D.clock disk.new) (D.seen disk.old) (D.seen disk.new) result }
-    ensures beside { D.tells_files → stored (other side) (D.clock disk.new).now
-        ≡ stored (other side) (D.clock disk.old).now }
-    ensures each_one_side { D.tells_files → SideAtRest (other side) (D.clock disk.old).now →
-        EachOneSide (D.clock disk.old) (D.clock disk.new) }
-    ensures link { D.link disk.new ≡ D.link disk.old }
-    ensures count { D.disk_faults disk.old ≤ D.disk_faults disk.new }
-    ensures cause { OnErr result (Rose (D.disk_faults disk.old) (D.disk_faults disk.new)) }
-    ensures unfailed { OnOk result (D.disk_faults disk.new ≡ D.disk_faults disk.old) }
+    ensures aside { D.tells_files → IsAside side (D.clock disk.old) (D.clock disk.new) }
+    ensures blames { Blames D.Clocked disk.old disk.new result }
 {
     disk.write_at(side, place + 1, fresh)?;
     disk.sync(side)?;

@@ -1,17 +1,15 @@
 //! The head of a side is read: a gate, a magic word of 8 bytes and a generation of 4.
 
 ghost use Rattle.std.specs.Prelude.{◌≡◌, ◌≤◌, take, length, IfOk, OnOk, OnErr};
-ghost use Rattle.world_traits.specs.Calls.{Rose};
+ghost use Rattle.journal_core.specs.Blames.{Blames};
 ghost use Rattle.world_traits.specs.Files.{file_of};
 ghost use Rattle.journal_core.specs.Heads.{HeadIs};
 ghost use Rattle.journal_core.specs.Reading.{OnlyLooks};
 
 use crate::Version;
 use crate::gated::OPEN;
+use crate::version::version_in;
 use world_traits::{Clocked, Disk, DiskFailed, Side};
-
-/// The magic word of the first version.
-pub const MAGIC: [u8; 8] = *b"ODMAILJ1";
 
 /// The bytes of a head and the gate behind it.
 pub const HEAD: usize = 14;
@@ -39,15 +37,15 @@ pub fn head_in(bytes: &[u8]) -> Head
     if bytes.len() < HEAD || bytes[0] != OPEN {
         return Head::Closed;
     }
-    if bytes[1..9] != MAGIC[..] {
+    let Some(version) = version_in(&bytes[1..9]) else {
         return Head::Wrong;
-    }
+    };
     let generation = u32::from_be_bytes([bytes[9], bytes[10], bytes[11], bytes[12]]);
     if generation == 0 {
         return Head::Wrong;
     }
     Head::SetUp {
-        version: Version::First,
+        version,
         generation,
     }
 }
@@ -58,10 +56,7 @@ pub fn read_head<D: Disk>(disk: &mut D, side: Side) -> Result<Head, DiskFailed>
         HeadIs head (file_of side (D.seen disk.old))) }
     ensures told { D.tells_files → OnlyLooks (D.clock disk.old) (D.clock disk.new)
         (D.seen disk.old) (D.seen disk.new) }
-    ensures link { D.link disk.new ≡ D.link disk.old }
-    ensures count { D.disk_faults disk.old ≤ D.disk_faults disk.new }
-    ensures cause { OnErr result (Rose (D.disk_faults disk.old) (D.disk_faults disk.new)) }
-    ensures unfailed { OnOk result (D.disk_faults disk.new ≡ D.disk_faults disk.old) }
+    ensures blames { Blames D.Clocked disk.old disk.new result }
 {
     let mut front = [0; HEAD];
     let count = disk.read(side, 0, &mut front)?;

@@ -40,6 +40,13 @@ impl Journal {
         self.place
     }
 
+    /// The generation of its side, from 1.
+    pub fn generation(&self) -> u32
+        ensures { result ≡ self.now.generation }
+    {
+        self.generation
+    }
+
     /// The version of its format.
     pub fn version(&self) -> Version
         ensures { result ≡ self.now.version }

@@ -4,6 +4,7 @@
 mod appending;
 mod bodies;
 mod creating;
+mod drafting;
 mod fault;
 mod gated;
 mod heads;
@@ -13,6 +14,7 @@ mod reading;
 mod setting_up;
 mod settling;
 mod several;
+mod turning;
 mod version;
 
 pub use appending::AppendFault;
@@ -20,4 +22,5 @@ pub use bodies::Bodies;
 pub use creating::{CreateFault, MAX_SIDE};
 pub use fault::{OpenFault, Place9};
 pub use journal::Journal;
-pub use version::Version;
+pub use turning::TurnFault;
+pub use version::{Version, WRITTEN};

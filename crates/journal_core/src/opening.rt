@@ -1,15 +1,14 @@
 //! A journal is opened.
 
 ghost use Rattle.std.specs.Prelude.{◌≡◌, ◌≤◌, [], false, IfOk, IsErrOf, MatchResult, OnErr, OnOk};
-ghost use Rattle.world_traits.specs.Calls.{Rose};
+ghost use Rattle.journal_core.specs.Blames.{Blames, BlamesWhere};
 ghost use Rattle.world_traits.specs.Files.{Files};
-ghost use Rattle.world_traits.specs.Moments.{Narrows, OneSideAtRest, Rests};
+ghost use Rattle.world_traits.specs.Moments.{Rests};
 ghost use Rattle.journal_core.specs.Heads.{HeadIs};
-ghost use Rattle.journal_core.specs.OneSide.{EachOneSide};
 ghost use Rattle.journal_core.specs.Sides.{IsSetUp};
 ghost use Rattle.journal_core.specs.Standing.{IsStill};
 ghost use Rattle.journal_core.specs.Reading.{IsNoJournal, IsAtFirst, at_first};
-ghost use Rattle.journal_core.specs.Settling.{Settles};
+ghost use Rattle.journal_core.specs.Settling.{Syncs};
 
 use crate::heads::{Head, read_head};
 use crate::settling::settle_both;
@@ -36,19 +35,8 @@ impl Journal {
         ensures sound { IfOk result (λ journal. journal.failed ≡ false) }
         ensures seen { D.tells_files → (IsErrOf result faults.Disk → ⊥) →
             D.seen disk.new ≡ D.seen disk.old }
-        ensures told { D.tells_files → Narrows (D.clock disk.old) (D.clock disk.new) }
-        ensures exact { D.tells_files → OneSideAtRest (D.clock disk.old).now →
-            Settles (D.clock disk.old) (D.clock disk.new) (D.seen disk.old) }
-        ensures one_side { D.tells_files → OneSideAtRest (D.clock disk.old).now →
-            OneSideAtRest (D.clock disk.new).now }
-        ensures each_one_side { D.tells_files → OneSideAtRest (D.clock disk.old).now →
-            EachOneSide (D.clock disk.old) (D.clock disk.new) }
-        ensures link { D.link disk.new ≡ D.link disk.old }
-        ensures count { D.disk_faults disk.old ≤ D.disk_faults disk.new }
-        ensures cause { IsErrOf result faults.Disk →
-            Rose (D.disk_faults disk.old) (D.disk_faults disk.new) }
-        ensures unfailed { (IsErrOf result faults.Disk → ⊥) →
-            D.disk_faults disk.new ≡ D.disk_faults disk.old }
+        ensures syncs { D.tells_files → Syncs (D.clock disk.old) (D.clock disk.new) (D.seen disk.old) }
+        ensures blames { BlamesWhere D.Clocked disk.old disk.new (IsErrOf result faults.Disk) }
     {
         let (left, right) = match read_sides(disk) {
             Ok(heads) => heads,
@@ -65,15 +53,10 @@ impl Journal {
 pub fn read_sides<D: Disk>(disk: &mut D) -> Result<(Head, Head), DiskFailed>
     ensures left { D.tells_files → IfOk result (λ heads. HeadIs heads.0 (D.seen disk.old).left) }
     ensures right { D.tells_files → IfOk result (λ heads. HeadIs heads.1 (D.seen disk.old).right) }
-    ensures told { D.tells_files → Narrows (D.clock disk.old) (D.clock disk.new) }
-    ensures exact { D.tells_files → OneSideAtRest (D.clock disk.old).now →
-        Settles (D.clock disk.old) (D.clock disk.new) (D.seen disk.old) }
+    ensures syncs { D.tells_files → Syncs (D.clock disk.old) (D.clock disk.new) (D.seen disk.old) }
     ensures rests { D.tells_files → OnOk result (Rests (D.clock disk.new).now (D.seen disk.new)) }
     ensures seen { D.tells_files → OnOk result (D.seen disk.new ≡ D.seen disk.old) }
-    ensures link { D.link disk.new ≡ D.link disk.old }
-    ensures count { D.disk_faults disk.old ≤ D.disk_faults disk.new }
-    ensures cause { OnErr result (Rose (D.disk_faults disk.old) (D.disk_faults disk.new)) }
-    ensures unfailed { OnOk result (D.disk_faults disk.new ≡ D.disk_faults disk.old) }
+    ensures blames { Blames D.Clocked disk.old disk.new result }
 {
     settle_both(disk)?;
     let left = read_head(disk, Side::Left)?;

@@ -2,7 +2,7 @@
 
 ghost use Rattle.std.specs.Prelude.{◌≡◌, ◌≤◌, ◌+◌, ◌-◌, ◌^◌, ◌++◌, List, ℕ, min, take, drop, length, OnOk};
 ghost use Rattle.std.specs.Prelude.{◌<◌, IfNone, IfOk, IsErrOf, IsTrue, OnErr, OnSome};
-ghost use Rattle.world_traits.specs.Calls.{Rose};
+ghost use Rattle.journal_core.specs.Blames.{Blames, BlamesWhere};
 ghost use Rattle.world_traits.specs.Files.{file_of};
 ghost use Rattle.journal_core.specs.Fronts.{FrontIs, FrontFits};
 ghost use Rattle.journal_core.specs.Reading.{OnlyLooks};
@@ -67,12 +67,7 @@ impl Journal {
         ensures version { self.new.version ≡ self.old.version }
         ensures told { D.tells_files → OnlyLooks (D.clock disk.old) (D.clock disk.new)
             (D.seen disk.old) (D.seen disk.new) }
-        ensures link { D.link disk.new ≡ D.link disk.old }
-        ensures count { D.disk_faults disk.old ≤ D.disk_faults disk.new }
-        ensures cause { IsErrOf result faults.Disk →
-            Rose (D.disk_faults disk.old) (D.disk_faults disk.new) }
-        ensures unfailed { (IsErrOf result faults.Disk → ⊥) →
-            D.disk_faults disk.new ≡ D.disk_faults disk.old }
+        ensures blames { BlamesWhere D.Clocked disk.old disk.new (IsErrOf result faults.Disk) }
     {
         match read_front(disk, self.side, self.place) {
             Err(_failed) => Err(OpenFault::Disk),
@@ -99,10 +94,7 @@ fn read_front<D: Disk>(disk: &mut D, side: Side, place: u64) -> Result<Front, Di
     ensures fits { IfOk result (FrontFits place (2 ^ 64)) }
     ensures told { D.tells_files → OnlyLooks (D.clock disk.old) (D.clock disk.new)
         (D.seen disk.old) (D.seen disk.new) }
-    ensures link { D.link disk.new ≡ D.link disk.old }
-    ensures count { D.disk_faults disk.old ≤ D.disk_faults disk.new }
-    ensures cause { OnErr result (Rose (D.disk_faults disk.old) (D.disk_faults disk.new)) }
-    ensures unfailed { OnOk result (D.disk_faults disk.new ≡ D.disk_faults disk.old) }
+    ensures blames { Blames D.Clocked disk.old disk.new result }
 {
     let mut bytes = [0; 5];
     let count = disk.read(side, place, &mut bytes)?;
@@ -143,12 +135,7 @@ pub fn read_up_to<D: Disk>(
     ensures only { (why : Place9) → IsErrOf result (faults.NotAJournal why) → ⊥ }
     ensures told { D.tells_files → OnlyLooks (D.clock disk.old) (D.clock disk.new)
         (D.seen disk.old) (D.seen disk.new) }
-    ensures link { D.link disk.new ≡ D.link disk.old }
-    ensures count { D.disk_faults disk.old ≤ D.disk_faults disk.new }
-    ensures cause { IsErrOf result faults.Disk →
-        Rose (D.disk_faults disk.old) (D.disk_faults disk.new) }
-    ensures unfailed { (IsErrOf result faults.Disk → ⊥) →
-        D.disk_faults disk.new ≡ D.disk_faults disk.old }
+    ensures blames { BlamesWhere D.Clocked disk.old disk.new (IsErrOf result faults.Disk) }
 {
     let mut body = Vec::new(alloc);
     body.resize(size as usize, 0)?;
@@ -172,12 +159,7 @@ pub fn read_there<D: Disk>(
     ensures only { (why : Place9) → IsErrOf result (faults.NotAJournal why) → ⊥ }
     ensures told { D.tells_files → OnlyLooks (D.clock disk.old) (D.clock disk.new)
         (D.seen disk.old) (D.seen disk.new) }
-    ensures link { D.link disk.new ≡ D.link disk.old }
-    ensures count { D.disk_faults disk.old ≤ D.disk_faults disk.new }
-    ensures cause { IsErrOf result faults.Disk →
-        Rose (D.disk_faults disk.old) (D.disk_faults disk.new) }
-    ensures unfailed { (IsErrOf result faults.Disk → ⊥) →
-        D.disk_faults disk.new ≡ D.disk_faults disk.old }
+    ensures blames { BlamesWhere D.Clocked disk.old disk.new (IsErrOf result faults.Disk) }
 {
     read_up_to(alloc, disk, side, at, size)
 }

@@ -2,12 +2,12 @@
 
 ghost use Rattle.std.specs.Prelude.{◌≡◌, ◌≤◌, ◌+◌, ◌-◌, ◌<◌, ◌++◌, [], List, ℕ, drop, length, unwrap_or, OnOk};
 ghost use Rattle.std.specs.Prelude.{IfNone, IfOk, IfSome, IsErrOf, IsTrue, OnErr};
-ghost use Rattle.world_traits.specs.Calls.{Rose};
+ghost use Rattle.journal_core.specs.Blames.{Blames, BlamesWhere};
 ghost use Rattle.world_traits.specs.Files.{file_of};
 ghost use Rattle.journal_core.specs.Records.{From};
 ghost use Rattle.journal_core.specs.Standing.{IsStill};
 ghost use Rattle.journal_core.specs.Reading.{OnlyLooks};
-ghost use Rattle.journal_core.specs.Several.{CountsFaults, GoesFew, IsFrontOf, NextAre, TakesFew};
+ghost use Rattle.journal_core.specs.Several.{GoesFew, IsFrontOf, NextAre, TakesFew};
 ghost use Rattle.journal_core.specs.declared.fault.Place9.{Place9};
 ghost use Rattle.journal_core.specs.declared.fault.OpenFault.TheVariants as faults;
 
@@ -56,12 +56,7 @@ impl Journal {
         ensures version { self.new.version ≡ self.old.version }
         ensures told { D.tells_files → OnlyLooks (D.clock disk.old) (D.clock disk.new)
             (D.seen disk.old) (D.seen disk.new) }
-        ensures link { D.link disk.new ≡ D.link disk.old }
-        ensures count { D.disk_faults disk.old ≤ D.disk_faults disk.new }
-        ensures cause { IsErrOf result faults.Disk →
-            Rose (D.disk_faults disk.old) (D.disk_faults disk.new) }
-        ensures unfailed { (IsErrOf result faults.Disk → ⊥) →
-            D.disk_faults disk.new ≡ D.disk_faults disk.old }
+        ensures blames { BlamesWhere D.Clocked disk.old disk.new (IsErrOf result faults.Disk) }
     {
         self.next_within(alloc, disk, PIECE)
     }
@@ -86,8 +81,7 @@ impl Journal {
         ensures goes { GoesFew self.old self.new result }
         ensures told { D.tells_files → OnlyLooks (D.clock disk.old) (D.clock disk.new)
             (D.seen disk.old) (D.seen disk.new) }
-        ensures faults { CountsFaults (D.link disk.old) (D.link disk.new)
-            (D.disk_faults disk.old) (D.disk_faults disk.new) result }
+        ensures blames { BlamesWhere D.Clocked disk.old disk.new (IsErrOf result faults.Disk) }
     {
         let piece = read_piece(alloc, disk, self.side, self.place, size)?;
         if is_shut(piece.as_slice()) {
@@ -120,8 +114,7 @@ impl Journal {
         ensures goes { GoesFew self.old self.new result }
         ensures told { D.tells_files → OnlyLooks (D.clock disk.old) (D.clock disk.new)
             (D.seen disk.old) (D.seen disk.new) }
-        ensures faults { CountsFaults (D.link disk.old) (D.link disk.new)
-            (D.disk_faults disk.old) (D.disk_faults disk.new) result }
+        ensures blames { BlamesWhere D.Clocked disk.old disk.new (IsErrOf result faults.Disk) }
     {
         let room = Vec::with_capacity(alloc, 1)?;
         match self.next(alloc, disk)? {
@@ -145,8 +138,7 @@ fn read_piece<D: Disk>(
     ensures only { (why : Place9) → IsErrOf result (faults.NotAJournal why) → ⊥ }
     ensures told { D.tells_files → OnlyLooks (D.clock disk.old) (D.clock disk.new)
         (D.seen disk.old) (D.seen disk.new) }
-    ensures faults { CountsFaults (D.link disk.old) (D.link disk.new)
-        (D.disk_faults disk.old) (D.disk_faults disk.new) result }
+    ensures blames { BlamesWhere D.Clocked disk.old disk.new (IsErrOf result faults.Disk) }
 {
     let mut piece = read_up_to(alloc, disk, side, at, size)?;
     let Some(next) = at.checked_add(size as u64) else {
@@ -174,10 +166,7 @@ fn missing_there<D: Disk>(
         missing ≤ length (file_of side (D.seen disk.old)) - next) }
     ensures told { D.tells_files → OnlyLooks (D.clock disk.old) (D.clock disk.new)
         (D.seen disk.old) (D.seen disk.new) }
-    ensures link { D.link disk.new ≡ D.link disk.old }
-    ensures count { D.disk_faults disk.old ≤ D.disk_faults disk.new }
-    ensures cause { OnErr result (Rose (D.disk_faults disk.old) (D.disk_faults disk.new)) }
-    ensures unfailed { OnOk result (D.disk_faults disk.new ≡ D.disk_faults disk.old) }
+    ensures blames { Blames D.Clocked disk.old disk.new result }
 {
     let missing = missing_in(piece);
     if missing == 0 {

@@ -1,7 +1,5 @@
-use Rattle.std.proofs.Common.{◌∙◌, ◌+◌, [], ◌∷◌}
-use Rattle.world_traits.proofs.OneSide.{wrote_there, synced_there}
 use Rattle.std.proofs.lemmas.Result.{err_from_is_err_and}
-use Rattle.journal_core.proofs.AtRest.{through_write, through_firm, through_then}
+use Rattle.journal_core.proofs.AsideStays.{aside_then, aside_write, aside_sync}
 use Rattle.journal_core.proofs.Exits.{told1, told2, told3, told4}
 use Rattle.journal_core.proofs.gated.write_gated.Goals as goal
 
@@ -25,46 +23,23 @@ returns-clause-told g c tells =
     told4 _ _ _ _ _ _ _ _ _ _ _ _ _ _ _ _ _ (c.in_ok-write_at.ensures.told tells) (c.in_ok-sync.ensures.told tells)
     (c.in_ok-write_at-2.ensures.told tells) (c.sync-2.ensures.told tells)
 
-pub returns-in_err-write_at-clause-beside : goal.returns-in_err-write_at-clause-beside
-returns-in_err-write_at-clause-beside g c tells = wrote_there c.args.side (c.args.place + 1) c.args.fresh.now
-    (g.D.Clocked.clock c.args.disk.now) (g.D.Clocked.clock c.write_at.new.self) (c.write_at.ensures.told tells).moment
+pub returns-in_err-write_at-clause-aside : goal.returns-in_err-write_at-clause-aside
+returns-in_err-write_at-clause-aside g c tells = aside_write c.args.side _ _ _ _ _ _ _ (c.write_at.ensures.told tells)
 
-pub returns-in_err-sync-clause-beside : goal.returns-in_err-sync-clause-beside
-returns-in_err-sync-clause-beside g c tells = synced_there c.args.side (g.D.Clocked.clock c.write_at.new.self)
-    (g.D.Clocked.clock c.sync.new.self) _ _ _ (c.sync.ensures.told tells)
-    ∙ wrote_there c.args.side (c.args.place + 1) c.args.fresh.now (g.D.Clocked.clock c.args.disk.now)
-    (g.D.Clocked.clock c.write_at.new.self) (c.write_at.ensures.told tells).moment
+pub returns-in_err-sync-clause-aside : goal.returns-in_err-sync-clause-aside
+returns-in_err-sync-clause-aside g c tells = aside_then c.args.side _ _ _
+    (aside_write c.args.side _ _ _ _ _ _ _ (c.in_ok-write_at.ensures.told tells)) (aside_sync c.args.side _ _ _ _ _ (c.sync.ensures.told tells))
 
-pub returns-in_err-write_at-2-clause-beside : goal.returns-in_err-write_at-2-clause-beside
-returns-in_err-write_at-2-clause-beside g c tells = wrote_there c.args.side c.args.place (1 ∷ []) (g.D.Clocked.clock c.sync.new.self)
-    (g.D.Clocked.clock c.write_at-2.new.self) (c.write_at-2.ensures.told tells).moment
-    ∙ synced_there c.args.side (g.D.Clocked.clock c.write_at.new.self) (g.D.Clocked.clock c.sync.new.self) _ _ _
-    (c.sync.ensures.told tells) ∙ wrote_there c.args.side (c.args.place + 1) c.args.fresh.now (g.D.Clocked.clock c.args.disk.now)
-    (g.D.Clocked.clock c.write_at.new.self) (c.write_at.ensures.told tells).moment
+pub returns-in_err-write_at-2-clause-aside : goal.returns-in_err-write_at-2-clause-aside
+returns-in_err-write_at-2-clause-aside g c tells = aside_then c.args.side _ _ _
+    (aside_then c.args.side _ _ _
+    (aside_write c.args.side _ _ _ _ _ _ _ (c.in_ok-write_at.ensures.told tells)) (aside_sync c.args.side _ _ _ _ _ (c.in_ok-sync.ensures.told tells)))
+    (aside_write c.args.side _ _ _ _ _ _ _ (c.write_at-2.ensures.told tells))
 
-pub returns-clause-beside : goal.returns-clause-beside
-returns-clause-beside g c tells = synced_there c.args.side (g.D.Clocked.clock c.write_at-2.new.self)
-    (g.D.Clocked.clock c.sync-2.new.self) _ _ _ (c.sync-2.ensures.told tells)
-    ∙ wrote_there c.args.side c.args.place (1 ∷ []) (g.D.Clocked.clock c.sync.new.self) (g.D.Clocked.clock c.write_at-2.new.self)
-    (c.write_at-2.ensures.told tells).moment ∙ synced_there c.args.side (g.D.Clocked.clock c.write_at.new.self)
-    (g.D.Clocked.clock c.sync.new.self) _ _ _ (c.sync.ensures.told tells)
-    ∙ wrote_there c.args.side (c.args.place + 1) c.args.fresh.now (g.D.Clocked.clock c.args.disk.now)
-    (g.D.Clocked.clock c.write_at.new.self) (c.write_at.ensures.told tells).moment
-
-pub returns-in_err-write_at-clause-each_one_side : goal.returns-in_err-write_at-clause-each_one_side
-returns-in_err-write_at-clause-each_one_side g c tells rests = (through_write c.args.side _ _ _ _ rests _ _ _ (c.write_at.ensures.told tells)).each
-
-pub returns-in_err-sync-clause-each_one_side : goal.returns-in_err-sync-clause-each_one_side
-returns-in_err-sync-clause-each_one_side g c tells rests =
-    (through_firm c.args.side _ _ _ _ _ _ _ _ _ _ rests (c.write_at.ensures.told tells) (c.sync.ensures.told tells)).each
-
-pub returns-in_err-write_at-2-clause-each_one_side : goal.returns-in_err-write_at-2-clause-each_one_side
-returns-in_err-write_at-2-clause-each_one_side g c tells rests =
-    let firm = through_firm c.args.side _ _ _ _ _ _ _ _ _ _ rests (c.write_at.ensures.told tells) (c.sync.ensures.told tells) in
-    (through_then c.args.side _ _ _ firm (through_write c.args.side _ _ _ _ firm.rests _ _ _ (c.write_at-2.ensures.told tells))).each
-
-pub returns-clause-each_one_side : goal.returns-clause-each_one_side
-returns-clause-each_one_side g c tells rests =
-    let firm = through_firm c.args.side _ _ _ _ _ _ _ _ _ _ rests (c.write_at.ensures.told tells) (c.sync.ensures.told tells) in
-    (through_then c.args.side _ _ _ firm
-    (through_firm c.args.side _ _ _ _ _ _ _ _ _ _ firm.rests (c.write_at-2.ensures.told tells) (c.sync-2.ensures.told tells))).each
+pub returns-clause-aside : goal.returns-clause-aside
+returns-clause-aside g c tells = aside_then c.args.side _ _ _
+    (aside_then c.args.side _ _ _
+    (aside_then c.args.side _ _ _
+    (aside_write c.args.side _ _ _ _ _ _ _ (c.in_ok-write_at.ensures.told tells)) (aside_sync c.args.side _ _ _ _ _ (c.in_ok-sync.ensures.told tells)))
+    (aside_write c.args.side _ _ _ _ _ _ _ (c.in_ok-write_at-2.ensures.told tells)))
+    (aside_sync c.args.side _ _ _ _ _ (c.sync-2.ensures.told tells))

@@ -1,11 +1,6 @@
-use Rattle.std.proofs.Common.{◌∙◌, ap, [], ◌∷◌}
 use Rattle.std.proofs.lemmas.Result.{err_from_is_err_and}
-use Rattle.world_traits.specs.Files.{other}
-use Rattle.world_traits.specs.Moments.{stored}
-use Rattle.world_traits.proofs.OneSide.{wrote_there, synced_there}
-use Rattle.world_traits.proofs.Passing.{stays_now}
 use Rattle.world_traits.specs.Files.{file_of}
-use Rattle.journal_core.proofs.AtRest.{through_look, through_write, through_firm, through_then}
+use Rattle.journal_core.proofs.AsideStays.{aside_then, aside_look, aside_write, aside_sync}
 use Rattle.journal_core.proofs.HeadCloses.{IsToClose, is_shut, few_to_close, open_to_close, closed_looked, closed_already, closed_unwritten, closed_synced}
 use Rattle.journal_core.proofs.setting_up.close_head.Goals as goal
 use Rattle.journal_core.proofs.setting_up.close_head.Goals.{else-count-eq-HEAD-via-then-count-eq-HEAD+else-front-ne-OPEN}
@@ -42,36 +37,18 @@ returns-clause-told g c tells =
     ] in
     closed_synced _ _ _ _ _ _ _ _ _ _ _ (c.in_ok-count.ensures.told tells) close (c.in_ok-write_at.ensures.told tells) (c.sync.ensures.told tells)
 
-pub returns-in_err-count-clause-beside : goal.returns-in_err-count-clause-beside
-returns-in_err-count-clause-beside g c tells = ap (stored (other c.args.side)) (stays_now (c.read.ensures.told tells).moment)
+pub returns-in_err-count-clause-aside : goal.returns-in_err-count-clause-aside
+returns-in_err-count-clause-aside g c tells = aside_look c.args.side _ _ _ _ (c.read.ensures.told tells)
 
-pub returns-then-front-ne-OPEN-clause-beside : goal.returns-then-front-ne-OPEN-clause-beside
-returns-then-front-ne-OPEN-clause-beside g c tells = ap (stored (other c.args.side)) (stays_now (c.read.ensures.told tells).moment)
+pub returns-then-front-ne-OPEN-clause-aside : goal.returns-then-front-ne-OPEN-clause-aside
+returns-then-front-ne-OPEN-clause-aside g c tells = aside_look c.args.side _ _ _ _ (c.read.ensures.told tells)
 
-pub returns-in_err-write_at-clause-beside : goal.returns-in_err-write_at-clause-beside
-returns-in_err-write_at-clause-beside g c tells =
-    wrote_there c.args.side 0 (0 ∷ []) (g.D.Clocked.clock c.read.new.self) (g.D.Clocked.clock c.write_at.new.self) (c.write_at.ensures.told tells).moment
-    ∙ ap (stored (other c.args.side)) (stays_now (c.read.ensures.told tells).moment)
+pub returns-in_err-write_at-clause-aside : goal.returns-in_err-write_at-clause-aside
+returns-in_err-write_at-clause-aside g c tells = aside_then c.args.side _ _ _
+    (aside_look c.args.side _ _ _ _ (c.read.ensures.told tells)) (aside_write c.args.side _ _ _ _ _ _ _ (c.write_at.ensures.told tells))
 
-pub returns-clause-beside : goal.returns-clause-beside
-returns-clause-beside g c tells =
-    synced_there c.args.side (g.D.Clocked.clock c.write_at.new.self) (g.D.Clocked.clock c.sync.new.self) _ _ _ (c.sync.ensures.told tells)
-    ∙ wrote_there c.args.side 0 (0 ∷ []) (g.D.Clocked.clock c.read.new.self) (g.D.Clocked.clock c.write_at.new.self) (c.write_at.ensures.told tells).moment
-    ∙ ap (stored (other c.args.side)) (stays_now (c.read.ensures.told tells).moment)
-
-pub returns-in_err-count-clause-each_one_side : goal.returns-in_err-count-clause-each_one_side
-returns-in_err-count-clause-each_one_side g c tells rests = (through_look c.args.side _ _ _ _ rests (c.read.ensures.told tells)).each
-
-pub returns-then-front-ne-OPEN-clause-each_one_side : goal.returns-then-front-ne-OPEN-clause-each_one_side
-returns-then-front-ne-OPEN-clause-each_one_side g c tells rests = (through_look c.args.side _ _ _ _ rests (c.read.ensures.told tells)).each
-
-pub returns-in_err-write_at-clause-each_one_side : goal.returns-in_err-write_at-clause-each_one_side
-returns-in_err-write_at-clause-each_one_side g c tells rests =
-    let look = through_look c.args.side _ _ _ _ rests (c.read.ensures.told tells) in
-    (through_then c.args.side _ _ _ look (through_write c.args.side _ _ _ _ look.rests _ _ _ (c.write_at.ensures.told tells))).each
-
-pub returns-clause-each_one_side : goal.returns-clause-each_one_side
-returns-clause-each_one_side g c tells rests =
-    let look = through_look c.args.side _ _ _ _ rests (c.read.ensures.told tells) in
-    (through_then c.args.side _ _ _ look
-    (through_firm c.args.side _ _ _ _ _ _ _ _ _ _ look.rests (c.write_at.ensures.told tells) (c.sync.ensures.told tells))).each
+pub returns-clause-aside : goal.returns-clause-aside
+returns-clause-aside g c tells = aside_then c.args.side _ _ _
+    (aside_then c.args.side _ _ _
+    (aside_look c.args.side _ _ _ _ (c.read.ensures.told tells)) (aside_write c.args.side _ _ _ _ _ _ _ (c.write_at.ensures.told tells)))
+    (aside_sync c.args.side _ _ _ _ _ (c.sync.ensures.told tells))

@@ -1,7 +1,5 @@
-use Rattle.std.proofs.Common.{◌∙◌, ap}
-use Rattle.world_traits.specs.Files.{Stored}
 use Rattle.std.proofs.lemmas.Result.{err_from_is_err_and}
-use Rattle.journal_core.proofs.AtRest.{each_then}
+use Rattle.journal_core.proofs.AsideStays.{aside_then}
 use Rattle.journal_core.proofs.HeadCloses.{not_set_up, is_set_up}
 use Rattle.journal_core.proofs.setting_up.set_up.Goals as goal
 
@@ -14,10 +12,5 @@ pub returns-clause-told : goal.returns-clause-told
 returns-clause-told g c tells version generation bodies is =
     is_set_up _ _ _ _ _ is _ _ _ _ _ _ _ (c.in_ok-close_head.ensures.told tells) _ (c.write_gated.ensures.told tells)
 
-pub returns-clause-beside : goal.returns-clause-beside
-returns-clause-beside g c tells = c.write_gated.ensures.beside tells ∙ c.in_ok-close_head.ensures.beside tells
-
-pub returns-clause-each_one_side : goal.returns-clause-each_one_side
-returns-clause-each_one_side g c tells rests =
-    each_then _ _ _ (c.in_ok-close_head.ensures.each_one_side tells rests)
-    (c.write_gated.ensures.each_one_side tells (ap (λ (s : Stored). s.written) (c.in_ok-close_head.ensures.beside tells) ∙ rests))
+pub returns-clause-aside : goal.returns-clause-aside
+returns-clause-aside g c tells = aside_then c.args.side _ _ _ (c.in_ok-close_head.ensures.aside tells) (c.write_gated.ensures.aside tells)
