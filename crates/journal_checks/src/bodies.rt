@@ -2,7 +2,8 @@
 
 use crate::texts::owned;
 use case_files::{Fault, put_quoted};
-use journal_core::{Bodies, Journal, OpenFault, Place9};
+use journal_core::{Bodies, Journal, OpenFault, Place9, Version};
+use mail_base::Bytes;
 use std::alloc::{AllocError, Global};
 use world_traits::Disk;
 
@@ -15,6 +16,15 @@ fn put_body(told: &mut String, body: &[u8]) -> Result<(), AllocError> {
         told.push(' ')?;
     }
     put_quoted(told, body)
+}
+
+/// Bodies as a text.
+pub fn text_of(alloc: Global, bodies: &[Bytes]) -> Result<String, AllocError> {
+    let mut told = String::new(alloc);
+    for body in bodies {
+        put_body(&mut told, body.as_slice())?;
+    }
+    Ok(told)
 }
 
 // Adds the bodies that were read together.
@@ -63,6 +73,17 @@ fn count<D: Disk>(alloc: Global, disk: &mut D) -> Result<u64, OpenFault> {
 pub fn first_piece<D: Disk>(alloc: Global, disk: &mut D) -> Result<u64, Fault> {
     match count(alloc, disk) {
         Ok(many) => Ok(many),
+        Err(_) => Err(Fault::Form),
+    }
+}
+
+/// The name of a journal's version.
+pub fn version_name<D: Disk>(disk: &mut D) -> Result<&'static str, Fault> {
+    match Journal::open(disk) {
+        Ok(journal) => Ok(match journal.version() {
+            Version::First => "first",
+            Version::Second => "second",
+        }),
         Err(_) => Err(Fault::Form),
     }
 }

@@ -4,10 +4,11 @@ use crate::bodies::fault_text;
 use crate::bytes::Names;
 use crate::fate::{Fate, FateDisk};
 use crate::files::Files;
-use crate::journals::{Unappended, append, create, created_text, framed};
+use crate::journals::{Unappended, Unread, append, create, created_text, framed};
 use crate::runs::{Streams, run_on, status_text};
-use crate::stores::{Recorded, init, init_and_record, record, recorded_text};
+use crate::stores::{Recorded, init, init_and_record, record, recorded_text, tell_anew};
 use crate::texts::{Phrase, number, owned, split};
+use crate::turns::turn_on;
 use case_files::Fault;
 use journal_core::AppendFault;
 use mail_base::Bytes;
@@ -136,11 +137,13 @@ fn answer_of(
         }
         "create" => create_on(alloc, &names.bytes(command.rest)?, disk),
         "append" => append_on(alloc, names, command.rest, disk),
+        "turn" => turn_on(alloc, names, command.rest, disk),
         "init" => recorded_text(alloc, init_on(alloc, names, command.rest, disk)?),
         "record" => {
             let body = names.bytes(command.rest)?;
             recorded_text(alloc, record_on(alloc, &body, disk))
         }
+        "retell" => recorded_text(alloc, tell_anew(alloc, disk)),
         _ => Err(Fault::Form),
     }
 }
@@ -170,8 +173,8 @@ fn append_on(
     let frame = framed(alloc, &body)?;
     match append(alloc, disk, &frame, limit) {
         Ok(()) => owned(alloc, "done"),
-        Err(Unappended::Long) => Err(Fault::Form),
-        Err(Unappended::Unread(fault)) => fault_text(alloc, fault),
+        Err(Unappended::Unread(Unread::Long)) => Err(Fault::Form),
+        Err(Unappended::Unread(Unread::Fault(fault))) => fault_text(alloc, fault),
         Err(Unappended::Unwritten(AppendFault::Disk)) => owned(alloc, "disk"),
         Err(Unappended::Unwritten(AppendFault::Full { end, wanted })) => {
             Ok(format!(in alloc; "full {end} wanted {wanted}")?)

@@ -2,6 +2,7 @@
 //! all moments is dear to carry on.
 
 use crate::files::Files;
+use crate::picks::{Pick, Torn, touch};
 use case_files::Fault;
 use std::alloc::{AllocError, Global};
 use world_traits::{Clocked, Disk, DiskFailed, Link, LinkFailed, MemDisk, NoLink, Side, World};
@@ -19,13 +20,14 @@ pub enum Fate {
     Output(u64),
 }
 
-/// A disk that this befalls. It keeps what was synced, and counts its calls, its writes and its
-/// syncs.
+/// A disk that this befalls. It keeps what was synced and which places were written since, and counts
+/// its calls, its writes and its syncs.
 #[derive(Drop)]
 pub struct FateDisk {
     alloc: Global,
     disk: MemDisk,
     synced: Files,
+    touched: Files,
     fate: Fate,
     calls: u64,
     writes: u64,
@@ -47,6 +49,7 @@ impl FateDisk {
             alloc,
             disk: MemDisk::new(left, right),
             synced,
+            touched: Files::empty(alloc),
             fate,
             calls: 0,
             writes: 0,
@@ -101,6 +104,46 @@ impl FateDisk {
         Ok(Files { left, right })
     }
 
+    // Counts no place of a file as written.
+    fn clear(&mut self, side: Side)
+        ensures faults { self.new.faults ≡ self.old.faults }
+        ensures link { self.new.link ≡ self.old.link }
+    {
+        match side {
+            Side::Left => self.touched.left.clear(),
+            Side::Right => self.touched.right.clear(),
+        }
+    }
+
+    // What a stop now may leave by a pick.
+    fn picked(&self, pick: Pick) -> Result<Files, AllocError> {
+        let left = Torn {
+            synced: &self.synced.left,
+            now: self.disk.bytes(Side::Left),
+            touched: &self.touched.left,
+        };
+        let right = Torn {
+            synced: &self.synced.right,
+            now: self.disk.bytes(Side::Right),
+            touched: &self.touched.right,
+        };
+        Ok(Files {
+            left: left.left_by(self.alloc, pick)?,
+            right: right.left_by(self.alloc, pick)?,
+        })
+    }
+
+    // Counts the places of a write as written.
+    fn mark(&mut self, side: Side, at: u64, size: usize) -> Result<(), AllocError>
+        ensures faults { self.new.faults ≡ self.old.faults }
+        ensures link { self.new.link ≡ self.old.link }
+    {
+        match side {
+            Side::Left => touch(&mut self.touched.left, at as usize, size),
+            Side::Right => touch(&mut self.touched.right, at as usize, size),
+        }
+    }
+
     /// What a stop now may leave: what was synced, what the files read as, and torn files.
     pub fn images(&self) -> Result<Vec<Files>, AllocError> {
         let mut images = Vec::new(self.alloc);
@@ -109,6 +152,10 @@ impl FateDisk {
             for mask in [0, 85] {
                 images.push(self.image(Tear { halves, mask })?)?;
             }
+        }
+        images.push(self.picked(Pick::Ones)?)?;
+        for first in 2..=4 {
+            images.push(self.picked(Pick::Drawn(first))?)?;
         }
         Ok(images)
     }
@@ -189,6 +236,9 @@ impl Disk for FateDisk {
         if self.disk.write_at(side, at, bytes).is_err() {
             return Err(self.fail());
         }
+        if self.mark(side, at, bytes.len()).is_err() {
+            return Err(self.fail());
+        }
         self.writes = self.writes.saturating_add(1);
         Ok(())
     }
@@ -204,6 +254,7 @@ impl Disk for FateDisk {
             Side::Left => self.synced.left = now,
             Side::Right => self.synced.right = now,
         }
+        self.clear(side);
         self.syncs = self.syncs.saturating_add(1);
         Ok(())
     }

@@ -1,13 +1,14 @@
-//! A journal is created, and records are appended to it.
+//! A journal is created, records are appended to it, and it goes on on its other side.
 
-ghost use Rattle.std.specs.Prelude.{◌≡◌, ◌<◌, ◌≤◌, ◌^◌, IfOk, length};
+ghost use Rattle.std.specs.Prelude.{◌≡◌, ◌<◌, ◌≤◌, ◌^◌, IfOk, IsTrue, false, length};
 ghost use Rattle.mail_base.specs.Bodies.{frame_of};
 ghost use Rattle.journal_core.specs.Appending.{IsFrame};
+ghost use Rattle.journal_core.specs.Creating.{NoneEmpty};
 
 use crate::bodies::place_text;
 use crate::texts::owned;
 use case_files::Fault;
-use journal_core::{AppendFault, CreateFault, Journal, OpenFault};
+use journal_core::{AppendFault, CreateFault, Journal, OpenFault, TurnFault};
 use mail_base::Bytes;
 use std::alloc::{AllocError, Global};
 use world_traits::Disk;
@@ -36,15 +37,33 @@ pub fn created_text(alloc: Global, created: Result<(), CreateFault>) -> Result<S
     }
 }
 
+/// Why a journal isn't read to its end.
+#[derive(Clone, Copy, Drop)]
+pub enum Unread {
+    /// It has too many records to read here.
+    Long,
+    /// A record isn't read.
+    Fault(OpenFault),
+}
+
 /// Why a record isn't appended: the journal isn't read, or it isn't written.
 #[derive(Clone, Copy, Drop)]
 pub enum Unappended {
-    /// The journal has too many records to read here.
-    Long,
     /// The journal isn't read to its end.
-    Unread(OpenFault),
+    Unread(Unread),
     /// The record isn't written.
     Unwritten(AppendFault),
+}
+
+/// Why a journal doesn't go on on its other side.
+#[derive(Clone, Copy, Drop)]
+pub enum Unturned {
+    /// The journal isn't read to its end.
+    Unread(Unread),
+    /// No generation comes after its own.
+    Last,
+    /// The other side isn't set up.
+    Unwritten(TurnFault),
 }
 
 // The length of a body, the body, and a closed gate.
@@ -69,6 +88,26 @@ pub fn framed(alloc: Global, body: &[u8]) -> Result<Vec<u8>, AllocError>
     Ok(bytes)
 }
 
+// A journal that was read to its end.
+fn read_whole<D: Disk>(alloc: Global, disk: &mut D) -> Result<Journal, Unread>
+    ensures { IfOk result (λ journal. IsTrue journal.all_read × (journal.failed ≡ false)) }
+{
+    let mut journal = match Journal::open(disk) {
+        Ok(journal) => journal,
+        Err(fault) => return Err(Unread::Fault(fault)),
+    };
+    for _ in 0..1_000u16 {
+        let next = match journal.next(alloc, disk) {
+            Ok(next) => next,
+            Err(fault) => return Err(Unread::Fault(fault)),
+        };
+        if next.is_none() {
+            return Ok(journal);
+        }
+    }
+    Err(Unread::Long)
+}
+
 /// Appends a frame behind the last record, under this limit.
 pub fn append<D: Disk>(
     alloc: Global,
@@ -79,25 +118,30 @@ pub fn append<D: Disk>(
     requires frame { IsFrame frame.now }
     requires limit { limit ≤ 2 ^ 30 }
 {
-    let mut journal = match Journal::open(disk) {
+    let mut journal = match read_whole(alloc, disk) {
         Ok(journal) => journal,
-        Err(fault) => return Err(Unappended::Unread(fault)),
+        Err(unread) => return Err(Unappended::Unread(unread)),
     };
-    for _ in 0..1_000u16 {
-        let next = match journal.next(alloc, disk) {
-            Ok(next) => next,
-            Err(fault) => return Err(Unappended::Unread(fault)),
-        };
-        if next.is_none() {
-            return written(journal.append(disk, frame, limit));
-        }
-    }
-    Err(Unappended::Long)
-}
-
-fn written(appended: Result<(), AppendFault>) -> Result<(), Unappended> {
-    match appended {
+    match journal.append(disk, frame, limit) {
         Ok(()) => Ok(()),
         Err(fault) => Err(Unappended::Unwritten(fault)),
+    }
+}
+
+/// Goes on on the other side with these bodies.
+pub fn turn<D: Disk>(alloc: Global, disk: &mut D, bodies: &[Bytes]) -> Result<(), Unturned>
+    requires some { 0 < length bodies.now }
+    requires sizes { NoneEmpty bodies.now }
+{
+    let mut journal = match read_whole(alloc, disk) {
+        Ok(journal) => journal,
+        Err(unread) => return Err(Unturned::Unread(unread)),
+    };
+    if journal.generation() == u32::MAX {
+        return Err(Unturned::Last);
+    }
+    match journal.turn(disk, bodies) {
+        Ok(()) => Ok(()),
+        Err(fault) => Err(Unturned::Unwritten(fault)),
     }
 }

@@ -2,7 +2,7 @@
 
 use crate::bytes::Names;
 use crate::files::{Files, side_of};
-use crate::readings::{READERS, bodies, book, piece};
+use crate::readings::{READERS, are_turned, bodies, book, piece, version};
 use crate::texts::{number, split};
 use case_files::{Fault, differs, same_bytes, same_number, same_text};
 use std::alloc::Global;
@@ -42,11 +42,24 @@ pub fn first_piece(alloc: Global, files: &Files, wanted: &str) -> Result<(), Fau
     same_number(alloc, number(wanted)?, piece(alloc, files)?)
 }
 
+/// `first` or `second`: the version of the journal that the files hold.
+pub fn version_is(alloc: Global, files: &Files, wanted: &str) -> Result<(), Fault> {
+    same_text(alloc, wanted, version(alloc, files)?)
+}
+
 /// The bodies that the files hold, or why they are no journal.
 pub fn all_bodies(alloc: Global, files: &Files, wanted: &str) -> Result<u64, Fault> {
     let told = bodies(alloc, files)?;
     same_text(alloc, wanted, told.as_str())?;
     Ok(READERS)
+}
+
+/// `"abc" ; 3 times "defg"`: the bodies of a turn, which the files hold.
+pub fn turned(alloc: Global, names: &Names<'_>, files: &Files, wanted: &str) -> Result<u64, Fault> {
+    if are_turned(alloc, names, wanted, files)? {
+        return Ok(READERS);
+    }
+    Err(differs(alloc, b"these bodies", b"others"))
 }
 
 /// What the book has that the files hold, or why there is none.

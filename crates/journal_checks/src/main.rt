@@ -14,6 +14,7 @@ mod journals;
 mod looks;
 mod loops;
 mod outside;
+mod picks;
 mod pieces;
 mod plain_journal;
 mod plain_write;
@@ -24,6 +25,7 @@ mod spans;
 mod stores;
 mod streams;
 mod texts;
+mod turns;
 mod witnesses;
 
 use case_files::Tally;

@@ -5,8 +5,10 @@ use crate::texts::owned;
 use case_files::{Fault, put_quoted};
 use std::alloc::Global;
 
-// Behind the head gate.
-const MAGIC: &[u8] = b"ODMAILJ1";
+// Behind the head gate, in the first version and in the second.
+const FIRST: &[u8] = b"ODMAILJ1";
+
+const SECOND: &[u8] = b"ODMAILJ2";
 
 // The number in four bytes, high byte first.
 fn big(bytes: &[u8], at: usize) -> usize {
@@ -23,8 +25,12 @@ fn is_begun(file: &[u8]) -> bool {
     file.len() >= 14 && file.first() == Some(&1)
 }
 
+fn has_word(file: &[u8]) -> bool {
+    file.get(1..9) == Some(FIRST) || file.get(1..9) == Some(SECOND)
+}
+
 fn has_wrong_header(file: &[u8]) -> bool {
-    is_begun(file) && (file.get(1..9) != Some(MAGIC) || big(file, 9) == 0)
+    is_begun(file) && (!has_word(file) || big(file, 9) == 0)
 }
 
 // Why the files are no journal, if they aren't.

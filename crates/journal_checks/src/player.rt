@@ -4,7 +4,9 @@ use crate::bytes::Names;
 use crate::commands::{Start, Told, carried_out};
 use crate::cuts::{each_change, each_cut, each_flip};
 use crate::fate::Fate;
-use crate::looks::{all_bodies, bytes, file, first_piece, prints, shows, whole_book};
+use crate::looks::{
+    all_bodies, bytes, file, first_piece, prints, shows, turned, version_is, whole_book,
+};
 use crate::loops::each_call;
 use crate::pieces::each_length;
 use crate::texts::{Phrase, number, phrase_of, split};
@@ -103,6 +105,7 @@ impl Player {
             "printed" => bytes(alloc, names, &told.printed, phrase.rest)?,
             "unread" => same_number(alloc, number(phrase.rest)?, told.unread)?,
             "piece" => first_piece(alloc, &told.files, phrase.rest)?,
+            "version" => version_is(alloc, &told.files, phrase.rest)?,
             "book" => whole_book(alloc, &told.files, phrase.rest)?,
             _ => file(alloc, names, &told.files, phrase.word, phrase.rest)?,
         }
@@ -119,6 +122,7 @@ impl Player {
         match phrase.word {
             "stays" => self.stays(),
             "bodies" => all_bodies(self.alloc, &self.told.files, phrase.rest),
+            "turned" => turned(self.alloc, names, &self.told.files, phrase.rest),
             "each" => self.each(names, lines, phrase.rest),
             _ => self.ask(names, phrase),
         }
@@ -136,7 +140,7 @@ impl Player {
             "fails" => self.fate = Fate::Call(number(phrase.rest)?),
             "output" => self.fate = Fate::Output(number(phrase.rest)?),
             "input" => self.input = names.bytes(phrase.rest)?,
-            "run" | "create" | "append" | "init" | "record" => {
+            "run" | "create" | "append" | "turn" | "init" | "record" | "retell" => {
                 self.carry_out(names, phrase)?;
             }
             _ => {

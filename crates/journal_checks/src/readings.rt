@@ -1,10 +1,12 @@
 //! What files hold, read in every way, and beside the plain slow program. Each disk ends where it is
 //! read.
 
-use crate::bodies::{few_by_few, first_piece, one_by_one, told};
+use crate::bodies::{few_by_few, first_piece, one_by_one, text_of, told, version_name};
+use crate::bytes::Names;
 use crate::files::Files;
 use crate::plain_journal::plain_bodies;
 use crate::stores::{book_text, open};
+use crate::turns::bodies_of;
 use case_files::{Fault, same_text};
 use std::alloc::{AllocError, Global};
 use world_traits::MemDisk;
@@ -44,6 +46,23 @@ pub fn bodies(alloc: Global, files: &Files) -> Result<String, Fault> {
 pub fn piece(alloc: Global, files: &Files) -> Result<u64, Fault> {
     let mut disk = disk_of(alloc, files)?;
     first_piece(alloc, &mut disk)
+}
+
+/// The version of the journal.
+pub fn version(alloc: Global, files: &Files) -> Result<&'static str, Fault> {
+    let mut disk = disk_of(alloc, files)?;
+    version_name(&mut disk)
+}
+
+/// Whether the bodies are those of a turn with this text.
+pub fn are_turned(
+    alloc: Global,
+    names: &Names<'_>,
+    text: &str,
+    files: &Files,
+) -> Result<bool, Fault> {
+    let wanted = text_of(alloc, &bodies_of(alloc, names, text)?)?;
+    Ok(bodies(alloc, files)?.as_str() == wanted.as_str())
 }
 
 /// What a store's book has that is opened on the files.

@@ -1,4 +1,4 @@
-//! A book on a journal: it is begun, its events are recorded, and it is opened.
+//! A book on a journal: it is begun, its events are recorded, it is told anew, and it is opened.
 
 ghost use Rattle.std.specs.Prelude.{◌≡◌, IfSome, false};
 ghost use Rattle.action_queue.specs.Events.{AreNames};
@@ -13,7 +13,7 @@ use case_files::Fault;
 use mail_base::{ActionId, BoxName, List};
 use record_codec::decode;
 use std::alloc::Global;
-use store_core::{CommitFault, Store, StoreFault};
+use store_core::{CommitFault, Store, StoreFault, is_old};
 use world_traits::Disk;
 
 /// What became of an event.
@@ -29,6 +29,8 @@ pub enum Recorded {
     NoStore(StoreFault),
     /// The store didn't record it.
     Unwritten(CommitFault),
+    /// No generation comes after the journal's own.
+    Last,
 }
 
 // What a store did with an event.
@@ -74,12 +76,15 @@ fn settle<D: Disk>(disk: &mut D, store: &mut Store, id: &ActionId, outcome: &Out
     of_commit(store.settle(disk, *id, *outcome))
 }
 
-// Records an event, where it is lawful.
+// Records an event, where it is lawful. An action that ended is recorded by a turn alone.
 fn commit<D: Disk>(alloc: Global, disk: &mut D, store: &mut Store, event: Event) -> Recorded
     requires writable { IsWritable event }
     requires sound { store.old.journal.failed ≡ false }
     requires still { D.tells_files → IsAsLeft mail store.old (D.clock disk.old).now (D.seen disk.old) }
 {
+    if is_old(&event) {
+        return Recorded::Unlawful;
+    }
     if store.allows(&event).is_some() {
         return Recorded::Unlawful;
     }
@@ -108,6 +113,21 @@ pub fn record<D: Disk>(alloc: Global, disk: &mut D, body: &[u8]) -> Recorded {
         Err(fault) => return Recorded::NoStore(fault),
     };
     put(alloc, disk, &mut store, event)
+}
+
+/// Opens a store, and tells its book anew on the journal's other side.
+pub fn tell_anew<D: Disk>(alloc: Global, disk: &mut D) -> Recorded {
+    let mut store = match Store::open(alloc, disk) {
+        Ok(store) => store,
+        Err(fault) => return Recorded::NoStore(fault),
+    };
+    if store.generation() == u32::MAX {
+        return Recorded::Last;
+    }
+    match store.turn(alloc, disk) {
+        Ok(()) => Recorded::Done,
+        Err(fault) => Recorded::NoStore(fault),
+    }
 }
 
 /// Begins a store by the body of a Begin.
@@ -169,6 +189,7 @@ pub fn recorded_text(alloc: Global, what: Recorded) -> Result<String, Fault> {
         Recorded::Unlawful => owned(alloc, "unlawful"),
         Recorded::NoStore(fault) => store_text(alloc, fault),
         Recorded::Unwritten(fault) => commit_text(alloc, fault),
+        Recorded::Last => owned(alloc, "last"),
     }
 }
 

@@ -4,7 +4,7 @@
 use crate::bytes::Names;
 use crate::commands::{Start, carried_out};
 use crate::files::Files;
-use crate::readings::{bodies, book};
+use crate::readings::{are_turned, bodies, book};
 use crate::texts::{Phrase, owned, phrase_of, split};
 use case_files::{Fault, Line, differs};
 use std::alloc::Global;
@@ -27,11 +27,13 @@ fn next(alloc: Global, names: &Names<'_>, words: &str, files: &Files) -> Result<
     line_of(alloc, &told.printed)
 }
 
-// Whether the files tell what a line wants: `bodies TEXT`, `book TEXT`, or `next WORDS prints LINE`.
+// Whether the files tell what a line wants: `bodies TEXT`, `turned BODIES`, `book TEXT`, or `next
+// WORDS prints LINE`.
 fn holds(alloc: Global, names: &Names<'_>, text: &str, files: &Files) -> Result<bool, Fault> {
     let Phrase { word, rest } = phrase_of(text);
     match word {
         "bodies" => Ok(bodies(alloc, files)?.as_str() == rest),
+        "turned" => are_turned(alloc, names, rest, files),
         "book" => Ok(book(alloc, files)?.as_str() == rest),
         "next" => {
             let (words, wanted) = split(rest, " prints ")?;

@@ -1,3 +1,4 @@
 mod Asking
 mod Breaking
+mod Standing
 mod Stretching

@@ -3,7 +3,7 @@ use Rattle.std.specs.Prelude.{◌≡◌, ◌⊎◌, true, false, ℕ, ◌*◌, �
 use Rattle.mail_base.specs.Number.{IsNumberUpTo}
 use Rattle.mail_bench.specs.declared.load.Load.{Load}
 use Rattle.mail_bench.specs.declared.load.Task.{Task}
-use Rattle.mail_bench.specs.declared.load.Task.TheVariants.{Feed, Record, Store, Commit}
+use Rattle.mail_bench.specs.declared.load.Task.TheVariants.{Feed, Record, Store, Commit, Turn}
 use Rattle.mail_bench.specs.Cases.{unit_of}
 use Rattle.mail_bench.specs.Names.{name_of_case, name_of_direction, name_of_part, name_of_told}
 
@@ -19,6 +19,7 @@ AsksFor what case number (Feed load) = AsksLoad what case number load
 AsksFor what case number (Record direction times) = (what ≡ codes "record") × (case ≡ name_of_direction direction) × (times ≡ number)
 AsksFor what case number (Store part megabytes) = (what ≡ codes "store") × (case ≡ name_of_part part) × (megabytes ≡ number)
 AsksFor what case number (Commit told times) = (what ≡ codes "commit") × (case ≡ name_of_told told) × (times ≡ number)
+AsksFor what case number (Turn times) = (what ≡ codes "turn") × (case ≡ codes "here") × (times ≡ number)
 
 -- Three words ask for it, and the third is a number in decimal digits.
 pub record Asks (words : List (List ℕ)) (task : Task) : Type 0 where

@@ -1,4 +1,4 @@
--- What is counted of a journal in memory.
+-- What is counted of a journal in memory, and what files still hold that a book was told anew on.
 use Rattle.std.specs.Prelude.{◌≡◌, ℕ, List, []}
 use Rattle.world_traits.specs.Files.{Files}
 use Rattle.action_queue.specs.Book.{Meaning}
@@ -15,3 +15,9 @@ pub record HasSettled (bytes : List ℕ) (count : ℕ) : Type 0 where
   pub book : Meaning
   pub holds : HasBook mail book (left_alone bytes)
   pub settled : count ≡ due book.queue
+
+-- files that hold one book, before and after
+pub record HoldTheSame (before after : Files) : Type 0 where
+  pub book : Meaning
+  pub first : HasBook mail book before
+  pub last : HasBook mail book after

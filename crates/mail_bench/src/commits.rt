@@ -10,7 +10,7 @@ use crate::records::{ROWS, learned};
 use mail_base::Status;
 use record_codec::{RecordFault, decode};
 use std::alloc::{AllocError, Global};
-use store_core::{CommitFault, Store, StoreFault};
+use store_core::{CommitFault, Store, StoreFault, is_old};
 use world_traits::MemDisk;
 
 /// What each resynchronisation tells.
@@ -79,6 +79,9 @@ fn commit(alloc: Global, store: &mut Store, disk: &mut MemDisk, body: &[u8]) -> 
     ensures done { OnOk result (IsAsLeft mail store.new (state_of disk.new).clock.now (state_of disk.new).files) }
 {
     let event = decode(alloc, body).map_err(unread)?;
+    if is_old(&event) {
+        return Err(Status::Journal);
+    }
     if store.allows(&event).is_some() {
         return Err(Status::Journal);
     }

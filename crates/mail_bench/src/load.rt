@@ -1,5 +1,6 @@
 //! What the words of the program ask for: which stream, and how long (RFC 9051, sections 2.2 and 4.3); what is done with a
-//! record, and how often; or with a journal, and how long it is; or what a resynchronisation tells, and how often.
+//! record, and how often; or with a journal, and how long it is; or what a resynchronisation tells, and how often; or how often
+//! the book of the journal in the present folder is told anew.
 
 ghost use Rattle.std.specs.Prelude.{◌≡◌, ◌<◌, ◌*◌, length, map, string_bytes, IfOk, IfSome, IsNone};
 ghost use Rattle.mail_bench.specs.Asked.{Asks, AsksFor};
@@ -77,10 +78,13 @@ pub enum Task {
     Store(Part, u32),
     /// A resynchronisation is committed so often.
     Commit(Told, u32),
+    /// The book of the journal in the present folder is told anew so often.
+    Turn(u32),
 }
 
-/// What `feed CASE NUMBER`, `read CASE NUMBER`, `record DIRECTION NUMBER`, `store PART NUMBER` or `commit TOLD NUMBER` asks for.
-/// A number counts 1,000,000 bytes each, or 1,000 for the case `bytes`; that of a record or a commit says how often.
+/// What `feed CASE NUMBER`, `read CASE NUMBER`, `record DIRECTION NUMBER`, `store PART NUMBER`, `commit TOLD NUMBER` or
+/// `turn here NUMBER` asks for. A number counts 1,000,000 bytes each, or 1,000 for the case `bytes`; that of a record, a commit
+/// or a turn says how often.
 pub fn task_of(words: &[String]) -> Option<Task>
     ensures some { IfSome result (Asks (map string_bytes words.now)) }
     ensures none { IsNone result → (task : _) → ¬ (Asks (map string_bytes words.now) task) }
@@ -103,6 +107,7 @@ fn task_for(what: &str, case: &str, number: u32) -> Option<Task>
         "record" => Some(Task::Record(direction_of(case)?, number)),
         "store" => Some(Task::Store(part_of(case)?, number)),
         "commit" => Some(Task::Commit(told_of(case)?, number)),
+        "turn" if case == "here" => Some(Task::Turn(number)),
         _ => None,
     }
 }

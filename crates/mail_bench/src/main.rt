@@ -1,6 +1,6 @@
 //! The program `mail_bench`: pushes a long stream through a feed, reads its frames where that is asked for, and tells how many
-//! frames and bytes came; writes or reads a large record again and again; makes a long journal and opens it; or commits a
-//! resynchronisation again and again. It is there to be timed.
+//! frames and bytes came; writes or reads a large record again and again; makes a long journal and opens it; commits a
+//! resynchronisation again and again; or tells the book of a journal anew again and again. It is there to be timed.
 #![tactic(auto)]
 
 mod block;
@@ -10,6 +10,7 @@ mod load;
 mod meter;
 mod records;
 mod stores;
+mod turns;
 
 use block::Block;
 use commits::{Told, commit_often};
@@ -21,17 +22,25 @@ use meter::{Meter, measure};
 use record_codec::RecordFault;
 use records::{Direction, ROWS, learned, repeat};
 use std::env;
+use std::fs::{File, Files};
+use std::net::{Net, TcpStream};
 use std::process::ExitCode;
 use std::rt::Env;
+use std::time::Clock;
 use store_core::StoreFault;
 use stores::{Part, actions_in, journal, settled_in};
+use turns::{status_of, tell_anew};
+use world_real::RealWorld;
 
 fn main(rt: HostRuntime) -> ExitCode {
     ExitCode::from(answer(&rt).code())
 }
 
 // The status of what the arguments ask for.
-fn answer<R: Env + Print + AllocGlobal>(rt: &R) -> Status {
+fn answer<R>(rt: &R) -> Status
+where
+    R: Files<File = File> + Net<Stream = TcpStream> + Clock + Env + Print + AllocGlobal,
+{
     let Ok(arguments) = env::args(rt) else {
         return told(rt, "error words", Status::Words);
     };
@@ -47,6 +56,7 @@ fn answer<R: Env + Print + AllocGlobal>(rt: &R) -> Status {
         Some(Task::Record(direction, times)) => record(rt, direction, times),
         Some(Task::Store(part, megabytes)) => store(rt, part, megabytes),
         Some(Task::Commit(told, times)) => commit(rt, told, times),
+        Some(Task::Turn(times)) => turn(rt, times),
     }
 }
 
@@ -108,10 +118,28 @@ fn commit<R: Print + AllocGlobal>(rt: &R, told: Told, times: u32) -> Status {
     }
 }
 
+// Tells the book of the journal in the present folder anew so often, and how many bytes it takes.
+fn turn<R>(rt: &R, times: u32) -> Status
+where
+    R: Files<File = File> + Net<Stream = TcpStream> + Clock + Print + AllocGlobal,
+{
+    let mut world = RealWorld::new(rt, Some("."), None);
+    let size = tell_anew(rt.alloc(), &mut world, times);
+    drop(world);
+    match size {
+        Ok(size) => match println!(rt; "turn {times} times {size} bytes") {
+            Ok(()) => Status::Done,
+            Err(_) => Status::Output,
+        },
+        Err(fault) => reported(rt, status_of(fault)),
+    }
+}
+
 // Prints why it isn't done.
 fn reported<R: Print>(rt: &R, status: Status) -> Status {
     match status {
         Status::Memory => told(rt, "error memory", status),
+        Status::Disk => told(rt, "error disk", status),
         Status::Reply => told(rt, "error reply", status),
         _ => told(rt, "error journal", status),
     }

@@ -4,6 +4,7 @@ use Rattle.action_queue.specs.declared.event.Event.{Event}
 use Rattle.imap_model.specs.Carrying.{Waiting}
 use Rattle.imap_model.specs.declared.server.Server.{Server}
 use Rattle.imap_session.specs.declared.permits.Permits.{Permits}
+use Rattle.journal_core.specs.Sides.{version_written}
 use Rattle.journal_core.specs.declared.version.Version.{Version}
 use Rattle.play_driver.proofs.Calls.{takes_stays}
 use Rattle.play_driver.proofs.KnownRecords.{permitted_by}
@@ -15,8 +16,11 @@ use Rattle.play_driver.specs.TrueRecords.{TrueEvent}
 use Rattle.play_driver.proofs.PlayedKept.{withstood}
 use Rattle.playback.specs.Permitted.{Permits as Permitted}
 use Rattle.action_queue.specs.Events.{IsLawful}
-use Rattle.action_queue.specs.Rules.{first_broken}
+use Rattle.action_queue.specs.Queues.{due, due_action}
+use Rattle.action_queue.specs.Rules.{comes_before_intent, first_broken, is_early, is_misfit, is_misplaced, rests_on_intent}
+use Rattle.action_queue.specs.declared.rule.Rule.{Rule}
 use Rattle.action_queue.specs.declared.rule.Version.{Version as Rules}
+use Rattle.action_queue.specs.declared.rule.Version.TheVariants as rules
 use Rattle.play_driver.proofs.Folds.{fold_sound}
 use Rattle.play_driver.specs.Progress.{IsPlayEvent}
 use Rattle.playback.proofs.Allowing.{allowed_need}
@@ -33,9 +37,10 @@ use Rattle.playback.specs.Why.{WhyEvent, WhyOutcome, is_open}
 use Rattle.playback.specs.Worlds.{World}
 use Rattle.playback.specs.declared.need.Need.{Need}
 use Rattle.playback.specs.declared.player.Player.{Player}
-use Rattle.std.proofs.Common.{Bool, None, Option, Some, inl, inr, subst, sym, ◌≡◌}
+use Rattle.std.proofs.Common.{Bool, None, Option, Some, cond, false, inl, inr, is_some, not, refl, subst, sym, true, ◌+◌, ◌≡◌}
+use Rattle.std.specs.Prelude.{is_none, ◌&&◌, ◌==◌, ◌||◌}
 use Rattle.store_core.proofs.MailBook.{one_mail_event}
-use Rattle.store_core.specs.Mail.{MayCome, mail, rules_of}
+use Rattle.store_core.specs.Mail.{IsOld, MayCome, mail}
 use Rattle.store_core.specs.Taking.{Takes}
 use Rattle.world_traits.specs.Moments.{Clock}
 use Rattle.action_queue.specs.declared.event.Event.TheVariants as events
@@ -48,6 +53,9 @@ why_commit entry b c (events.Accept id action) why = absurd why
 why_commit entry b c (events.Intend id intent) why = why
 why_commit entry b c (events.Settle id outcome) why = absurd why
 why_commit entry b c (events.Learn name delta) why = tt
+why_commit entry b c (events.Old id action outcome) why = absurd why
+why_commit entry b c (events.Reset name before told) why = absurd why
+why_commit entry b c (events.Withdraw id tries) why = absurd why
 
 reason_by : (entry : Meaning) (p : Player) (b : Meaning) (w : World) (event : Event) (need : Need) → p.resumed ≡ is_open entry b →
     IsAllowed need p b w → Records need event → WhyEvent event entry b w.course
@@ -120,19 +128,53 @@ ready_by p b event needs.Finished lawful is = absurd is
 pub ready : (p : Player) (b : Meaning) (event : Event) → IsFold b → IsBeside p b → Records (need_of p b) event → IsReadyEvent b event
 ready p b event fold beside is = ready_by p b event (need_of p b) (lawful_need parts p b (fold_sound b fold) beside) is
 
--- each version of a journal has the same rules
-any_version : (v w : Rules) (b : Meaning) (event : Event) → first_broken v b event ≡ None → first_broken w b event ≡ None
-any_version v w b (events.Begin names) unbroken = unbroken
-any_version v w b (events.Accept id action) unbroken = unbroken
-any_version v w b (events.Intend id intent) unbroken = unbroken
-any_version v w b (events.Settle id outcome) unbroken = unbroken
-any_version v w b (events.Learn name delta) unbroken = unbroken
+-- What playback records may come by the rules of the first version, whichever it may come by: the second one has a test of outcomes more.
+behind_test : (x : Bool) (r : Rule) (o p : Option Rule) → (o ≡ None → p ≡ None) → cond x (Some r) o ≡ None → cond x (Some r) p ≡ None
+behind_test true r o p later is = absurd cc
+behind_test false r o p later is = later is
 
-pub may_come : (version : Version) (p : Player) (b : Meaning) (event : Event) → IsFold b → IsBeside p b → Records (need_of p b) event →
-    MayCome version (Some b) event
-may_come version p b event fold beside is =
+test_less : (x y : Bool) (r : Rule) → cond (x || y) (Some r) None ≡ None → cond (x || false) (Some r) None ≡ None
+test_less true y r is = absurd cc
+test_less false y r is = refl
+
+by_first : (v : Rules) (b : Meaning) (event : Event) → IsPlayEvent event → first_broken v b event ≡ None → first_broken rules.First b event ≡ None
+by_first rules.First b event of_play unbroken = unbroken
+by_first rules.Second b (events.Begin names) of_play unbroken = absurd of_play
+by_first rules.Second b (events.Accept id action) of_play unbroken = absurd of_play
+by_first rules.Second b (events.Intend id intent) of_play unbroken = unbroken
+by_first rules.Second b (events.Settle id outcome) of_play unbroken =
+    behind_test (is_none (due_action b.queue)) _ _ _
+    (behind_test (not (id == due b.queue + 1)) _ _ _
+    (behind_test (is_none b.pending && rests_on_intent outcome) _ _ _
+    (behind_test (is_some b.pending && comes_before_intent outcome) _ _ _
+    (behind_test (is_misplaced (due_action b.queue) outcome) _ _ _
+    (test_less (is_misfit b (due_action b.queue) outcome) (is_early rules.Second (due_action b.queue) outcome) _))))) unbroken
+by_first rules.Second b (events.Learn name delta) of_play unbroken = unbroken
+by_first rules.Second b (events.Old id action outcome) of_play unbroken = absurd of_play
+by_first rules.Second b (events.Reset name before told) of_play unbroken = absurd of_play
+by_first rules.Second b (events.Withdraw id tries) of_play unbroken = absurd of_play
+
+-- what the player needs may come in a journal of the version that is written
+pub may_come : (version : Version) → version ≡ version_written → (p : Player) (b : Meaning) (event : Event) → IsFold b → IsBeside p b →
+    Records (need_of p b) event → MayCome version (Some b) event
+may_come version written p b event fold beside is =
     let lawful = (ready p b event fold beside is).lawful in
-    any_version lawful.version (rules_of version) b event lawful.unbroken
+    subst (λ (v : Version). MayCome v (Some b) event) (sym written)
+    (by_first lawful.version b event (of_playback p b event is) lawful.unbroken)
+
+-- and it is none that is told anew
+play_new : (event : Event) → IsPlayEvent event → IsOld event → ⊥
+play_new (events.Begin names) of_play old = old
+play_new (events.Accept id action) of_play old = old
+play_new (events.Intend id intent) of_play old = old
+play_new (events.Settle id outcome) of_play old = old
+play_new (events.Learn name delta) of_play old = old
+play_new (events.Old id action outcome) of_play old = of_play
+play_new (events.Reset name before told) of_play old = old
+play_new (events.Withdraw id tries) of_play old = old
+
+pub never_old : (p : Player) (b : Meaning) (event : Event) → Records (need_of p b) event → IsOld event → ⊥
+never_old p b event is = play_new event (of_playback p b event is)
 
 -- what the player knows behind the record, of the store's book and the player as they are
 pub known_then : (p q : Player) (b c : Meaning) (event : Event) → c ≡ after b event → q ≡ committed p c → (made new : Clock)

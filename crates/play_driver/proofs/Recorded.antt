@@ -3,6 +3,7 @@ use Rattle.action_queue.specs.Book.{Meaning}
 use Rattle.action_queue.specs.declared.event.Event.{Event}
 use Rattle.imap_session.specs.Session.{Stands}
 use Rattle.journal_core.specs.OneSide.{EachOneSide}
+use Rattle.journal_core.specs.Sides.{version_written}
 use Rattle.literal_feed.specs.Stream.{Stream}
 use Rattle.play_driver.proofs.GroundChains.{record_grounded}
 use Rattle.play_driver.proofs.OneTurn.{stands_kept}
@@ -49,11 +50,11 @@ stands_still selected k m c d feed same link stands =
     })
 
 module _ {Self : Type 0} (W : Ghosts Self) (old new : Self) (session : Session) (p : Player) (s : Holding mail) (event : Event) (seen : Files)
-    (fold : IsFold s.book) (rests : Rests W old p s.book session) (needed : Records (need_of p s.book) event)
+    (fold : IsFold s.book) (version : s.journal.version ≡ version_written) (rests : Rests W old p s.book session) (needed : Records (need_of p s.book) event)
     (left : W.tells_files → IsAsLeft mail s (W.clock old).now seen)
     (takes : W.tells_files → Takes mail (Some s.book) event (W.clock old) (W.clock new)) where
   pub may : MayCome s.journal.version (Some s.book) event
-  may = may_come s.journal.version p s.book event fold rests.beside needed
+  may = may_come s.journal.version version p s.book event fold rests.beside needed
 
   pub stands : W.tells_server → IsKept mail Kept (W.clock old).now → StandsKept s.book (W.clock old)
   stands t kept = stands_kept s _ _ _ _ _ (left (W.server_with_files t)) (rests.stands t) kept

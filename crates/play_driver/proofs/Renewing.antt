@@ -142,6 +142,9 @@ module _ (e : Meaning) where
         λ n cache is. learned_stands b name delta s w st permitted n cache (cache_put name n new b.boxes cache is),
         st.2,
       )
+  stand_event (Some b) (events.Old id action outcome) s w follows permitted st = absurd permitted
+  stand_event (Some b) (events.Reset name kept told) s w follows permitted st = absurd permitted
+  stand_event (Some b) (events.Withdraw id tries) s w follows permitted st = absurd permitted
 
   pub stand_withstood : Withstands mail played (AllStand e)
   stand_withstood = record {

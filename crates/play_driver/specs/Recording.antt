@@ -27,6 +27,9 @@ TakesMemory (events.Accept id action) = Unit {0}
 TakesMemory (events.Intend id intent) = Unit {0}
 TakesMemory (events.Settle id outcome) = ⊥
 TakesMemory (events.Learn name delta) = Unit {0}
+TakesMemory (events.Old id action outcome) = Unit {0}
+TakesMemory (events.Reset name kept told) = Unit {0}
+TakesMemory (events.Withdraw id tries) = Unit {0}
 
 -- Why an event isn't recorded: memory is wanting; or the disk failed; or the journal has no room for it.
 pub data NotRecorded (event : Event) (store : Holding mail) (fault : PlayFault) : Type 0 where

@@ -34,6 +34,9 @@ learns_by (events.Accept id action) = 0
 learns_by (events.Intend id intent) = 0
 learns_by (events.Settle id outcome) = 0
 learns_by (events.Learn name delta) = 1
+learns_by (events.Old id action outcome) = 0
+learns_by (events.Reset name kept told) = 0
+learns_by (events.Withdraw id tries) = 0
 
 -- and for a need
 abbrev pub learns_for : Need → ℕ

@@ -8,7 +8,7 @@ ghost use Rattle.playback.specs.Left.{left};
 ghost use Rattle.playback.specs.Needs.{need_of};
 ghost use Rattle.store_core.specs.Fold.{IsFold};
 ghost use Rattle.store_core.specs.Holding.{IsAsLeft};
-ghost use Rattle.store_core.specs.Mail.{mail, MayCome};
+ghost use Rattle.store_core.specs.Mail.{mail, IsOld, MayCome};
 ghost use Rattle.store_core.specs.Taking.{Takes};
 ghost use Rattle.store_core.specs.declared.fault.CommitFault.{CommitFault};
 ghost use Rattle.store_core.specs.declared.fault.CommitFault.TheVariants as commits;
@@ -63,6 +63,8 @@ pub(crate) fn record<W: World>(
     ensures rests { IfOk result (Rests W.Clocked world.new player.new store.new.book) }
     ensures stored { Stored W.Clocked world.new (W.seen world.new) store.old.book store.new result }
 {
+    // A store's journal is of the version that is written, by whose rules the event may come.
+    let _version = store.version();
     enter_event(alloc, store, world, event)?;
     player.committed(store.book());
     Ok(session)
@@ -77,6 +79,7 @@ fn enter_event<D: Disk>(
 ) -> Result<(), CommitFault>
     requires lawful { MayCome store.old.journal.version (Some store.old.book) event }
     requires writable { IsWritable event }
+    requires fresh { IsOld event → ⊥ }
     requires sound { IsTrue store.old.journal.failed → ⊥ }
     requires left { D.tells_files
         → IsAsLeft mail store.old (D.clock disk.old).now (D.seen disk.old) }

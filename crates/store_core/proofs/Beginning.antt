@@ -11,7 +11,7 @@ use Rattle.world_traits.specs.Links.{Any}
 use Rattle.world_traits.proofs.Passing.{since_start, since_then, since_weaker}
 use Rattle.world_traits.proofs.Traces.{since_both}
 use Rattle.journal_core.specs.declared.version.Version.{Version}
-use Rattle.journal_core.specs.declared.version.Version.TheVariants.{First}
+use Rattle.journal_core.specs.Sides.{version_written}
 use Rattle.mail_base.specs.Bodies.{frame_of}
 use Rattle.journal_core.specs.Records.{open_record, records}
 use Rattle.journal_core.specs.Holds.{Holds}
@@ -56,16 +56,19 @@ fits_first (events.Accept id action) are kept = absurd are
 fits_first (events.Intend id intent) are kept = absurd are
 fits_first (events.Settle id outcome) are kept = absurd are
 fits_first (events.Learn name delta) are kept = absurd are
+fits_first (events.Old id action outcome) are kept = absurd are
+fits_first (events.Reset name kept told) are k = absurd are
+fits_first (events.Withdraw id tries) are kept = absurd are
 
 module _ (body : List ℕ) (names : List (List ℕ)) (are : AreNames names) (is : Spelled body (events.Begin names)) where
-  pub make_begin : Make mail First (body ∷ []) (Some (begun names))
+  pub make_begin : Make mail version_written (body ∷ []) (Some (begun names))
   make_begin = record { events = events.Begin names ∷ []; spelled = (is, tt); folds = (are, refl) }
 
   pub some_begin : 0 < length body
   some_begin = omega (arith, ap length is.is)
 
-  has_begin : (files : Files) → Holds First (body ∷ []) files → HoldsBook mail (Some (begun names)) files
-  has_begin files h = record { version = First; bodies = body ∷ []; holds = h; make = make_begin }
+  has_begin : (files : Files) → Holds version_written (body ∷ []) files → HoldsBook mail (Some (begun names)) files
+  has_begin files h = record { version = version_written; written = refl; bodies = body ∷ []; holds = h; make = make_begin }
 
   module _ (k l : Clock) (bodies : List (List ℕ)) (one : bodies ≡ body ∷ []) (through : CreatesThrough bodies k l) where
     through_one : CreatesThrough (body ∷ []) k l
@@ -73,12 +76,12 @@ module _ (body : List ℕ) (names : List (List ℕ)) (are : AreNames names) (is 
 
     pub creates : Creates mail (events.Begin names) k l
     creates =
-        since_weaker (λ m. Within k.now m ⊎ Images (λ files. IsUnbegun files ⊎ Holds First (body ∷ []) files) m) (IsCreating mail (events.Begin names) k.now)
-        (λ m n. Within m n ⊎ GoesOn IsUnbegun (Holds First (body ∷ [])) m n)
+        since_weaker (λ m. Within k.now m ⊎ Images (λ files. IsUnbegun files ⊎ Holds version_written (body ∷ []) files) m) (IsCreating mail (events.Begin names) k.now)
+        (λ m n. Within m n ⊎ GoesOn IsUnbegun (Holds version_written (body ∷ [])) m n)
         (λ m n. Within m n ⊎ GoesOn (HoldsBook mail None) (HoldsBook mail (Some (begun names))) m n)
-        (λ m p. ⊎_elim (λ w. inl w) (λ i. inr (either_as IsUnbegun (Holds First (body ∷ [])) (HoldsBook mail None)
+        (λ m p. ⊎_elim (λ w. inl w) (λ i. inr (either_as IsUnbegun (Holds version_written (body ∷ [])) (HoldsBook mail None)
         (HoldsBook mail (Some (begun names))) (λ files f. f) has_begin m i)) p)
-        (λ m n s. ⊎_elim (λ w. inl w) (λ g. inr (goes_as IsUnbegun (Holds First (body ∷ [])) (HoldsBook mail None)
+        (λ m n s. ⊎_elim (λ w. inl w) (λ g. inr (goes_as IsUnbegun (Holds version_written (body ∷ [])) (HoldsBook mail None)
         (HoldsBook mail (Some (begun names))) (λ files f. f) has_begin m n g)) s)
         k l through_one
 
@@ -92,8 +95,8 @@ module _ (body : List ℕ) (names : List (List ℕ)) (are : AreNames names) (is 
       (bodies : List (List ℕ)) (one : bodies ≡ body ∷ []) (behind : CreatesBehind bodies k l seen) where
     takes_begin : Takes mail None (events.Begin names) behind.at l
     takes_begin =
-        passes_as IsUnbegun (Holds First (body ∷ [])) (HoldsBook mail None) (HoldsBook mail (Some (begun names))) (λ files f. f) has_begin behind.at l
-        (subst (λ (b : List (List ℕ)). Passes IsUnbegun (Holds First b) behind.at l) one behind.passes)
+        passes_as IsUnbegun (Holds version_written (body ∷ [])) (HoldsBook mail None) (HoldsBook mail (Some (begun names))) (λ files f. f) has_begin behind.at l
+        (subst (λ (b : List (List ℕ)). Passes IsUnbegun (Holds version_written b) behind.at l) one behind.passes)
 
     pub begins_behind : BeginsBehind mail (events.Begin names) k l
     begins_behind = record {
@@ -102,13 +105,14 @@ module _ (body : List ℕ) (names : List (List ℕ)) (are : AreNames names) (is 
       takes = takes_begin;
     }
 
-  pub left_begun : (j : Standing) (m : Moment) (f : Files) (bodies : List (List ℕ)) → bodies ≡ body ∷ [] → j.version ≡ First →
+  pub left_begun : (j : Standing) (m : Moment) (f : Files) (bodies : List (List ℕ)) → bodies ≡ body ∷ [] → j.version ≡ version_written →
       j.all_read ≡ true → IsStill j bodies m f → (book : Meaning) → book ≡ begun names →
       IsAsLeft mail (record { journal = j; book = book }) m f
   left_begun j m f bodies one version read still book becomes = record {
+    written = version;
     bodies = body ∷ [];
     make = subst (λ (v : Version). Make mail v (body ∷ []) (Some book)) (sym version)
-        (subst (λ (b : Meaning). Make mail First (body ∷ []) (Some b)) (sym becomes) make_begin);
+        (subst (λ (b : Meaning). Make mail version_written (body ∷ []) (Some b)) (sym becomes) make_begin);
     still = subst (λ (b : List (List ℕ)). IsStill j b m f) one still;
     all_read = read;
   }
@@ -126,20 +130,20 @@ module _ (names : List (List ℕ)) (are : AreNames names) (k l : Clock) (creates
   abbrev Goes : Moment → Moment → Type 0
   Goes m n = Within m n ⊎ GoesOn (HoldsBook mail None) (HoldsBook mail (Some (begun names))) m n
 
-  any_steps : Since Any (BeginsStep mail First (events.Begin names)) k l
+  any_steps : Since Any (BeginsStep mail version_written (events.Begin names)) k l
   any_steps =
-      since_then Any (BeginsStep mail First (events.Begin names)) k b.at l
-      (since_weaker Any Any (ChoosesStep mail) (BeginsStep mail First (events.Begin names)) (λ m p. p) (λ m n s. inl s) k b.at b.chooses)
+      since_then Any (BeginsStep mail version_written (events.Begin names)) k b.at l
+      (since_weaker Any Any (ChoosesStep mail) (BeginsStep mail version_written (events.Begin names)) (λ m p. p) (λ m n s. inl s) k b.at b.chooses)
       (since_weaker (IsTaking mail None (events.Begin names)) Any (GoesOn (HoldsBook mail None) (HoldsBook mail (Some (begun names))))
-      (BeginsStep mail First (events.Begin names)) (λ m p. tt)
-      (λ m n s. inr (step_of mail First None (events.Begin names) are m n s)) b.at l b.takes)
+      (BeginsStep mail version_written (events.Begin names)) (λ m p. tt)
+      (λ m n s. inr (step_of mail version_written None (events.Begin names) are m n s)) b.at l b.takes)
 
   -- as steps of the books
-  pub begins_steps : Since (IsCreating mail (events.Begin names) k.now) (BeginsStep mail First (events.Begin names)) k l
+  pub begins_steps : Since (IsCreating mail (events.Begin names) k.now) (BeginsStep mail version_written (events.Begin names)) k l
   begins_steps =
       since_weaker (λ m. IsCreating mail (events.Begin names) k.now m × Any m) (IsCreating mail (events.Begin names) k.now)
-      (λ m n. Goes m n × BeginsStep mail First (events.Begin names) m n) (BeginsStep mail First (events.Begin names)) (λ m p. p.0) (λ m n s. s.1) k l
-      (since_both (IsCreating mail (events.Begin names) k.now) Any Goes (BeginsStep mail First (events.Begin names)) k l creates any_steps)
+      (λ m n. Goes m n × BeginsStep mail version_written (events.Begin names) m n) (BeginsStep mail version_written (events.Begin names)) (λ m p. p.0) (λ m n s. s.1) k l
+      (since_both (IsCreating mail (events.Begin names) k.now) Any Goes (BeginsStep mail version_written (events.Begin names)) k l creates any_steps)
 
 one_record : (b : List ℕ) → length (records (b ∷ [])) ≡ 5 + length b
 one_record b = omega (arith, length-append (open_record b) [], length-append (to_be_bytes w32 (length b)) b)

@@ -1,12 +1,13 @@
 -- How a journal's events are entered, one behind the other.
 use Rattle.std.proofs.Common.{◌≡◌, ℕ, ◌+◌, ◌<◌, ◌≤◌, ◌^◌, true, false, IsTrue, List, [], ◌∷◌, ◌++◌, length, get_or, take, drop, slice_get}
-use Rattle.std.proofs.Common.{Option, Some, None, Result, Ok, Err, IfOk, refl, sym, ◌∙◌, ap, subst, arith, append_assoc, length-append}
+use Rattle.std.proofs.Common.{inl, inr, Option, Some, None, Result, Ok, Err, IfOk, IsErrOf, refl, sym, ◌∙◌, ap, subst, arith, append_assoc, length-append}
 use Rattle.std.proofs.Common.{take-append-drop}
 use Rattle.std.proofs.lemmas.List.{append-nil, take_more, drop_more}
 use Rattle.std.proofs.lemmas.Option.{slice_get_within, get_or_from_slice_get}
 use Rattle.world_traits.specs.Files.{Files, file_of}
 use Rattle.world_traits.specs.Moments.{Moment, Clock, Since, Within, Narrows}
 use Rattle.world_traits.proofs.Passing.{since_weaker}
+use Rattle.journal_core.specs.Sides.{version_written}
 use Rattle.journal_core.specs.declared.version.Version.{Version}
 use Rattle.journal_core.specs.declared.fault.Place9.{Place9}
 use Rattle.journal_core.specs.declared.fault.Place9.TheVariants as places
@@ -16,7 +17,7 @@ use Rattle.journal_core.specs.Records.{open_record, records}
 use Rattle.journal_core.specs.Appending.{told_end}
 use Rattle.journal_core.specs.Standing.{Standing, IsStill}
 use Rattle.journal_core.specs.Broken.{IsNotDue, torn, other, missing}
-use Rattle.journal_core.specs.Reading.{HasClosedGate, StandsAt, NextIs, IsNoJournal}
+use Rattle.journal_core.specs.Reading.{HasClosedGate, StandsAt, NextIs, IsAtFirst, IsNoJournal}
 use Rattle.journal_core.specs.Several.{StandFrom, behind_all}
 use Rattle.journal_core.proofs.Few.{longer, stand_split, still_here}
 use Rattle.journal_core.proofs.UpTo.{up_to_here}
@@ -28,11 +29,12 @@ use Rattle.action_queue.specs.Rules.{first_broken}
 use Rattle.std.specs.Option.{is_some}
 use Rattle.record_codec.specs.Spelling.{Spelled}
 use Rattle.store_core.specs.Keeping.{Keeping}
+use Rattle.store_core.specs.declared.fault.StoreFault.TheVariants as store
 use Rattle.store_core.specs.Mail.{mail, rules_of}
 use Rattle.store_core.specs.Books.{Make, HasBook}
 use Rattle.store_core.specs.Holding.{IsAsLeft}
 use Rattle.store_core.specs.HeldActions.{KeepsActions}
-use Rattle.store_core.specs.Broken.{IsUndue, IsBroken}
+use Rattle.store_core.specs.Broken.{IsUndue, IsBroken, IsOfAnotherVersion}
 use Rattle.store_core.specs.Reading.{Enters, EntersAll, ReadsBook, UndueAt}
 use Rattle.store_core.proofs.Folding.{make_none, make_more}
 use Rattle.store_core.proofs.MailBook.{one_mail_event}
@@ -150,8 +152,22 @@ gate_closed j after file (Some b) is next = absurd cc
 pub no_journal_broken : (K : Keeping) (why : Place9) (f : Files) → IsNoJournal why f → IsBroken K why f
 no_journal_broken K (places.Record at) f not = absurd not
 no_journal_broken K places.Absent f not = not
-no_journal_broken K places.Header f not = not
+no_journal_broken K places.Header f not = inl not
 no_journal_broken K places.Generations f not = not
+
+-- a journal of another version is told as a wrong header
+pub another_version : (j : Standing) (f : Files) → IsAtFirst j f → (j.version ≡ version_written → ⊥) → IsOfAnotherVersion f
+another_version j f at differs = record { side = j.side; version = j.version; generation = j.generation; present = at.present; other = differs }
+
+pub header_broken : (K : Keeping) (f : Files) → IsOfAnotherVersion f → (why : Place9) → places.Header ≡ why → IsBroken K why f
+header_broken K f version why is = subst (λ (w : Place9). IsBroken K w f) is (inr version)
+
+-- such a fault is the wrong header, and not the disk's
+pub header_told : {T : Type 0} (why : Place9) → IsErrOf {T = T} (Err (store.NotAJournal places.Header)) (store.NotAJournal why) → places.Header ≡ why
+header_told why is = cc
+
+pub header_no_disk : {T : Type 0} → IsErrOf {T = T} (Err (store.NotAJournal places.Header)) store.Disk → ⊥
+header_no_disk is = cc
 
 no_longer : (xs ys : List (List ℕ)) → length (records xs) ≤ length (records (xs ++ ys))
 no_longer [] ys = omega arith
@@ -194,13 +210,14 @@ reads_first K v body later j m f same e still =
     }
 
 -- all were, so the files hold the book
-pub holds_all : (K : Keeping) (book : K.Book) (j : Standing) (m : Moment) (f g : Files) → f ≡ g → ReadsBook K book j m f → IsTrue j.all_read → HasBook K book g
-holds_all K book j m f g same r read = subst (HasBook K book) same
-    (record { version = j.version; bodies = r.bodies; holds = still_holds j r.bodies m f r.still read; make = r.make })
+pub holds_all : (K : Keeping) (book : K.Book) (j : Standing) (m : Moment) (f g : Files) → f ≡ g → ReadsBook K book j m f → IsTrue j.all_read →
+    j.version ≡ version_written → HasBook K book g
+holds_all K book j m f g same r read written = subst (HasBook K book) same
+    (record { version = j.version; written = written; bodies = r.bodies; holds = still_holds j r.bodies m f r.still read; make = r.make })
 
 pub left_as : (K : Keeping) (book : K.Book) (j : Standing) (m : Moment) (f : Files) → ReadsBook K book j m f → j.all_read ≡ true →
-    IsAsLeft K (record { journal = j; book = book }) m f
-left_as K book j m f r read = record { bodies = r.bodies; make = r.make; still = r.still; all_read = read }
+    j.version ≡ version_written → IsAsLeft K (record { journal = j; book = book }) m f
+left_as K book j m f r read written = record { written = written; bodies = r.bodies; make = r.make; still = r.still; all_read = read }
 
 -- a body whose event breaks a rule spells none that may come
 pub undue : (v : Version) (b : Meaning) (body : List ℕ) (e : Event) → Spelled body e → true ≡ is_some (first_broken (rules_of v) b e) →

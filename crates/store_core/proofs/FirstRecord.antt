@@ -24,6 +24,9 @@ letter_first (events.Accept id action) writable is = let never : 65 ≡ 66 = is 
 letter_first (events.Intend id intent) writable is = let never : 73 ≡ 66 = is in omega (arith, never)
 letter_first (events.Settle id outcome) writable is = let never : 83 ≡ 66 = is in omega (arith, never)
 letter_first (events.Learn name delta) writable is = let never : 76 ≡ 66 = is in omega (arith, never)
+letter_first (events.Old id action outcome) writable is = let never : 79 ≡ 66 = is in omega (arith, never)
+letter_first (events.Reset name kept told) writable is = let never : 82 ≡ 66 = is in omega (arith, never)
+letter_first (events.Withdraw id tries) writable is = let never : 87 ≡ 66 = is in omega (arith, never)
 
 first_letter : (e : Event) → IsFirst e → get_or (body_of e) 0 0 ≡ 66
 first_letter (events.Begin names) first = refl
@@ -31,6 +34,9 @@ first_letter (events.Accept id action) first = absurd first
 first_letter (events.Intend id intent) first = absurd first
 first_letter (events.Settle id outcome) first = absurd first
 first_letter (events.Learn name delta) first = absurd first
+first_letter (events.Old id action outcome) first = absurd first
+first_letter (events.Reset name kept told) first = absurd first
+first_letter (events.Withdraw id tries) first = absurd first
 
 pub lettered_first : (body : List ℕ) → get_or body 0 0 ≡ 66 → (e : Event) → Spelled body e → IsFirst e
 lettered_first body is e s = letter_first e s.writable (ap (λ (b : List ℕ). get_or b 0 0) (sym s.is) ∙ is)

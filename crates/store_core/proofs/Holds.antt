@@ -10,7 +10,7 @@ use Rattle.action_queue.specs.declared.outcome.Outcome.{Outcome}
 use Rattle.action_queue.specs.declared.queued.Queued.{Queued}
 use Rattle.action_queue.specs.declared.event.Event.{Event}
 use Rattle.action_queue.specs.declared.event.Event.TheVariants as events
-use Rattle.action_queue.specs.Queues.{accepted, settled, change_first, change_queued}
+use Rattle.action_queue.specs.Queues.{accepted, ended, settled, tried, change_first, change_queued}
 use Rattle.action_queue.specs.Book.{Meaning, after}
 use Rattle.store_core.specs.Mail.{mail}
 use Rattle.store_core.specs.Books.{HasBook}
@@ -66,6 +66,29 @@ settles o (x ∷ xs) place q named there is = by_outcome x.outcome refl place (�
         let s = later i here in
         record { now = s.now; there = s.there; asked = s.asked; ended = s.ended }
 
+-- and once its command was taken back
+withdraws : (n : ℕ) (queue : List Queued) (place : ℕ) (q : Queued) (named : Option Outcome) → slice_get queue place ≡ Some q →
+    IsNamed named q.outcome → Stays (change_first (tried n) queue) place q named
+withdraws n [] place q named there is = absurd cc
+withdraws n (x ∷ xs) place q named there is = by_outcome x.outcome refl place (λ i here. withdraws n xs i q named here is) there
+  where
+    by_outcome : (out : Option Outcome) → x.outcome ≡ out → (i : ℕ) →
+        ((i : ℕ) → slice_get xs i ≡ Some q → Stays (change_first (tried n) xs) i q named) → slice_get (x ∷ xs) i ≡ Some q →
+        Stays (change_queued (tried n) x xs (change_first (tried n) xs) out) i q named
+    by_outcome None none zero later here =
+        let same : x ≡ q = one_some x q here in
+        record {
+          now = tried n x;
+          there = refl;
+          asked = ap (λ (y : Queued). y.action) same;
+          ended = subst (λ (y : Queued). IsNamed named y.outcome) (sym same) is;
+        }
+    by_outcome None none (suc i) later here = stays_as (tried n x ∷ xs) (suc i) q named here is
+    by_outcome (Some old) some zero later here = stays_as (x ∷ change_first (tried n) xs) zero q named here is
+    by_outcome (Some old) some (suc i) later here =
+        let s = later i here in
+        record { now = s.now; there = s.there; asked = s.asked; ended = s.ended }
+
 module _ (place : ℕ) (action : Action) (named : Option Outcome) where
   has_as : (b : Meaning) (q : Queued) → q.action ≡ action → Stays b.queue place q named → HasAction place action named b
   has_as b q asked s = record { queued = s.now; there = s.there; asked = s.asked ∙ asked; ended = s.ended }
@@ -78,14 +101,23 @@ module _ (place : ℕ) (action : Action) (named : Option Outcome) where
   has_later b (events.Settle id outcome) h = has_as (after b (events.Settle id outcome)) h.queued h.asked
       (settles outcome b.queue place h.queued named h.there h.ended)
   has_later b (events.Learn name delta) h = record { queued = h.queued; there = h.there; asked = h.asked; ended = h.ended }
+  has_later b (events.Old id a outcome) h = record {
+    queued = h.queued;
+    there = more b.queue (ended a outcome) h.queued place h.there;
+    asked = h.asked;
+    ended = h.ended;
+  }
+  has_later b (events.Reset name kept told) h = record { queued = h.queued; there = h.there; asked = h.asked; ended = h.ended }
+  has_later b (events.Withdraw id tries) h = has_as (after b (events.Withdraw id tries)) h.queued h.asked
+      (withdraws tries b.queue place h.queued named h.there h.ended)
 
   -- what is held stands in the book of an image
-  has_in : (b : Meaning) (m : Moment) → Occurs (HasBook mail b) m → IsHeld place action named m → HasAction place action named b
+  pub has_in : (b : Meaning) (m : Moment) → Occurs (HasBook mail b) m → IsHeld place action named m → HasAction place action named b
   has_in b m occurs held =
       let h = held.each occurs.files occurs.leaves in
       subst (HasAction place action named) (sym (one_held mail one_mail_event occurs.files b h.book occurs.has h.holds)) h.has
 
-  holds_as : (b : Meaning) (files : Files) → HasAction place action named b → HasBook mail b files → HoldsAction place action named files
+  pub holds_as : (b : Meaning) (files : Files) → HasAction place action named b → HasBook mail b files → HoldsAction place action named files
   holds_as b files has holds = record { book = b; holds = holds; has = has }
 
 -- what each image of both kinds of files has, by phases

@@ -4,6 +4,7 @@ pub mod Unless
 pub mod Entering
 pub mod Folding
 pub mod Holds
+pub mod Anew
 pub mod Phases
 pub mod Wholeness
 pub mod Opens
@@ -11,3 +12,6 @@ pub mod AtRest
 pub mod MailBook
 pub mod FirstRecord
 pub mod Folds
+pub mod Moments
+pub mod Restated
+pub mod Telling

@@ -5,6 +5,8 @@ use Rattle.journal_core.specs.declared.creating.CreateFault.{CreateFault}
 use Rattle.journal_core.specs.declared.creating.CreateFault.TheVariants as creating
 use Rattle.journal_core.specs.declared.appending.AppendFault.{AppendFault}
 use Rattle.journal_core.specs.declared.appending.AppendFault.TheVariants as adding
+use Rattle.journal_core.specs.declared.turning.TurnFault.{TurnFault}
+use Rattle.journal_core.specs.declared.turning.TurnFault.TheVariants as turning
 use Rattle.store_core.specs.declared.fault.StoreFault.{StoreFault}
 use Rattle.store_core.specs.declared.fault.StoreFault.TheVariants as store
 use Rattle.store_core.specs.declared.fault.CommitFault.{CommitFault}
@@ -26,3 +28,7 @@ of_creating (creating.Full end wanted) = store.Full end wanted
 abbrev pub of_adding : AppendFault → CommitFault
 of_adding adding.Disk = commit.Disk
 of_adding (adding.Full end wanted) = commit.Full end wanted
+
+abbrev pub of_turning : TurnFault → StoreFault
+of_turning turning.Disk = store.Disk
+of_turning (turning.Full end wanted) = store.Full end wanted

@@ -10,3 +10,5 @@ pub mod Fold
 pub mod Broken
 pub mod Reading
 pub mod Faults
+pub mod Moments
+pub mod Anew

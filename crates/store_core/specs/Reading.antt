@@ -41,3 +41,8 @@ pub record UndueAt (K : Keeping) (version : Version) (book : K.Book) (at : ℕ) 
   pub later : List (List ℕ)
   pub is : bodies ≡ before ++ body ∷ later
   pub there : why ≡ places.Record (told_end (at + length (records before)))
+
+-- A journal goes on in its version; and whether the disk failed in an append stays.
+pub record SameJournal (old new : Standing) : Type 0 where
+  pub sound : new.failed ≡ old.failed
+  pub version : new.version ≡ old.version

@@ -16,6 +16,9 @@ limit_of (events.Accept id action) = max_accepted
 limit_of (events.Intend id intent) = max_side
 limit_of (events.Settle id outcome) = max_side
 limit_of (events.Learn name delta) = max_side
+limit_of (events.Old id action outcome) = max_side
+limit_of (events.Reset name kept told) = max_side
+limit_of (events.Withdraw id tries) = max_side
 
 -- the place behind the last gate of a store's journal, with the event's record behind the others
 abbrev pub end_after : Event → Holding mail → ℕ

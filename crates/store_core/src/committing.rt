@@ -1,20 +1,17 @@
 //! An event is recorded: it is on the disk before the book has it.
 
-ghost use Rattle.std.specs.Prelude.{◌≡◌, ◌≤◌, ◌<◌, ◌+◌, ℕ, Some, IsTrue, IsErr, IsErrOf, OnOk, false, true, length};
-ghost use Rattle.world_traits.specs.Calls.{Rose};
-ghost use Rattle.world_traits.specs.Moments.{Since, OneSideAtRest};
+ghost use Rattle.std.specs.Prelude.{◌≡◌, ◌↔◌, ◌≤◌, ◌<◌, ◌+◌, ℕ, Some, IsTrue, IsErr, IsErrOf, OnOk, false, true, length};
+ghost use Rattle.journal_core.specs.Blames.{BlamesWhere};
 ghost use Rattle.journal_core.specs.Appending.{end_with, told_end};
 ghost use Rattle.journal_core.specs.Limits.{max_side};
-ghost use Rattle.journal_core.specs.OneSide.{EachOneSide};
 ghost use Rattle.mail_base.specs.Bodies.{frame_of};
 ghost use Rattle.record_codec.specs.Bodies.{body_of};
 ghost use Rattle.action_queue.specs.Book.{after};
-ghost use Rattle.store_core.specs.Mail.{mail, MayCome};
+ghost use Rattle.store_core.specs.Mail.{mail, IsOld, MayCome};
 ghost use Rattle.action_queue.specs.Writable.{IsWritable};
 ghost use Rattle.action_queue.specs.declared.event.Event.TheVariants as events;
 ghost use Rattle.store_core.specs.Holding.{IsAsLeft};
-ghost use Rattle.store_core.specs.Taking.{IsTaking, Takes, TakesStep};
-ghost use Rattle.store_core.specs.HeldActions.{KeepsActions};
+ghost use Rattle.store_core.specs.Moments.{RecordsEvent};
 ghost use Rattle.store_core.specs.Room.{limit_of, end_after};
 ghost use Rattle.store_core.specs.declared.fault.CommitFault.TheVariants as faults;
 
@@ -33,7 +30,8 @@ pub const MAX_ACCEPTED: u64 = 536_870_912;
 pub const MAX_OTHER: u64 = MAX_SIDE;
 
 impl Store {
-    /// Records an event, and enters it into the book.
+    /// Records an event, and enters it into the book. An action that ended is told by a turn alone,
+    /// so it isn't committed.
     ///
     /// Memory is taken before the first write. After `Full` and `Memory` the book and the files are as before. After
     /// `Disk` the event is on the disk or not, and the store isn't used again.
@@ -45,15 +43,11 @@ impl Store {
     ) -> Result<(), CommitFault>
         requires lawful { MayCome self.old.journal.version (Some self.old.book) event }
         requires writable { IsWritable event }
+        requires fresh { IsOld event → ⊥ }
         requires sound { IsTrue self.old.journal.failed → ⊥ }
         requires still { D.tells_files → IsAsLeft mail self.old (D.clock disk.old).now (D.seen disk.old) }
 
-        // At every moment a stop leaves the book before or the one after; the books stay from one moment to the next, or
-        // the event is begun, or made firm; and no action that all images hold is lost.
-        ensures told { D.tells_files → Takes mail (Some self.old.book) event (D.clock disk.old) (D.clock disk.new) }
-        ensures steps { D.tells_files → Since (IsTaking mail (Some self.old.book) event)
-            (TakesStep mail self.old.journal.version event) (D.clock disk.old) (D.clock disk.new) }
-        ensures held { D.tells_files → Since (IsTaking mail (Some self.old.book) event) KeepsActions
+        ensures moments { D.tells_files → RecordsEvent self.old.journal.version self.old.book event
             (D.clock disk.old) (D.clock disk.new) }
 
         // After Ok the book is the one after the event, and the files hold it.
@@ -72,20 +66,22 @@ impl Store {
         ensures stopped { IsErrOf result faults.Disk → (self.new.book ≡ self.old.book) × (self.new.journal.failed ≡ true) }
         ensures kept { IsErr result → (IsErrOf result faults.Disk → ⊥) →
             (self.new ≡ self.old) × (disk.new ≡ disk.old) }
-        ensures one_side { D.tells_files → OneSideAtRest (D.clock disk.new).now }
-        ensures each_one_side { D.tells_files → EachOneSide (D.clock disk.old) (D.clock disk.new) }
-        ensures link { D.link disk.new ≡ D.link disk.old }
-        ensures count { D.disk_faults disk.old ≤ D.disk_faults disk.new }
-        ensures cause { IsErrOf result faults.Disk → Rose (D.disk_faults disk.old) (D.disk_faults disk.new) }
-        ensures unfailed { (IsErrOf result faults.Disk → ⊥) → D.disk_faults disk.new ≡ D.disk_faults disk.old }
+        ensures blames { BlamesWhere D.Clocked disk.old disk.new (IsErrOf result faults.Disk) }
     {
         let limit = limit_of(&event);
         room_for(&self.journal, size(&event), limit)?;
         let frame = encode(alloc, &event)?;
         let ready = self.book.prepare(event)?;
-        self.journal.append(disk, &frame, limit)?;
-        self.book.enter(ready);
-        Ok(())
+        match self.journal.append(disk, &frame, limit) {
+            Ok(()) => {
+                self.book.enter(ready);
+                Ok(())
+            }
+            Err(fault) => {
+                drop(ready);
+                Err(CommitFault::from(fault))
+            }
+        }
     }
 
     /// Records how the action that is due ended, and enters it into the book. It takes no memory.
@@ -103,10 +99,7 @@ impl Store {
         requires still { D.tells_files → IsAsLeft mail self.old (D.clock disk.old).now (D.seen disk.old) }
 
         // As `commit` says it of this event.
-        ensures told { D.tells_files → Takes mail (Some self.old.book) (events.Settle id outcome) (D.clock disk.old) (D.clock disk.new) }
-        ensures steps { D.tells_files → Since (IsTaking mail (Some self.old.book) (events.Settle id outcome))
-            (TakesStep mail self.old.journal.version (events.Settle id outcome)) (D.clock disk.old) (D.clock disk.new) }
-        ensures held { D.tells_files → Since (IsTaking mail (Some self.old.book) (events.Settle id outcome)) KeepsActions
+        ensures moments { D.tells_files → RecordsEvent self.old.journal.version self.old.book (events.Settle id outcome)
             (D.clock disk.old) (D.clock disk.new) }
         ensures value { OnOk result (self.new.book ≡ after self.old.book (events.Settle id outcome)) }
         ensures done { D.tells_files → OnOk result (IsAsLeft mail self.new (D.clock disk.new).now (D.seen disk.new)) }
@@ -123,17 +116,29 @@ impl Store {
         ensures stopped { IsErrOf result faults.Disk → (self.new.book ≡ self.old.book) × (self.new.journal.failed ≡ true) }
         ensures kept { IsErr result → (IsErrOf result faults.Disk → ⊥) →
             (self.new ≡ self.old) × (disk.new ≡ disk.old) }
-        ensures one_side { D.tells_files → OneSideAtRest (D.clock disk.new).now }
-        ensures each_one_side { D.tells_files → EachOneSide (D.clock disk.old) (D.clock disk.new) }
-        ensures link { D.link disk.new ≡ D.link disk.old }
-        ensures count { D.disk_faults disk.old ≤ D.disk_faults disk.new }
-        ensures cause { IsErrOf result faults.Disk → Rose (D.disk_faults disk.old) (D.disk_faults disk.new) }
-        ensures unfailed { (IsErrOf result faults.Disk → ⊥) → D.disk_faults disk.new ≡ D.disk_faults disk.old }
+        ensures blames { BlamesWhere D.Clocked disk.old disk.new (IsErrOf result faults.Disk) }
     {
         let frame = encode_outcome(id, &outcome);
         self.journal.append(disk, &frame, MAX_OTHER)?;
         self.book.settle(id, outcome);
         Ok(())
+    }
+}
+
+/// Whether the event tells an action that ended before the book was told anew. A turn alone records
+/// such a one.
+pub fn is_old(event: &Event) -> bool
+    ensures { IsTrue result ↔ IsOld event.now }
+{
+    match event {
+        Event::Old { .. } => true,
+        Event::Begin { .. }
+        | Event::Accept { .. }
+        | Event::Intend { .. }
+        | Event::Settle { .. }
+        | Event::Learn { .. }
+        | Event::Reset { .. }
+        | Event::Withdraw { .. } => false,
     }
 }
 
@@ -143,9 +148,13 @@ fn limit_of(event: &Event) -> u64
 {
     match event {
         Event::Accept { .. } => MAX_ACCEPTED,
-        Event::Begin { .. } | Event::Intend { .. } | Event::Settle { .. } | Event::Learn { .. } => {
-            MAX_OTHER
-        }
+        Event::Begin { .. }
+        | Event::Intend { .. }
+        | Event::Settle { .. }
+        | Event::Learn { .. }
+        | Event::Old { .. }
+        | Event::Reset { .. }
+        | Event::Withdraw { .. } => MAX_OTHER,
     }
 }
 

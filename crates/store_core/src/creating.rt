@@ -1,28 +1,26 @@
 //! A book is begun on a disk without a journal.
 
-ghost use Rattle.std.specs.Prelude.{◌≡◌, ◌≤◌, ℕ, List, IfOk, IsErr, IsErrOf, OnOk, false};
+ghost use Rattle.std.specs.Prelude.{◌≡◌, ◌≤◌, ◌^◌, ℕ, List, IfOk, IsErr, IsErrOf, OnOk, false, length};
 ghost use Rattle.std.specs.List.{AllByRecursion};
-ghost use Rattle.world_traits.specs.Calls.{Rose};
+ghost use Rattle.journal_core.specs.Blames.{BlamesWhere};
 ghost use Rattle.mail_base.specs.BoxName.{IsBoxName};
-ghost use Rattle.world_traits.specs.Moments.{Since, Narrows, OneSideAtRest};
+ghost use Rattle.world_traits.specs.Moments.{Narrows};
 ghost use Rattle.journal_core.specs.Creating.{IsTaken, IsUnbegun};
-ghost use Rattle.journal_core.specs.OneSide.{EachOneSide};
 ghost use Rattle.journal_core.specs.Reading.{AnyWrong};
 ghost use Rattle.mail_base.specs.Bodies.{frame_of};
 ghost use Rattle.journal_core.specs.Appending.{IsFrame};
-ghost use Rattle.journal_core.specs.declared.version.Version.TheVariants.{First};
 ghost use Rattle.journal_core.specs.declared.fault.Place9.{Place9};
 ghost use Rattle.journal_core.specs.declared.fault.Place9.TheVariants as places;
 ghost use Rattle.action_queue.specs.Book.{meaning, begun};
 ghost use Rattle.action_queue.specs.Events.{AreNames, IsFirst, first_book};
 ghost use Rattle.action_queue.specs.declared.event.Event.TheVariants as events;
+ghost use Rattle.action_queue.specs.Writable.{IsWritable};
+ghost use Rattle.record_codec.specs.Bodies.{body_of};
 ghost use Rattle.record_codec.specs.Spelling.{IsKept, Spelled};
 ghost use Rattle.store_core.specs.Mail.{mail};
 ghost use Rattle.store_core.specs.Fold.{IsFold};
 ghost use Rattle.store_core.specs.Holding.{IsAsLeft};
-ghost use Rattle.store_core.specs.Steps.{Books};
-ghost use Rattle.store_core.specs.Taking.{HasBooks, Creates, IsCreating, BeginsStep, BeginsBehind};
-ghost use Rattle.store_core.specs.HeldActions.{KeepsActions};
+ghost use Rattle.store_core.specs.Moments.{BeginsBook};
 ghost use Rattle.store_core.specs.declared.fault.StoreFault.TheVariants as faults;
 
 use crate::{Store, StoreFault};
@@ -57,30 +55,12 @@ impl Store {
         ensures already { D.tells_files → IsErrOf result faults.Already → IsTaken (D.seen disk.old) }
         ensures not_full { (end wanted : ℕ) → IsErrOf result (faults.Full end wanted) → ⊥ }
 
-        // At every moment a stop leaves no book, or that of the names, and no action that all images hold is lost. Where one
-        // side was at rest the first syncs leave the books or choose one; behind them there is none from one moment to the
-        // next, or the Begin is begun, or made firm; and one side is at rest at each moment.
-        ensures told { D.tells_files → Creates mail (events.Begin names) (D.clock disk.old) (D.clock disk.new) }
-        ensures begins { D.tells_files → OneSideAtRest (D.clock disk.old).now →
-            (books : Books mail) → HasBooks mail books (D.clock disk.old).now →
-            BeginsBehind mail (events.Begin names) (D.clock disk.old) (D.clock disk.new) }
-        ensures steps { D.tells_files → OneSideAtRest (D.clock disk.old).now →
-            (books : Books mail) → HasBooks mail books (D.clock disk.old).now →
-            Since (IsCreating mail (events.Begin names) (D.clock disk.old).now) (BeginsStep mail First (events.Begin names))
-            (D.clock disk.old) (D.clock disk.new) }
-        ensures one_side { D.tells_files → OneSideAtRest (D.clock disk.old).now → OneSideAtRest (D.clock disk.new).now }
-        ensures each_one_side { D.tells_files → OneSideAtRest (D.clock disk.old).now →
-            EachOneSide (D.clock disk.old) (D.clock disk.new) }
-        ensures held { D.tells_files → Since (IsCreating mail (events.Begin names) (D.clock disk.old).now) KeepsActions
-            (D.clock disk.old) (D.clock disk.new) }
+        ensures moments { D.tells_files → BeginsBook names (D.clock disk.old) (D.clock disk.new) }
 
         // But after a failure of the disk, an error leaves the files as they were.
         ensures kept { D.tells_files → IsErr result → (IsErrOf result faults.Disk → ⊥) →
             Narrows (D.clock disk.old) (D.clock disk.new) × (D.seen disk.new ≡ D.seen disk.old) }
-        ensures link { D.link disk.new ≡ D.link disk.old }
-        ensures count { D.disk_faults disk.old ≤ D.disk_faults disk.new }
-        ensures cause { IsErrOf result faults.Disk → Rose (D.disk_faults disk.old) (D.disk_faults disk.new) }
-        ensures unfailed { (IsErrOf result faults.Disk → ⊥) → D.disk_faults disk.new ≡ D.disk_faults disk.old }
+        ensures blames { BlamesWhere D.Clocked disk.old disk.new (IsErrOf result faults.Disk) }
     {
         are_short(names.as_slice());
         let event = Event::Begin { names };
@@ -104,6 +84,15 @@ fn are_short(names: &[BoxName])
 fn begin_body(alloc: Global, event: &Event) -> Result<Bytes, AllocError>
     requires first { IsFirst event.now }
     requires short { IsKept event.now }
+    ensures { IfOk result (λ body. Spelled body event.now) }
+{
+    body_of(alloc, event)
+}
+
+/// The body of an event's record. Fails for want of memory alone.
+pub fn body_of(alloc: Global, event: &Event) -> Result<Bytes, AllocError>
+    requires writable { IsWritable event.now }
+    requires fits { length (body_of event.now) ≤ 2 ^ 30 }
     ensures { IfOk result (λ body. Spelled body event.now) }
 {
     let frame = encode(alloc, event)?;

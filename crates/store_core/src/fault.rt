@@ -1,6 +1,6 @@
 //! Why there is no store, and why an event isn't recorded.
 
-use journal_core::{AppendFault, CreateFault, OpenFault, Place9};
+use journal_core::{AppendFault, CreateFault, OpenFault, Place9, TurnFault};
 use std::alloc::AllocError;
 use thiserror::Error;
 
@@ -67,6 +67,20 @@ impl From<CreateFault> for StoreFault {
             CreateFault::NotAJournal { why } => StoreFault::NotAJournal { why },
             CreateFault::Already => StoreFault::Already,
             CreateFault::Full { end, wanted } => StoreFault::Full { end, wanted },
+        }
+    }
+}
+
+impl From<TurnFault> for StoreFault {
+    ghost use Rattle.std.specs.Prelude.{◌≡◌};
+    ghost use Rattle.store_core.specs.Faults.{of_turning};
+
+    ghost from_gives = { λ turning fault. fault ≡ of_turning turning };
+
+    fn from(fault: TurnFault) -> StoreFault {
+        match fault {
+            TurnFault::Disk => StoreFault::Disk,
+            TurnFault::Full { end, wanted } => StoreFault::Full { end, wanted },
         }
     }
 }

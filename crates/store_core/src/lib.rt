@@ -7,7 +7,8 @@ mod fault;
 mod opening;
 mod rules;
 mod store;
+mod turning;
 
-pub use committing::MAX_ACCEPTED;
+pub use committing::{MAX_ACCEPTED, is_old};
 pub use fault::{CommitFault, StoreFault};
 pub use store::Store;

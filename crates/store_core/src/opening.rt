@@ -2,12 +2,10 @@
 
 ghost use Rattle.std.specs.Prelude.{◌≡◌, ◌↔◌, ◌≤◌, ◌<◌, ◌+◌, ◌++◌, ℕ, List, [], Some, None, IfOk, OnOk, IsErrOf, IsTrue};
 ghost use Rattle.std.specs.Prelude.{get_or, length, true, false};
-ghost use Rattle.world_traits.specs.Calls.{Rose};
+ghost use Rattle.journal_core.specs.Blames.{BlamesWhere};
 ghost use Rattle.world_traits.specs.Files.{Files, file_of};
-ghost use Rattle.world_traits.specs.Moments.{Since, Within, Narrows, OneSideAtRest};
-ghost use Rattle.world_traits.specs.Links.{Any};
 ghost use Rattle.journal_core.specs.Records.{records};
-ghost use Rattle.journal_core.specs.OneSide.{EachOneSide};
+ghost use Rattle.journal_core.specs.Sides.{version_written};
 ghost use Rattle.journal_core.specs.Reading.{HasFirstRecord, HasRecord, OnlyLooks};
 ghost use Rattle.journal_core.specs.Standing.{IsStill};
 ghost use Rattle.journal_core.specs.declared.version.Version.{Version};
@@ -21,18 +19,18 @@ ghost use Rattle.record_codec.specs.Spelling.{Spelled};
 ghost use Rattle.store_core.specs.Mail.{mail};
 ghost use Rattle.store_core.specs.Books.{HasBook};
 ghost use Rattle.store_core.specs.Broken.{IsBroken, IsUndue};
-ghost use Rattle.store_core.specs.Reading.{Enters, EntersAll, ReadsBook, UndueAt};
+ghost use Rattle.store_core.specs.Reading.{Enters, EntersAll, ReadsBook, SameJournal, UndueAt};
 ghost use Rattle.store_core.specs.Steps.{Books, Firm};
-ghost use Rattle.store_core.specs.Fold.{IsFold};
+ghost use Rattle.store_core.specs.Fold.{IsFold, IsMade};
 ghost use Rattle.store_core.specs.Holding.{IsAsLeft};
-ghost use Rattle.store_core.specs.Taking.{HasBooks, IsOneOf, ChoosesStep};
-ghost use Rattle.store_core.specs.HeldActions.{KeepsActions};
+ghost use Rattle.store_core.specs.Taking.{HasBooks, IsOneOf};
+ghost use Rattle.store_core.specs.Moments.{OpensStore};
 ghost use Rattle.store_core.specs.declared.fault.StoreFault.TheVariants as faults;
 
 use crate::rules::rules_of;
 use crate::{Store, StoreFault};
 use action_queue::{Book, Event};
-use journal_core::{Bodies, Journal, Place9, Version};
+use journal_core::{Bodies, Journal, Place9, Version, WRITTEN};
 use record_codec::{RecordFault, decode};
 use std::alloc::Global;
 use world_traits::{Clocked, Disk};
@@ -42,7 +40,8 @@ impl Store {
     /// time, or for one that is longer.
     ///
     /// Both files are synced before they are read, so a later stop leaves what is read. A journal without records is broken
-    /// at the place of its first gate, since a Begin is missing there.
+    /// at the place of its first gate, since a Begin is missing there. One of another version than the one that is written
+    /// is refused as a wrong header.
     pub fn open<D: Disk>(alloc: Global, disk: &mut D) -> Result<Store, StoreFault>
         // The book is the fold of what the files hold.
         ensures value { D.tells_files → IfOk result (λ store. HasBook mail store.book (D.seen disk.old)) }
@@ -55,11 +54,6 @@ impl Store {
         ensures chosen { D.tells_files → (books : Books mail) → HasBooks mail books (D.clock disk.old).now →
             IfOk result (λ store. IsOneOf mail (Some store.book) books × HasBooks mail (Firm (Some store.book)) (D.clock disk.new).now) }
 
-        // From moment to moment the books stay, or one is chosen.
-        ensures chooses { D.tells_files → OneSideAtRest (D.clock disk.old).now →
-            (books : Books mail) → HasBooks mail books (D.clock disk.old).now →
-            Since Any (ChoosesStep mail) (D.clock disk.old) (D.clock disk.new) }
-
         // It is refused only where the files hold no book; where they hold one it isn't.
         ensures broken { D.tells_files → (why : Place9) → IsErrOf result (faults.NotAJournal why) →
             IsBroken mail why (D.seen disk.old) }
@@ -70,25 +64,28 @@ impl Store {
         // Memory may be wanting only where a journal is there, and its first record stands whole.
         ensures memory { D.tells_files → IsErrOf result faults.Memory → HasFirstRecord (D.seen disk.old) }
 
-        // Unless the disk failed the files read as before. No moment has another image than before, and no action that
-        // all images hold is lost.
+        // Unless the disk failed the files read as before.
         ensures seen { D.tells_files → (IsErrOf result faults.Disk → ⊥) → D.seen disk.new ≡ D.seen disk.old }
-        ensures told { D.tells_files → Narrows (D.clock disk.old) (D.clock disk.new) }
-        ensures held { D.tells_files → Since (Within (D.clock disk.old).now) KeepsActions
-            (D.clock disk.old) (D.clock disk.new) }
-        ensures one_side { D.tells_files → OneSideAtRest (D.clock disk.old).now → OneSideAtRest (D.clock disk.new).now }
-        ensures each_one_side { D.tells_files → OneSideAtRest (D.clock disk.old).now →
-            EachOneSide (D.clock disk.old) (D.clock disk.new) }
-        ensures link { D.link disk.new ≡ D.link disk.old }
-        ensures count { D.disk_faults disk.old ≤ D.disk_faults disk.new }
-        ensures cause { IsErrOf result faults.Disk → Rose (D.disk_faults disk.old) (D.disk_faults disk.new) }
-        ensures unfailed { (IsErrOf result faults.Disk → ⊥) → D.disk_faults disk.new ≡ D.disk_faults disk.old }
+        ensures moments { D.tells_files → OpensStore (D.clock disk.old) (D.clock disk.new) }
+        ensures blames { BlamesWhere D.Clocked disk.old disk.new (IsErrOf result faults.Disk) }
     {
         let mut journal = Journal::open(disk)?;
+        if !is_written(journal.version()) {
+            return Err(StoreFault::NotAJournal {
+                why: Place9::Header,
+            });
+        }
         let mut book = read_begin(alloc, disk, &mut journal)?;
         read_later(alloc, disk, &mut journal, &mut book)?;
         Ok(Store { journal, book })
     }
+}
+
+// Whether this version is the one that is written.
+fn is_written(version: Version) -> bool
+    ensures { IsTrue result ↔ (version ≡ version_written) }
+{
+    version == WRITTEN
 }
 
 // Reads the first record, which must be a Begin, and makes its book.
@@ -99,10 +96,9 @@ fn read_begin<D: Disk>(
 ) -> Result<Book, StoreFault>
     ensures value { D.tells_files → IsStill journal.old [] (D.clock disk.old).now (D.seen disk.old) →
         IfOk result (λ book. ReadsBook mail (meaning book) journal.new (D.clock disk.new).now (D.seen disk.new)) }
-    ensures fold { IfOk result (λ book. IsFold (meaning book)) }
+    ensures made { (version : Version) → IfOk result (λ book. IsMade version (meaning book)) }
     ensures advances { OnOk result (journal.old.place < journal.new.place) }
-    ensures sound { journal.new.failed ≡ journal.old.failed }
-    ensures version { journal.new.version ≡ journal.old.version }
+    ensures same { SameJournal journal.old journal.new }
     ensures broken { D.tells_files → IsStill journal.old [] (D.clock disk.old).now (D.seen disk.old) →
         (why : Place9) → IsErrOf result (faults.NotAJournal why) → IsBroken mail why (D.seen disk.old) }
     ensures only { (IsErrOf result faults.Already → ⊥) × ((end wanted : ℕ) → IsErrOf result (faults.Full end wanted) → ⊥) }
@@ -110,10 +106,7 @@ fn read_begin<D: Disk>(
     ensures memory { D.tells_files → IsErrOf result faults.Memory →
         HasRecord journal.old.place (file_of journal.old.side (D.seen disk.old)) }
     ensures told { D.tells_files → OnlyLooks (D.clock disk.old) (D.clock disk.new) (D.seen disk.old) (D.seen disk.new) }
-    ensures link { D.link disk.new ≡ D.link disk.old }
-    ensures count { D.disk_faults disk.old ≤ D.disk_faults disk.new }
-    ensures cause { IsErrOf result faults.Disk → Rose (D.disk_faults disk.old) (D.disk_faults disk.new) }
-    ensures unfailed { (IsErrOf result faults.Disk → ⊥) → D.disk_faults disk.new ≡ D.disk_faults disk.old }
+    ensures blames { BlamesWhere D.Clocked disk.old disk.new (IsErrOf result faults.Disk) }
 {
     let at = journal.place();
     let Some(body) = journal.next(alloc, disk)? else {
@@ -125,7 +118,7 @@ fn read_begin<D: Disk>(
 // The book that a body begins, whose record is at this place. No memory is taken for another event's.
 fn begun_by(alloc: Global, body: &[u8], at: u64) -> Result<Book, StoreFault>
     ensures value { (version : Version) → IfOk result (λ book. Enters mail version None body.now (meaning book)) }
-    ensures fold { IfOk result (λ book. IsFold (meaning book)) }
+    ensures made { (version : Version) → IfOk result (λ book. IsMade version (meaning book)) }
     ensures broken { (why : Place9) → IsErrOf result (faults.NotAJournal why) →
         (why ≡ places.Record at) × ((version : Version) → IsUndue mail version None body.now) }
     ensures memory { IsErrOf result faults.Memory → (event : Event) → Spelled body.now event → IsFirst event }
@@ -153,7 +146,7 @@ fn is_lettered(body: &[u8]) -> bool
 fn begun_with(alloc: Global, event: Event, at: u64) -> Result<Book, StoreFault>
     requires { IsWritable event }
     ensures value { IfOk result (λ book. IsFirst event × (meaning book ≡ first_book event)) }
-    ensures fold { IfOk result (λ book. IsFold (meaning book)) }
+    ensures made { (version : Version) → IfOk result (λ book. IsMade version (meaning book)) }
     ensures broken { (why : Place9) → IsErrOf result (faults.NotAJournal why) →
         (why ≡ places.Record at) × (IsFirst event → ⊥) }
     ensures memory { IsErrOf result faults.Memory → IsFirst event }
@@ -176,18 +169,14 @@ fn read_later<D: Disk>(
 ) -> Result<(), StoreFault>
     ensures value { D.tells_files → ReadsBook mail (meaning book.old) journal.old (D.clock disk.old).now (D.seen disk.old) →
         OnOk result (ReadsBook mail (meaning book.new) journal.new (D.clock disk.new).now (D.seen disk.new)) }
-    ensures fold { IsFold (meaning book.old) → OnOk result (IsFold (meaning book.new)) }
+    ensures made { IsMade journal.old.version (meaning book.old) → OnOk result (IsMade journal.old.version (meaning book.new)) }
     ensures all_read { OnOk result (journal.new.all_read ≡ true) }
-    ensures sound { journal.new.failed ≡ journal.old.failed }
-    ensures version { journal.new.version ≡ journal.old.version }
+    ensures same { SameJournal journal.old journal.new }
     ensures broken { D.tells_files → ReadsBook mail (meaning book.old) journal.old (D.clock disk.old).now (D.seen disk.old) →
         (why : Place9) → IsErrOf result (faults.NotAJournal why) → IsBroken mail why (D.seen disk.old) }
     ensures only { (IsErrOf result faults.Already → ⊥) × ((end wanted : ℕ) → IsErrOf result (faults.Full end wanted) → ⊥) }
     ensures told { D.tells_files → OnlyLooks (D.clock disk.old) (D.clock disk.new) (D.seen disk.old) (D.seen disk.new) }
-    ensures link { D.link disk.new ≡ D.link disk.old }
-    ensures count { D.disk_faults disk.old ≤ D.disk_faults disk.new }
-    ensures cause { IsErrOf result faults.Disk → Rose (D.disk_faults disk.old) (D.disk_faults disk.new) }
-    ensures unfailed { (IsErrOf result faults.Disk → ⊥) → D.disk_faults disk.new ≡ D.disk_faults disk.old }
+    ensures blames { BlamesWhere D.Clocked disk.old disk.new (IsErrOf result faults.Disk) }
 {
     // Each record takes the journal's place on, and a place is a u64: so the loop ends.
     loop {
@@ -209,19 +198,15 @@ fn read_few<D: Disk>(
 ) -> Result<bool, StoreFault>
     ensures value { D.tells_files → ReadsBook mail (meaning book.old) journal.old (D.clock disk.old).now (D.seen disk.old) →
         OnOk result (ReadsBook mail (meaning book.new) journal.new (D.clock disk.new).now (D.seen disk.new)) }
-    ensures fold { IsFold (meaning book.old) → OnOk result (IsFold (meaning book.new)) }
+    ensures made { IsMade journal.old.version (meaning book.old) → OnOk result (IsMade journal.old.version (meaning book.new)) }
     ensures advances { IfOk result (λ more. IsTrue more → journal.old.place < journal.new.place) }
     ensures ended { IfOk result (λ more. (IsTrue more → ⊥) → journal.new.all_read ≡ true) }
-    ensures sound { journal.new.failed ≡ journal.old.failed }
-    ensures version { journal.new.version ≡ journal.old.version }
+    ensures same { SameJournal journal.old journal.new }
     ensures broken { D.tells_files → ReadsBook mail (meaning book.old) journal.old (D.clock disk.old).now (D.seen disk.old) →
         (why : Place9) → IsErrOf result (faults.NotAJournal why) → IsBroken mail why (D.seen disk.old) }
     ensures only { (IsErrOf result faults.Already → ⊥) × ((end wanted : ℕ) → IsErrOf result (faults.Full end wanted) → ⊥) }
     ensures told { D.tells_files → OnlyLooks (D.clock disk.old) (D.clock disk.new) (D.seen disk.old) (D.seen disk.new) }
-    ensures link { D.link disk.new ≡ D.link disk.old }
-    ensures count { D.disk_faults disk.old ≤ D.disk_faults disk.new }
-    ensures cause { IsErrOf result faults.Disk → Rose (D.disk_faults disk.old) (D.disk_faults disk.new) }
-    ensures unfailed { (IsErrOf result faults.Disk → ⊥) → D.disk_faults disk.new ≡ D.disk_faults disk.old }
+    ensures blames { BlamesWhere D.Clocked disk.old disk.new (IsErrOf result faults.Disk) }
 {
     let at = journal.place();
     let version = journal.version();
@@ -243,7 +228,7 @@ fn enter_few(
     version: Version,
 ) -> Result<(), StoreFault>
     ensures value { OnOk result (EntersAll mail version (meaning book.old) few.now (meaning book.new)) }
-    ensures fold { IsFold (meaning book.old) → OnOk result (IsFold (meaning book.new)) }
+    ensures made { IsMade version (meaning book.old) → OnOk result (IsMade version (meaning book.new)) }
     ensures broken { (why : Place9) → IsErrOf result (faults.NotAJournal why) →
         UndueAt mail version (meaning book.old) at why few.now }
     ensures only { (IsErrOf result faults.Already → ⊥) × (IsErrOf result faults.Disk → ⊥)
@@ -267,7 +252,7 @@ fn enter_body(
     version: Version,
 ) -> Result<(), StoreFault>
     ensures value { OnOk result (Enters mail version (Some (meaning book.old)) body.now (meaning book.new)) }
-    ensures fold { IsFold (meaning book.old) → OnOk result (IsFold (meaning book.new)) }
+    ensures made { IsMade version (meaning book.old) → OnOk result (IsMade version (meaning book.new)) }
     ensures broken { (why : Place9) → IsErrOf result (faults.NotAJournal why) →
         (why ≡ places.Record at) × IsUndue mail version (Some (meaning book.old)) body.now }
     ensures only { (IsErrOf result faults.Already → ⊥) × (IsErrOf result faults.Disk → ⊥)

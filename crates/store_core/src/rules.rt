@@ -11,5 +11,6 @@ pub fn rules_of(version: Version) -> action_queue::Version
 {
     match version {
         Version::First => action_queue::Version::First,
+        Version::Second => action_queue::Version::Second,
     }
 }

@@ -1,16 +1,19 @@
 //! A book and the journal that it is the fold of.
 
 ghost use Rattle.std.specs.Prelude.{◌≡◌};
+ghost use Rattle.journal_core.specs.Appending.{end_with, told_end};
+ghost use Rattle.journal_core.specs.Sides.{version_written};
 ghost use Rattle.action_queue.specs.Book.{meaning};
 ghost use Rattle.action_queue.specs.Rules.{first_broken};
 ghost use Rattle.store_core.specs.Mail.{rules_of};
 
 use crate::rules::rules_of;
 use action_queue::{Book, Event, Rule};
-use journal_core::Journal;
+use journal_core::{Journal, Version};
 use std::marker::Model;
 
-/// A book on a journal. The book is what the events of the journal's records make.
+/// A book on a journal. The book is what the events of the journal's records make, and the journal is
+/// of the version that is written.
 #[derive(Drop)]
 pub struct Store {
     pub(crate) journal: Journal,
@@ -20,14 +23,18 @@ pub struct Store {
 impl Model for Store {
     ghost use Rattle.std.specs.Prelude.{◌≡◌, true};
     ghost use Rattle.action_queue.specs.Book.{meaning};
-    ghost use Rattle.store_core.specs.Mail.{mail};
+    ghost use Rattle.journal_core.specs.Sides.{version_written};
+    ghost use Rattle.action_queue.specs.Restating.{IsWellBook};
+    ghost use Rattle.store_core.specs.Mail.{mail, rules_of};
     ghost use Rattle.store_core.specs.Holding.{Holding};
 
     ghost Value = { Holding mail };
 
     ghost view = { λ store. record { journal = store.journal; book = meaning store.book } };
 
-    ghost invariant = { λ store. store.journal.all_read ≡ true };
+    ghost invariant = { λ store. (store.journal.all_read ≡ true)
+        × (store.journal.version ≡ version_written)
+        × IsWellBook (rules_of version_written) (meaning store.book) };
 }
 
 impl Store {
@@ -36,6 +43,28 @@ impl Store {
         ensures { meaning result.now ≡ self.now.book }
     {
         &self.book
+    }
+
+    /// The place behind the journal's last gate, in bytes from 0, and at most 2^64 - 1.
+    pub fn end(&self) -> u64
+        ensures { result ≡ told_end (end_with 0 self.now.journal) }
+    {
+        self.journal.place().saturating_add(1)
+    }
+
+    /// The generation of the journal's side, from 1.
+    pub fn generation(&self) -> u32
+        ensures { result ≡ self.now.journal.generation }
+    {
+        self.journal.generation()
+    }
+
+    /// The version of the journal: the one that is written.
+    pub fn version(&self) -> Version
+        ensures value { result ≡ self.now.journal.version }
+        ensures written { self.now.journal.version ≡ version_written }
+    {
+        self.journal.version()
     }
 
     /// The first rule that the event breaks in this journal's version. `None` exactly where it may come next.

@@ -181,6 +181,14 @@ returns-in_err-at-clause-accuses g c = record {
   honest = search rules;
 }
 
+pub returns-in_err-at-clause-stored : goal.returns-in_err-at-clause-stored
+returns-in_err-at-clause-stored g c = record {
+  fold = c.turn.ensures.stored.fold;
+  later = later_then c.args.store.now.book c.loop-at.store.book c.turn.new.store.book c.loop-at.invariant.later c.turn.ensures.stored.later;
+  left = λ t no_disk. c.turn.ensures.stored.left t (λ is. no_disk (search rules));
+  sound_still = λ no_disk. c.turn.ensures.stored.sound_still (λ is. no_disk (search rules));
+}
+
 pub returns-in_err-at-clause-reasons : goal.returns-in_err-at-clause-reasons
 returns-in_err-at-clause-reasons g c = record {
   truly = λ t made entry kept known fair e truly no_disk.

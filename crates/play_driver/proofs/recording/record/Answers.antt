@@ -11,7 +11,7 @@ use Rattle.play_driver.proofs.Folds.{fold_sound}
 use Rattle.play_driver.proofs.KnownLaws.{known_law}
 use Rattle.play_driver.proofs.OneTurn.{left_kept, no_reply_fault, records_turn, true_kept, true_more}
 use Rattle.play_driver.proofs.Progressing.{firm_left, later_event, outside_taken, there_or_not}
-use Rattle.play_driver.proofs.Reasons.{known_then, may_come, of_playback, ready}
+use Rattle.play_driver.proofs.Reasons.{known_then, may_come, never_old, of_playback, ready}
 use Rattle.play_driver.proofs.Faulting.{told_as}
 use Rattle.play_driver.proofs.Recorded.{goes_recorded, stands_still, truly_recorded}
 use Rattle.play_driver.proofs.SyncedOn.{synced_on, synced_then}
@@ -29,17 +29,20 @@ use Rattle.play_driver.proofs.recording.record.Goals as goal
 pub enter_event-requires-clause-lawful : goal.enter_event-requires-clause-lawful
 enter_event-requires-clause-lawful g c =
     let s = c.args.store.now in
-    may_come s.journal.version c.args.player.now s.book c.args.event c.requires.fold c.requires.rests.beside c.requires.needed
+    may_come s.journal.version c.version-version.ensures.written c.args.player.now s.book c.args.event c.requires.fold c.requires.rests.beside c.requires.needed
 
 pub enter_event-requires-clause-writable : goal.enter_event-requires-clause-writable
 enter_event-requires-clause-writable g c =
     (ready c.args.player.now c.args.store.now.book c.args.event c.requires.fold c.requires.rests.beside c.requires.needed).writable
 
+pub enter_event-requires-clause-fresh : goal.enter_event-requires-clause-fresh
+enter_event-requires-clause-fresh g c = never_old c.args.player.now c.args.store.now.book c.args.event c.requires.needed
+
 -- it isn't recorded
 pub returns-in_err-enter_event-clause-goes_on : goal.returns-in_err-enter_event-clause-goes_on
 returns-in_err-enter_event-clause-goes_on g c =
     goes_recorded g.W.Clocked c.args.world.now c.enter_event.new.disk c.args.session c.args.player.now c.args.store.now c.args.event _
-    c.requires.fold c.requires.rests c.requires.needed c.requires.left c.enter_event.ensures.takes _ _ _ (search rules)
+    c.requires.fold c.version-version.ensures.written c.requires.rests c.requires.needed c.requires.left c.enter_event.ensures.takes _ _ _ (search rules)
     c.enter_event.ensures.each_one_side c.enter_event.ensures.accuses.link
 
 pub returns-in_err-enter_event-clause-reasons : goal.returns-in_err-enter_event-clause-reasons
@@ -60,7 +63,7 @@ returns-in_err-enter_event-clause-reasons g c = record {
           at = g.W.Clocked.clock c.args.world.now;
           so_far = truly;
           truly = truly_recorded g.W.Clocked c.args.world.now c.enter_event.new.disk c.args.session c.args.player.now c.args.store.now c.args.event _
-              c.requires.fold c.requires.rests c.requires.needed c.requires.left c.enter_event.ensures.takes t made entry kept known entered;
+              c.requires.fold c.version-version.ensures.written c.requires.rests c.requires.needed c.requires.left c.enter_event.ensures.takes t made entry kept known entered;
           takes = c.enter_event.ensures.takes (g.W.Clocked.server_with_files t);
         }),
   );
@@ -115,10 +118,10 @@ returns-clause-goes_on g c =
     let is : c.enter_event.new.store.book ≡ after s.book event = ap (λ (t : Holding mail). t.book) c.in_ok-enter_event.ensures.value in
     let goes : c.committed.new.self ≡ committed p (meaning c.book.result.now) = c.committed.ensures.value in
     goes_recorded g.W.Clocked c.args.world.now c.enter_event.new.disk c.args.session p s event _
-    c.requires.fold c.requires.rests c.requires.needed c.requires.left c.enter_event.ensures.takes c.committed.new.self c.enter_event.new.store.book _
+    c.requires.fold c.version-version.ensures.written c.requires.rests c.requires.needed c.requires.left c.enter_event.ensures.takes c.committed.new.self c.enter_event.new.store.book _
     (λ t made stands known. known_then p c.committed.new.self s.book c.enter_event.new.store.book event is (goes ∙ ap (committed p) c.book.ensures)
     made _ _ (known_law.records p s.book event s.journal.version _ made _ _ stands known c.requires.needed
-    (may_come s.journal.version p s.book event c.requires.fold c.requires.rests.beside c.requires.needed)
+    (may_come s.journal.version c.version-version.ensures.written p s.book event c.requires.fold c.requires.rests.beside c.requires.needed)
     (c.enter_event.ensures.takes (g.W.Clocked.server_with_files t))))
     c.enter_event.ensures.each_one_side c.enter_event.ensures.accuses.link
 
@@ -144,7 +147,7 @@ returns-clause-reasons g c = record {
   truly = λ t made entry kept known others entered truly not.
       true_more c.args.store.now c.enter_event.new.store c.args.event c.in_ok-enter_event.ensures.value entry made _ _ truly
       (truly_recorded g.W.Clocked c.args.world.now c.enter_event.new.disk c.args.session c.args.player.now c.args.store.now c.args.event _
-      c.requires.fold c.requires.rests c.requires.needed c.requires.left c.enter_event.ensures.takes t made entry kept known entered)
+      c.requires.fold c.version-version.ensures.written c.requires.rests c.requires.needed c.requires.left c.enter_event.ensures.takes t made entry kept known entered)
       (c.enter_event.ensures.takes (g.W.Clocked.server_with_files t));
   stopped = search rules;
 }

@@ -24,5 +24,5 @@ returns-in-Ok-clause-broken c why is =
 pub returns-in-Ok-clause-memory : goal.returns-in-Ok-clause-memory
 returns-in-Ok-clause-memory c is event spelled = first_so _ c.in-Ok.event c.in-Ok.ensures.value (c.begun_with.ensures.memory is) event spelled
 
-pub returns-in-Ok-clause-fold : goal.returns-in-Ok-clause-fold
-returns-in-Ok-clause-fold c = c.begun_with.ensures.fold
+pub returns-in-Ok-clause-made : goal.returns-in-Ok-clause-made
+returns-in-Ok-clause-made c version = c.begun_with.ensures.made version

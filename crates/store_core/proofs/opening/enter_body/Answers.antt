@@ -5,7 +5,7 @@ use Rattle.action_queue.specs.Book.{meaning}
 use Rattle.action_queue.specs.Rules.{first_broken}
 use Rattle.action_queue.specs.declared.rule.Version.{Version as Rules}
 use Rattle.store_core.proofs.Entering.{undue}
-use Rattle.store_core.proofs.Folds.{entered_fold}
+use Rattle.store_core.proofs.Folds.{entered_made}
 use Rattle.store_core.proofs.opening.enter_body.Goals as goal
 
 pub returns-then-is_some-clause-broken : goal.returns-then-is_some-clause-broken
@@ -17,8 +17,8 @@ returns-then-is_some-clause-broken c why is =
           c.rules_of.ensures)),
     )
 
-pub returns-clause-fold : goal.returns-clause-fold
-returns-clause-fold c fold = entered_fold c.args.version (meaning c.args.book.now) (meaning c.follow.new.self) c.args.body.now fold (record {
+pub returns-clause-made : goal.returns-clause-made
+returns-clause-made c made = entered_made c.args.version (meaning c.args.book.now) (meaning c.follow.new.self) c.args.body.now made (record {
   event = c.in-Ok.event;
   spelled = c.in-Ok.ensures.value;
   may = search rules;

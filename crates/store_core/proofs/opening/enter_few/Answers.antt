@@ -6,7 +6,7 @@ use Rattle.store_core.proofs.opening.enter_few.Goals as goal
 pub loop-index-preserved : goal.loop-index-preserved
 loop-index-preserved c = record {
   entered = entered mail _ _ _ _ c.body-body.ensures _ _ _ c.loop-index.invariant.entered c.in_ok-enter_body.ensures.value;
-  fold = λ fold. c.in_ok-enter_body.ensures.fold (c.loop-index.invariant.fold fold);
+  made = λ made. c.in_ok-enter_body.ensures.made (c.loop-index.invariant.made made);
   there = place_on mail c.args.version _ _ _ c.body-body.ensures _ _ _ _ c.loop-index.invariant.there c.saturating_add.ensures c.saturating_add-place.ensures;
 }
 

@@ -52,3 +52,6 @@ returns-clause-memory g c tells is = record {
   body = c.in-Some.body;
   stands = body_stands _ _ _ _ c.in-Some.body c.in-Some.is (c.in_ok-body.ensures.value tells);
 }
+
+pub returns-clause-made : goal.returns-clause-made
+returns-clause-made g c version = c.begun_by.ensures.made version

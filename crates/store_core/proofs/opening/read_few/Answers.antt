@@ -1,10 +1,11 @@
-use Rattle.std.proofs.Common.{[], Some, refl, rules, ◌∙◌, ap, subst}
+use Rattle.std.proofs.Common.{[], Some, refl, rules, sym, ◌∙◌, ap, subst}
 use Rattle.journal_core.specs.declared.version.Version.{Version}
 use Rattle.journal_core.specs.Standing.{Standing}
 use Rattle.action_queue.specs.Book.{meaning}
 use Rattle.store_core.specs.Mail.{mail}
 use Rattle.store_core.specs.Reading.{EntersAll, UndueAt}
 use Rattle.store_core.proofs.Entering.{torn_behind, reads_all, undue_later}
+use Rattle.store_core.proofs.Folds.{made_as}
 use Rattle.store_core.proofs.opening.read_few.Goals as goal
 
 pub returns-in_err-few-clause-broken : goal.returns-in_err-few-clause-broken
@@ -31,3 +32,6 @@ returns-clause-value g c tells r =
     reads_all mail c.args.journal.now.version c.in-Some.few r.bodies (meaning c.args.book.now) _ _ _ _ c.next_few.ensures.version r.make
     (subst (λ (v : Version). EntersAll mail v (meaning c.args.book.now) c.in-Some.few (meaning c.enter_few.new.book))
     c.version-version.ensures c.in_ok-enter_few.ensures.value) (rw c.in-Some.is at c.in_ok-few.ensures.still tells r.bodies r.still)
+
+pub returns-clause-made : goal.returns-clause-made
+returns-clause-made g c made = made_as _ _ _ (sym c.version-version.ensures) (c.in_ok-enter_few.ensures.made (made_as _ _ _ c.version-version.ensures made))

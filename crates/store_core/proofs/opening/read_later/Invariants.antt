@@ -1,9 +1,9 @@
-use Rattle.std.proofs.Common.{◌≡◌, ◌≤◌, ◌-◌, ◌^◌}
+use Rattle.std.proofs.Common.{◌≡◌, ◌-◌, ◌^◌}
 use Rattle.journal_core.specs.Reading.{OnlyLooks}
 use Rattle.action_queue.specs.Book.{meaning}
 use Rattle.store_core.specs.Mail.{mail}
 use Rattle.store_core.specs.Reading.{ReadsBook}
-use Rattle.store_core.specs.Fold.{IsFold}
+use Rattle.store_core.specs.Fold.{IsMade}
 use Rattle.store_core.proofs.opening.read_later.Given as goal
 
 abbrev pub invariant-loop-more : goal.invariant-loop-more
@@ -14,10 +14,9 @@ invariant-loop-more g l =
       sound : l.journal.failed ≡ l.fn.journal.failed;
       version : l.journal.version ≡ l.fn.journal.version;
       link : g.D.Clocked.link l.disk ≡ g.D.Clocked.link l.fn.disk;
-      faults : g.D.Clocked.disk_faults l.fn.disk ≤ g.D.Clocked.disk_faults l.disk;
       unfailed : g.D.Clocked.disk_faults l.disk ≡ g.D.Clocked.disk_faults l.fn.disk;
       looks : g.D.Clocked.tells_files → OnlyLooks (clock l.fn.disk) (clock l.disk) (seen l.fn.disk) (seen l.disk);
-      fold : IsFold (meaning l.fn.book) → IsFold (meaning l.book);
+      made : IsMade l.fn.journal.version (meaning l.fn.book) → IsMade l.fn.journal.version (meaning l.book);
       reads : g.D.Clocked.tells_files → ReadsBook mail (meaning l.fn.book) l.fn.journal (clock l.fn.disk).now (seen l.fn.disk) →
           ReadsBook mail (meaning l.book) l.journal (clock l.disk).now (seen l.disk);
     }
