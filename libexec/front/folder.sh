@@ -108,6 +108,24 @@ bytes() {
     od -An -v -tx1 -j "$1" -N "$2" 2>/dev/null | tr -d ' \n'
 }
 
+# Whether a file counts as a journal: its first byte is open, and its header is whole.
+counts() {
+    if [ ! -f "$1" ]; then
+        return 1
+    fi
+    head=$(bytes 0 14 <"$1")
+    case $head in
+        01"$MAGIC"*) [ "${#head}" -eq 28 ] ;;
+        *) return 1 ;;
+    esac
+}
+
+# Whether one of the two files counts. Then the other one is an older journal, or what a stop left that was telling the journal anew
+# there, and no damage.
+one_counts() {
+    counts "$folder/journal.0" || counts "$folder/journal.1"
+}
+
 # Whether a stop inside init may have left this file: its first byte is 0, and then comes a front of the magic word.
 left_by_init() {
     head=$(bytes 0 9 <"$1")
@@ -140,6 +158,9 @@ lost_its_first_byte() {
 
 # Says where a journal is damaged in its first byte alone, as there is a way back.
 report_damage() {
+    if one_counts; then
+        return
+    fi
     for file in "$folder/journal.0" "$folder/journal.1"; do
         if [ -f "$file" ] && lost_its_first_byte "$file"; then
             say "$file is a journal whose first byte is damaged: BACKUP has the way back. Don't begin anew"
@@ -148,7 +169,7 @@ report_damage() {
 }
 
 # Whether a file stands in the way of init: one that holds something, and that neither init nor a stop inside it left. One with
-# an open first byte and a whole header is left to the program's judgement.
+# an open first byte and a whole header is left to the program's judgement, and so is what stands beside a journal.
 is_in_the_way() {
     if [ ! -f "$1" ] || [ ! -s "$1" ]; then
         return 1
@@ -173,7 +194,7 @@ init() {
     make_folder
     take_lock "$PATIENCE"
     for file in "$folder/journal.0" "$folder/journal.1"; do
-        if [ $# -gt 0 ] && is_in_the_way "$file"; then
+        if [ $# -gt 0 ] && ! one_counts && is_in_the_way "$file"; then
             echo 'error journal header' || exit 12
             lost_its_first_byte "$file" || say "$file is no journal of this program, and stays as it is: move it away"
             status=9

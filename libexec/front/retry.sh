@@ -23,22 +23,29 @@ as_seconds() {
 begin_retries() {
     gap=0 until=''
     if [ -n "$retry_for" ]; then
-        sizes=$(journal_sizes)
+        signs=$(journal_signs)
         take_moment
         until=$((moment + retry_for * 100))
     fi
 }
 
-# The sizes of the journal's files. A play that gained something has recorded it there.
+# The sizes of the journal's files.
 journal_sizes() {
     wc -c "$folder/journal.0" "$folder/journal.1" 2>/dev/null
 }
 
+# By what a play that gained something is known, as it has recorded it: the journal's files were written. Their sizes don't tell it, as
+# a journal that was told anew stands over the bytes of an older one. A play that only tells it anew counts too, and comes once in a row.
+journal_signs() {
+    journal_sizes
+    stat -c '%n %y' "$folder/journal.0" "$folder/journal.1" 2>/dev/null
+}
+
 # Puts the pause before the next play into $gap: the first one again, where the last play gained something.
 take_gap() {
-    sizes_before=$sizes
-    sizes=$(journal_sizes)
-    if [ "$gap" -eq 0 ] || [ "$sizes" != "$sizes_before" ]; then
+    signs_before=$signs
+    signs=$(journal_signs)
+    if [ "$gap" -eq 0 ] || [ "$signs" != "$signs_before" ]; then
         gap=$FIRST_GAP
     else
         gap=$((gap * 2 < LONGEST_GAP ? gap * 2 : LONGEST_GAP))

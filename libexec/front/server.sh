@@ -12,14 +12,17 @@ look_at_server() {
     fi
 }
 
-# Keeps the account, under the lock. In $unknown stand the sizes of a journal that knew none before.
+# Keeps the account, under the lock. In $unknown stand the sizes of a journal that knew none before. One that was told anew on its other
+# file was played before: then the account is kept whatever this play brings, since the sizes tell nothing any more.
 keep_server() {
     unknown=''
     look_at_server
     if [ "$known" = "$who" ]; then
         return
     fi
-    [ -n "$known" ] || unknown=$(journal_sizes)
+    if [ -z "$known" ] && [ ! -s "$folder/journal.1" ]; then
+        unknown=$(journal_sizes)
+    fi
     put_line "$folder/mowerbean.server" "$who"
 }
 

@@ -171,6 +171,7 @@ a word behind zeros|\000\000DMAILJ1
 a damaged journal|XODMAILJ1\000\000\000\001\001
 CASES
     damaged_journal
+    two_files
 }
 
 damaged_journal() {
@@ -190,4 +191,31 @@ damaged_journal() {
     # The way back, as BACKUP has it.
     printf '\001' | dd of="$MAIL_DIR/journal.0" bs=1 conv=notrunc 2>/dev/null
     same '  and the way back' "$(cmp "$work/kept" "$MAIL_DIR/journal.0" && "$real" queue)" '1 waiting append Archive <a@x>'
+}
+
+# One file counts, and the other one is closed: a stop left it that was telling the journal anew there. That is no damage.
+two_files() {
+    MAIL_DIR=$work/two
+    "$real" init INBOX Archive >/dev/null
+    printf 'Message-ID: <a@x>\n\nhello\n' | "$real" append Archive >/dev/null
+    for closed in 1 0; do
+        cp "$MAIL_DIR/journal.$((1 - closed))" "$MAIL_DIR/journal.$closed"
+        # The generation behind that of the other one.
+        # shellcheck disable=SC2059  # a byte
+        printf "\\00$((3 - closed))" | dd of="$MAIL_DIR/journal.$closed" bs=1 seek=12 conv=notrunc 2>/dev/null
+        for length in 1 9 14 all; do
+            cp "$MAIL_DIR/journal.$closed" "$work/kept"
+            printf '\000' | dd of="$MAIL_DIR/journal.$closed" bs=1 conv=notrunc 2>/dev/null
+            [ "$length" = all ] || truncate -s "$length" "$MAIL_DIR/journal.$closed"
+            said=$("$real" queue 2>&1)
+            same "journal.$closed is closed, of length $length: queue" "$said, $?" '1 waiting append Archive <a@x>, 0'
+            said=$("$real" init INBOX Archive 2>&1)
+            same '  and init' "$said, $?" 'error journal exists, 9'
+            cp "$work/kept" "$MAIL_DIR/journal.$closed"
+        done
+    done
+    printf '\000' | tee "$work/closed" | dd of="$MAIL_DIR/journal.0" bs=1 conv=notrunc 2>/dev/null
+    dd if="$work/closed" of="$MAIL_DIR/journal.1" bs=1 conv=notrunc 2>/dev/null
+    said=$("$real" queue 2>&1)
+    same 'both are closed' "$?, $(echo "$said" | grep -c 'BACKUP has the way back')" '9, 2'
 }

@@ -146,6 +146,12 @@ CASES
     same '  once' "$status" 0
     MAIL_SERVER=third MAIL_USER=eve MAIL_PASSWORD=x ask play
     same "nor does another's letter come into a mailbox by the environment" "$status, $said" '78, '
+    rm "$MAIL_DIR/mowerbean.server"
+    ask -a work play
+    same 'an account that is not kept' "$status, $(ls "$MAIL_DIR/mowerbean.server" 2>/dev/null)" '0, '
+    echo journal >"$MAIL_DIR/journal.1"
+    ask -a work play
+    same '  is, where the journal was told anew and so was played' "$status, $(cat "$MAIL_DIR/mowerbean.server")" '0, bob@mail:143'
     mkdir "$MAIL_DIR/mowerbean.server.new"
     rm "$MAIL_DIR/mowerbean.server"
     rm -f "$work/stub/times"

@@ -1,11 +1,12 @@
 """What each command but `play` does with the journal, call by call (docs/JOURNAL.md, "Counted"), and what it prints."""
 from typing import Iterable, List, Tuple
 
-from .journal import Book, begin, body_of, event_of, journal, record
+from .journal import MAGIC, Book, begin, body_of, event_of, journal, record, u32
 from .words import Ident, crlf_of, keys, looked_at, may_be_asked, message_id
 from .world import Fault, World
 
-MAGIC = b'ODMAILJ1'
+# A journal that ends up to this place is never told anew; the bytes that are held back where one is; the last generation.
+SHORT, PIECE, LAST = 4096, 4096, 2**32 - 1
 
 
 def is_up(text: bytes) -> bool:
@@ -15,11 +16,15 @@ def is_up(text: bytes) -> bool:
 
 def is_other(text: bytes) -> bool:
     """Whether a file with an open head gate isn't a journal's."""
-    return is_up(text) and text[1:9] != MAGIC
+    return is_up(text) and (text[1:9] != MAGIC or text[9:13] == bytes(4))
+
+
+def generation_of(text: bytes) -> int:
+    return int.from_bytes(text[9:13], 'big') if is_up(text) else 0
 
 
 class Store:
-    """The journal of the left file, opened."""
+    """The journal, opened: of two sides that are set up the one with the higher generation."""
 
     def __init__(self, world: World):
         self.world = world
@@ -27,14 +32,14 @@ class Store:
         world.sync(1)
         world.read()
         world.read()
-        left, right = (file.seen for file in world.files)
-        if is_other(left) or is_other(right):
+        sides = [file.seen for file in world.files]
+        if any(map(is_other, sides)):
             raise Fault(9, 'error journal header')
-        if is_up(left) and is_up(right):
-            raise Fault(9, 'error journal generations')
-        if not is_up(left) and not is_up(right):
-            raise Fault(9, 'error journal none')
-        events = self.read(left)
+        left, right = map(generation_of, sides)
+        if left == right:
+            raise Fault(9, 'error journal generations' if left else 'error journal none')
+        self.side, self.generation = int(left < right), max(left, right)
+        events = self.read(sides[self.side])
         for _ in range(4 if len(events) == 1 else 5):
             world.read()
         self.book = Book(events)
@@ -59,12 +64,54 @@ class Store:
     def commit(self, event: tuple) -> None:
         """Writes a record and the closed gate behind it, and then opens the gate in front of it."""
         frame = record(body_of(event)) + b'\x00'
-        self.world.write(self.gate + 1, frame)
-        self.world.sync(0)
-        self.world.write(self.gate, b'\x01')
-        self.world.sync(0)
+        self.world.write(self.gate + 1, frame, self.side)
+        self.world.sync(self.side)
+        self.world.write(self.gate, b'\x01', self.side)
+        self.world.sync(self.side)
         self.gate += len(frame)
         self.book.take(event)
+
+    def bodies(self) -> List[bytes]:
+        """Those of the records that tell the book anew."""
+        return [body_of(event) for event in self.book.told_anew()]
+
+    def is_turn_due(self) -> bool:
+        """Whether the journal isn't short, a generation is to come, and told anew the book takes at most half of its bytes."""
+        end = self.gate + 1
+        return end > SHORT and self.generation < LAST and 2 * len(journal(*self.bodies())) <= end
+
+    def make_ready(self) -> None:
+        if self.is_turn_due():
+            bodies = self.bodies()
+            self.turn(bodies)
+            self.side, self.generation, self.gate = 1 - self.side, self.generation + 1, len(journal(*bodies)) - 1
+
+    def turn(self, bodies: List[bytes]) -> None:
+        """Sets up the other side: short records are held back and written together, and the head gate is opened last."""
+        world, side = self.world, 1 - self.side
+        world.read()
+        text = world.files[side].seen
+        if len(text) < 14 or is_up(text):
+            world.write(0, b'\x00', side)
+            world.sync(side)
+        world.write(1, MAGIC, side)
+        world.write(9, u32(self.generation + 1), side)
+        at, held = 13, b''
+        for text in map(record, bodies):
+            if len(held) + 1 + len(text) <= PIECE:
+                held += b'\x01' + text
+                continue
+            pieces = [held, b'\x01' + text[:4], text[4:]]
+            for piece in pieces:
+                world.write(at, piece, side)
+                at += len(piece)
+            held = b''
+        for piece in (held, b'\x00'):
+            world.write(at, piece, side)
+            at += len(piece)
+        world.sync(side)
+        world.write(0, b'\x01', side)
+        world.sync(side)
 
 
 def init(world: World, names: List[str]) -> List[str]:

@@ -1,7 +1,7 @@
 """Events as bytes and back (docs/JOURNAL.md), and the book that they make.
 
-An event is a tuple: ('begin', names), ('accept', number, action), ('intend', number, intent), ('settle', number, outcome) or
-('learn', mailbox, whole, validity, highest, uidnext, gone, rows), a row being (uid, modseq, flags).
+An event is a tuple: ('begin', names), ('accept', number, action), ('intend', number, intent), ('settle', number, outcome),
+('learn', mailbox, whole, validity, highest, uidnext, gone, rows), a row being (uid, modseq, flags), or ('old', number, action, outcome).
 An action is ('flag', target, sign, flags), ('move', target, to) or ('append', to, flags, text), a target
 ('real', mailbox, validity, uid) or ('dummy', number).
 An intent is ('store', mailbox, validity, uid, modseq), ('shift', mailbox, validity, uid, to) or ('put', to, validity, uidnext).
@@ -12,7 +12,10 @@ from typing import Dict, Iterable, List, Optional, Tuple
 
 from .words import Ident, keys, message_id, name_of, ranges_of
 
-HEAD = b'\x01ODMAILJ1' + (1).to_bytes(4, 'big')
+MAGIC = b'ODMAILJ1'
+HEAD = b'\x01' + MAGIC + (1).to_bytes(4, 'big')
+# How many rows are told at once where a book is told anew.
+ROWS_AT_ONCE = 1000
 # The bytes of each number of a conflict that has some, by its kind.
 WIDTHS = {3: [8], 7: [4], 9: [8, 8], 12: [4, 4]}
 KIND_NAMES = ('message-gone already-so flags-changed refused-no refused-bad not-permanent target-unknown found-so store-unsure source-gone '
@@ -97,6 +100,10 @@ def settle(number: int, outcome: tuple) -> bytes:
     return front + b'D\x00'
 
 
+def old(number: int, action: tuple, outcome: tuple) -> bytes:
+    return b'O' + accept(number, action)[1:] + settle(number, outcome)[5:]
+
+
 def learn(box: str, whole: int, validity: int, highest: int, uidnext: int, gone: Iterable[int], rows: Iterable[tuple]) -> bytes:
     ranges, rows = ranges_of(gone), sorted(rows)
     front = b'L' + named(box) + bytes([whole]) + u32(validity) + u64(highest) + u32(uidnext)
@@ -104,7 +111,7 @@ def learn(box: str, whole: int, validity: int, highest: int, uidnext: int, gone:
     return front + vanished + u32(len(rows)) + b''.join(u32(uid) + u64(modseq) + flags_of(flags) for uid, modseq, flags in rows)
 
 
-BODIES = dict(begin=lambda names: begin(*names), accept=accept, intend=intend, settle=settle, learn=learn)
+BODIES = dict(begin=lambda names: begin(*names), accept=accept, intend=intend, settle=settle, learn=learn, old=old)
 
 
 def body_of(event: tuple) -> bytes:
@@ -115,9 +122,9 @@ def record(body: bytes) -> bytes:
     return u32(len(body)) + body
 
 
-def journal(*bodies: bytes) -> bytes:
+def journal(*bodies: bytes, generation: int = 1) -> bytes:
     """A whole file: the head, each record behind its open gate, and a closed gate."""
-    return HEAD + b''.join(b'\x01' + record(body) for body in bodies) + b'\x00'
+    return b'\x01' + MAGIC + u32(generation) + b''.join(b'\x01' + record(body) for body in bodies) + b'\x00'
 
 
 class Cut(Exception):
@@ -189,6 +196,8 @@ class Body:
             return ('intend', self.num(), self.intent())
         if letter == b'S':
             return ('settle', self.num(), self.outcome())
+        if letter == b'O':
+            return ('old', self.num(), self.action(), self.outcome())
         if letter == b'L':
             return self.learned()
         return None
@@ -226,6 +235,9 @@ class Book:
         elif kind == 'settle':
             self.outcomes[event[1] - 1] = event[2]
             self.pending = None
+        elif kind == 'old':
+            self.queue.append(event[2])
+            self.outcomes.append(event[3])
         elif kind == 'learn':
             self.learned(*event[1:])
 
@@ -236,6 +248,21 @@ class Book:
         for uid, modseq, flags in rows:
             kept[uid] = (modseq, keys(flags))
         self.boxes[name] = dict(validity=validity, highest=highest, uidnext=uidnext, rows=kept)
+
+    def told_anew(self) -> List[tuple]:
+        """The events that make this book, in the order in which they are told."""
+        events: List[tuple] = [('begin', list(self.boxes))]
+        for name, cache in self.boxes.items():
+            if cache:
+                rows = [(uid, modseq, flags) for uid, (modseq, flags) in sorted(cache['rows'].items())]
+                for at in range(0, max(len(rows), 1), ROWS_AT_ONCE):
+                    numbers = (cache['validity'], cache['highest'], cache['uidnext'])
+                    events.append(('learn', name, int(at == 0), *numbers, [], rows[at:at + ROWS_AT_ONCE]))
+        for number, (action, outcome) in enumerate(zip(self.queue, self.outcomes), 1):
+            events.append(('old', number, action, outcome) if outcome else ('accept', number, action))
+        if self.pending:
+            events.append(('intend', self.unsettled()[0], self.pending))
+        return events
 
     def unsettled(self) -> List[int]:
         return [number for number, outcome in enumerate(self.outcomes, 1) if outcome is None]

@@ -266,7 +266,9 @@ class Run:
 
 def play(world: World) -> List[str]:
     """One call of the link a part of a command, and one a reply."""
-    run = Run(world, Store(world))
+    store = Store(world)
+    store.make_ready()
+    run = Run(world, store)
     run.enter()
     acts = dict(flag=run.flag, move=run.move, append=run.append)
     settled = conflicts = 0

@@ -127,9 +127,9 @@ class World(Server):
         if self.disk_calls in self.fails:
             raise disk_fault()
 
-    def write(self, at: int, data: bytes) -> None:
+    def write(self, at: int, data: bytes, side: int = 0) -> None:
         self.disk_call()
-        self.files[0].write(at, data)
+        self.files[side].write(at, data)
         self.moments += 1
 
     def sync(self, side: int = 0) -> None:

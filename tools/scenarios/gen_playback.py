@@ -59,7 +59,7 @@ class Played(Told):
 
     def holds(self) -> Book:
         """What must hold of every history: no action took effect twice, and one that is done took effect once."""
-        book = Store(World(left=self.world.files[0].seen)).book
+        book = Store(World((), (), *(file.seen for file in self.world.files))).book
         deeds = [author for author, *_ in self.world.history if author != 'other']
         for n, outcome in enumerate(book.outcomes, 1):
             count = deeds.count('P%d' % n)

@@ -56,7 +56,7 @@ class Draw(random.Random):
     def aimed(self, world):
         """Words that the journal is likely to take."""
         try:
-            book = Store(World(left=world.files[0].seen)).book
+            book = Store(World((), (), *(file.seen for file in world.files))).book
         except Fault:
             return ['init', *NAMES]
         rows, names = list(book.view()), list(book.boxes)
@@ -206,7 +206,7 @@ class Draw(random.Random):
         s.history()
         s.run('queue')
         s.lists(*NAMES)
-        book, deeds = Store(World(left=s.world.files[0].seen)).book, [author for author, *_ in s.world.history]
+        book, deeds = Store(World((), (), *(file.seen for file in s.world.files))).book, [author for author, *_ in s.world.history]
         for n, outcome in enumerate(book.outcomes, 1):
             count = deeds.count('P%d' % n)
             assert count <= 1, (n, deeds)

@@ -10,7 +10,7 @@ use Rattle.play_driver.specs.Joining.{AllFair, Grows}
 use Rattle.play_driver.specs.Played.{played}
 use Rattle.play_driver.proofs.Parts.{since_first, since_second}
 use Rattle.mail_top.specs.FairRuns.{FairRun}
-use Rattle.mail_top.specs.Leaving.{GoesOnBy, KeepsOn, MayBeLeft, OnTheWay, WordsKeep, WordsStep}
+use Rattle.mail_top.specs.Leaving.{KeepsOn, MayBeLeft, OnTheWay, WordsKeep, WordsStep}
 use Rattle.mail_top.specs.Runs.{CutOff}
 use Rattle.mail_top.specs.Showing.{OnlyReads}
 use Rattle.mail_top.specs.Words.{Queue, WritesQueue}

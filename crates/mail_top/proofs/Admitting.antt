@@ -37,7 +37,6 @@ use Rattle.local_view.specs.declared.seen.Ident.TheVariants as ident
 use Rattle.local_view.proofs.InView.{made_there}
 use Rattle.store_core.specs.Mail.{MayCome}
 use Rattle.journal_core.specs.declared.version.Version.{Version}
-use Rattle.journal_core.specs.declared.version.Version.TheVariants.{First}
 use Rattle.mail_top.specs.Actions.{Becomes, keys_of, next_id, accepts, target_in}
 use Rattle.mail_top.specs.Reading.{Awaits, MessageRead}
 use Rattle.mail_top.specs.Reasons.{IsFree, is_absent, is_bad_flag, open_len, one_if_open}
@@ -225,7 +224,7 @@ good_action (Append addition input) b action free is = subst (λ (a : Action). i
 
 -- what the book takes may come next
 pub may_accept : (v : Version) (wanted : Wanted) (b : Meaning) (id : ℕ) (action : Action) → Admits wanted b id action → MayCome v (Some b) (accepts b action)
-may_accept First wanted b id action t =
+may_accept v wanted b id action t =
     four_pass (not (next_id b == next_id b)) (is_unknown_action b.boxes action) (is_bad_action b.queue action) (nat_le MAX_ACTIONS (length b.queue))
     (same_number (next_id b)) (known_action wanted b action t.free t.is) (good_action wanted b action t.free t.is) (below MAX_ACTIONS (length b.queue) t.few)
 

@@ -1,5 +1,5 @@
 -- How a run hands on what its command gives: of the book beside the server, of causes, and of the input.
-use Rattle.std.proofs.Common.{◌≡◌, ◌⊎◌, inl, inr, ⊎_elim, ℕ, ◌≤◌, List, Result, Ok, Err, refl, sym, ◌∙◌, ap, subst, arith}
+use Rattle.std.proofs.Common.{◌≡◌, inl, inr, ⊎_elim, ℕ, ◌≤◌, List, Result, Ok, Err, refl, sym, ◌∙◌, ap, subst, arith}
 use Rattle.mail_base.specs.Account.{Credentials}
 use Rattle.mail_base.specs.declared.status.Status.{Status}
 use Rattle.mail_base.specs.declared.status.Status.TheVariants as status

@@ -1,15 +1,16 @@
 -- How a command connects: at first, or not at all.
-use Rattle.std.proofs.Common.{◌≡◌, inl, ap, subst}
+use Rattle.std.proofs.Common.{◌≡◌, inl, inr, refl, ap, subst}
 use Rattle.imap_model.specs.Talking.{Connecting}
 use Rattle.world_traits.specs.LinkState.{LinkState}
 use Rattle.world_traits.specs.Links.{Any, LinkStep}
-use Rattle.world_traits.specs.Moments.{Moment, Clock, Since, Within}
+use Rattle.world_traits.specs.Moments.{Moment, Clock, Since}
 use Rattle.world_traits.proofs.Passing.{since_start, since_weaker}
 use Rattle.store_core.specs.HeldActions.{KeepsActions}
 use Rattle.play_driver.specs.Accuses.{ConnectsOnce}
 use Rattle.play_driver.specs.Questioning.{ConnectsFirst, RunStep}
 use Rattle.mail_top.specs.Connecting.{ConnectsAtFirst, SameOutside}
 use Rattle.mail_top.specs.Leaving.{KeepsStep}
+use Rattle.mail_top.specs.Readying.{NoTurnDue}
 use Rattle.mail_top.specs.Words.{Request, Play}
 use Rattle.mail_top.proofs.Repeated.{outside_same}
 
@@ -18,6 +19,7 @@ none_made : (k l : Clock) → Since Any SameOutside k l → ConnectsAtFirst k l
 none_made k l stays = record {
   first = l;
   opens = stays;
+  ready = inl refl;
   run = record { at = l; connects = since_start Any (LinkStep Connecting) l; behind = since_start Any RunStep l };
 }
 
@@ -29,16 +31,17 @@ pub request_alone : (request : Request) → (request ≡ Play → ⊥) → (P : 
 request_alone request never P k l s =
     none_made k l (since_weaker P Any (KeepsStep request) SameOutside (λ m p. tt) (λ m n step. outside_same request m n never step.outside) k l s)
 
--- nor while the journal is opened
-opening : (entry : Moment) (k l : Clock) → Since (Within entry) KeepsActions k l → Since Any SameOutside k l
-opening entry k l s = since_weaker (Within entry) Any KeepsActions SameOutside (λ m p. tt) (λ m n step. step.outside) k l s
+-- nor while the journal is made ready
+module _ (P : Moment → Type 0) (k l : Clock) (readies : Since P KeepsActions k l) where
+  readying : Since Any SameOutside k l
+  readying = since_weaker P Any KeepsActions SameOutside (λ m p. tt) (λ m n step. step.outside) k l readies
 
-pub opens_alone : (entry : Moment) (k l : Clock) → Since (Within entry) KeepsActions k l → ConnectsAtFirst k l
-opens_alone entry k l s = none_made k l (opening entry k l s)
+  pub readies_alone : ConnectsAtFirst k l
+  readies_alone = none_made k l readying
 
--- behind that the run makes one
-pub opens_then : (entry : Moment) (k l n : Clock) → Since (Within entry) KeepsActions k l → ConnectsFirst RunStep l n → ConnectsAtFirst k n
-opens_then entry k l n s run = record { first = l; opens = opening entry k l s; run = run }
+  -- behind that the run makes one
+  pub readies_then : (n : Clock) → NoTurnDue l.now → ConnectsFirst RunStep l n → ConnectsAtFirst k n
+  readies_then n ready run = record { first = l; opens = readying; ready = inr ready; run = run }
 
 -- a link that stays makes no connection
 pub none_once : (k l : LinkState) → l ≡ k → ConnectsOnce k l

@@ -19,3 +19,5 @@ effect_told (kinds.StoreUnsure m f) = refl
 effect_told kinds.SourceGone = refl
 effect_told kinds.GoneAfterLoss = refl
 effect_told (kinds.Ambiguous u v) = refl
+effect_told (kinds.ValidityChanged o n) = refl
+effect_told (kinds.ResetAfterLoss o n) = refl

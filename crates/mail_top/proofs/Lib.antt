@@ -15,6 +15,7 @@ pub mod Moving
 pub mod Naming
 pub mod Openings
 pub mod PlaySteps
+pub mod MadeReady
 pub mod Recording
 pub mod Repeated
 pub mod Sayings

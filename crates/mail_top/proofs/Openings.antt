@@ -78,6 +78,7 @@ module _ (E : Status → List ℕ → Type 0) (k : Course) (on_memory : SaysMemo
 abbrev pub opened_book : (store : Holding mail) (m : Moment) (seen files : Files) → IsAsLeft mail store m seen → seen ≡ files → HasBook mail store.book files
 opened_book store m seen files left same = record {
   version = store.journal.version;
+  written = left.written;
   bodies = left.bodies;
   holds = subst (Holds store.journal.version left.bodies) same (still_holds store.journal left.bodies m seen left.still left.all_read);
   make = left.make;

@@ -6,7 +6,7 @@ use Rattle.imap_model.specs.declared.response.Response.TheVariants as responses
 use Rattle.world_traits.specs.Connected.{IsGreeted}
 use Rattle.world_traits.specs.Files.{Files}
 use Rattle.world_traits.specs.Links.{Any}
-use Rattle.world_traits.specs.Moments.{Clock, Moment, Since, Within}
+use Rattle.world_traits.specs.Moments.{Clock, Moment, Since}
 use Rattle.world_traits.proofs.Traces.{carried_now}
 use Rattle.action_queue.specs.Book.{Meaning}
 use Rattle.store_core.specs.Books.{HasBook}
@@ -34,19 +34,17 @@ use Rattle.mail_top.specs.declared.unfinished.Unfinished.{Unfinished}
 use Rattle.mail_top.specs.declared.unfinished.Unfinished.TheVariants as ends
 use Rattle.mail_top.proofs.Sayings.{ended_by}
 
--- behind an opening, which leaves the server with its connection, the server serves still
-same_peer : (entry : Moment) (k l : Clock) → Since (Within entry) KeepsActions k l → l.now.outside ≡ k.now.outside
-same_peer entry k l opens =
-    carried_now (Within entry) (λ m. m.outside ≡ k.now.outside) KeepsActions (λ m n here step so. step.outside ∙ so) k refl l opens
+-- behind calls that leave the server with its connection the server serves still
+pub same_peer : (P : Moment → Type 0) (k l : Clock) → Since P KeepsActions k l → l.now.outside ≡ k.now.outside
+same_peer P k l readies = carried_now P (λ m. m.outside ≡ k.now.outside) KeepsActions (λ m n here step so. step.outside ∙ so) k refl l readies
 
-pub serving_behind : (entry : Moment) (b : Meaning) (k l n : Clock) → Since (Within entry) KeepsActions k l → Progresses b l n → AllServing k n →
-    AllServing l n
-serving_behind entry b k l n opens goes a =
-    let first = grows (Within entry) KeepsActions k l opens in
+pub serving_behind : (P : Moment → Type 0) (b : Meaning) (k l n : Clock) → Since P KeepsActions k l → Progresses b l n → AllServing k n → AllServing l n
+serving_behind P b k l n readies goes a =
+    let first = grows P KeepsActions k l readies in
     let more = grows (IsPlaying b) PlayStep l n goes in
     let rest = grows Any IsServing a.made n a.later in
     ⊎_elim (λ (g : Grows a.made l).
-    let same = same_peer entry a.made l (since_second (Within entry) KeepsActions k a.made l a.before g opens) in
+    let same = same_peer P a.made l (since_second P KeepsActions k a.made l a.before g readies) in
     record {
       made = l;
       before = grows_start l;
@@ -58,17 +56,18 @@ serving_behind entry b k l n opens goes a =
     (in_order k a.made l n a.before rest first more)
 
 -- Nor was a mailbox made anew, and each is there still.
-module _ (files : Files) (b : Meaning) (m n : Moment) (holds : HasBook mail b files) (within : Within m n) (w : WaitsForNone files m.outside.server) where
+module _ (files : Files) (b : Meaning) (m n : Moment) (holds : HasBook mail b files) (same : n.outside ≡ m.outside)
+    (w : WaitsForNone files m.outside.server) where
   one_book : w.book ≡ b
   one_book = one_held mail one_mail_event files w.book b w.holds holds
 
   pub none_behind : NoneRenewed b n.outside.server
   none_behind =
-      subst (λ (p : Peer). NoneRenewed b p.server) (sym within.outside) (subst (λ (x : Meaning). NoneRenewed x m.outside.server) one_book w.none)
+      subst (λ (p : Peer). NoneRenewed b p.server) (sym same) (subst (λ (x : Meaning). NoneRenewed x m.outside.server) one_book w.none)
 
   pub boxes_behind : AreBoxes (box_names b) n.outside.server
   boxes_behind =
-      subst (λ (p : Peer). AreBoxes (box_names b) p.server) (sym within.outside)
+      subst (λ (p : Peer). AreBoxes (box_names b) p.server) (sym same)
       (subst (λ (x : Meaning). AreBoxes (box_names x) m.outside.server) one_book w.boxes)
 
 -- what else ends it is none of the server's

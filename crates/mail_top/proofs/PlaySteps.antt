@@ -3,11 +3,10 @@ use Rattle.std.proofs.Common.{◌≡◌, ◌⊎◌, inl, inr, Bool, Some, Result
 use Rattle.std.specs.Prelude.{slice_get}
 use Rattle.world_traits.specs.Files.{Files}
 use Rattle.world_traits.specs.Links.{Any}
-use Rattle.world_traits.specs.Moments.{Moment, Clock, Since, OneSideAtRest, Within}
+use Rattle.world_traits.specs.Moments.{Moment, Clock, Since, OneSideAtRest}
 use Rattle.world_traits.proofs.Keeping.{since_now}
 use Rattle.world_traits.proofs.Passing.{since_then, since_weaker}
 use Rattle.world_traits.proofs.Traces.{carried_now}
-use Rattle.world_traits.proofs.Narrowing.{within_keeps}
 use Rattle.journal_core.specs.OneSide.{AnyNext, EachOneSide}
 use Rattle.action_queue.specs.Book.{Meaning}
 use Rattle.playback.specs.Kept.{Kept}
@@ -20,7 +19,7 @@ use Rattle.store_core.specs.Taking.{HasBooks, ChoosesStep}
 use Rattle.store_core.proofs.Choosing.{only_left}
 use Rattle.store_core.proofs.Folding.{one_held}
 use Rattle.store_core.proofs.MailBook.{one_mail_event}
-use Rattle.play_driver.specs.Joining.{AllFair, IsFair, Relates}
+use Rattle.play_driver.specs.Joining.{AllFair, IsFair}
 use Rattle.play_driver.specs.Played.{played}
 use Rattle.play_driver.specs.Progress.{BeginsPlay, IsPlaying, PlayStep, Progresses}
 use Rattle.play_driver.specs.Settled.{AreSyncedBehind}
@@ -35,8 +34,9 @@ use Rattle.mail_top.specs.Connecting.{SameOutside}
 use Rattle.mail_top.specs.KeptNow.{IsKeptNow, StaysKept}
 use Rattle.mail_top.specs.Leaving.{MayBeLeft, KeepsStep, BeginsDue, RequestStep}
 use Rattle.mail_top.specs.Played.{AreSynced}
+use Rattle.mail_top.specs.Readying.{LeavesRead}
 use Rattle.mail_top.specs.SurePlay.{EndsSurely}
-use Rattle.mail_top.specs.TruePlay.{OnlyOpens, OpensBook, PlaysTruly}
+use Rattle.mail_top.specs.TruePlay.{OnlyReadies, OpensBook, PlaysTruly}
 use Rattle.mail_top.specs.TruePlay.PlaysTruly.{recorded, cut}
 use Rattle.mail_top.specs.Words.{Play}
 use Rattle.mail_top.proofs.Losing.{loses_none}
@@ -53,26 +53,41 @@ play_step m n s = record { old = s.old; new = s.new; at_old = s.at_old; at_new =
     by_step (inr (inl b)) = inr (inl (record { version = b.version; event = b.event; begins = b.begins; due = b.of_play }))
     by_step (inr (inr firm)) = inr (inr (inl firm))
 
--- the moments of an opening
-pub opening_keeps : (entry : Moment) (seen : Files) (k l : Clock) → Since (Within entry) KeepsActions k l →
+-- a book that each stop leaves is played from, or as it was
+left_read : (entry : Moment) (seen : Files) (m : Moment) → LeavesRead entry seen m → MayBeLeft Play entry seen m
+left_read entry seen m (inl within) = inl within
+left_read entry seen m (inr left) = inr (record {
+  book = left.book;
+  holds = left.holds;
+  playing = record {
+    each = λ files h. record {
+      book = left.book;
+      holds = left.leaves.each.each files h;
+      later = record { names = refl; actions = refl; outcomes = λ i q there some. there };
+    };
+  };
+})
+
+-- the moments in which the journal is made ready
+pub ready_keeps : (entry : Moment) (seen : Files) (k l : Clock) → Since (LeavesRead entry seen) KeepsActions k l →
     Since (MayBeLeft Play entry seen) (KeepsStep Play) k l
-opening_keeps entry seen k l opens = keeps_steps Play (Within entry) (MayBeLeft Play entry seen) (λ m w. inl w) k l opens
+ready_keeps entry seen k l readies = keeps_steps Play (LeavesRead entry seen) (MayBeLeft Play entry seen) (left_read entry seen) k l readies
 
 pub opening_joined : (k l : Clock) → IsKeptNow k.now → Since Any (ChoosesStep mail) k l → StaysKept k l
 opening_joined k l kept opens = chooses_stays mail one_mail_event Kept played withstood k l kept opens
 
--- an opening, and what is played behind it
+-- and what is played behind it
 pub play_steps : (b : Meaning) (k l n : Clock) → Since Any (ChoosesStep mail) k l → Progresses b l n → Since Any (RequestStep Play) k n
 play_steps b k l n opens goes =
     steps_then Play k l n (chooses_steps Play k l opens) (since_weaker (IsPlaying b) Any PlayStep (RequestStep Play) (λ m p. tt) play_step l n goes)
 
 module _ (b : Meaning) (seen : Files) (holds : HasBook mail b seen) where
-  -- an opening, and what a stop leaves behind it
-  pub play_keeps : (entry : Moment) (k l n : Clock) → Since (Within entry) KeepsActions k l → Progresses b l n →
+  -- what a stop leaves then, and behind it
+  pub play_keeps : (entry : Moment) (k l n : Clock) → Since (LeavesRead entry seen) KeepsActions k l → Progresses b l n →
       Since (MayBeLeft Play entry seen) (KeepsStep Play) k n
-  play_keeps entry k l n opens goes =
+  play_keeps entry k l n readies goes =
       since_then (MayBeLeft Play entry seen) (KeepsStep Play) k l n
-      (opening_keeps entry seen k l opens)
+      (ready_keeps entry seen k l readies)
       (since_weaker (IsPlaying b) (MayBeLeft Play entry seen) PlayStep (KeepsStep Play) (λ m p. inr (record { book = b; holds = holds; playing = p }))
       (λ m n s. record { loses_none = loses_none Play m n (play_step m n s); outside = tt }) l n goes)
 
@@ -90,32 +105,28 @@ playing_start store m seen left = record {
   };
 }
 
--- what is kept at entry is kept where a journal was opened
-pub opened_kept : (k l : Clock) → IsKeptNow k.now → Within k.now l.now → IsKeptNow l.now
-opened_kept k l kept within = within_keeps (Relates mail Kept) k.now l.now kept within
-
--- an opening, and a run behind it
+-- that, and a run behind it
 pub play_joined : (b : Meaning) (k l n : Clock) → IsKeptNow k.now → Since Any (ChoosesStep mail) k l → Progresses b l n →
     (IsKeptNow l.now → StaysKept l n) → StaysKept k n
 play_joined b k l n kept opens goes run =
     stays_then mail Kept played k l n kept (grows Any (ChoosesStep mail) k l opens) (grows (IsPlaying b) PlayStep l n goes)
     (opening_joined k l kept opens) run
 
--- the fairness of others in the run behind an opening
-pub play_fair : (b : Meaning) (entry : Moment) (k l n : Clock) → Since (Within entry) KeepsActions k l → Progresses b l n → AllFair mail played k n →
-    AllFair mail played l n
-play_fair b entry k l n opens goes fair =
-    since_second Any (IsFair mail played) k l n (grows (Within entry) KeepsActions k l opens) (grows (IsPlaying b) PlayStep l n goes) fair
+-- the fairness of others in the run behind it
+pub play_fair : (b : Meaning) (entry : Moment) (seen : Files) (k l n : Clock) → Since (LeavesRead entry seen) KeepsActions k l → Progresses b l n →
+    AllFair mail played k n → AllFair mail played l n
+play_fair b entry seen k l n readies goes fair =
+    since_second Any (IsFair mail played) k l n (grows (LeavesRead entry seen) KeepsActions k l readies) (grows (IsPlaying b) PlayStep l n goes) fair
 
--- what was synced behind an opening was so in the whole call
-pub play_synced : (later : Holding mail) (entry m : Moment) (seen : Files) (k l n : Clock) → Since (Within entry) KeepsActions k l →
+-- what was synced behind it was so in the whole call
+pub play_synced : (later : Holding mail) (entry m : Moment) (read seen : Files) (k l n : Clock) → Since (LeavesRead entry read) KeepsActions k l →
     IsAsLeft mail later m seen → AreSyncedBehind l n later.book → AreSynced seen k n
-play_synced later entry m seen k l n opens left s = record {
+play_synced later entry m read seen k l n readies left s = record {
   book = later.book;
   holds = opened_book later m seen seen left refl;
   behind = record {
     from = s.from;
-    later = grows_then k l s.from (grows (Within entry) KeepsActions k l opens) s.later;
+    later = grows_then k l s.from (grows (LeavesRead entry read) KeepsActions k l readies) s.later;
     before = s.before;
     settled = s.settled;
     each = s.each;
@@ -139,17 +150,18 @@ module _ (seen after : Files) where
         (one_held mail one_mail_event seen book entry (subst (HasBook mail book) same q) p) there);
   }
 
--- an opening does nothing more
-pub only_opens : (k l : Clock) → Since (Within k.now) KeepsActions k l → OnlyOpens k l
-only_opens k l opens = since_weaker (Within k.now) (Within k.now) KeepsActions SameOutside (λ m p. p) (λ m n step. step.outside) k l opens
+-- making the journal ready does nothing more
+pub only_readies : (seen : Files) (k l : Clock) → Since (LeavesRead k.now seen) KeepsActions k l → OnlyReadies seen k l
+only_readies seen k l readies =
+    since_weaker (LeavesRead k.now seen) (LeavesRead k.now seen) KeepsActions SameOutside (λ m p. p) (λ m n step. step.outside) k l readies
 
 -- and behind it each stop leaves the book as read
-pub opens_store : (store : Holding mail) (read seen : Files) (k l : Clock) → Since (Within k.now) KeepsActions k l →
-    IsAsLeft mail store l.now read → read ≡ seen → OpensBook store.book seen k l
-opens_store store read seen k l opens left same = record {
-  opens = only_opens k l opens;
-  holds = opened_book store l.now read seen left same;
-  leaves = only_left mail store l.now read left;
+pub readies_book : (store : Holding mail) (now seen : Files) (k l : Clock) → Since (LeavesRead k.now seen) KeepsActions k l → HasBook mail store.book seen →
+    IsAsLeft mail store l.now now → OpensBook store.book seen k l
+readies_book store now seen k l readies holds left = record {
+  opens = only_readies seen k l readies;
+  holds = holds;
+  leaves = only_left mail store l.now now left;
 }
 
 -- A run that ended early recorded truly, also where the disk ended it.

@@ -5,14 +5,10 @@ use Rattle.std.specs.Result.{IsErrAnd}
 use Rattle.mail_base.specs.Account.{Credentials}
 use Rattle.mail_base.specs.declared.status.Status.{Status}
 use Rattle.mail_base.specs.declared.status.Status.TheVariants as status
-use Rattle.world_traits.specs.Files.{Files}
 use Rattle.world_traits.specs.LinkState.{LinkState}
-use Rattle.world_traits.specs.Moments.{Moment, Within}
-use Rattle.journal_core.specs.declared.fault.Place9.{Place9}
 use Rattle.action_queue.specs.Queues.{AllSettled}
 use Rattle.action_queue.specs.declared.event.Event.{Event}
 use Rattle.store_core.specs.Mail.{mail}
-use Rattle.store_core.specs.Broken.{IsBroken}
 use Rattle.store_core.specs.Holding.{Holding, IsAsLeft}
 use Rattle.store_core.specs.Taking.{IsTaking}
 use Rattle.store_core.specs.declared.fault.StoreFault.{StoreFault}
@@ -29,15 +25,16 @@ use Rattle.play_driver.specs.declared.played.Played.{Played}
 use Rattle.mail_top.specs.Course.{Course}
 use Rattle.mail_top.specs.Ending.{EndsPlay, EndsRequest}
 use Rattle.mail_top.specs.Faults.{of_store}
-use Rattle.mail_top.specs.Played.{CameThrough, IsOpened, SaysPlayed, SaysStopped}
-use Rattle.mail_top.specs.Telling.{TellsNoPlace, status_of, status_of_refusal, status_of_fault, text_of_fault}
+use Rattle.mail_top.specs.Played.{CameThrough, SaysPlayed, SaysStopped}
+use Rattle.mail_top.specs.Readying.{IsOpened, IsUnready}
+use Rattle.mail_top.specs.Telling.{TellsNoPlace, status_of, status_of_refusal, status_of_fault, text_of_fault, text_of_refusal}
 use Rattle.mail_top.specs.Telling.{status_of_conflicts, status_of_play, text_of_play}
 use Rattle.mail_top.specs.Words.{Wanted, Request, Init, Act, Rows, Queue, Report, Play}
 use Rattle.mail_top.specs.declared.refusal.Refusal.{Refusal}
 use Rattle.mail_top.specs.declared.refusal.Refusal.TheVariants as refusals
 use Rattle.mail_top.specs.declared.unfinished.Unfinished.{Unfinished}
 use Rattle.mail_top.specs.declared.unfinished.Unfinished.TheVariants as ends
-use Rattle.mail_top.proofs.Openings.{opened_book, unopened}
+use Rattle.mail_top.proofs.Openings.{opened_book}
 
 -- what was handed on is the result
 pub ended_by : {T : Type 0} (r : Result T Unfinished) (x : Unfinished) → IsErrAnd r (λ end. end ≡ x) → r ≡ Err x
@@ -49,38 +46,35 @@ pub by_result : (account : Credentials) (k : Course) (r s : Result Played Unfini
     EndsPlay account k (status_of_play r) (text_of_play r)
 by_result account k r s is says = subst (λ (q : Result Played Unfinished). EndsPlay account k (status_of_play q) (text_of_play q)) (sym is) says
 
--- the journal isn't opened
-pub unopened_play : {S : Type 0} (account : Credentials) (k : Course) (o : Result S StoreFault) (r : Result Played Unfinished) (x : StoreFault) → o ≡ Err x →
-    IsErrAnd r (λ end. end ≡ ends.Unopened x) → k.link_after ≡ k.link → Within k.old.now k.new.now →
-    ((o ≡ Err stores.Disk → ⊥) → k.seen_after ≡ k.seen) →
-    (o ≡ Err stores.Already → ⊥) × ((end wanted : ℕ) → o ≡ Err (stores.Full end wanted) → ⊥) →
-    ((why : Place9) → o ≡ Err (stores.NotAJournal why) → IsBroken mail why k.seen) → EndsPlay account k (status_of_play r) (text_of_play r)
-unopened_play account k o r x was given link within reads only broken =
-    by_result account k r (Err (ends.Unopened x)) (ended_by r (ends.Unopened x) given)
-    (unopened (EndsPlay account k) k (λ s. inl (record { link = link; outside = within.outside; says = s }))
-    (λ w. inl (record { link = link; outside = within.outside; says = record { leaves = w; text_is = refl } }))
-    (λ why s. record { link = link; outside = within.outside; says = s }) x within
-    (λ other. reads (λ is. other (back is))) (λ is. only.0 (at stores.Already is)) (λ end wanted is. only.1 end wanted (at (stores.Full end wanted) is))
-    (λ why is. broken why (at (stores.NotAJournal why) is)))
+-- the journal isn't ready
+pub unready_play : {S : Type 0} (account : Credentials) (k : Course) (o : Result S StoreFault) (r : Result Played Unfinished) (x : StoreFault) → o ≡ Err x →
+    IsErrAnd r (λ end. end ≡ ends.Unopened x) → k.link_after ≡ k.link → k.new.now.outside ≡ k.old.now.outside → IsUnready k x →
+    EndsPlay account k (status_of_play r) (text_of_play r)
+unready_play account k o r x was given link outside unready =
+    by_result account k r (Err (ends.Unopened x)) (ended_by r (ends.Unopened x) given) (by_store x unready)
   where
-    at : (y : StoreFault) → x ≡ y → o ≡ Err y
-    at y is = was ∙ ap (λ (f : StoreFault). Err f) is
+    by_store : (y : StoreFault) → IsUnready k y → EndsPlay account k (status_of_refusal (of_store y)) (text_of_refusal (of_store y))
+    by_store stores.Memory u = inl (record { link = link; outside = outside; says = record { keeps = u; text_is = refl } })
+    by_store stores.Disk u = inl (record { link = link; outside = outside; says = record { leaves = u; text_is = refl } })
+    by_store stores.Already u = absurd u
+    by_store (stores.Full end wanted) u = absurd u
+    by_store (stores.NotAJournal why) u = record {
+      link = link;
+      outside = outside;
+      says = record { keeps = u.0; why = why; broken = u.1; text_is = refl };
+    }
 
-    back : o ≡ Err stores.Disk → x ≡ stores.Disk
-    back is = cc (was, is)
-
--- the store that was opened on the files
-pub is_opened : (k : Course) (store : Holding mail) (m : Moment) (seen : Files) → Within k.old.now m → IsAsLeft mail store m seen → seen ≡ k.seen →
-    IsOpened k store
-is_opened k store m seen within left same = record {
-  holds = opened_book store m seen k.seen left same;
-  at = m;
-  within = within;
-  stood = subst (IsAsLeft mail store m) same left;
-}
+-- unless the disk failed the files read as before
+pub unready_reads : {S : Type 0} (k : Course) (o : Result S StoreFault) (x : StoreFault) → o ≡ Err x → IsUnready k x → (o ≡ Err stores.Disk → ⊥) →
+    k.seen_after ≡ k.seen
+unready_reads k o stores.Memory was u other = u.reads
+unready_reads k o stores.Disk was u other = absurd (other was)
+unready_reads k o stores.Already was u other = absurd u
+unready_reads k o (stores.Full end wanted) was u other = absurd u
+unready_reads k o (stores.NotAJournal why) was u other = u.0.reads
 
 -- the run came to its end
-module _ (account : Credentials) (k : Course) (opened store : Holding mail) (p : Played) (read : IsOpened k opened)
+module _ (account : Credentials) (k : Course) (opened store : Holding mail) (p : Played) (read : IsOpened k.old.now k.seen opened)
     (plays : Plays account opened store k.link_after) (later : IsLater opened.book store.book) (settled : AllSettled store.book.queue)
     (left : IsAsLeft mail store k.new.now k.seen_after) (is : p ≡ played_since opened.book store.book) where
   says_played : SaysPlayed account k (status_of_play (Ok p)) (text_of_play (Ok p))
@@ -118,7 +112,7 @@ module _ (account : Credentials) (k : Course) where
   by_fault (faults.Limit which number) s = s
 
   pub stopped_play : {T : Type 0} (opened store : Holding mail) (o : Result T PlayFault) (r : Result Played Unfinished) (x : PlayFault) → o ≡ Err x →
-      IsErrAnd r (λ end. end ≡ ends.Stopped x) → IsOpened k opened → IsLater opened.book store.book →
+      IsErrAnd r (λ end. end ≡ ends.Stopped x) → IsOpened k.old.now k.seen opened → IsLater opened.book store.book →
       (before : LinkState) → before ≡ k.link → ((fault : PlayFault) → o ≡ Err fault → EndsEarly account opened store before k.link_after fault) →
       IsPlaying opened.book k.new.now →
       ((o ≡ Err faults.Disk → ⊥) → IsAsLeft mail store k.new.now k.seen_after) →

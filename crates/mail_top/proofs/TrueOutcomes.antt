@@ -35,8 +35,9 @@ use Rattle.mail_top.specs.Connecting.{SameOutside}
 use Rattle.mail_top.specs.FairRuns.{FairRun, FollowsFairly}
 use Rattle.mail_top.specs.FairRuns.FollowsFairly.{at_once as no_run, by_run as fair_run, by_stop as a_stop, by_others as fair_others}
 use Rattle.mail_top.specs.Leaving.{MayBeLeft, OnTheWay, WordsKeep}
+use Rattle.mail_top.specs.Readying.{LeavesRead}
 use Rattle.mail_top.specs.TruePlay.{OpensBook, PlaysTruly}
-use Rattle.mail_top.specs.TruePlay.PlaysTruly.{unread, recorded, cut}
+use Rattle.mail_top.specs.TruePlay.PlaysTruly.{unready, recorded, cut}
 use Rattle.mail_top.specs.TrueRuns.{AllTrue, EndsInOne, EndsTruly, HasEnded, MayHaveEnded}
 use Rattle.mail_top.specs.Words.{Request, Init, Act, Rows, Queue, Report, Play, Asks, WritesPlay}
 use Rattle.mail_top.proofs.Repeated.{restart_begins}
@@ -88,6 +89,9 @@ module _ (place : ℕ) (outcome : Outcome) where
       (changed_at (settled other) b.queue place ended.queued ended.there)
   event_ends entry b made now (events.Learn name delta) so_far of_play truly new before ended =
       inl (record { queued = ended.queued; there = ended.there; ended = ended.ended })
+  event_ends entry b made now (events.Old id action other) so_far of_play truly new before ended = absurd of_play
+  event_ends entry b made now (events.Reset name kept told) so_far of_play truly new before ended = absurd of_play
+  event_ends entry b made now (events.Withdraw id tries) so_far of_play truly new before ended = absurd of_play
 
   longer : (entry : Meaning) (made now new : Clock) → Grows now new → EndsSince place outcome entry made now → EndsSince place outcome entry made new
   longer entry made now new more e = record {
@@ -158,9 +162,15 @@ module _ (place : ℕ) (outcome : Outcome) where
       by_within : Within old.now at.now → MayHaveEnded place outcome old.now
       by_within w = record { files = files; leaves = w.each files leaves; book = b; holds = holds; ended = ended }
 
+      by_read : LeavesRead old.now seen at.now → MayHaveEnded place outcome old.now
+      by_read (inl within) = by_within within
+      by_read (inr left) = by_seen left.book left.holds (same_book files b left.book holds (left.leaves.each.each files leaves) ended)
+
       by_play : PlaysTruly seen old at → MayHaveEnded place outcome old.now ⊎ EndsTruly place outcome seen old at
-      by_play (unread opens) =
-          inl (by_within (since_now (Within old.now) (Within old.now) SameOutside (λ m n here step before. here) old (within_self old.now) at opens))
+      by_play (unready readies) =
+          inl
+          (by_read
+          (since_now (LeavesRead old.now seen) (LeavesRead old.now seen) SameOutside (λ m n here step before. here) old (inl (within_self old.now)) at readies))
       by_play (recorded entry c opened opens records_so left) =
           ⊎_elim (λ first. inl (by_seen entry opens.holds first))
           (λ here. inr (in_run seen old opened entry records_so.made at opens records_so.connects records_so.behind here))

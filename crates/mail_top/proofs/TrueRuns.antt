@@ -3,7 +3,7 @@ use Rattle.std.proofs.Common.{◌≡◌, ◌⊎◌, inl, inr, ⊎_elim, List, []
 use Rattle.imap_model.specs.Talking.{Connecting}
 use Rattle.world_traits.specs.Files.{Files}
 use Rattle.world_traits.specs.Links.{Any, LinkStep, Linked}
-use Rattle.world_traits.specs.Moments.{Moment, Clock, Since, Within, Images, GoesOn, Chain, grow}
+use Rattle.world_traits.specs.Moments.{Moment, Clock, Since, Images, GoesOn, Chain, grow}
 use Rattle.world_traits.proofs.Keeping.{since_now}
 use Rattle.world_traits.proofs.Passing.{since_start}
 use Rattle.action_queue.specs.Book.{Meaning, after}
@@ -20,8 +20,9 @@ use Rattle.play_driver.proofs.Links.{books_there}
 use Rattle.play_driver.proofs.Longer.{in_order}
 use Rattle.play_driver.proofs.Parts.{grows, grows_start, grows_then, since_first}
 use Rattle.mail_top.specs.Connecting.{SameOutside}
+use Rattle.mail_top.specs.Readying.{LeavesRead}
 use Rattle.mail_top.specs.TruePlay.{OpensBook, PlaysTruly}
-use Rattle.mail_top.specs.TruePlay.PlaysTruly.{unread, recorded, cut}
+use Rattle.mail_top.specs.TruePlay.PlaysTruly.{unready, recorded, cut}
 
 -- each stop leaves this book
 abbrev Leaves : Meaning → Moment → Type 0
@@ -111,20 +112,20 @@ module _ (seen : Files) (old : Clock) (entry : Meaning) (opened : Clock) (opens 
       let joined = grows Any (LinkStep Connecting) opened made connects in
       let talks = grows Any RunStep made new behind in
       let run = grows_then opened made new joined talks in
-      ⊎_elim (λ (early : Grows at opened). unread (since_first (Within old.now) SameOutside old at opened reach early opens.opens))
+      ⊎_elim (λ (early : Grows at opened). unready (since_first (LeavesRead old.now seen) SameOutside old at opened reach early opens.opens))
       (λ (past : Grows opened at).
       ⊎_elim (λ (early : Grows at made). connecting at past early) (λ (later : Grows made at). connected at later left (so later))
       (in_order opened at made new past left joined talks))
       (in_order old at opened new reach left begun run)
 
 pub true_so_far : (seen : Files) (old at new : Clock) → PlaysTruly seen old new → Grows old at → Grows at new → PlaysTruly seen old at
-true_so_far seen old at new (unread opens) reach left = unread (since_first (Within old.now) SameOutside old at new reach left opens)
+true_so_far seen old at new (unready opens) reach left = unready (since_first (LeavesRead old.now seen) SameOutside old at new reach left opens)
 true_so_far seen old at new (recorded entry b opened opens truly leaves) reach left =
-    by_time seen old entry opened opens truly.made new truly.connects truly.behind at (grows (Within old.now) SameOutside old opened opens.opens) reach left
+    by_time seen old entry opened opens truly.made new truly.connects truly.behind at (grows (LeavesRead old.now seen) SameOutside old opened opens.opens) reach left
     (λ past. so_far entry truly.made (linked_leaves entry opened truly.made truly.connects opens.leaves) new b truly.truly at past left)
 true_so_far seen old at new (cut entry b opened opens stops) reach left =
     let start = linked_leaves entry opened stops.made stops.connects opens.leaves in
     let takes = stops.truly.takes in
-    by_time seen old entry opened opens stops.made new stops.connects stops.behind at (grows (Within old.now) SameOutside old opened opens.opens) reach left
+    by_time seen old entry opened opens stops.made new stops.connects stops.behind at (grows (LeavesRead old.now seen) SameOutside old opened opens.opens) reach left
     (λ past.
     so_far entry stops.made start new (after b stops.event) (records stops.truly.at new b stops.event stops.truly.so_far stops.truly.truly takes) at past left)

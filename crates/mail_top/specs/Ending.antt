@@ -20,6 +20,7 @@ use Rattle.mail_top.specs.Actions.{Becomes, accepts}
 use Rattle.mail_top.specs.Course.{Course, OnFiles, end_behind}
 use Rattle.mail_top.specs.Leaving.{MayBeLeft}
 use Rattle.mail_top.specs.Played.{SaysPlayed, SaysStopped}
+use Rattle.mail_top.specs.Readying.{LeavesRead}
 use Rattle.mail_top.specs.Reasons.{IsFree}
 use Rattle.mail_top.specs.Saying.{SaysReady, SaysTaken, SaysAccepted, SaysRows, SaysUnknown, SaysShown, SaysBroken, SaysRefused, SaysUnread}
 use Rattle.mail_top.specs.Saying.{SaysFull, SaysMemory, SaysDisk}
@@ -106,7 +107,8 @@ abbrev pub EndsPlay : Credentials → Course → Status → List ℕ → Type 0
 EndsPlay account k status.Done text = SaysPlayed account k status.Done text
 EndsPlay account k status.Conflicts text = SaysPlayed account k status.Conflicts text
 EndsPlay account k status.Output text = SaysPlayed account k status.Done text ⊎ SaysPlayed account k status.Conflicts text
-EndsPlay account k status.Disk text = OnFiles k (SaysDisk (Within k.old.now k.new.now) text) ⊎ SaysStopped account k status.Disk text
+EndsPlay account k status.Disk text =
+    OnFiles k (SaysDisk (LeavesRead k.old.now k.seen k.new.now) text) ⊎ SaysStopped account k status.Disk text
 EndsPlay account k status.Link text = SaysStopped account k status.Link text
 EndsPlay account k status.Refused text = SaysStopped account k status.Refused text
 EndsPlay account k status.Reply text = SaysStopped account k status.Reply text

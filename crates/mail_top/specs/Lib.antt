@@ -17,6 +17,7 @@ pub mod Names
 pub mod Played
 pub mod Printing
 pub mod Reading
+pub mod Readying
 pub mod ReadsInput
 pub mod Reasons
 pub mod Resting

@@ -4,7 +4,7 @@ use Rattle.mail_base.specs.Account.{Credentials}
 use Rattle.mail_base.specs.declared.status.Status.{Status}
 use Rattle.mail_base.specs.declared.status.Status.TheVariants as status
 use Rattle.world_traits.specs.Files.{Files}
-use Rattle.world_traits.specs.Moments.{Moment, Clock, Within}
+use Rattle.world_traits.specs.Moments.{Moment, Clock}
 use Rattle.action_queue.specs.Book.{Meaning}
 use Rattle.action_queue.specs.Queues.{AllSettled}
 use Rattle.action_queue.specs.declared.event.Event.{Event}
@@ -20,22 +20,16 @@ use Rattle.play_driver.specs.Settled.{AreSyncedBehind}
 use Rattle.play_driver.specs.declared.fault.PlayFault.{PlayFault}
 use Rattle.play_driver.specs.declared.fault.PlayFault.TheVariants as faults
 use Rattle.mail_top.specs.Course.{Course}
+use Rattle.mail_top.specs.Readying.{IsOpened}
 use Rattle.mail_top.specs.Telling.{status_of_conflicts, status_of_fault, text_of_fault}
 use Rattle.conflict_report.specs.StatusLines.{played}
 
--- The files as read hold the book of this store: as it was opened on them, the disk stood behind their last record.
-pub record IsOpened (k : Course) (store : Holding mail) : Type 0 where
-  pub holds : HasBook mail store.book k.seen
-  pub at : Moment
-  pub within : Within k.old.now at
-  pub stood : IsAsLeft mail store at k.seen
-
--- The run went from the store that was opened, behind the journal's last record, to this later one, in which each action has an
+-- The run went from the store that was made ready, behind the journal's last record, to this later one, in which each action has an
 -- outcome and each that was there stands. The files hold its book now, and each stop leaves it. Status and text tell how many actions
 -- were settled, and how many of them as conflicts.
 pub record SaysPlayed (account : Credentials) (k : Course) (s : Status) (text : List ℕ) : Type 0 where
   pub opened : Holding mail
-  pub read : IsOpened k opened
+  pub read : IsOpened k.old.now k.seen opened
   pub store : Holding mail
   pub plays : Plays account opened store k.link_after
   pub later : IsLater opened.book store.book
@@ -52,12 +46,12 @@ pub record IsTakingOne (b : Meaning) (m : Moment) : Type 0 where
   pub of_play : IsPlayEvent event
   pub taking : IsTaking mail (Some b) event m
 
--- The run went from the store that was opened, behind the journal's last record, to this later one, and ended early, by a fault of
+-- The run went from the store that was made ready, behind the journal's last record, to this later one, and ended early, by a fault of
 -- this status and this text. A stop leaves the book as read, or one further on. Unless the disk failed the files are as the store
 -- left them; and else a stop leaves its book, or the one behind an event of playback.
 pub record SaysStopped (account : Credentials) (k : Course) (s : Status) (text : List ℕ) : Type 0 where
   pub opened : Holding mail
-  pub read : IsOpened k opened
+  pub read : IsOpened k.old.now k.seen opened
   pub fault : PlayFault
   pub store : Holding mail
   pub early : EndsEarly account opened store k.link k.link_after fault

@@ -10,6 +10,7 @@ mod listing;
 mod names;
 mod playing;
 mod printed;
+mod readying;
 mod reason;
 mod refusal;
 mod request;

@@ -11,16 +11,16 @@ ghost use Rattle.mail_top.specs.Telling.{status_of_play, text_of_play};
 ghost use Rattle.mail_top.specs.Words.{Play};
 
 use crate::Unfinished;
+use crate::readying::made_ready;
 use mail_base::Account;
 use play_driver::{Played, play as play_run};
 use std::alloc::Global;
-use store_core::Store;
 use world_traits::{Clocked, Disk, Link, World};
 
 /// Plays the book's actions back, and makes each of its caches the server's.
 ///
-/// The files are synced and read; where they hold no book they stay as they are, and the link isn't called. The connection is
-/// left as it ended.
+/// The files are synced and read; where they hold no book they stay as they are, and the link isn't called. Before it is, the book
+/// is told anew on the journal's other side where its records grew long. The connection is left as it ended.
 pub fn play<W: World>(alloc: Global, account: &Account, world: &mut W) -> Result<Played, Unfinished>
     // What became of it, as its status says it.
     ensures ends { W.tells_files → EndsPlay account.now (course_of W.Clocked W.seen world.old world.new)
@@ -36,7 +36,7 @@ pub fn play<W: World>(alloc: Global, account: &Account, world: &mut W) -> Result
         (text_of_play result) }
     ensures causes { HasCauses W.Clocked world.old world.new (status_of_play result) }
 {
-    let mut store = Store::open(alloc, world)?;
+    let mut store = made_ready(alloc, world)?;
     let played = play_run(alloc, &mut store, account, world)?;
     Ok(played)
 }

@@ -6,7 +6,7 @@ use store_core::StoreFault;
 /// Why `play` didn't come to its end.
 #[derive(Drop)]
 pub enum Unfinished {
-    /// The journal isn't opened.
+    /// The journal isn't opened, or its book isn't told anew.
     Unopened(StoreFault),
     /// The run ended early.
     Stopped(PlayFault),

@@ -40,28 +40,28 @@ returns-in_err-_store-clause-ends g c tells =
     })
     c.init.result c.from_residual-in_err-_store.result _ c.in_err-_store.was c.from_residual-in_err-_store.ensures.1 (λ _. ready)
     (left_now (Init c.in_ok-names.names) (g.D.Disk.seen c.args.disk.now) _ _ (left_start (Init c.in_ok-names.names) (g.D.Disk.seen c.args.disk.now) _)
-    (keeps_named c.in_ok-names.names c.in_ok-names.names refl _ (g.D.Disk.seen c.args.disk.now) _ _ (c.init.ensures.held tells)))
+    (keeps_named c.in_ok-names.names c.in_ok-names.names refl _ (g.D.Disk.seen c.args.disk.now) _ _ (c.init.ensures.moments tells).held))
     (λ no_disk.
     let kept = c.in_err-_store.ensures.kept tells refl (λ is. no_disk (c.in_err-_store.was ∙ is)) in
     record { leaves = narrowed _ _ kept.0; reads = kept.1 }) (c.init.ensures.already tells) c.init.ensures.not_full (c.init.ensures.header tells)
 
 pub returns-in_err-_store-clause-keeps : goal.returns-in_err-_store-clause-keeps
 returns-in_err-_store-clause-keeps g c tells =
-    keeps_named _ _ c.in_ok-names.ensures _ (g.D.Disk.seen c.args.disk.now) _ _ (c.init.ensures.held tells)
+    keeps_named _ _ c.in_ok-names.ensures _ (g.D.Disk.seen c.args.disk.now) _ _ (c.init.ensures.moments tells).held
 
 pub returns-in_err-_store-clause-books : goal.returns-in_err-_store-clause-books
 returns-in_err-_store-clause-books g c tells one books have =
-    steps_named _ _ c.in_ok-names.ensures _ _ c.requires.names (c.init.ensures.begins tells one books have)
+    steps_named _ _ c.in_ok-names.ensures _ _ c.requires.names ((c.init.ensures.moments tells).begins one books have)
 
 pub returns-in_err-_store-clause-cause : goal.returns-in_err-_store-clause-cause
-returns-in_err-_store-clause-cause g c is = c.init.ensures.cause (store_disk _ _ _ c.in_err-_store.was c.from_residual-in_err-_store.ensures.1 is)
+returns-in_err-_store-clause-cause g c is = c.init.ensures.blames.cause (store_disk _ _ _ c.in_err-_store.was c.from_residual-in_err-_store.ensures.1 is)
 
 pub returns-in_err-_store-clause-unfailed : goal.returns-in_err-_store-clause-unfailed
 returns-in_err-_store-clause-unfailed g c other =
-    c.init.ensures.unfailed (λ is. other (store_failed _ _ _ c.in_err-_store.was c.from_residual-in_err-_store.ensures.1 is))
+    c.init.ensures.blames.unfailed (λ is. other (store_failed _ _ _ c.in_err-_store.was c.from_residual-in_err-_store.ensures.1 is))
 
 pub returns-clause-unfailed : goal.returns-clause-unfailed
-returns-clause-unfailed g c other = c.in_ok-_store.ensures.unfailed (never_err _ _)
+returns-clause-unfailed g c other = c.in_ok-_store.ensures.blames.unfailed (never_err _ _)
 
 pub returns-clause-ends : goal.returns-clause-ends
 returns-clause-ends g c tells =
@@ -77,8 +77,8 @@ returns-clause-ends g c tells =
     _ c.in_ok-_store.ensures.value (c.in_ok-_store.ensures.still tells) (c.in_ok-_store.ensures.unbegun tells)
 
 pub returns-clause-keeps : goal.returns-clause-keeps
-returns-clause-keeps g c tells = keeps_named _ _ c.in_ok-names.ensures _ (g.D.Disk.seen c.args.disk.now) _ _ (c.init.ensures.held tells)
+returns-clause-keeps g c tells = keeps_named _ _ c.in_ok-names.ensures _ (g.D.Disk.seen c.args.disk.now) _ _ (c.init.ensures.moments tells).held
 
 pub returns-clause-books : goal.returns-clause-books
 returns-clause-books g c tells one books have =
-    steps_named _ _ c.in_ok-names.ensures _ _ c.requires.names (c.init.ensures.begins tells one books have)
+    steps_named _ _ c.in_ok-names.ensures _ _ c.requires.names ((c.init.ensures.moments tells).begins one books have)
