@@ -3,10 +3,18 @@ use Rattle.std.proofs.Common.{◌≡◌, ℕ, ◌+◌, List, [], ◌∷◌, ◌+
 use Rattle.std.specs.Prelude.{codes}
 use Rattle.imap_model.specs.declared.server.Mailbox.{Mailbox}
 use Rattle.imap_model.specs.declared.server.Message.{Message}
-use Rattle.mail_base.specs.BoxName.{KeptAs}
+use Rattle.mail_base.specs.BoxName.{IsBoxText, KeptAs}
+use Rattle.record_codec.proofs.NameForm.{is_name-Decides}
 use Rattle.mail_drill.specs.Beginning.{boxes_at_first, messages_at_first}
 
--- each of the two names is kept as it is written
+-- each of the two is a name
+pub inbox_text : IsBoxText (codes "INBOX")
+inbox_text = ((is_name-Decides (codes "INBOX")).0 refl).text
+
+pub archive_text : IsBoxText (codes "Archive")
+archive_text = ((is_name-Decides (codes "Archive")).0 refl).text
+
+-- and is kept as it is written
 kept_inbox : (name : List ℕ) → KeptAs (codes "INBOX") name → name ≡ codes "INBOX"
 kept_inbox name kept = kept.inbox refl
 

@@ -83,11 +83,9 @@ played_serves s (inr (inr is)) bad = subst IsTheServers is bad
 pub zero_stays : (n m : ℕ) → m ≡ 0 → Rose n m → ⊥
 zero_stays n m none rose = let less = rose (omega (arith, none)) in omega (arith, none, less)
 
--- The top call with these words, in a world with a plan by which nothing fails, in which none was connected before; and what `run` promises of
--- it.
+-- The top call with these words, in a world with a plan by which nothing fails; and what `run` promises of it.
 module _ (account : Credentials) (words : List (List ℕ)) (input : List ℕ) (old new : QuietWorld) (s : Status) (ran : Ran account words input old new s)
-    (calm : (planned_of new.world).plan ≡ nothing_fails) (writes : WritesPlay words) (untouched : Untouched (clock_of old))
-    (connects : ConnectsAtFirst (clock_of old) (clock_of new)) where
+    (calm : (planned_of new.world).plan ≡ nothing_fails) where
   grown : Grows (clock_of old) (clock_of new)
   grown = grows (OnTheWay words input (now_of old) (seen_of old)) (WordsKeep words input) (clock_of old) (clock_of new) ran.goes.every
 
@@ -97,38 +95,41 @@ module _ (account : Credentials) (words : List (List ℕ)) (input : List ℕ) (o
   served_then : (IsServed new.world → ⊥) → ⊥
   served_then never = ∥∥₁_elim new.served (hlevel) (λ known. never (known ran.sufficed))
 
-  no_disk_fault : Rose (disk_faults_of old.world) (disk_faults_of new.world) → ⊥
+  -- no call of the disk failed
+  pub no_disk_fault : Rose (disk_faults_of old.world) (disk_faults_of new.world) → ⊥
   no_disk_fault rose = served_then (λ is. zero_stays (disk_faults_of old.world) (disk_faults_of new.world) (is.unfailed calm).0 rose)
 
-  no_link_fault : Rose (link_faults_of old.world) (link_faults_of new.world) → ⊥
-  no_link_fault rose = served_then (λ is.
-      ⊎_elim (λ (none : link_faults_of new.world ≡ 0). zero_stays (link_faults_of old.world) (link_faults_of new.world) none rose)
-      (not_bare (clock_of old) (clock_of new) connects untouched grown) (is.unfailed calm).1)
+  -- A `play`, before which none was connected.
+  module _ (writes : WritesPlay words) (untouched : Untouched (clock_of old)) (connects : ConnectsAtFirst (clock_of old) (clock_of new)) where
+    no_link_fault : Rose (link_faults_of old.world) (link_faults_of new.world) → ⊥
+    no_link_fault rose = served_then (λ is.
+        ⊎_elim (λ (none : link_faults_of new.world ≡ 0). zero_stays (link_faults_of old.world) (link_faults_of new.world) none rose)
+        (not_bare (clock_of old) (clock_of new) connects untouched grown) (is.unfailed calm).1)
 
-  module _ (words_cause : s ≡ status.Words → AsksNothing words)
-      (disk_cause : s ≡ status.Disk → Rose (disk_faults_of old.world) (disk_faults_of new.world))
-      (link_cause : s ≡ status.Link → Rose (link_faults_of old.world) (link_faults_of new.world)) (no_output : s ≡ status.Output → ⊥)
-      (no_limit : s ≡ status.Limit → ⊥) (faultless : AllFair mail played (clock_of old) (clock_of new) → s ≡ status.Reply → ⊥)
-      (waits : WaitsForNone (seen_of old) (now_of old).outside.server)
-      (complete : AllFair mail played (clock_of old) (clock_of new) → AllServing (clock_of old) (clock_of new) →
-      (Rose (disk_faults_of old.world) (disk_faults_of new.world) → ⊥) → (Rose (link_faults_of old.world) (link_faults_of new.world) → ⊥) → IsPlayed s)
-    where
-      -- the server isn't to blame, whether a connection was made or not
-      serves : IsTheServers s → ⊥
-      serves bad = served_then (λ is.
-          ⊎_elim (λ (un : IsUnmade new.world).
-          ends_none account (course_from old new) (un.untouched (clock_of new) (grows_start (clock_of new))).untold un.none s ran.text (faultless fair)
-          (ended_as account words input (course_from old new) s ran.text Play writes ran.goes.ends words_cause) bad)
-          (λ (made : IsMade (clock_of new)).
-          played_serves s (complete fair (all_serving (clock_of old) (clock_of new) connects untouched grown made) no_disk_fault no_link_fault) bad)
-          is.connection)
+    module _ (words_cause : s ≡ status.Words → AsksNothing words)
+        (disk_cause : s ≡ status.Disk → Rose (disk_faults_of old.world) (disk_faults_of new.world))
+        (link_cause : s ≡ status.Link → Rose (link_faults_of old.world) (link_faults_of new.world)) (no_output : s ≡ status.Output → ⊥)
+        (no_limit : s ≡ status.Limit → ⊥) (faultless : AllFair mail played (clock_of old) (clock_of new) → s ≡ status.Reply → ⊥)
+        (waits : WaitsForNone (seen_of old) (now_of old).outside.server)
+        (complete : AllFair mail played (clock_of old) (clock_of new) → AllServing (clock_of old) (clock_of new) →
+        (Rose (disk_faults_of old.world) (disk_faults_of new.world) → ⊥) → (Rose (link_faults_of old.world) (link_faults_of new.world) → ⊥) → IsPlayed s)
+      where
+        -- the server isn't to blame, whether a connection was made or not
+        serves : IsTheServers s → ⊥
+        serves bad = served_then (λ is.
+            ⊎_elim (λ (un : IsUnmade new.world).
+            ends_none account (course_from old new) (un.untouched (clock_of new) (grows_start (clock_of new))).untold un.none s ran.text (faultless fair)
+            (ended_as account words input (course_from old new) s ran.text Play writes ran.goes.ends words_cause) bad)
+            (λ (made : IsMade (clock_of new)).
+            played_serves s (complete fair (all_serving (clock_of old) (clock_of new) connects untouched grown made) no_disk_fault no_link_fault) bad)
+            is.connection)
 
-      pub calm_ends : (s ≡ status.Memory → ⊥) → CameToItsEnd s
-      calm_ends no_memory =
-          by_played (completes_play account words input (course_from old new) s ran.text ran.goes.ends words_cause (λ is. no_disk_fault (disk_cause is))
-          no_output writes waits.book waits.holds (λ is. no_link_fault (link_cause is)) no_limit serves)
-        where
-          by_played : IsPlayed s → CameToItsEnd s
-          by_played (inl is) = inl is
-          by_played (inr (inl is)) = inr is
-          by_played (inr (inr is)) = absurd (no_memory is)
+        pub calm_ends : (s ≡ status.Memory → ⊥) → CameToItsEnd s
+        calm_ends no_memory =
+            by_played (completes_play account words input (course_from old new) s ran.text ran.goes.ends words_cause
+            (λ is. no_disk_fault (disk_cause is)) no_output writes waits.book waits.holds (λ is. no_link_fault (link_cause is)) no_limit serves)
+          where
+            by_played : IsPlayed s → CameToItsEnd s
+            by_played (inl is) = inl is
+            by_played (inr (inl is)) = inr is
+            by_played (inr (inr is)) = absurd (no_memory is)

@@ -1,8 +1,9 @@
 -- How a drill ends whose actions are all played.
-use Rattle.std.proofs.Common.{◌≡◌, ◌⊎◌, inl, inr, ℕ, suc, ◌+◌, ◌*◌, true, false, List, [], length, Some, refl, sym, ◌∙◌, ap, subst}
+use Rattle.std.proofs.Common.{◌≡◌, ◌⊎◌, inl, inr, ℕ, suc, ◌+◌, ◌*◌, true, false, List, [], length, Option, Some, refl, sym, ◌∙◌, ap, subst}
 use Rattle.std.specs.Prelude.{slice_get}
 use Rattle.std.proofs.lemmas.Bool.{and_parts}
 use Rattle.std.proofs.lemmas.List.{length-map}
+use Rattle.std.proofs.lemmas.Option.{same_Some}
 use Rattle.imap_model.specs.Ours.{ours}
 use Rattle.imap_model.specs.declared.server.Server.{Server}
 use Rattle.action_queue.specs.Book.{Meaning}
@@ -59,6 +60,26 @@ abbrev pub CountsBook : QuietWorld → Tally → Type 0
 CountsBook seen k = (book : Meaning) → HasBooks mail (Firm (Some book)) (now_of seen) → (k.settled ≡ settled_in book.queue)
     × (k.twice ≡ twice_in book.queue (run_in seen.world).state.server.history)
     × (k.missing ≡ missing_in book.queue (run_in seen.world).state.server.history)
+
+-- so it is told of the counts, if there are some
+abbrev pub CountsTold : QuietWorld → Option Tally → Type 0
+CountsTold seen told = (book : Meaning) → HasBooks mail (Firm (Some book)) (now_of seen) → (k : Tally) × (told ≡ Some k)
+    × (k.settled ≡ settled_in book.queue) × (k.twice ≡ twice_in book.queue (run_in seen.world).state.server.history)
+    × (k.missing ≡ missing_in book.queue (run_in seen.world).state.server.history)
+
+pub counts_told : (seen : QuietWorld) (told : Option Tally) (k : Tally) → told ≡ Some k → CountsTold seen told → CountsBook seen k
+counts_told seen told k is sums book has =
+    let s = sums book has in
+    subst (λ (x : Tally). (x.settled ≡ settled_in book.queue) × (x.twice ≡ twice_in book.queue (run_in seen.world).state.server.history)
+    × (x.missing ≡ missing_in book.queue (run_in seen.world).state.server.history)) (same_Some s.0 k (sym s.1 ∙ is)) (s.2, s.3, s.4)
+
+-- where all is played there are some
+pub always_counted : (b : Meaning) (seen w : QuietWorld) (e : Ended) (told : Option Tally) → seen ≡ w → e ≡ ended.Played → EndsIn b e w →
+    CountsTold seen told → ((k : Tally) → told ≡ Some k → ⊥) → ⊥
+always_counted b seen w e told same is ends sums never =
+    let out : IsPlayedOut b w = subst (λ (y : Ended). EndsIn b y w) is ends in
+    let here : CountsTold w told = subst (λ (x : QuietWorld). CountsTold x told) same sums in
+    let s = here out.book out.leaves in never s.0 s.1
 
 -- what was given, and what was counted
 abbrev pub counts_as : Given → Tally → Counts

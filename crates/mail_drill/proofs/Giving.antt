@@ -1,7 +1,7 @@
 -- The commands of a drill, one behind the other: the book has the actions of those that were accepted.
 use Rattle.std.proofs.Common.{◌≡◌, ℕ, suc, ◌+◌, ◌-◌, ◌*◌, ◌<◌, ◌≤◌, Bool, true, false, List, [], ◌∷◌, ◌++◌, length, refl, sym, ◌∙◌, ap, subst, arith}
 use Rattle.std.proofs.Common.{add-one}
-use Rattle.std.specs.Prelude.{◌==◌, ◌||◌, Err, IfErr, Result, if◌then◌else◌, map, nat_lt}
+use Rattle.std.specs.Prelude.{◌==◌, ◌||◌, if◌then◌else◌, map, nat_lt}
 use Rattle.std.proofs.lemmas.Bool.{eqb-true}
 use Rattle.std.proofs.lemmas.List.{append-nil, append_assoc, length-append, map-append}
 use Rattle.std.proofs.lemmas.List.Folds.{list_any-append}
@@ -28,7 +28,6 @@ use Rattle.mail_drill.specs.declared.orders.Order.TheVariants as orders
 use Rattle.mail_drill.specs.declared.played.Broken.{Broken}
 use Rattle.mail_drill.specs.declared.played.Broken.TheVariants as brokens
 use Rattle.mail_drill.specs.declared.quiet_world.QuietWorld.{QuietWorld}
-use Rattle.mail_drill.specs.declared.tally.Given.{Given}
 
 -- Of all these commands some were given and these are left. Each stop leaves a book with the actions of those that were taken, of
 -- which there are so many; and a message was moved by one of those that were taken where it was moved by one of those that were given.
@@ -182,6 +181,7 @@ pub limit_next : (size seed number x : ℕ) (o : Order) (old new : MemWorld) (br
     Gives size seed number x old → IsBrokenAs (Runs (words_of o) (input_of o) old new status.Limit) broken →
     IsBrokenAs (PassesLimit size seed new) broken
 limit_next size seed number x o old new brokens.Memory is most gives ran = tt
+limit_next size seed number x o old new (brokens.Unforeseen s) is most gives ran = tt
 limit_next size seed number x o old new (brokens.Limit line) is most gives ran =
     at_command most gives (subst (λ (p : Order). Runs (words_of p) (input_of p) old new status.Limit line) is ran)
 
@@ -194,6 +194,17 @@ pub given_first : (size x : ℕ) (w : QuietWorld) (b : Meaning) → HasOne b w �
 given_first size x w b has knows none =
     subst (λ (left : List Order). IsGiven size (orders_from size (2 * size) 1 x) left 0 w) (first_left size x)
     (none_given size (orders_from size (2 * size) 1 x) w b has knows none)
+
+-- the book awaits the next one
+pub awaits_more : (size number x count refused : ℕ) (all : List Order) (o : Order) (w : QuietWorld) → size ≤ 2000 → number < 2 * size + 1 →
+    count + refused + 1 ≡ number → o ≡ order_at size number x → NamesOneOf size o → IsGiven size all (left_from size (2 * size + 1) number x) count w →
+    (os : List Order) × (b : Meaning) × Awaits size os o b w
+awaits_more size number x count refused all o w most within sum is named g = (
+  g.taken,
+  g.book,
+  awaits_next size all (left_from size (2 * size + 1) number x) o count w g (omega (arith, most, within, sum)) most named
+      (subst IsNumbered (sym is) (order_numbered size number x (omega (arith, most, within)))),
+)
 
 pub given_more : (size number x y count refused more : ℕ) (all : List Order) (o : Order) (took : Bool) (old new : QuietWorld) → size ≤ 2000 →
     number < 2 * size + 1 → count + refused + 1 ≡ number → o ≡ order_at size number x → y ≡ behind_order x → NamesOneOf size o →
@@ -227,7 +238,3 @@ pub gives_last : (size seed number x : ℕ) (w : MemWorld) → 2 * size + 1 ≤ 
     Gives size seed (2 * size + 1) x w
 gives_last size seed number x w past within gives =
     let end : number ≡ 2 * size + 1 = omega (arith, past, within) in subst (λ (n : ℕ). Gives size seed n x w) end gives
-
--- an error that was handed on is the callee's
-pub broken_on : (r : Result Given Broken) (broken : Broken) (P : Broken → Type 0) → r ≡ Err broken → P broken → IfErr r P
-broken_on r broken P is has = subst (λ (x : Result Given Broken). IfErr x P) (sym is) has

@@ -10,8 +10,10 @@ pub mod Fair
 pub mod FirstBook
 pub mod FirstBoxes
 pub mod FirstPlay
+pub mod FirstServer
 pub mod FirstWorld
 pub mod Fitting
+pub mod Foreseeing
 pub mod Giving
 pub mod LastMoments
 pub mod LastRounds

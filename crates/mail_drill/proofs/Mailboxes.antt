@@ -89,6 +89,9 @@ names_stay b (events.Accept id action) s w permitted = refl
 names_stay b (events.Intend id intent) s w permitted = (later_event b (events.Intend id intent) tt).names
 names_stay b (events.Settle id outcome) s w permitted = (later_event b (events.Settle id outcome) tt).names
 names_stay b (events.Learn name delta) s w permitted = (later_event b (events.Learn name delta) tt).names
+names_stay b (events.Old id action outcome) s w permitted = absurd permitted
+names_stay b (events.Reset name kept told) s w permitted = absurd permitted
+names_stay b (events.Withdraw id tries) s w permitted = absurd permitted
 
 fit_event : (version : Version) (b : Option Meaning) (event : Event) (s : Server) (w : Option Waiting) → MayCome version b event →
     Permits b event s w → BothFit b s w → BothFit (Some (next_book b event)) s w

@@ -20,13 +20,13 @@ use Rattle.mail_drill.specs.Asked.{identifier}
 use Rattle.mail_drill.specs.Texts.{message_text}
 
 -- a byte above CR: it ends no line, and it isn't 0
-abbrev is_plain : ℕ → Bool
+abbrev pub is_plain : ℕ → Bool
 is_plain byte = nat_lt 13 byte
 
-above : (byte : ℕ) → is_plain byte ≡ true → 13 < byte
+pub above : (byte : ℕ) → is_plain byte ≡ true → 13 < byte
 above byte plain = grind (arith, nat_tests)
 
-digit_plain : (byte : ℕ) → is_ascii_digit byte ≡ true → is_plain byte ≡ true
+pub digit_plain : (byte : ℕ) → is_ascii_digit byte ≡ true → is_plain byte ≡ true
 digit_plain byte digit = grind (arith, nat_tests)
 
 both_true : (x y : Bool) → x ≡ true → y ≡ true → (x && y) ≡ true

@@ -40,7 +40,7 @@ none_begun Left begun = absurd (omega (arith, begun.long))
 none_begun Right begun = absurd (omega (arith, begun.long))
 
 -- what the server offers, which are atoms
-abbrev offers_at_first : List (List ℕ)
+abbrev pub offers_at_first : List (List ℕ)
 offers_at_first = codes "IMAP4rev2" ∷ codes "QRESYNC" ∷ []
 
 -- the run of a world of empty files, of these mailboxes and of what the server offers
@@ -70,19 +70,20 @@ is_new size world boxes offers run plan well boxes_are offers_are = record {
   kept = subst (λ (r : Run). IsKeptNow r.clock.now) (sym run) (is_kept boxes offers well);
   boxes = ap (λ (r : Run). r.clock.now.outside.server.boxes) run ∙ boxes_are;
   history = ap (λ (r : Run). r.clock.now.outside.server.history) run;
+  untold = ap (λ (r : Run). r.clock.now.outside.talk.told) run;
   offers = ap (λ (r : Run). r.state.choices.offers) run ∙ offers_are;
   planned = plan;
   alone = ap (λ (r : Run). is_alone r.clock) run;
 }
 
--- its server offers what a run needs
+-- its server offers what a run needs, whatever its mailboxes are
 enables_at_first : (rev2 : Bool) →
     is_enabled (codes "QRESYNC") (responses.Enabled (enabled_names (fresh [] offers_at_first).choices rev2) ∷ []) ≡ true
 enables_at_first true = refl
 enables_at_first false = refl
 
-offers_first : OffersAll (fresh [] offers_at_first).choices
-offers_first = record {
+pub offers_first : (boxes : List Mailbox) → OffersAll (fresh boxes offers_at_first).choices
+offers_first boxes = record {
   login = inr refl;
   fit = record { qresync = refl; moves = inl refl };
   enables = enables_at_first;
@@ -94,7 +95,7 @@ serves_new : (world : MemWorld) (boxes : List Mailbox) (offers : List (List ℕ)
     line_in world ≡ unmade phases.Off → IsUncalled plan world → offers ≡ offers_at_first → IsServed world
 serves_new world boxes offers plan run line uncalled offers_are = record {
   offers = subst (λ (r : Run). OffersAll r.state.choices) (sym run)
-      (subst (λ (l : List (List ℕ)). OffersAll (fresh boxes l).choices) (sym offers_are) offers_first);
+      (subst (λ (l : List (List ℕ)). OffersAll (fresh boxes l).choices) (sym offers_are) (offers_first boxes));
   connection = inl (record {
     none = ap told_line line;
     untouched = subst (λ (r : Run). Untouched r.clock) (sym run) (start_untouched empty (disconnected (fresh boxes offers)) None);

@@ -159,7 +159,7 @@ module _ (size : ℕ) (os : List Order) (b : Meaning) (knows : Knows size b) (as
       by_test false is = is
 
 -- what was carried out is what the command asks for
-asked_ends : (account : Credentials) (size : ℕ) (o : Order) (k : Course) (s : Status) (text : List ℕ) → size ≤ 2000 → NamesOneOf size o →
+pub asked_ends : (account : Credentials) (size : ℕ) (o : Order) (k : Course) (s : Status) (text : List ℕ) → size ≤ 2000 → NamesOneOf size o →
     Ends account (words_of o) (input_of o) k s text → OnFiles k (EndsAct (wanted_of o) k s text)
 asked_ends account size o k s text most named ends =
     let asks : Asks (words_of o) (input_of o) (Act (wanted_of o)) = order_asked size o most named in

@@ -1,5 +1,5 @@
 -- A play in a drill's world leaves its book to be played on, or played out.
-use Rattle.std.proofs.Common.{inl, inr, ⊎_elim, ℕ, List, subst}
+use Rattle.std.proofs.Common.{inl, inr, ⊎_elim, ℕ, List, refl, subst}
 use Rattle.mail_base.specs.Account.{Credentials}
 use Rattle.mail_base.specs.declared.status.Status.{Status}
 use Rattle.mail_base.specs.declared.status.Status.TheVariants as status
@@ -18,6 +18,7 @@ use Rattle.mail_top.specs.Course.{Course}
 use Rattle.mail_top.specs.Ending.{Ends, EndsPlay, EndsRequest}
 use Rattle.mail_top.specs.Leaving.{OnTheWay, WordsKeep}
 use Rattle.mail_top.specs.Played.{CameThrough, SaysPlayed, SaysStopped}
+use Rattle.mail_top.specs.Readying.{LeavesRead}
 use Rattle.mail_top.specs.Runs.{at_once, by_run}
 use Rattle.mail_top.specs.Words.{Play, Request, WritesPlay}
 use Rattle.mail_top.proofs.KeptRuns.{cuts}
@@ -56,12 +57,22 @@ module _ (b : Meaning) (account : Credentials) (k : Course) (playing : IsPlaying
   on_stopped : (s : Status) (text : List ℕ) → SaysStopped account k s text → IsPlaying b k.new.now
   on_stopped s text says = on_from says.opened.book says.read.holds says.leaves
 
+  on_read : LeavesRead k.old.now k.seen k.new.now → IsPlaying b k.new.now
+  on_read (inl within) = fewer within
+  on_read (inr left) = on_from left.book left.holds (record {
+    each = λ files h. record {
+      book = left.book;
+      holds = left.leaves.each.each files h;
+      later = record { names = refl; actions = refl; outcomes = λ i q there some. there };
+    };
+  })
+
   -- so each image does behind a play, however it ended
   pub play_leaves : (s : Status) (text : List ℕ) → EndsPlay account k s text → IsPlaying b k.new.now
   play_leaves status.Done text says = on_played status.Done text says
   play_leaves status.Conflicts text says = on_played status.Conflicts text says
   play_leaves status.Output text says = ⊎_elim (on_played status.Done text) (on_played status.Conflicts text) says
-  play_leaves status.Disk text (inl failed) = fewer failed.says.leaves
+  play_leaves status.Disk text (inl failed) = on_read failed.says.leaves
   play_leaves status.Disk text (inr stopped) = on_stopped status.Disk text stopped
   play_leaves status.Link text says = on_stopped status.Link text says
   play_leaves status.Refused text says = on_stopped status.Refused text says

@@ -1,4 +1,4 @@
--- A drill's world that has another plan, or goes on behind a stop, holds a book that may be played on.
+-- A drill's world that goes on behind a stop holds a book that may be played on.
 use Rattle.std.proofs.Common.{◌≡◌, false, Option, Some, None, refl, sym, ◌∙◌, ap, subst}
 use Rattle.imap_model.specs.Carrying.{Waiting}
 use Rattle.imap_model.specs.declared.server.Server.{Server}
@@ -16,11 +16,9 @@ use Rattle.play_driver.proofs.Calls.{stop_keeps}
 use Rattle.mail_top.specs.KeptNow.{IsKeptNow}
 use Rattle.mail_top.specs.Runs.{AnyBook, IsReady, at_once, by_others, by_stop}
 use Rattle.mail_top.proofs.Repeated.{follows_any}
-use Rattle.world_mem.specs.Memory.{run_of}
 use Rattle.world_mem.specs.Restarting.{goes_on_from, left_of}
 use Rattle.world_mem.specs.Running.{Run, waiting_of}
 use Rattle.world_mem.specs.Worlds.{course_of, run_in}
-use Rattle.world_mem.specs.declared.course.Course.{Course}
 use Rattle.world_mem.specs.declared.did.Held.{Held}
 use Rattle.mail_drill.specs.Mailboxes.{BothFit}
 use Rattle.mail_drill.specs.Standing.{PlaysOn, now_of}
@@ -36,12 +34,6 @@ plays_at b m new now ready playing kept fits sufficed = record {
   fits = subst (λ (n : Moment). IsKept mail BothFit n) (sym now) fits;
   sufficed = sufficed;
 }
-
--- with another plan
-pub planned_on : (b : Meaning) (old new : QuietWorld) → course_of new.world ≡ course_of old.world → new.short ≡ old.short → PlaysOn b old → PlaysOn b new
-planned_on b old new course short before =
-    plays_at b (now_of old) new (ap (λ (c : Course). (run_of c).clock.now) course) before.ready before.playing before.kept
-    before.fits (short ∙ before.sufficed)
 
 -- a stop leaves the server's mailboxes and history, and the command that waits
 server_left : (held : Option Held) (s : State) → (left_of held s).server ≡ s.server

@@ -38,14 +38,15 @@ boxes_at_first size =
       gone = [];
     } ∷ record { name = codes "Archive"; validity = 9; uidnext = 1; highest = 1; messages = []; gone = [] } ∷ []
 
--- No side is begun, the server has these mailboxes, in which nothing was changed, and by its plan nothing fails and nobody else changes
--- anything.
+-- No side is begun, the server has these mailboxes, in which nothing was changed, and has told nothing; and by its plan nothing fails and
+-- nobody else changes anything.
 pub record IsNew (size : ℕ) (world : MemWorld) : Type 0 where
   pub rests : Rests (moment_of world) (files_of world)
   pub unbegun : IsUnbegun (files_of world)
   pub kept : IsKeptNow (moment_of world)
   pub boxes : (moment_of world).outside.server.boxes ≡ boxes_at_first size
   pub history : (moment_of world).outside.server.history ≡ []
+  pub untold : (moment_of world).outside.talk.told ≡ []
   pub offers : (run_in world).state.choices.offers ≡ codes "IMAP4rev2" ∷ codes "QRESYNC" ∷ []
   pub planned : planned_of world ≡ not_begun nothing_fails
   pub alone : is_alone (run_in world).clock ≡ true

@@ -1,4 +1,4 @@
--- A world in memory each of whose connections is served (RFC 9051, section 7.1).
+-- A world in memory whose last connection is served (RFC 9051, section 7.1).
 use Rattle.std.specs.Prelude.{◌≡◌, ◌≢◌, ◌⊎◌, ◌≤◌, [], ◌∷◌, None, Some, length}
 use Rattle.imap_model.specs.Talking.{Arriving, greeted}
 use Rattle.imap_model.specs.declared.response.Response.TheVariants as responses
@@ -54,12 +54,13 @@ pub record WasBare (c : Clock) : Type 0 where
   pub later : Grows at c
   pub is : IsBare at.now
 
--- With a plan by which nothing fails no call of the disk has failed, nor of the link, but one that waited for the answer to bytes that aren't
--- a whole part.
+-- With a plan by which nothing fails no call of the disk has failed, nor of the link, unless at some moment bytes had come that weren't a
+-- whole part: a receive then waits for what doesn't come.
 abbrev pub IsUnfailed : MemWorld → Type 0
 IsUnfailed w = (planned_of w).plan ≡ nothing_fails → (disk_faults_of w ≡ 0) × ((link_faults_of w ≡ 0) ⊎ WasBare (run_in w).clock)
 
--- The server offers what a run needs, and serves in each connection; and where nothing is planned to fail nothing fails.
+-- The server offers what a run needs, and serves from the greeting on in the last connection that was made, if one was; and where nothing is
+-- planned to fail nothing fails.
 pub record IsServed (w : MemWorld) : Type 0 where
   pub offers : OffersAll (run_in w).state.choices
   pub connection : IsUnmade w ⊎ IsMade (run_in w).clock

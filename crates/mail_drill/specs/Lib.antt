@@ -6,6 +6,7 @@ pub mod Beginning
 pub mod Came
 pub mod Counted
 pub mod Drilled
+pub mod Foreseen
 pub mod Held
 pub mod Mailboxes
 pub mod Misfortunes

@@ -36,7 +36,8 @@ now_of w = (clock_of w).now
 abbrev pub seen_of : QuietWorld → Files
 seen_of w = (run_in w.world).seen
 
--- Each stop leaves this book, which the files read as, and it is kept beside the server, whose mailboxes it fits. Memory sufficed so far.
+-- Each stop leaves this book, which the files read as, and it is kept beside the server, whose mailboxes it fits; and one side is at rest.
+-- Memory sufficed so far.
 pub record HasOne (b : Meaning) (w : QuietWorld) : Type 0 where
   pub one_side : OneSideAtRest (now_of w)
   pub leaves : HasBooks mail (Firm (Some b)) (now_of w)
@@ -83,3 +84,4 @@ pub record IsPlayedOut (b : Meaning) (w : QuietWorld) : Type 0 where
 abbrev pub IsBrokenAs : (List ℕ → Type 0) → Broken → Type 0
 IsBrokenAs P brokens.Memory = ⊤
 IsBrokenAs P (brokens.Limit line) = P line
+IsBrokenAs P (brokens.Unforeseen s) = ⊤

@@ -5,6 +5,7 @@ ghost use Rattle.mail_base.specs.Lines.{error_memory, error_words};
 ghost use Rattle.world_traits.specs.Calls.{Rose};
 ghost use Rattle.world_mem.specs.declared.mem_world.MemWorld.{MemWorld as AnyWorld};
 ghost use Rattle.mail_drill.specs.Drilled.{EndsBy, IsDrilled};
+ghost use Rattle.mail_drill.specs.Foreseen.{IsForeseen};
 ghost use Rattle.mail_drill.specs.Held.{Gives, PassesLimit};
 ghost use Rattle.action_queue.specs.Book.{Meaning};
 ghost use Rattle.mail_drill.specs.Accepted.{accepted};
@@ -16,6 +17,7 @@ ghost use Rattle.mail_drill.specs.declared.task.Task.{Task as AnyTask};
 
 use crate::account::account_of;
 use crate::beginning::{give_all, set_up};
+use crate::calm_world::CalmWorld;
 use crate::examining::{counts_in, vec_of};
 use crate::played::Broken;
 use crate::quiet_world::QuietWorld;
@@ -41,9 +43,9 @@ struct Ending {
 /// what became of the actions: `actions A refused R settled S twice T missing M`. The words are the seed and N.
 ///
 /// The status is 0; 2 for other words; 11 where memory is wanting; 12 where the line can't be printed; or 14 where a limit was passed.
-/// The world as the last run left it is given at 0 and 14. A first `init` or `play`, or a command, that ends as none does at a server and
-/// over a disk like these ends the drill with 11 too. The last round, in which nothing goes wrong, comes to its end. Each action is
-/// played by this client's profile of RFC 4549, section 4.2.
+/// The world as the last run left it is given at 0 and 14. A run that ended as none does at a server and over a disk like these, or files
+/// without a book at the end, would give a status of their own: so `status` says that they don't come. Each action is played by this
+/// client's profile of RFC 4549, section 4.2.
 pub fn drill<S: Sink>(alloc: Global, words: &[String], out: &mut S) -> (Status, Option<MemWorld>)
     // The words ask for no drill.
     ensures words { (result.0 ≡ Status.Words) ↔ ((task : AnyTask) → WritesTask (map string_bytes words.now) task → ⊥) }
@@ -121,31 +123,35 @@ fn drilled(alloc: Global, task: Task) -> Result<Ending, AllocError>
     let account = account_of(alloc)?;
     let mut draws = Draws::new(u64::from(task.seed));
     let new = world_of(alloc, task.size)?;
-    let mut world = Box::new(alloc, QuietWorld::new(new))?;
-    match begun(alloc, &account, &mut draws, task.size, &mut world) {
+    let mut calm = Box::new(alloc, CalmWorld::new(QuietWorld::new(new)))?;
+    let answer = begun(alloc, &account, &mut draws, task.size, &mut calm);
+    let world = Box::new(alloc, Box::into_inner(calm).into_quiet())?;
+    match answer {
         Ok(given) => finished(alloc, &account, draws, world, given),
         Err(Broken::Limit(line)) => limited(alloc, world, line),
+        Err(Broken::Unforeseen(status)) => Ok(unforeseen(alloc, world, status)),
         Err(Broken::Memory) => Err(AllocError),
     }
 }
 
-// Sets up the journal and gives the commands.
+// Sets up the journal and gives the commands, where nothing fails.
 fn begun(
     alloc: Global,
     account: &Account,
     draws: &mut Draws,
     size: u32,
-    world: &mut QuietWorld,
+    world: &mut CalmWorld,
 ) -> Result<Given, Broken>
-    requires new { IsNew size world.old.world }
-    requires sufficed { world.old.short ≡ false }
+    requires new { IsNew size world.old.quiet.world }
+    requires sufficed { world.old.quiet.short ≡ false }
     requires some { 1 ≤ size }
     requires most { size ≤ 2000 }
-    ensures done { IfOk result (λ given. (b : Meaning) × HasOne b world.new
+    ensures done { IfOk result (λ given. (b : Meaning) × HasOne b world.new.quiet
         × HasAsked (accepted [] (orders_from size (2 * size) 1 draws.old)) b
         × (given.accepted ≡ length b.queue) × (given.accepted + given.refused ≡ 2 * size)) }
-    ensures gives { OnOk result (Gives size draws.old (2 * size + 1) draws.new world.new.world) }
-    ensures broken { IfErr result (IsBrokenAs (PassesLimit size draws.old world.new.world)) }
+    ensures gives { OnOk result (Gives size draws.old (2 * size + 1) draws.new world.new.quiet.world) }
+    ensures broken { IfErr result (IsBrokenAs (PassesLimit size draws.old world.new.quiet.world)) }
+    ensures foreseen { IfErr result IsForeseen }
 {
     set_up(alloc, account, world)?;
     give_all(alloc, account, draws, size, world)
@@ -169,13 +175,12 @@ fn finished(
     let (world, ended) = both;
     match ended {
         Ended::Limit(line) => limited(alloc, world, line),
-        Ended::Unfinished(status) => Ok(Ending {
-            world,
-            line: Vec::new(alloc),
-            status,
-        }),
+        Ended::Unfinished(status) => Ok(unforeseen(alloc, world, status)),
         Ended::Played => {
-            let counts = counts_in(alloc, &world)?;
+            let told = counts_in(alloc, &world)?;
+            let Some(counts) = told else {
+                return Ok(unforeseen(alloc, world, Status::Journal));
+            };
             let line = line_of(alloc, &given, &counts)?;
             Ok(Ending {
                 world,
@@ -197,4 +202,13 @@ fn limited(alloc: Global, world: Box<QuietWorld>, line: Bytes) -> Result<Ending,
         line,
         status: Status::Limit,
     })
+}
+
+// The ending by a status that doesn't come.
+fn unforeseen(alloc: Global, world: Box<QuietWorld>, status: Status) -> Ending {
+    Ending {
+        world,
+        line: Vec::new(alloc),
+        status,
+    }
 }

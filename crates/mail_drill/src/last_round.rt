@@ -1,28 +1,23 @@
 //! The last round of a drill, in which nothing goes wrong.
 
-ghost use Rattle.std.specs.Prelude.{◌≡◌, List, [], IfOk, IfErr, map, string_bytes};
+ghost use Rattle.std.specs.Prelude.{◌≡◌, List, IfOk};
 ghost use Rattle.action_queue.specs.Book.{Meaning};
 ghost use Rattle.mail_top.specs.CompletePlay.{WaitsForNone};
 ghost use Rattle.mail_top.specs.KeptNow.{IsKeptNow};
-ghost use Rattle.mail_top.specs.Words.{WritesPlay};
-ghost use Rattle.mail_drill.specs.Came.{Runs};
 ghost use Rattle.mail_drill.specs.Connected.{Untouched};
 ghost use Rattle.mail_drill.specs.Held.{CameToItsEnd};
-ghost use Rattle.mail_drill.specs.Ran.{Ran};
 ghost use Rattle.mail_drill.specs.Rounds.{EndsIn, IsLastRound, IsOver, RunsLast};
-ghost use Rattle.mail_drill.specs.Standing.{HasAsked, IsBrokenAs, PlaysOn, clock_of, now_of, seen_of};
+ghost use Rattle.mail_drill.specs.Standing.{HasAsked, PlaysOn, clock_of, now_of, seen_of};
 ghost use Rattle.mail_drill.specs.declared.orders.Order.{Order as AnyOrder};
 
 use crate::calm_world::CalmWorld;
 use crate::misfortune::no_plan;
 use crate::orders::words_of;
-use crate::played::Broken;
+use crate::played::{Broken, carried_out_calmly};
 use crate::quiet_world::QuietWorld;
 use crate::rounds::Ended;
-use mail_base::{Account, Bytes, Status};
-use mail_top::run;
+use mail_base::{Account, Status};
 use std::alloc::{AllocError, Global};
-use world_traits::{MemSink, MemSource};
 
 /// The round behind the hundred in which something goes wrong: it goes on from what the stop of the last one left, and plays all.
 pub fn last_round(
@@ -50,36 +45,11 @@ fn played_out(alloc: Global, account: &Account, world: &mut CalmWorld) -> Result
     ensures runs { IfOk result (λ ended. RunsLast ended world.old.quiet.world world.new.quiet.world) }
 {
     let words = words_of(alloc, &["play"])?;
-    match carried_out_calmly(alloc, account, &words, world) {
+    match carried_out_calmly(alloc, account, &words, Vec::new(alloc), world) {
         Ok(status) => Ok(ended_by(status)),
         Err(Broken::Limit(line)) => Ok(Ended::Limit(line)),
+        Err(Broken::Unforeseen(status)) => Ok(Ended::Unfinished(status)),
         Err(Broken::Memory) => Err(AllocError),
-    }
-}
-
-// Carries out a command without an input in such a world, and gives its status. A `play` comes to its end, where none was connected yet and
-// the server has each mailbox of the book as the book knows it.
-fn carried_out_calmly(
-    alloc: Global,
-    account: &Account,
-    words: &[String],
-    world: &mut CalmWorld,
-) -> Result<Status, Broken>
-    ensures done { IfOk result (Ran account.now (map string_bytes words.now) [] world.old.quiet world.new.quiet) }
-    ensures complete { WritesPlay (map string_bytes words.now) → IsKeptNow (now_of world.old.quiet) → Untouched (clock_of world.old.quiet)
-        → WaitsForNone (seen_of world.old.quiet) (now_of world.old.quiet).outside.server → IfOk result CameToItsEnd }
-    ensures broken { IfErr result (IsBrokenAs (Runs (map string_bytes words.now) [] world.old.quiet.world world.new.quiet.world Status.Limit)) }
-{
-    let mut input = MemSource::new(Vec::new(alloc));
-    let mut out = MemSink::new(alloc);
-    let status = run(alloc, words, account, &mut input, world, &mut out);
-    if world.is_short() || out.refused() > 0 {
-        return Err(Broken::Memory);
-    }
-    match status {
-        Status::Memory => Err(Broken::Memory),
-        Status::Limit => Err(Broken::Limit(Bytes::of(out.bytes().to_vec(alloc)?))),
-        status => Ok(status),
     }
 }
 

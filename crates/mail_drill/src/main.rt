@@ -22,8 +22,6 @@ mod streams;
 mod tally;
 mod task;
 mod telling;
-#[cfg(test)]
-mod tests;
 
 use drilling::drill;
 use mail_base::{Line, Status};

@@ -21,8 +21,8 @@ use world_mem::{Files, ImageFault, MemWorld, Plan};
 use world_traits::{Clocked, Disk, DiskFailed, Link, LinkFailed, Side, World};
 
 /// A world in memory in which nobody else changes anything: no plan of it has such a change. As long as memory sufficed, no moment's
-/// history has a deed by others, and its server serves in each connection. It is told that memory was wanting, since then little is
-/// known of what a call of the link did.
+/// history has a deed by others, and its server serves in the last connection that was made. It is told that memory was wanting, since
+/// then little is known of what a call of the link did.
 #[derive(Drop)]
 pub struct QuietWorld {
     world: MemWorld,

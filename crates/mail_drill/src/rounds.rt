@@ -118,6 +118,7 @@ fn played(alloc: Global, account: &Account, world: &mut QuietWorld) -> Result<Tu
     match carried_out(alloc, account, &words, Vec::new(alloc), world) {
         Ok(status) => Ok(turn_by(status)),
         Err(Broken::Limit(line)) => Ok(Turn::Ended(Ended::Limit(line))),
+        Err(Broken::Unforeseen(status)) => Ok(Turn::Ended(Ended::Unfinished(status))),
         Err(Broken::Memory) => Err(AllocError),
     }
 }

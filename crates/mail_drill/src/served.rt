@@ -1,7 +1,7 @@
 //! The world that a drill begins with.
 
-ghost use Rattle.std.specs.Prelude.{◌≡◌, ◌≤◌, [], ◌∷◌, IfOk, codes};
-ghost use Rattle.mail_base.specs.BoxName.{KeptAs};
+ghost use Rattle.std.specs.Prelude.{◌≡◌, ◌≤◌, ◌<◌, ◌^◌, [], ◌∷◌, IfOk, codes};
+ghost use Rattle.mail_base.specs.BoxName.{IsBoxText, KeptAs};
 ghost use Rattle.mail_drill.specs.Beginning.{IsNew, boxes_at_first, message_at_first, messages_at_first};
 ghost use Rattle.mail_drill.specs.Connected.{IsServed};
 
@@ -10,7 +10,7 @@ use crate::numerals::put_message;
 use flag_set::FlagSet;
 use imap_model::{Mailbox, Message};
 use mail_base::{BoxName, Bytes, List, ModSeq, Validity, Words};
-use server_mem::{MemServer, is_well_formed};
+use server_mem::MemServer;
 use std::alloc::{AllocError, Global};
 use uid_sets::Uid;
 use world_mem::{Files, MemWorld};
@@ -23,9 +23,6 @@ pub fn world_of(alloc: Global, size: u32) -> Result<MemWorld, AllocError>
     ensures served { IfOk result IsServed }
 {
     let boxes = boxes_of(alloc, size)?;
-    if !is_well_formed(&boxes) {
-        return Err(AllocError);
-    }
     let server = MemServer::new(alloc, boxes, offers(alloc)?)?;
     let files = Files {
         left: Bytes::new(alloc),
@@ -53,7 +50,8 @@ fn bytes_of(alloc: Global, text: &[u8]) -> Result<Bytes, AllocError>
 
 // INBOX, with so many messages, and Archive.
 fn boxes_of(alloc: Global, size: u32) -> Result<Vec<Mailbox>, AllocError>
-    requires { size ≤ 2000 }
+    requires some { 1 ≤ size }
+    requires most { size ≤ 2000 }
     ensures { IfOk result (λ boxes. boxes.items ≡ boxes_at_first size) }
 {
     let messages = messages_of(alloc, size)?;
@@ -64,15 +62,15 @@ fn boxes_of(alloc: Global, size: u32) -> Result<Vec<Mailbox>, AllocError>
         size.saturating_add(1),
         u64::from(size),
         messages,
-    )?;
-    let archive = mailbox_of(alloc, b"Archive", 9, 1, 1, List::new(alloc))?;
+    );
+    let archive = mailbox_of(alloc, b"Archive", 9, 1, 1, List::new(alloc));
     let mut boxes = Vec::with_capacity(alloc, 2)?;
     boxes.push(inbox)?;
     boxes.push(archive)?;
     Ok(boxes)
 }
 
-// A mailbox of these numbers, none of which is 0.
+// A mailbox of this name and of these numbers.
 fn mailbox_of(
     alloc: Global,
     name: &[u8],
@@ -80,25 +78,36 @@ fn mailbox_of(
     uidnext: u32,
     highest: u64,
     messages: List<Message>,
-) -> Result<Mailbox, AllocError>
-    ensures name { IfOk result (λ mailbox. KeptAs name.now mailbox.name) }
-    ensures fields { IfOk result (λ mailbox. mailbox ≡ record {
-      name = mailbox.name;
+) -> Mailbox
+    requires text { IsBoxText name.now }
+    requires validity { 1 ≤ validity }
+    requires uidnext { 1 ≤ uidnext }
+    requires highest { 1 ≤ highest }
+    requires most { highest < 2 ^ 63 }
+    ensures name { KeptAs name.now result.name }
+    ensures fields { result ≡ record {
+      name = result.name;
       validity = validity;
       uidnext = uidnext;
       highest = highest;
       messages = messages;
       gone = [];
-    }) }
+    } }
 {
-    Ok(Mailbox {
-        name: BoxName::new(name).map_err(|_| AllocError)?,
-        validity: Validity::new(validity).ok_or(AllocError)?,
-        uidnext: Uid::new(uidnext).ok_or(AllocError)?,
-        highest: ModSeq::new(highest).ok_or(AllocError)?,
+    let Ok(name) = BoxName::new(name) else {
+        unreachable!()
+    };
+    let Some(validity) = Validity::new(validity) else {
+        unreachable!()
+    };
+    Mailbox {
+        name,
+        validity,
+        uidnext: uid_of(uidnext),
+        highest: modseq_of(highest),
         messages,
         gone: List::new(alloc),
-    })
+    }
 }
 
 // So many messages, by UID.
@@ -114,14 +123,38 @@ fn messages_of(alloc: Global, size: u32) -> Result<List<Message>, AllocError>
 
 // The message of a UID, without flags.
 fn message_of(alloc: Global, number: u32) -> Result<Message, AllocError>
+    requires { 1 ≤ number }
     ensures { IfOk result (λ message. message ≡ message_at_first number) }
 {
     let mut text = Vec::new(alloc);
     put_message(&mut text, b'm', number)?;
     Ok(Message {
-        uid: Uid::new(number).ok_or(AllocError)?,
+        uid: uid_of(number),
         flags: FlagSet::none(alloc),
-        modseq: ModSeq::new(u64::from(number)).ok_or(AllocError)?,
+        modseq: modseq_of(u64::from(number)),
         text: Bytes::of(text),
     })
+}
+
+// The UID of a number that isn't 0.
+fn uid_of(number: u32) -> Uid
+    requires { 1 ≤ number }
+    ensures { result ≡ number }
+{
+    let Some(uid) = Uid::new(number) else {
+        unreachable!()
+    };
+    uid
+}
+
+// The mod-sequence of a number that is one (RFC 7162, section 3.1).
+fn modseq_of(number: u64) -> ModSeq
+    requires some { 1 ≤ number }
+    requires most { number < 2 ^ 63 }
+    ensures { result ≡ number }
+{
+    let Some(modseq) = ModSeq::new(number) else {
+        unreachable!()
+    };
+    modseq
 }

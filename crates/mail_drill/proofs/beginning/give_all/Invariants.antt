@@ -9,9 +9,9 @@ use Rattle.mail_drill.proofs.beginning.give_all.Given as goal
 
 abbrev pub invariant-loop-number : goal.invariant-loop-number
 invariant-loop-number l = record {
-  given : (b : Meaning) → HasOne b l.fn.world → Knows l.size b → b.queue ≡ [] →
-      IsGiven l.size (orders_from l.size (2 * l.size) 1 l.fn.draws) (left_from l.size (2 * l.size + 1) l.number l.draws) l.given.accepted l.world;
+  given : (b : Meaning) → HasOne b l.fn.world.quiet → Knows l.size b → b.queue ≡ [] →
+      IsGiven l.size (orders_from l.size (2 * l.size) 1 l.fn.draws) (left_from l.size (2 * l.size + 1) l.number l.draws) l.given.accepted l.world.quiet;
   draws : behind_orders (2 * l.size + 1 - l.number) l.draws ≡ behind_orders (2 * l.size) l.fn.draws;
-  gives : (seed : ℕ) → Gives l.size seed 1 l.fn.draws l.fn.world.world → Gives l.size seed l.number l.draws l.world.world;
+  gives : (seed : ℕ) → Gives l.size seed 1 l.fn.draws l.fn.world.quiet.world → Gives l.size seed l.number l.draws l.world.quiet.world;
   sum : l.given.accepted + l.given.refused + 1 ≡ l.number;
 }

@@ -16,3 +16,12 @@ pub returns-in_err-set_up-clause-broken : goal.returns-in_err-set_up-clause-brok
 returns-in_err-set_up-clause-broken c =
     let p = err_from_is_err_and c.from_residual.result c.from_residual.ensures.1 in
     rw (p.1, p.2) (c.in_err-set_up.ensures.broken c.args.size c.args.draws.now c.requires.new)
+
+pub returns-clause-foreseen : goal.returns-clause-foreseen
+returns-clause-foreseen c =
+    let s = c.in_ok-set_up.ensures.done c.args.size c.requires.new c.requires.sufficed in c.give_all.ensures.foreseen s.0 s.1 s.2 s.3
+
+pub returns-in_err-set_up-clause-foreseen : goal.returns-in_err-set_up-clause-foreseen
+returns-in_err-set_up-clause-foreseen c =
+    let p = err_from_is_err_and c.from_residual.result c.from_residual.ensures.1 in
+    rw (p.1, p.2) (c.in_err-set_up.ensures.foreseen c.args.size c.requires.new)

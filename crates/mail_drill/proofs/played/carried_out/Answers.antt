@@ -24,4 +24,5 @@ returns c = record {
       (λ told writes came kept fair. c.run-status.ensures.once_or_reported writes came (record { tells = told; kept = kept; fair = fair }));
   no_limit = c.in_default.not-Limit;
   broken = tt;
+  foreseen = tt;
 }
