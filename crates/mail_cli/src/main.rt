@@ -5,8 +5,6 @@
 mod notices;
 mod settings;
 mod streams;
-#[cfg(test)]
-mod tests;
 mod top_calls;
 
 ghost use Rattle.std.specs.Prelude.{◌≡◌, ◌⊎◌, option_map, string_bytes};

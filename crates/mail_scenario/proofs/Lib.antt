@@ -1,1 +1,2 @@
 pub mod MutedLinks
+pub mod MutedServer

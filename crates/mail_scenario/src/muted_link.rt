@@ -15,7 +15,8 @@ use std::marker::Model;
 use std::mem;
 use world_traits::LinkFailed;
 
-/// A muted server and the connection to it, which contracts see as the state of a link.
+/// A muted server and the connection to it, which contracts see as the state of a link. The server
+/// is muted at every moment.
 #[derive(Drop)]
 pub struct MutedLink {
     server: MemServer,
@@ -31,7 +32,7 @@ pub struct MutedLink {
 }
 
 impl Model for MutedLink {
-    ghost use Rattle.std.specs.Prelude.{◌≡◌, ◌≤◌, length, reverse, false};
+    ghost use Rattle.std.specs.Prelude.{◌≡◌, ◌≤◌, length, reverse, true, false};
     ghost use Rattle.world_mem.specs.Standing.{connection_in};
     ghost use Rattle.world_traits.specs.LinkState.{LinkState};
 
@@ -44,8 +45,8 @@ impl Model for MutedLink {
       earlier = reverse link.earlier.items;
     } };
 
-    ghost invariant = { λ link.
-        (link.server.failed ≡ false) × (link.received ≤ length link.told.items) };
+    ghost invariant = { λ link. (link.server.muted ≡ true) × (link.server.failed ≡ false)
+        × (link.received ≤ length link.told.items) };
 }
 
 impl MutedLink {

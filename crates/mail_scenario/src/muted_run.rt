@@ -6,6 +6,7 @@ ghost use Rattle.mail_top.specs.Going.{Goes};
 ghost use Rattle.mail_top.specs.Headline.{Finishes};
 ghost use Rattle.mail_top.specs.Leaving.{LosesNone};
 ghost use Rattle.mail_top.specs.Played.{CameThrough};
+ghost use Rattle.mail_top.specs.Printing.{Prints};
 ghost use Rattle.mail_top.specs.Resting.{KeepsOneSide};
 ghost use Rattle.mail_top.specs.Words.{WritesPlay};
 
@@ -16,8 +17,8 @@ use std::alloc::Global;
 use world_traits::{FaultySink, FaultySource};
 
 /// Runs the top call. What it promises of the files it keeps, though the server isn't a lawful one:
-/// what each status says of them, what a stop leaves at each moment, and that nothing accepted is
-/// lost.
+/// what each status says of them and of what is printed, what a stop leaves at each moment, and
+/// that nothing accepted is lost.
 pub fn run_muted(
     alloc: Global,
     words: &[String],
@@ -26,9 +27,9 @@ pub fn run_muted(
     world: &mut MutedWorld,
     out: &mut FaultySink,
 ) -> Status
-    ensures goes { (given : List ℕ) × (text : List ℕ)
-        × Goes account.now (map string_bytes words.now) given
-        (course_between world.old world.new) result text }
+    ensures goes { (text : List ℕ) × Goes account.now (map string_bytes words.now) input.old.rest
+        (course_between world.old world.new) result text
+        × Prints result text out.old.sink.bytes out.new.sink.bytes out.old.faults out.new.faults }
     ensures held { LosesNone (clock_of world.old).now (clock_of world.new).now }
     ensures sides { KeepsOneSide (clock_of world.old) (clock_of world.new) }
     ensures finishes { WritesPlay (map string_bytes words.now) → CameThrough result

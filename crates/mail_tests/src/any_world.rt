@@ -1,31 +1,11 @@
 //! A caller that knows of a world that it is one, and no more, over a world in memory.
 
-use mail_base::{Bytes, List, Words};
-use server_mem::{MemServer, is_well_formed};
+use crate::worlds::{server_of, world_of};
+use mail_base::Words;
 use std::alloc::Global;
 use std::test::Fail;
-use world_mem::{Files, MemWorld, Plan};
+use world_mem::MemWorld;
 use world_traits::{Side, World};
-
-// A world without mailboxes, of two empty files.
-fn world(alloc: Global) -> Option<MemWorld> {
-    let boxes = Vec::new(alloc);
-    if !is_well_formed(&boxes) {
-        return None;
-    }
-    let server = MemServer::new(alloc, boxes, Words::new(alloc)).ok()?;
-    let files = Files {
-        left: Bytes::new(alloc),
-        right: Bytes::new(alloc),
-    };
-    let plan = Plan {
-        disk_fails: List::new(alloc),
-        link_fails: List::new(alloc),
-        foreign: List::new(alloc),
-        stop_after: None,
-    };
-    MemWorld::new(alloc, server, files, plan).ok()
-}
 
 // Makes a connection, sends a command in it, and keeps a byte of a file.
 fn sends_and_keeps<W: World>(world: &mut W) -> bool {
@@ -39,9 +19,14 @@ fn sends_and_keeps<W: World>(world: &mut W) -> bool {
     world.write_at(Side::Right, 0, b"a").is_ok() && world.sync(Side::Right).is_ok()
 }
 
+// A world without mailboxes.
+fn world(alloc: Global) -> Option<Box<MemWorld>> {
+    world_of(alloc, server_of(alloc, Vec::new(alloc), Words::new(alloc))?)
+}
+
 fn is_kept_by_any(alloc: Global) -> Option<bool> {
     let mut world = world(alloc)?;
-    Some(sends_and_keeps(&mut world))
+    Some(sends_and_keeps::<MemWorld>(&mut world))
 }
 
 #[test]

@@ -1,46 +1,46 @@
 //! The server in memory carries out commands as values.
 
-use imap_model::{Command, Ending, Mailbox, Response};
-use mail_base::{BoxName, List, ModSeq, Tag, Validity, Words};
-use server_mem::{MemServer, is_well_formed};
+use crate::worlds::archive_server;
+use imap_model::{Command, Ending, Response};
+use mail_base::{BoxName, Tag, Words};
+use server_mem::MemServer;
 use std::alloc::Global;
 use std::test::Fail;
-use uid_sets::Uid;
 
-// An empty mailbox.
-fn archive(alloc: Global) -> Option<Mailbox> {
-    Some(Mailbox {
-        name: BoxName::new(b"Archive").ok()?,
-        validity: Validity::new(9)?,
-        uidnext: Uid::new(7)?,
-        highest: ModSeq::new(300)?,
-        messages: List::new(alloc),
-        gone: List::new(alloc),
-    })
-}
-
-// A server with that mailbox alone.
-fn server(alloc: Global) -> Option<MemServer> {
-    let mut boxes = Vec::new(alloc);
-    boxes.push(archive(alloc)?).ok()?;
-    if !is_well_formed(&boxes) {
-        return None;
-    }
-    MemServer::new(alloc, boxes, Words::new(alloc)).ok()
-}
-
-// How a SELECT of a mailbox ends.
-fn selected(alloc: Global, name: &[u8]) -> Option<Ending> {
-    let mut server = server(alloc)?;
-    let command = Command::Select {
-        name: BoxName::new(name).ok()?,
-        since: None,
-    };
-    let told = server.carry(Tag::Count(5), &command).ok()?;
+// How the last of what is told ends a command.
+fn ending_of(told: &[Response]) -> Option<Ending> {
     match told.last() {
         Some(Response::Done { ending, .. }) => Some(*ending),
         _ => None,
     }
+}
+
+// How a server ends a command.
+fn carried(server: &mut MemServer, command: &Command) -> Option<Ending> {
+    let told = server.carry(Tag::Count(5), command).ok()?;
+    let ending = ending_of(&told);
+    drop(told);
+    ending
+}
+
+// How a server ends a SELECT of a mailbox.
+fn selected_at(server: &mut MemServer, name: &[u8]) -> Option<Ending> {
+    let name = BoxName::new(name).ok()?;
+    let command = Command::Select { name, since: None };
+    let ending = carried(server, &command);
+    drop(command);
+    ending
+}
+
+fn server(alloc: Global) -> Option<Box<MemServer>> {
+    let server = archive_server(alloc, Words::new(alloc))?;
+    Box::new(alloc, server).ok()
+}
+
+// How a SELECT of a mailbox ends at a server with the mailbox Archive.
+fn selected(alloc: Global, name: &[u8]) -> Option<Ending> {
+    let mut server = server(alloc)?;
+    selected_at(&mut server, name)
 }
 
 #[test]

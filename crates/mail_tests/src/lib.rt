@@ -1,5 +1,5 @@
-//! Tests of what a line of data can't say: copies, limits that need a large value, and callers that know no more than a
-//! trait.
+//! Tests of what a line of data can't say: copies, limits that need a large value, callers that
+//! know no more than a trait, and real files and streams.
 #![tactic(auto)]
 
 #[cfg(test)]
@@ -11,6 +11,12 @@ mod carried;
 #[cfg(test)]
 mod large_texts;
 #[cfg(test)]
+mod real_files;
+#[cfg(test)]
+mod real_peers;
+#[cfg(test)]
+mod real_run;
+#[cfg(test)]
 mod response_copies;
 #[cfg(test)]
 mod server_copies;
@@ -20,3 +26,5 @@ mod silent;
 mod small_sets;
 #[cfg(test)]
 mod whole_session;
+#[cfg(test)]
+mod worlds;

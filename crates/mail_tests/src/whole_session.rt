@@ -6,14 +6,13 @@ ghost use Rattle.mail_tests.specs.InOrder.{AreInOrder};
 ghost use Rattle.mail_tests.specs.SentInOrder.{AreSentInOrder};
 ghost use Rattle.world_traits.specs.Links.{Linked};
 
-use imap_model::{Command, Mailbox, Replies};
+use crate::worlds::{archive_server, world_of};
+use imap_model::{Command, Replies};
 use imap_session::{Fresh, SessionFault};
-use mail_base::{Account, BoxName, Bytes, List, ModSeq, Validity, Words};
-use server_mem::{MemServer, is_well_formed};
+use mail_base::{Account, BoxName, Bytes, Words};
 use std::alloc::Global;
 use std::test::Fail;
-use uid_sets::Uid;
-use world_mem::{Files, MemWorld, Plan};
+use world_mem::MemWorld;
 use world_traits::Link;
 
 // Connects, logs in, selects the mailbox, asks for all of it, and leaves. Only questions are asked.
@@ -42,54 +41,32 @@ fn read_mailbox<L: Link>(
     Ok((selected, fetched))
 }
 
-// An empty mailbox.
-fn archive(alloc: Global) -> Option<Mailbox> {
-    Some(Mailbox {
-        name: BoxName::new(b"Archive").ok()?,
-        validity: Validity::new(9)?,
-        uidnext: Uid::new(7)?,
-        highest: ModSeq::new(300)?,
-        messages: List::new(alloc),
-        gone: List::new(alloc),
-    })
-}
-
 // What a server must offer.
 fn offers(alloc: Global) -> Option<Words> {
     let mut words = Words::new(alloc);
-    words.push(Bytes::of(b"QRESYNC".to_vec(alloc).ok()?)).ok()?;
-    words
-        .push(Bytes::of(b"IMAP4rev2".to_vec(alloc).ok()?))
-        .ok()?;
+    words.push(bytes_of(alloc, b"QRESYNC")?).ok()?;
+    words.push(bytes_of(alloc, b"IMAP4rev2")?).ok()?;
     Some(words)
 }
 
-// A world with that mailbox, of two empty files.
-fn world(alloc: Global) -> Option<MemWorld> {
-    let mut boxes = Vec::new(alloc);
-    boxes.push(archive(alloc)?).ok()?;
-    if !is_well_formed(&boxes) {
-        return None;
-    }
-    let server = MemServer::new(alloc, boxes, offers(alloc)?).ok()?;
-    let files = Files {
-        left: Bytes::new(alloc),
-        right: Bytes::new(alloc),
-    };
-    let plan = Plan {
-        disk_fails: List::new(alloc),
-        link_fails: List::new(alloc),
-        foreign: List::new(alloc),
-        stop_after: None,
-    };
-    MemWorld::new(alloc, server, files, plan).ok()
+fn bytes_of(alloc: Global, text: &[u8]) -> Option<Bytes> {
+    Some(Bytes::of(text.to_vec(alloc).ok()?))
+}
+
+// A world with the mailbox Archive.
+fn world(alloc: Global) -> Option<Box<MemWorld>> {
+    world_of(alloc, archive_server(alloc, offers(alloc)?)?)
+}
+
+fn is_read_in(alloc: Global, world: &mut MemWorld) -> Option<bool> {
+    let account = Account::new(alloc, "ann", "secret").ok()?;
+    let name = BoxName::new(b"Archive").ok()?;
+    Some(read_mailbox(alloc, world, &account, &name).is_ok())
 }
 
 fn is_read(alloc: Global) -> Option<bool> {
-    let account = Account::new(alloc, "ann", "secret").ok()?;
-    let name = BoxName::new(b"Archive").ok()?;
     let mut world = world(alloc)?;
-    Some(read_mailbox(alloc, &mut world, &account, &name).is_ok())
+    is_read_in(alloc, &mut world)
 }
 
 #[test]

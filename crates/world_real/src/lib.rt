@@ -16,8 +16,6 @@ mod send_queue;
 mod sent_mark;
 mod server;
 mod standard_numbers;
-#[cfg(test)]
-mod tests;
 
 pub use disk_trouble::DiskTrouble;
 pub use link_trouble::LinkTrouble;

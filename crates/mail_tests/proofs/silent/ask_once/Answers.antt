@@ -22,12 +22,12 @@ unfolding ◌⌢◌
 text = ap (λ (digits : List ℕ). (words "C" ⌢ line digits) ⌢ words " " ⌢ words "CAPABILITY" ⌢ line crlf) (decimal_digit 1 (omega arith))
 
 pub send-requires : goal.send-requires
-send-requires g c = record { there = λ tells. (fresh, c.in_ok-connect.ensures.begins (g.L.Clocked.server_with_files tells)) }
+send-requires g c = record { there = λ tells. (fresh, (c.in_ok-connect.ensures.made (g.L.Clocked.server_with_files tells)).begins) }
 
 pub recv-requires-clause-due : goal.recv-requires-clause-due
 recv-requires-clause-due g c = λ tells.
     let files = g.L.Clocked.server_with_files tells in
-    let begins = c.in_ok-connect.ensures.begins files in
+    let begins = (c.in_ok-connect.ensures.made files).begins in
     let awaits = awaits_first (g.L.Clocked.clock c.connect.new.self).now.outside (c.in_ok-connect.ensures.greets tells) in
     let is_part : IsPartOf (tags.Count 1) commands.Capability [] sent_text [] =
     record { sent = record { writable = record { tagged = omega arith; carried = tt }; tag_fits = omega arith; held = tt }; text = text } in

@@ -1,0 +1,14 @@
+use Rattle.std.proofs.Common.{List, ℕ, subst, map, string_bytes}
+use Rattle.mail_top.specs.Going.{Goes}
+use Rattle.mail_scenario.specs.Muted.{course_between}
+use Rattle.mail_scenario.proofs.muted_run.run_muted.Goals as goal
+
+-- what the input gave is what there was
+pub returns-clause-goes : goal.returns-clause-goes
+returns-clause-goes c =
+    let told = c.run.ensures.goes tt in (
+      told.2,
+      subst (λ (given : List ℕ). Goes c.args.account.now (map string_bytes c.args.words.now) given
+          (course_between c.args.world.now c.run.new.world) c.run.result told.2) (told.1 tt) told.3,
+      told.5 tt,
+    )
