@@ -3,7 +3,7 @@ use Rattle.std.proofs.Common.{◌≡◌, ◌⊎◌, inl, inr, ⊎_elim, ℕ, zer
 use Rattle.std.proofs.Common.{◌∙◌, true, false, min, ap, subst, arith, append_assoc, length-append, Result, Ok, OnOk}
 use Rattle.std.specs.Int.{w32, to_be_bytes}
 use Rattle.std.proofs.lemmas.List.{append-nil, take_more}
-use Rattle.world_traits.specs.Files.{Files}
+use Rattle.world_traits.specs.Files.{Files, file_of}
 use Rattle.world_traits.specs.Moments.{Clock, Images, Within, GoesOn, Narrows, Rests}
 use Rattle.world_traits.specs.declared.disk.Side.TheVariants.{Left, Right}
 use Rattle.world_traits.proofs.OneSide.{one_left}
@@ -17,10 +17,10 @@ use Rattle.journal_core.specs.Gates.{IsShut, Beside, Passes}
 use Rattle.journal_core.specs.Appending.{told_end}
 use Rattle.journal_core.specs.OneSide.{IsAside}
 use Rattle.journal_core.specs.Settling.{Settles, Syncs}
-use Rattle.journal_core.specs.Creating.{AsBefore, SetsUp, NoneEmpty, IsUnbegun, CreatesThrough, CreatesBehind, CreatesJournal, created, end_of}
+use Rattle.journal_core.specs.Creating.{AsBefore, SetsUp, NoneEmpty, IsTaken, IsUnbegun, CreatesThrough, CreatesBehind, CreatesJournal, created, end_of}
 use Rattle.journal_core.proofs.Aside.{passes_as}
 use Rattle.journal_core.proofs.AtRest.{each_then, rests_side}
-use Rattle.journal_core.proofs.Choice.{alone}
+use Rattle.journal_core.proofs.Choice.{alone, open_head}
 use Rattle.journal_core.proofs.Lists.{records-push}
 use Rattle.journal_core.proofs.Presence.{head_long, set_up_shut, from_behind}
 
@@ -49,6 +49,10 @@ syncs_creates bodies old new seen syncs = record {
 
 one_generation_is : IsGeneration 1
 one_generation_is = record { some = omega arith; fits = omega arith }
+
+-- a side that is set up was begun
+pub not_taken : (files : Files) → IsUnbegun files → IsTaken files → ⊥
+not_taken files none taken = none taken.side (open_head taken.version taken.generation (file_of taken.side files) taken.set_up)
 
 -- a side that no one began, as it was or still not begun
 free_beside : (f1 : Files) → IsUnbegun f1 → (files : Files) → Beside Left f1.right (AsBefore f1.left) files → IsUnbegun files

@@ -75,6 +75,11 @@ impl Journal {
             (why ≡ places.Header) × AnyWrong (D.seen disk.old) }
         ensures already { D.tells_files → IsErrOf result faults.Already →
             IsTaken (D.seen disk.old) }
+
+        // Where a journal is there a stop leaves what one at entry could have left, also where the
+        // disk fails.
+        ensures taken { D.tells_files → IsTaken (D.seen disk.old) →
+            Narrows (D.clock disk.old) (D.clock disk.new) }
         ensures full { (end wanted : ℕ) → IsErrOf result (faults.Full end wanted) →
             (2 ^ 30 < end_of bodies.now) × (end ≡ 0) × (wanted ≡ told_end (end_of bodies.now)) }
         ensures full_unbegun { D.tells_files → (end wanted : ℕ) →

@@ -1,5 +1,5 @@
 -- What a fault other than the disk's says.
-use Rattle.std.proofs.Common.{◌≡◌, ◌∙◌, ℕ, Result, Err, IsErrOf, ap, refl, sym, true}
+use Rattle.std.proofs.Common.{◌≡◌, ◌∙◌, ℕ, Bool, Result, Err, IsErrOf, ap, refl, sym, true}
 use Rattle.journal_core.specs.declared.appending.AppendFault.{AppendFault}
 use Rattle.journal_core.specs.declared.appending.AppendFault.TheVariants as adding
 use Rattle.journal_core.specs.declared.creating.CreateFault.{CreateFault}
@@ -9,7 +9,7 @@ use Rattle.journal_core.specs.declared.turning.TurnFault.TheVariants as turning
 use Rattle.journal_core.specs.Standing.{Standing}
 use Rattle.store_core.specs.declared.fault.StoreFault.{StoreFault}
 use Rattle.store_core.specs.declared.fault.StoreFault.TheVariants as store
-use Rattle.store_core.specs.Faults.{of_creating}
+use Rattle.store_core.specs.Faults.{of_creating, of_turning}
 
 -- a creation's fault isn't the disk's where the store's isn't
 pub not_disk : {T U : Type 0} (fault : CreateFault) (made : Result U CreateFault) (result : Result T StoreFault) → made ≡ Err fault →
@@ -35,3 +35,8 @@ turn_failed turning.Disk old new broken kept =
     let is = broken refl in (ap (λ (j : Standing). j.version) is, ap (λ (j : Standing). j.all_read) is)
 turn_failed (turning.Full end wanted) old new broken kept =
     let is = kept end wanted refl in (ap (λ (j : Standing). j.version) is, ap (λ (j : Standing). j.all_read) is)
+
+-- a turn that failed for the disk leaves a journal that isn't used again
+pub turn_stopped : (fault : TurnFault) (failed : Bool) → (fault ≡ turning.Disk → failed ≡ true) → of_turning fault ≡ store.Disk → failed ≡ true
+turn_stopped turning.Disk failed broken is = broken refl
+turn_stopped (turning.Full end wanted) failed broken is = let never : store.Full end wanted ≡ store.Disk = is in cc

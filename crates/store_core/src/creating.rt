@@ -55,6 +55,10 @@ impl Store {
         ensures already { D.tells_files → IsErrOf result faults.Already → IsTaken (D.seen disk.old) }
         ensures not_full { (end wanted : ℕ) → IsErrOf result (faults.Full end wanted) → ⊥ }
 
+        // Where a journal is there a stop leaves what one at entry could have left, also where the
+        // disk fails.
+        ensures taken { D.tells_files → IsTaken (D.seen disk.old) →
+            Narrows (D.clock disk.old) (D.clock disk.new) }
         ensures moments { D.tells_files → BeginsBook names (D.clock disk.old) (D.clock disk.new) }
 
         // But after a failure of the disk, an error leaves the files as they were.

@@ -1,6 +1,6 @@
 //! A book is told anew on the journal's other side.
 
-ghost use Rattle.std.specs.Prelude.{◌≡◌, ◌≤◌, ◌<◌, ◌-◌, ◌^◌, ℕ, IfOk, IsTrue, IsErr, IsErrOf, OnOk, slice_get};
+ghost use Rattle.std.specs.Prelude.{◌≡◌, ◌≤◌, ◌<◌, ◌-◌, ◌^◌, ℕ, IfOk, IsTrue, IsErr, IsErrOf, OnOk, slice_get, true};
 ghost use Rattle.journal_core.specs.Blames.{BlamesWhere};
 ghost use Rattle.journal_core.specs.Appending.{told_end};
 ghost use Rattle.journal_core.specs.Sides.{version_written};
@@ -62,6 +62,7 @@ impl Store {
             2 ^ 30 < restated_end self.old.book }
         ensures only { (IsErrOf result faults.Already → ⊥)
             × ((why : Place9) → IsErrOf result (faults.NotAJournal why) → ⊥) }
+        ensures stopped { IsErrOf result faults.Disk → self.new.journal.failed ≡ true }
         ensures kept { IsErr result → (IsErrOf result faults.Disk → ⊥) →
             (self.new ≡ self.old) × (disk.new ≡ disk.old) }
         ensures blames { BlamesWhere D.Clocked disk.old disk.new (IsErrOf result faults.Disk) }
@@ -91,6 +92,7 @@ impl Store {
         ensures moved { OnOk result
             (self.new.journal ≡ told_on (restated_end self.old.book) self.old.journal) }
         ensures only { (fault : StoreFault) → IsErrOf result fault → fault ≡ faults.Disk }
+        ensures stopped { IsErrOf result faults.Disk → self.new.journal.failed ≡ true }
         ensures blames { BlamesWhere D.Clocked disk.old disk.new (IsErrOf result faults.Disk) }
     {
         self.journal.turn(disk, bodies)?;

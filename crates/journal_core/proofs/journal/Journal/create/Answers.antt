@@ -1,6 +1,6 @@
 use Rattle.std.proofs.Common.{ap, ◌∙◌, arith, is_some}
 use Rattle.journal_core.specs.Sides.{version_written}
-use Rattle.journal_core.proofs.Creation.{syncs_creates, creates_set_up, still_created, are_bodies, created_at}
+use Rattle.journal_core.proofs.Creation.{syncs_creates, creates_set_up, still_created, not_taken, are_bodies, created_at}
 use Rattle.journal_core.proofs.journal.Journal.create.Goals as goal
 
 pub side_bytes-requires : goal.side_bytes-requires
@@ -42,3 +42,23 @@ returns-clause-still g c tells =
     still_created c.args.bodies.now sizes _ _ _ _ _ (c.in-Ok.ensures.rests tells) (c.in-Ok.ensures.seen tells) unbegun _ _ c.in-Ok-set_up.is
     (c.set_up.ensures.told tells version_written 1 c.args.bodies.now (c.deref.ensures.value ∙ c.in-Ok-side_bytes.ensures)) _
     (ap created_at (omega (arith, c.place_behind-wanted.ensures, c.if-wanted-gt-MAX_SIDE.false)))
+
+pub returns-in-Err-clause-taken : goal.returns-in-Err-clause-taken
+returns-in-Err-clause-taken g c tells taken = (c.read_sides.ensures.syncs tells).told
+
+pub returns-in-Some-clause-taken : goal.returns-in-Some-clause-taken
+returns-in-Some-clause-taken g c tells taken = (c.read_sides.ensures.syncs tells).told
+
+pub returns-then-wanted-gt-MAX_SIDE-clause-taken : goal.returns-then-wanted-gt-MAX_SIDE-clause-taken
+returns-then-wanted-gt-MAX_SIDE-clause-taken g c tells taken = (c.read_sides.ensures.syncs tells).told
+
+pub returns-in_default-side_bytes-clause-taken : goal.returns-in_default-side_bytes-clause-taken
+returns-in_default-side_bytes-clause-taken g c tells taken = (c.read_sides.ensures.syncs tells).told
+
+pub returns-in-Err-set_up-clause-taken : goal.returns-in-Err-set_up-clause-taken
+returns-in-Err-set_up-clause-taken g c tells taken = absurd (not_taken _ (c.why_taken.ensures.none (g.D.Disk.seen c.args.disk.now)
+    (c.in-Ok.ensures.left tells) (c.in-Ok.ensures.right tells) (ap is_some c.in_default.is)) taken)
+
+pub returns-clause-taken : goal.returns-clause-taken
+returns-clause-taken g c tells taken = absurd (not_taken _ (c.why_taken.ensures.none (g.D.Disk.seen c.args.disk.now)
+    (c.in-Ok.ensures.left tells) (c.in-Ok.ensures.right tells) (ap is_some c.in_default.is)) taken)

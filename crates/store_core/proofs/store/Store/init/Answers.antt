@@ -1,4 +1,5 @@
 use Rattle.std.proofs.Common.{◌≡◌, rules, refl, sym, ap, subst, arith, Err}
+use Rattle.world_traits.proofs.Passing.{since_start}
 use Rattle.journal_core.specs.Sides.{version_written}
 use Rattle.journal_core.specs.Standing.{Standing}
 use Rattle.store_core.specs.Faults.{of_creating}
@@ -39,6 +40,18 @@ returns-in_err-book-clause-moments g c tells = begins_no_book c.args.names (g.D.
 pub returns-in_err-journal-clause-moments : goal.returns-in_err-journal-clause-moments
 returns-in_err-journal-clause-moments g c tells = begins_book c.in_ok-body.body c.args.names c.requires c.in_ok-body.ensures _ _ _
     (g.met.D.Disk.seen_is c.args.disk.now tells) _ refl (c.create.ensures.creates tells)
+
+pub returns-in_err-body-clause-taken : goal.returns-in_err-body-clause-taken
+returns-in_err-body-clause-taken g c tells taken = since_start _ _ (g.D.Clocked.clock c.args.disk.now)
+
+pub returns-in_err-book-clause-taken : goal.returns-in_err-book-clause-taken
+returns-in_err-book-clause-taken g c tells taken = since_start _ _ (g.D.Clocked.clock c.args.disk.now)
+
+pub returns-in_err-journal-clause-taken : goal.returns-in_err-journal-clause-taken
+returns-in_err-journal-clause-taken g c tells taken = c.create.ensures.taken tells taken
+
+pub returns-clause-taken : goal.returns-clause-taken
+returns-clause-taken g c tells taken = c.create.ensures.taken tells taken
 
 pub returns-clause-moments : goal.returns-clause-moments
 returns-clause-moments g c tells = begins_book c.in_ok-body.body c.args.names c.requires c.in_ok-body.ensures _ _ _

@@ -6,7 +6,7 @@ use Rattle.store_core.specs.Holding.{Holding}
 use Rattle.store_core.proofs.Anew.{book_stays, fails_for_disk, left_told, makes_now, stays_held, stays_steps, turned_on}
 use Rattle.store_core.proofs.Moments.{tells_anew}
 use Rattle.store_core.proofs.Restated.{restated_first, restated_some}
-use Rattle.store_core.proofs.Unless.{turn_failed}
+use Rattle.store_core.proofs.Unless.{turn_failed, turn_stopped}
 use Rattle.store_core.proofs.store.Store.turn_to.Goals as goal
 
 pub turn-requires : goal.turn-requires
@@ -32,6 +32,10 @@ pub returns-in_err-turn-clause-only : goal.returns-in_err-turn-clause-only
 returns-in_err-turn-clause-only g c fault is =
     fails_for_disk c.args.self.now.book c.args.bodies.now c.in_err-turn.field-0.0 fault c.requires.tells c.requires.fits
     (λ end wanted full. (c.in_err-turn.ensures.full end wanted (ap Err full)).0) (search rules)
+
+pub returns-in_err-turn-clause-stopped : goal.returns-in_err-turn-clause-stopped
+returns-in_err-turn-clause-stopped g c failed =
+    turn_stopped c.in_err-turn.field-0.0 _ (λ is. ap (λ (j : Standing). j.failed) (c.in_err-turn.ensures.broken (ap Err is))) (search rules)
 
 pub returns-clause-moments : goal.returns-clause-moments
 returns-clause-moments g c tells =
