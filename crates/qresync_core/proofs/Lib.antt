@@ -8,6 +8,8 @@ pub mod LastRows
 pub mod Lawful
 pub mod LawfulCodes
 pub mod Leveling
+pub mod LineSets
+pub mod MakerStands
 pub mod OneDelta
 pub mod Replying
 pub mod SmallRows

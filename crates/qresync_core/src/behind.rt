@@ -28,8 +28,8 @@ pub(crate) fn closed_len(told: &[Response]) -> usize
     len
 }
 
-// Whether the response is CLOSED, the code of an untagged OK, NO or BAD.
-fn is_closed(response: &Response) -> bool
+/// Whether the response is CLOSED, the code of an untagged OK, NO or BAD.
+pub(crate) fn is_closed(response: &Response) -> bool
     ensures { result ≡ is_closed response.now }
 {
     matches!(

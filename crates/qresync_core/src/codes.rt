@@ -35,8 +35,8 @@ pub fn codes_of(selected: &Replies) -> Result<Codes, CodeFault>
 }
 
 // What the codes have told so far.
-#[derive(Drop)]
-struct Told {
+#[derive(Clone, Copy)]
+pub(crate) struct Told {
     no_modseq: bool,
     not_sticky: bool,
     validity: Option<Validity>,
@@ -45,7 +45,7 @@ struct Told {
 }
 
 impl Told {
-    fn nothing() -> Told
+    pub(crate) fn nothing() -> Told
         ensures { result ≡ nothing_told }
     {
         Told {
@@ -58,7 +58,7 @@ impl Told {
     }
 
     // The code of an untagged OK, NO or BAD.
-    fn hear_in(&mut self, response: &Response)
+    pub(crate) fn hear_in(&mut self, response: &Response)
         ensures { self.new ≡ heard_all self.old (option_to_list (code_of response.now)) }
     {
         if let Response::Untagged { code, .. } = response {
@@ -67,7 +67,7 @@ impl Told {
     }
 
     // One more code. A number that was told before gives way.
-    fn hear(&mut self, code: &Code)
+    pub(crate) fn hear(&mut self, code: &Code)
         ensures { self.new ≡ heard self.old code.now }
     {
         match code {
@@ -81,7 +81,7 @@ impl Told {
     }
 
     // The three numbers, or the first fault.
-    fn numbers(&self) -> Result<Codes, CodeFault>
+    pub(crate) fn numbers(&self) -> Result<Codes, CodeFault>
         ensures { result ≡ numbers_told self.now }
     {
         if self.no_modseq {

@@ -45,8 +45,8 @@ fn gone_by(alloc: Global, response: &Response) -> Result<UidSet, AllocError>
     }
 }
 
-// The UIDs of rows, each in constant time where they rise.
-fn uids_of(alloc: Global, rows: &[(Uid, Row)]) -> Result<UidSet, AllocError>
+/// The UIDs of rows, each in constant time where they rise.
+pub(crate) fn uids_of(alloc: Global, rows: &[(Uid, Row)]) -> Result<UidSet, AllocError>
     ensures { IfOk result (λ uids. (uid : ℕ) → has_uid uids uid ≡ is_some (row_at uid rows.now)) }
 {
     let mut uids = UidSet::none(alloc);

@@ -3,6 +3,7 @@
 ghost use Rattle.qresync_core.specs.Laws.{SelectHasBox, FetchHasBox, CodesMirror};
 ghost use Rattle.qresync_core.specs.Laws.{FaultlessMemory, KeptLevels, FirstMirrors};
 ghost use Rattle.qresync_core.specs.Laws.{EmptyMirrors, UnchangedStays, NothingStays};
+ghost use Rattle.qresync_core.specs.MakerLaws.{EmptyAlike, JudgesAlike, MakesTold, StandsAnew, StandsAtFirst, StandsOn};
 ghost use Rattle.qresync_core.specs.Laws.{RowsAreSmall, FreshGoesOn, FactsGoOn, OneDelta};
 
 /// A mailbox of which a SELECT is answered OK is there.
@@ -70,4 +71,22 @@ pub fn facts_go_on()
 /// Replies tell one delta at most, so the contract of `delta_of` pins its answer.
 pub fn one_delta()
     ensures { OneDelta }
+{}
+
+/// A maker that took nothing stands for no responses.
+pub fn maker_at_first()
+    ensures { StandsAtFirst }
+{}
+
+/// A maker that took one response more stands for one more; at CLOSED it begins anew.
+pub fn maker_on()
+    ensures on { StandsOn }
+    ensures anew { StandsAnew }
+{}
+
+/// What a maker makes is what the whole replies tell, and so is its first fault.
+pub fn maker_makes()
+    ensures told { MakesTold }
+    ensures fault { JudgesAlike }
+    ensures empty { EmptyAlike }
 {}

@@ -6,7 +6,10 @@ mod behind;
 mod codes;
 mod fault;
 mod gone;
+mod gone_sets;
+mod latest;
 mod laws;
+mod maker;
 mod resync;
 mod rows;
 
@@ -14,7 +17,8 @@ pub use codes::{Codes, codes_of};
 pub use fault::{CodeFault, ResyncFault};
 pub use laws::{
     codes_mirror, empty_mirrors, facts_go_on, faultless_memory, fetch_has_box, first_mirrors,
-    fresh_goes_on, kept_levels, nothing_stays, one_delta, rows_are_small, select_has_box,
-    unchanged_stays,
+    fresh_goes_on, kept_levels, maker_at_first, maker_makes, maker_on, nothing_stays, one_delta,
+    rows_are_small, select_has_box, unchanged_stays,
 };
+pub use maker::DeltaMaker;
 pub use resync::{delta_of, is_told_empty};

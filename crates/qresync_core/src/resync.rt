@@ -58,14 +58,15 @@ pub fn is_told_empty(selected: &Replies) -> bool
         .any(tells_empty)
 }
 
-fn tells_empty(response: &Response) -> bool
+/// EXISTS 0.
+pub(crate) fn tells_empty(response: &Response) -> bool
     ensures { result ≡ tells_empty response.now }
 {
     matches!(response, Response::Exists(0))
 }
 
-// Whether the numbers that were told go on from those of the cache.
-fn check(kept: Option<&Cache>, codes: &Codes) -> Result<(), ResyncFault>
+/// Whether the numbers that were told go on from those of the cache.
+pub(crate) fn check(kept: Option<&Cache>, codes: &Codes) -> Result<(), ResyncFault>
     ensures fits { OnOk result (kept_fault (option_copied kept.entry) codes.now ≡ None) }
     ensures fault { IfErr result (λ fault. kept_fault (option_copied kept.entry) codes.now ≡ Some fault) }
 {

@@ -1,6 +1,6 @@
 //! The rows that a reply tells, by UID (RFC 9051, section 7.5.2; RFC 7162, section 3.1.4.2).
 
-ghost use Rattle.std.specs.Prelude.{◌≡◌, ◌+◌, ◌<◌, ◌^◌, ◌∷◌, [], ℕ, false, None, IsTrue, IfOk, IfErr, length};
+ghost use Rattle.std.specs.Prelude.{◌≡◌, ◌+◌, ◌<◌, ◌^◌, ◌∷◌, [], ℕ, false, None, IsTrue, IfOk, IfErr, OnOk, OnErr, length};
 ghost use Rattle.std.specs.Option.{option_map};
 ghost use Rattle.mailbox_cache.specs.Rows.{Rises, row_at};
 ghost use Rattle.qresync_core.specs.Behind.{closed_len, behind_closed};
@@ -74,20 +74,64 @@ fn items_of(fetched: &Fetched) -> Option<(Uid, &FlagSet, ModSeq)>
     Some((uid, flags, modseq))
 }
 
-// Rows by UID, of several of a UID the last one. It costs a pass where they rise, as a server tells them as a rule, and
-// else a sort.
-fn in_order(mut rows: Vec<(Uid, Row)>) -> Result<Vec<(Uid, Row)>, AllocError>
+/// Whether the response is a FETCH that is no row.
+pub(crate) fn is_bare(response: &Response) -> bool
+    ensures { result ≡ is_bare response.now }
+{
+    let Response::Fetch(fetched) = response else {
+        return false;
+    };
+    items_of(fetched).is_none()
+}
+
+/// The row that the items of a FETCH are, if they are one. Its flags are theirs, and no copy.
+pub(crate) fn row_of(fetched: Fetched) -> Option<(Uid, Row)>
+    ensures { result ≡ row_in fetched }
+{
+    let Fetched {
+        uid,
+        flags,
+        modseq,
+        ids: _,
+        text: _,
+    } = fetched;
+    let uid = uid?;
+    let flags = flags?;
+    let modseq = modseq?;
+    Some((uid, Row { flags, modseq }))
+}
+
+/// Rows by UID, of several of a UID the last one.
+pub(crate) fn in_order(mut rows: Vec<(Uid, Row)>) -> Result<Vec<(Uid, Row)>, AllocError>
     ensures rising { IfOk result (λ ordered. Rises ordered.items) }
     ensures rows { IfOk result (λ ordered. (uid : ℕ) → row_at uid ordered.items ≡ last_row uid rows.items) }
 {
-    if rises(&rows) {
-        return Ok(rows);
+    put_in_order(&mut rows)?;
+    Ok(rows)
+}
+
+/// Puts rows in order by UID, of several of a UID the last one. It costs a pass where they rise, as a server tells them as a
+/// rule, and else a sort. On want of memory they stay as they are.
+pub(crate) fn put_in_order(rows: &mut Vec<(Uid, Row)>) -> Result<(), AllocError>
+    ensures rising { OnOk result (Rises rows.new.items) }
+    ensures rows { OnOk result ((uid : ℕ) → row_at uid rows.new.items ≡ last_row uid rows.old.items) }
+    ensures kept { OnErr result (rows.new.items ≡ rows.old.items) }
+{
+    if rises(rows) {
+        return Ok(());
     }
     // The last one of a UID comes first, and a stable sort leaves it there.
     rows.reverse();
-    rows.sort_by_key(|row| row.0.number())?;
-    rows.dedup_by_key(|row| row.0.number());
-    Ok(rows)
+    match rows.sort_by_key(|row| row.0.number()) {
+        Ok(()) => {
+            rows.dedup_by_key(|row| row.0.number());
+            Ok(())
+        }
+        Err(wanting) => {
+            rows.reverse();
+            Err(wanting)
+        }
+    }
 }
 
 // Whether each UID is above the one before it.
