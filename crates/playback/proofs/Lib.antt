@@ -48,5 +48,6 @@ pub mod Ranks
 pub mod Readings
 pub mod Falling
 pub mod Committing
+pub mod Learning
 pub mod CodesTold
 pub mod PlayedThrough

@@ -14,20 +14,20 @@ ghost use Rattle.playback.specs.Choosing.{target_fault};
 ghost use Rattle.playback.specs.Kept.{KeptBook};
 ghost use Rattle.playback.specs.Knows.{Knows};
 ghost use Rattle.playback.specs.Left.{Awaits, left};
-ghost use Rattle.playback.specs.Needs.{IsBeside, IsFinished, IsLawfulNeed, NeedsNoMemory, need_of};
+ghost use Rattle.playback.specs.Needs.{IsBeside, IsFinished, IsLawfulNeed, NeedsNoMemory, need_learn, need_of};
 ghost use Rattle.playback.specs.Replying.{IsHeard, IsHeardFault};
 ghost use Rattle.playback.specs.Sound.{IsSound};
 ghost use Rattle.playback.specs.Taken.{with_kept};
 ghost use Rattle.playback.specs.Worlds.{World, begins, given};
 ghost use Rattle.qresync_core.specs.Fitting.{Fits};
-ghost use Rattle.std.specs.Option.{option_copied};
-ghost use Rattle.std.specs.Prelude.{IfErr, IfOk, IsErrOf, List, None, Ok, OnErr, OnOk, Some, length, ℕ, ◌<◌, ◌↔◌, ◌≡◌};
+ghost use Rattle.std.specs.Option.{is_some, option_copied};
+ghost use Rattle.std.specs.Prelude.{IfErr, IfOk, IsErrOf, List, None, Ok, OnErr, OnOk, Some, length, true, ℕ, ◌<◌, ◌↔◌, ◌≡◌};
 ghost use Rattle.playback.specs.declared.need.Need.TheVariants as needs;
 ghost use Rattle.playback.specs.declared.need.Unheard.TheVariants as unheards;
 
 use crate::heard::heard_of;
 use crate::{Finding, Need, Resynced, Selected, Step, Unheard};
-use action_queue::{Action, Book};
+use action_queue::{Action, Book, Event};
 use imap_model::Replies;
 use mail_base::{BoxName, MAX_ROWS, Validity};
 use mailbox_cache::{Cache, Delta};
@@ -140,7 +140,33 @@ impl Player {
             → KeptBook (meaning book.now) w.course.now w.waiting → w.owed ≡ None → Knows self.old before w
             → Knows self.new (meaning book.now) w }
     {
-        self.go_on(book);
+        drop(self.go_on(book));
+    }
+
+    /// Whether what a resynchronisation told waits to be recorded. It is needed next then, and `learn` gives it.
+    pub fn has_delta(&self) -> bool
+        ensures { result ≡ is_some self.now.learns }
+    {
+        self.learns.is_some()
+    }
+
+    /// Moves what a resynchronisation told out into the event that is needed, and goes on as `committed` does behind its
+    /// record; `book` is the book before that. No row is copied, and no memory is taken. Where the event isn't recorded
+    /// then, the player isn't used again.
+    pub fn learn(&mut self, book: &Book) -> Event
+        requires { is_some self.old.learns ≡ true }
+        ensures value { need_of self.old (meaning book.now) ≡ needs.Commit result }
+        ensures goes { self.new ≡ committed self.old (after (meaning book.now) result) }
+        ensures beside { IsBeside self.old (meaning book.now) → IsBeside self.new (after (meaning book.now) result) }
+        ensures falls { IsSound (meaning book.now) → IsBeside self.old (meaning book.now)
+            → left self.new (after (meaning book.now) result) < left self.old (meaning book.now) }
+        ensures entered { (entry : Meaning) → IsSound (meaning book.now) → IsEntered entry self.old (meaning book.now)
+            → IsEntered entry self.new (after (meaning book.now) result) }
+        ensures knows { (w : World) → KeptBook (meaning book.now) w.course.now w.waiting
+            → KeptBook (after (meaning book.now) result) w.course.now w.waiting → w.owed ≡ None → Knows self.old (meaning book.now) w
+            → Knows self.new (after (meaning book.now) result) w }
+    {
+        self.move_out(book)
     }
 
     // The player as a connection begins.
@@ -207,9 +233,10 @@ impl Player {
         }
     }
 
-    // Goes on behind a record.
-    fn go_on(&mut self, book: &Book)
-        ensures { self.new ≡ committed self.old (meaning book.now) }
+    // Goes on behind a record, and hands out what of a resynchronisation was recorded.
+    fn go_on(&mut self, book: &Book) -> Option<Resynced>
+        ensures value { self.new ≡ committed self.old (meaning book.now) }
+        ensures told { result ≡ self.old.learns }
     {
         match &self.learns {
             None => self.told = Finding::Nothing,
@@ -220,7 +247,20 @@ impl Player {
             }
         }
         self.resumed = self.resumed && book.pending.is_some();
-        self.learns = None;
+        self.learns.take()
+    }
+
+    // What a resynchronisation told moves into its event.
+    fn move_out(&mut self, book: &Book) -> Event
+        requires { is_some self.old.learns ≡ true }
+        ensures value { need_learn self.old.learns ≡ needs.Commit result }
+        ensures goes { self.new ≡ committed self.old (meaning book.now) }
+    {
+        let told = self.go_on(book).unwrap();
+        Event::Learn {
+            name: told.name,
+            delta: told.delta,
+        }
     }
 }
 
