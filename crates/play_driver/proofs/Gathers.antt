@@ -1,5 +1,5 @@
 -- SELECT and the FETCH behind it, one after the other.
-use Rattle.std.proofs.Common.{◌≡◌, inl, inr, ℕ, ◌+◌, Bool, true, List, [], ◌∷◌, ◌++◌, Option, Some, None, is_some, if◌then◌else◌}
+use Rattle.std.proofs.Common.{◌≡◌, ◌≤◌, arith, length, inl, inr, ℕ, ◌+◌, Bool, true, List, [], ◌∷◌, ◌++◌, Option, Some, None, is_some, if◌then◌else◌}
 use Rattle.std.proofs.Common.{Result, Ok, Err, IfOk, IfErr, IfSome, refl, sym, ◌∙◌, ap, subst}
 use Rattle.std.specs.List.{AllByRecursion}
 use Rattle.mail_base.specs.declared.tag.Tag.{Tag}
@@ -18,6 +18,9 @@ use Rattle.action_queue.specs.Writable.{HaveFewFlags}
 use Rattle.qresync_core.specs.Fitting.{Fits}
 use Rattle.qresync_core.specs.Resync.{TellsDelta, HasFault, read_for_rows}
 use Rattle.qresync_core.specs.declared.fault.ResyncFault.{ResyncFault}
+use Rattle.qresync_core.specs.declared.maker.DeltaMaker.{DeltaMaker}
+use Rattle.imap_model.specs.declared.listen.Last.{Last}
+use Rattle.play_driver.specs.Gathering.{StandFor}
 use Rattle.qresync_core.proofs.SmallRows.{rows_small}
 use Rattle.world_traits.specs.Asking.{Asking}
 use Rattle.world_traits.specs.LinkState.{Connection, LinkState}
@@ -34,8 +37,7 @@ use Rattle.imap_session.specs.declared.fault.SessionFault.{SessionFault}
 use Rattle.imap_session.proofs.Dialogues.{broke_first, broke_from, had_now, is_reply, lines_of, stood_at}
 use Rattle.imap_session.specs.Enquiring.{Enquiring}
 use Rattle.play_driver.specs.Exchanges.{AnsweredAll, CameAll, IsAnswered}
-use Rattle.play_driver.specs.Resynchronising.{mark_kept, select_of, fetches, exchanged, resync, IsLearnable, MakesDelta}
-use Rattle.play_driver.specs.declared.gathering.Gathered.{Gathered}
+use Rattle.play_driver.specs.Resynchronising.{mark_kept, select_of, fetches, exchanged, resync, then_all, Gathered, IsLearnable, MakesDelta}
 use Rattle.imap_session.proofs.Talks.{asks_enquires}
 
 -- behind SELECT comes the FETCH, or nothing more
@@ -191,21 +193,26 @@ small_rows : (selected : Replies) (all : Option Replies) → AreSmall selected �
 small_rows selected None few more = few.untagged
 small_rows selected (Some all) few more = more.untagged
 
-pub learnable : (kept : Option Cache) (selected : Replies) (all told : Option Replies) (delta : Result Delta ResyncFault) → told ≡ all → AreSmall selected →
-    IfSome all AreSmall → IfOk delta (TellsDelta kept selected told) → IfOk delta (Fits kept) → IfOk delta (IsLearnable kept)
-learnable kept selected all told (Err fault) same few more tells fits = tt
-learnable kept selected all told (Ok delta) same few more tells fits = record {
+pub learnable : (kept : Option Cache) (g : Gathered) (delta : Result Delta ResyncFault) → AreSmall g.selected → IfSome g.all AreSmall →
+    MakesDelta kept g delta → IfOk delta (Fits kept) → IfOk delta (IsLearnable kept)
+learnable kept g (Err fault) few more makes fits = tt
+learnable kept g (Ok delta) few more makes fits = record {
   fits = fits;
-  few = have_few delta.rows (rows_small kept selected all delta (small_rows selected all few more)
-      (subst (λ (a : Option Replies). TellsDelta kept selected a delta) same tells));
+  few = have_few delta.rows (rows_small kept g.selected g.all delta (small_rows g.selected g.all few more) makes.value);
 }
 
--- what the replies make of the cache
-pub makes_delta : (kept : Option Cache) (g : Gathered) (told : Option Replies) (delta : Result Delta ResyncFault) → told ≡ g.all →
-    is_some g.all ≡ fetches kept g.selected → IfOk delta (TellsDelta kept g.selected told) → IfErr delta (HasFault kept g.selected told) →
-    MakesDelta kept g delta
-makes_delta kept g told delta same fetched value fault = record {
-  fetched = fetched;
-  value = subst (λ (a : Option Replies). IfOk delta (TellsDelta kept g.selected a)) same value;
-  fault = subst (λ (a : Option Replies). IfErr delta (HasFault kept g.selected a)) same fault;
-}
+-- what the replies make of the cache, for which the makers stand
+module _ (kept : Option Cache) (selected : DeltaMaker) (last : Last) (all : DeltaMaker) where
+  abbrev OfAll : (Gathered → Type 0) → Type 0
+  OfAll P = (g : Gathered) → StandFor selected last all g → is_some g.all ≡ fetches kept g.selected → P g
+
+  pub makes_delta : (g : Gathered) (delta : Result Delta ResyncFault) → StandFor selected last all g → is_some g.all ≡ fetches kept g.selected →
+      IfOk delta (λ (d : Delta). OfAll (λ (h : Gathered). TellsDelta kept h.selected h.all d)) →
+      IfErr delta (λ (f : ResyncFault). OfAll (λ (h : Gathered). HasFault kept h.selected h.all f)) → MakesDelta kept g delta
+  makes_delta g (Ok delta) stand fetched value fault = record { fetched = fetched; value = value g stand fetched; fault = tt }
+  makes_delta g (Err told) stand fetched value fault = record { fetched = fetched; value = tt; fault = fault g stand fetched }
+
+-- the FETCH is one question at most
+pub at_most_one : (all : Option Replies) → length (then_all all) ≤ 1
+at_most_one None = omega arith
+at_most_one (Some all) = omega arith

@@ -66,4 +66,7 @@ pub mod RenewedEntered
 pub mod CompleteRun
 pub mod Surely
 pub mod Recorded
+pub mod SentTexts
+pub mod SentNumbers
+pub mod SentRuns
 pub mod OverLink

@@ -13,11 +13,9 @@ use Rattle.play_driver.specs.Turning.{Standing, TurnFails, need_at}
 use Rattle.play_driver.specs.declared.fault.PlayFault.{PlayFault}
 use Rattle.playback.specs.Kept.{Kept}
 use Rattle.playback.specs.Needs.{NeedsNoMemory}
-use Rattle.playback.specs.declared.need.Need.{Need}
 use Rattle.playback.specs.declared.player.Player.{Player}
-use Rattle.std.proofs.Common.{Bool, Err, Ok, Option, Result, false, refl, true, ◌≡◌}
+use Rattle.std.proofs.Common.{Bool, Err, Option, Result, false, refl, true, ◌≡◌}
 use Rattle.std.specs.Prelude.{IsTrue}
-use Rattle.std.specs.declared.alloc.AllocError.{AllocError}
 use Rattle.store_core.specs.Holding.{Holding}
 use Rattle.store_core.specs.Mail.{mail}
 use Rattle.world_traits.proofs.Passing.{since_start}
@@ -72,12 +70,12 @@ pub gone_start : (made k : Clock) (permits : Option Permits) (p : Player) (b : M
 gone_start made k permits p b known = record { joined = stays_start mail Kept played k; known = λ fair. known }
 
 -- why a run stops behind some turns: memory is wanting to say what is needed next
-pub stops_wanting : (p q : Standing) (r : Result Need AllocError) (e : AllocError) (fault : PlayFault) → RunsBetween p q → r ≡ Err e →
-    (NeedsNoMemory (need_at q) → r ≡ Ok (need_at q)) → fault ≡ faults.Memory → StopsBehind p q.store q.stage.link fault
-stops_wanting p q r e fault came is at_hand memory = record {
+pub stops_wanting : (p q : Standing) (fault : PlayFault) → RunsBetween p q → (NeedsNoMemory (need_at q) → ⊥) → fault ≡ faults.Memory →
+    StopsBehind p q.store q.stage.link fault
+stops_wanting p q fault came takes memory = record {
   at = q;
   came = came;
-  fails = wanting (λ free. let h = at_hand free in absurd cc) refl memory;
+  fails = wanting takes refl memory;
   same = refl;
   still = λ no_disk. refl;
 }

@@ -1,5 +1,5 @@
 -- An event is recorded that the player needs, over one world.
-use Rattle.action_queue.specs.Book.{Meaning}
+use Rattle.action_queue.specs.Book.{Meaning, after}
 use Rattle.action_queue.specs.declared.event.Event.{Event}
 use Rattle.imap_session.specs.Session.{Stands}
 use Rattle.journal_core.specs.OneSide.{EachOneSide}
@@ -20,13 +20,16 @@ use Rattle.play_driver.specs.TrueRecords.{TrueEvent}
 use Rattle.play_driver.specs.declared.fault.PlayFault.{PlayFault}
 use Rattle.play_driver.specs.declared.session.Session.{Session}
 use Rattle.playback.specs.Allowed.{Records}
-use Rattle.playback.specs.Choosing.{IsEntered}
+use Rattle.playback.specs.Choosing.{IsEntered, committed}
 use Rattle.playback.specs.Kept.{Kept}
 use Rattle.playback.specs.Needs.{need_of}
+use Rattle.playback.specs.declared.finding.Resynced.{Resynced}
+use Rattle.playback.specs.declared.need.Need.{Need}
+use Rattle.playback.specs.declared.need.Need.TheVariants as needs
 use Rattle.playback.specs.declared.player.Player.{Player}
 use Rattle.imap_model.specs.Talking.{Peer}
 use Rattle.imap_session.specs.Hearing.{Hears}
-use Rattle.std.proofs.Common.{IfOk, ap, List, Option, Result, Some, sym, subst, ◌∙◌, ℕ, ◌≡◌}
+use Rattle.std.proofs.Common.{IfOk, ap, is_some, List, None, Option, Result, Some, refl, sym, subst, true, ◌∙◌, ℕ, ◌≡◌}
 use Rattle.store_core.specs.Fold.{IsFold}
 use Rattle.store_core.specs.Holding.{Holding, IsAsLeft}
 use Rattle.store_core.specs.Mail.{MayCome, mail}
@@ -80,3 +83,15 @@ module _ {Self : Type 0} (W : Ghosts Self) (old new : Self) (session : Session) 
   truly_recorded t made entry kept known entered =
       true_event p s.book event made (W.clock old) (permits_in session) (stands t kept) known needed entry entered
       (ready p s.book event fold rests.beside needed).lawful
+
+-- a delta is recorded as it was moved out of the player, by a book that is this one
+pub learns_event : (p : Player) (b x : Meaning) (event : Event) → x ≡ b → need_of p x ≡ needs.Commit event → Records (need_of p b) event
+learns_event p b x event same need =
+    subst (λ (n : Need). Records n event) (sym (subst (λ (y : Meaning). need_of p y ≡ needs.Commit event) same need)) refl
+
+pub learned_goes : (p q : Player) (b x : Meaning) (event : Event) → x ≡ b → q ≡ committed p (after x event) → q ≡ committed p (after b event)
+learned_goes p q b x event same goes = subst (λ (y : Meaning). q ≡ committed p (after y event)) same goes
+
+pub waits_some : (o : Option Resynced) → is_some o ≡ true → o ≡ None → ⊥
+waits_some None some none = absurd cc
+waits_some (Some told) some none = absurd cc

@@ -1,15 +1,20 @@
 -- What a call says that asks for what a server has of a mailbox (RFC 7162, section 3.2.5).
-use Rattle.std.specs.Prelude.{◌≡◌, ℕ, true, List, Option, Result, IfSome, IsErrOf, is_some}
+use Rattle.std.specs.Prelude.{◌≡◌, ◌+◌, ℕ, true, List, length, None, Option, Result, IfSome, IsErrOf, is_some}
+use Rattle.imap_model.specs.declared.listen.Last.{Last}
 use Rattle.imap_model.specs.declared.response.Response.{Response}
 use Rattle.imap_session.specs.Blame.{Blames}
 use Rattle.imap_session.specs.Dialogue.{BrokeOff, Dialogue, SentIn}
 use Rattle.imap_session.specs.Enquiring.{Enquiring}
 use Rattle.imap_session.specs.Hearing.{Hears}
+use Rattle.imap_session.specs.Permanent.{permitted}
 use Rattle.imap_session.specs.Replying.{AreSmall}
+use Rattle.imap_session.specs.declared.chosen.Chosen.{Chosen}
 use Rattle.imap_session.specs.declared.fault.SessionFault.{SessionFault}
 use Rattle.imap_session.specs.declared.fault.SessionFault.TheVariants as faults
 use Rattle.literal_feed.specs.Stream.{Stream}
 use Rattle.mailbox_cache.specs.declared.cache.Cache.{Cache}
+use Rattle.qresync_core.specs.Making.{StandsFor}
+use Rattle.qresync_core.specs.declared.maker.DeltaMaker.{DeltaMaker}
 use Rattle.world_traits.specs.Links.{Any, AnyStep, Linked}
 use Rattle.world_traits.specs.Moments.{Since}
 use Rattle.world_traits.specs.declared.clocked.Clocked.{Ghosts}
@@ -17,9 +22,8 @@ use Rattle.play_driver.specs.Exchanges.{AnsweredAll, CameAll}
 use Rattle.play_driver.specs.Grounds.{GroundStep}
 use Rattle.play_driver.specs.Progress.{has_name}
 use Rattle.play_driver.specs.Questioning.{Questioning}
-use Rattle.play_driver.specs.Resynchronising.{exchanged, fetches, resync}
+use Rattle.play_driver.specs.Resynchronising.{Gathered, exchanged, fetches, resync, then_all}
 use Rattle.play_driver.specs.Sessions.{count_of, feed_of, selected_in}
-use Rattle.play_driver.specs.declared.gathering.Gathered.{Gathered}
 use Rattle.play_driver.specs.declared.session.Session.{Session}
 
 -- However the call ends: the files stay as they were, and only the questions of a resynchronisation were asked (`sent` and `why` say it
@@ -49,3 +53,20 @@ pub record HasGathered {Self : Type 0} (L : Ghosts Self) (name : List ℕ) (kept
   pub came : L.tells_files → (heard : List Response) → (h : Hears heard (L.link old).connection (feed_of session))
       → CameAll (exchanged name kept gathered) (count_of session) (L.link old).sent h.connection.received heard (L.link new) after
   pub small : AreSmall gathered.selected × IfSome gathered.all AreSmall
+
+-- The makers stand for these replies: the first one for that to SELECT, which ended so; the other one for that to the FETCH of all rows,
+-- where it was asked for.
+pub record StandFor (selected : DeltaMaker) (last : Last) (all : DeltaMaker) (gathered : Gathered) : Type 0 where
+  pub select : StandsFor selected gathered.selected.untagged
+  pub code : gathered.selected.code ≡ last.code
+  pub fetch : IfSome gathered.all (λ replies. StandsFor all replies.untagged)
+
+-- Replies were heard for which the makers stand: so many questions were asked then, and that to SELECT tells the flags that can be changed
+-- for good. No run keeps them.
+pub record HasHeard {Self : Type 0} (L : Ghosts Self) (name : List ℕ) (kept : Option Cache) (old new : Self) (session : Session) (chosen : Chosen)
+    (selected : DeltaMaker) (last : Last) (all : DeltaMaker) : Type 0 where
+  pub gathered : Gathered
+  pub stand : StandFor selected last all gathered
+  pub heard : HasGathered L name kept old new session chosen.conversation.feed gathered
+  pub permitted : chosen.permits ≡ permitted None gathered.selected
+  pub asked : chosen.conversation.count ≡ count_of session + 1 + length (then_all gathered.all)

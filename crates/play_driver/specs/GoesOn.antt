@@ -15,6 +15,7 @@ use Rattle.play_driver.specs.KnownAt.{KnownAt}
 use Rattle.play_driver.specs.Played.{played}
 use Rattle.play_driver.specs.Progress.{Progresses, box_names}
 use Rattle.play_driver.specs.Questioning.{ConnectsFirst, RunStep, TalkStep}
+use Rattle.play_driver.specs.SendsOnce.{SendsOnce}
 use Rattle.play_driver.specs.Sessions.{permits_in}
 use Rattle.play_driver.specs.Settled.{IsSyncedSoFar}
 use Rattle.play_driver.specs.declared.fault.PlayFault.{PlayFault}
@@ -42,10 +43,12 @@ SyncsOn W old new p q b c result =
     W.tells_server → (start : Clock) → Grows start (W.clock old) → IsKept mail Kept (W.clock old).now
     → AllFair mail played (W.clock old) (W.clock new) → IsSyncedSoFar start (W.clock old) p b → OnOk result (IsSyncedSoFar start (W.clock new) q c)
 
--- The same of a whole run, which makes at most one connection, and none behind its first question.
+-- The same of a whole run, which makes at most one connection, and none behind its first question. Whatever the link gives, it sends at
+-- most one command of each action.
 pub record RunGoesOn {Self : Type 0} (W : Ghosts Self) (old new : Self) (b : Meaning) : Type 0 where
   pub progress : W.tells_files → Progresses b (W.clock old) (W.clock new)
   pub joined : W.tells_server → IsKept mail Kept (W.clock old).now → StaysJoined mail Kept played (W.clock old) (W.clock new)
   pub each_one_side : W.tells_files → EachOneSide (W.clock old) (W.clock new)
   pub once : W.tells_server → ConnectsFirst RunStep (W.clock old) (W.clock new)
   pub one : W.tells_files → ConnectsOnce (W.link old) (W.link new)
+  pub sends : W.tells_files → SendsOnce (W.link old) (W.link new)

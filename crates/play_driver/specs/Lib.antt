@@ -4,6 +4,7 @@ pub mod Joining
 pub mod Calm
 pub mod BookSteps
 pub mod Laws
+pub mod SendsOnce
 pub mod SentOnce
 pub mod Sessions
 pub mod Exchanges

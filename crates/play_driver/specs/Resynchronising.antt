@@ -21,7 +21,11 @@ use Rattle.imap_session.specs.Dialogue.Dialogue.{Asks}
 use Rattle.imap_session.specs.Permanent.{permitted}
 use Rattle.imap_session.specs.declared.permits.Permits.{Permits}
 use Rattle.play_driver.specs.Exchanges.{Exchange, AnsweredAll, CameAll}
-use Rattle.play_driver.specs.declared.gathering.Gathered.{Gathered}
+
+-- what a server told of a mailbox: its reply to SELECT, and that to the FETCH of all rows, where it was asked for them
+pub record Gathered : Type 0 where
+  pub selected : Replies
+  pub all : Option Replies
 
 -- the mark of what is kept
 abbrev pub mark_kept : Option Cache → Option Mark

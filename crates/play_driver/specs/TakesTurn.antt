@@ -1,5 +1,5 @@
 -- What a turn says, on the bytes sent and received.
-use Rattle.std.specs.Prelude.{◌≡◌, ◌≤◌, ◌<◌, ◌+◌, List, ℕ, Result, IfOk, OnOk, IsErr, IsErrOf}
+use Rattle.std.specs.Prelude.{◌≡◌, ◌≤◌, ◌<◌, ◌+◌, List, None, ℕ, Result, IfOk, OnOk, IsErr, IsErrOf}
 use Rattle.action_queue.specs.Book.{Meaning}
 use Rattle.playback.specs.Choosing.{IsEntered}
 use Rattle.playback.specs.Kept.{Kept}
@@ -22,13 +22,13 @@ use Rattle.play_driver.specs.declared.fault.PlayFault.{PlayFault}
 use Rattle.play_driver.specs.declared.fault.PlayFault.TheVariants as faults
 use Rattle.play_driver.specs.declared.session.Session.{Session}
 
--- The turn was taken: what was sent, received and recorded, and a number fell. Or why not: then the player is as before, and the store too
--- where the disk didn't fail.
+-- The turn was taken: what was sent, received and recorded, and a number fell. Or why not: then the player is as before, unless a delta
+-- waited in it to be recorded, and the store too where the disk didn't fail.
 pub record TakesTurn {Self : Type 0} (W : Ghosts Self) (old new : Self) (session : Session) (p q : Player) (s t : Holding mail)
     (result : Result Session PlayFault) : Type 0 where
   pub turns : W.tells_files → IfOk result (λ next. Turns (standing_of (W.link old) session s p) (standing_of (W.link new) next t q))
   pub why : W.tells_files → (fault : PlayFault) → IsErrOf result fault → TurnFails (standing_of (W.link old) session s p) (W.link new) fault
-  pub same : IsErr result → q ≡ p
+  pub same : IsErr result → p.learns ≡ None → q ≡ p
   pub stays : IsErr result → t.book ≡ s.book
   pub kept : IsErr result → (IsErrOf result faults.Disk → ⊥) → t ≡ s
   pub entered : OnOk result ((entry : Meaning) → IsEntered entry p s.book → IsEntered entry q t.book)

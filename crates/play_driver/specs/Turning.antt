@@ -1,7 +1,7 @@
 -- One turn of playback: what is needed next is done, and what came of it is kept (this client's profile of RFC 4549, section 4.2).
-use Rattle.std.specs.Prelude.{◌≡◌, ℕ, Bool, true, List, Option, Some, None, Result, Ok}
+use Rattle.std.specs.Prelude.{◌≡◌, ℕ, Bool, true, List, Option, Some, None, is_some, Result, Ok}
 use Rattle.std.specs.List.{list_all}
-use Rattle.action_queue.specs.Book.{after, cache_at}
+use Rattle.action_queue.specs.Book.{Meaning, after, cache_at}
 use Rattle.action_queue.specs.Queues.{due_action}
 use Rattle.action_queue.specs.declared.action.Action.{Action}
 use Rattle.action_queue.specs.declared.action.Action.TheVariants as actions
@@ -66,6 +66,11 @@ standing_of link session store player = record {
 -- what is needed there
 abbrev pub need_at : Standing → Need
 need_at p = need_of p.player p.store.book
+
+-- a delta waits to be recorded; or this is needed
+abbrev pub IsNext : Option Need → Player → Meaning → Type 0
+IsNext None p b = is_some p.learns ≡ true
+IsNext (Some need) p b = need ≡ need_of p b
 
 -- the need is this command, which is asked under this tag where so many questions were asked before: a question under their next number,
 -- and an action's command under the action's

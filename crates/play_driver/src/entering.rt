@@ -1,6 +1,6 @@
 //! A run enters: it connects, reads the greeting, logs the user in and enables QRESYNC.
 
-ghost use Rattle.std.specs.Prelude.{◌≤◌, ℕ, List, None, IfOk, IsErrOf, OnOk};
+ghost use Rattle.std.specs.Prelude.{◌≡◌, ◌≤◌, ◌∷◌, ℕ, List, None, IfOk, IsErrOf, OnOk};
 ghost use Rattle.imap_model.specs.declared.item.Item.{Item};
 ghost use Rattle.imap_session.specs.Session.{Follows, Stands};
 ghost use Rattle.imap_session.specs.declared.fault.SessionFault.{SessionFault};
@@ -26,6 +26,8 @@ pub(crate) fn enter<L: Link>(
     ensures enters { Enters L.Clocked account.now link.old link.new result }
     ensures opened { L.tells_server
         → OnOk result (OpensFrom (L.clock link.old) (L.clock link.new)) }
+    ensures made { L.tells_files → OnOk result
+        ((L.link link.new).earlier ≡ (L.link link.old).sent ∷ (L.link link.old).earlier) }
     ensures entered { L.tells_files → IfOk result (λ s. HasEntered account.now
         (stage_of (L.link link.new) (sessions.Ready s))) }
     ensures stands { L.tells_server → IfOk result (λ s. Stands None

@@ -8,6 +8,7 @@ mod entering;
 mod fault;
 mod gathering;
 mod laws;
+mod makers;
 mod played;
 mod plays;
 mod recording;
@@ -17,7 +18,6 @@ mod session;
 mod turning;
 
 pub use fault::{PlayFault, Why};
-pub use gathering::Gathered;
 pub use laws::{
     Related, Steady, a_server_may_serve, books_go_on, calls_keep_relations, calls_stay_joined,
     known_goes_on, resyncs_level,

@@ -1,6 +1,6 @@
 //! A run: the book's actions are played back, and each of its caches becomes the server's.
 
-ghost use Rattle.std.specs.Prelude.{◌≡◌, ◌↔◌, ◌<◌, ◌+◌, ◌*◌, IfOk, IsErrOf, IsTrue, OnOk};
+ghost use Rattle.std.specs.Prelude.{◌≡◌, ◌↔◌, ◌<◌, ◌+◌, ◌*◌, IfOk, IsErrOf, IsTrue, OnOk, Some};
 ghost use Rattle.action_queue.specs.Queues.{AllSettled};
 ghost use Rattle.playback.specs.Kept.{Kept};
 ghost use Rattle.playback.specs.Left.{left};
@@ -33,7 +33,7 @@ ghost use Rattle.play_driver.specs.TakesTurn.{Excuses, RunsOn};
 
 use crate::counting::played_since;
 use crate::entering::enter;
-use crate::turning::turn;
+use crate::turning::{next_need, turn};
 use crate::{PlayFault, Played, Session};
 use mail_base::Account;
 use playback::{Need, Player};
@@ -143,7 +143,7 @@ fn play_on<W: World>(
 {
     let mut at = session;
     loop {
-        let need = player.next(store.book())?;
+        let need = next_need(player, store.book())?;
         if is_finished(&need) {
             return Ok(at);
         }
@@ -152,8 +152,8 @@ fn play_on<W: World>(
 }
 
 // Whether nothing is needed.
-fn is_finished(need: &Need) -> bool
-    ensures { IsTrue result ↔ (need.now ≡ needs.Finished) }
+fn is_finished(need: &Option<Need>) -> bool
+    ensures { IsTrue result ↔ (need.now ≡ Some needs.Finished) }
 {
-    matches!(need, Need::Finished)
+    matches!(need, Some(Need::Finished))
 }

@@ -1,6 +1,6 @@
 //! An event that playback needs is recorded.
 
-ghost use Rattle.std.specs.Prelude.{IfOk, ◌+◌, ◌≡◌, ◌<◌, Some, Ok, IsErr, IsErrOf, IsTrue, OnOk, false};
+ghost use Rattle.std.specs.Prelude.{IfOk, ◌+◌, ◌≡◌, ◌<◌, Some, Ok, IsErr, IsErrOf, IsTrue, OnOk, false, is_some, true};
 ghost use Rattle.action_queue.specs.Writable.{IsWritable};
 ghost use Rattle.journal_core.specs.OneSide.{EachOneSide};
 ghost use Rattle.playback.specs.Allowed.{Records};
@@ -67,6 +67,43 @@ pub(crate) fn record<W: World>(
     let _version = store.version();
     enter_event(alloc, store, world, event)?;
     player.committed(store.book());
+    Ok(session)
+}
+
+/// Records what a resynchronisation told, as `record` does: it is moved out of the player, which goes on behind the record. No
+/// row is copied, and no memory is taken for the event. After a fault the player isn't used again.
+pub(crate) fn learn<W: World>(
+    alloc: Global,
+    session: Session,
+    store: &mut Store,
+    player: &mut Player,
+    world: &mut W,
+) -> Result<Session, PlayFault>
+    requires waits { is_some player.old.learns ≡ true }
+    requires fold { IsFold store.old.book }
+    requires rests { Rests W.Clocked world.old player.old store.old.book session }
+    requires room { count_of session + 2 < 4294967295 }
+    requires sound { IsTrue store.old.journal.failed → ⊥ }
+    requires left { W.tells_files
+        → IsAsLeft mail store.old (W.clock world.old).now (W.seen world.old) }
+    ensures goes_on { GoesOn W.Clocked world.old world.new session player.old player.new
+        store.old.book store.new.book result }
+    ensures synced { SyncsOn W.Clocked world.old world.new player.old player.new
+        store.old.book store.new.book result }
+    ensures reasons { Reasons W.Clocked (Unit {0}) world.old world.new session player.old
+        store.old.book store.new.book result }
+    ensures takes { TakesTurn W.Clocked world.old world.new session player.old player.new
+        store.old store.new result }
+    ensures excuses { Excuses W.Clocked world.old world.new session player.old
+        store.old.book result }
+    ensures accuses { Accuses W.Clocked world.old world.new result }
+    ensures rests { IfOk result (Rests W.Clocked world.new player.new store.new.book) }
+    ensures stored { Stored W.Clocked world.new (W.seen world.new) store.old.book store.new result }
+{
+    // A store's journal is of the version that is written, by whose rules the event may come.
+    let _version = store.version();
+    let told = player.learn(store.book());
+    enter_event(alloc, store, world, told)?;
     Ok(session)
 }
 

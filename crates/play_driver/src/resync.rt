@@ -12,17 +12,18 @@ ghost use Rattle.play_driver.specs.Gathering.{Gathers};
 
 use crate::Session;
 use crate::gathering::gather;
+use crate::makers::finish;
 use imap_session::{Chosen, SessionFault};
 use mail_base::BoxName;
 use mailbox_cache::{Cache, Delta};
-use qresync_core::{ResyncFault, delta_of};
+use qresync_core::{DeltaMaker, ResyncFault};
 use std::alloc::Global;
 use world_traits::{Clocked, Link};
 
 /// Resynchronises a mailbox, of which this cache is kept or nothing: SELECT with the cache's UIDVALIDITY and mark; or, where
 /// nothing is kept, a plain SELECT and then the FETCH of all rows, unless the mailbox is told to be empty. Gives what the
 /// replies make of the cache, or the first of their faults: a fault of the SELECT's codes too is told behind the reply to the
-/// FETCH, where that is asked.
+/// FETCH, where that is asked. Of each reply that is kept of which a delta is made, and no list of its responses.
 ///
 /// The faults of the session are those of `Chosen::ask` for a question. After one the connection isn't used again.
 pub fn resynchronise<L: Link>(
@@ -61,8 +62,19 @@ pub fn resynchronise<L: Link>(
     ensures name { IfOk result (λ p. p.0.name ≡ name.now) }
     ensures counted { IfOk result (λ p. p.0.conversation.count ≤ count_of session + 2) }
 {
-    let came = gather(session, link, name, kept)?;
-    let (chosen, gathered) = came;
-    let delta = delta_of(alloc, kept, &gathered.selected, gathered.all.as_ref());
-    Ok((chosen, delta))
+    let mut selected = DeltaMaker::new(alloc);
+    let mut all = DeltaMaker::new(alloc);
+    match gather(session, link, name, kept, &mut selected, &mut all) {
+        Ok(heard) => {
+            let (chosen, last) = heard;
+            let delta = finish(kept, selected, &last, all);
+            drop(last);
+            Ok((chosen, delta))
+        }
+        Err(fault) => {
+            drop(selected);
+            drop(all);
+            Err(fault)
+        }
+    }
 }

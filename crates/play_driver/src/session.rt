@@ -1,17 +1,20 @@
 //! A session in which a mailbox can be selected (RFC 9051, section 3).
 
-ghost use Rattle.std.specs.Prelude.{◌≡◌, ◌<◌, ◌+◌, None, Some, IfOk, OnOk, IsErrOf};
+ghost use Rattle.std.specs.Prelude.{◌≡◌, ◌<◌, ◌+◌, List, None, Some, IfOk, OnErr, OnOk, IsErrOf};
 ghost use Rattle.imap_model.specs.declared.command.Command.TheVariants as commands;
+ghost use Rattle.imap_model.specs.declared.response.Response.{Response};
 ghost use Rattle.imap_session.specs.Dialogue.{next_tag};
 ghost use Rattle.imap_session.specs.Permanent.{permitted};
+ghost use Rattle.imap_session.specs.Replying.{read_as};
 ghost use Rattle.imap_session.specs.Session.{Follows, Stands};
+ghost use Rattle.imap_session.specs.Taken.{TookSome};
 ghost use Rattle.imap_session.specs.declared.fault.SessionFault.{SessionFault};
 ghost use Rattle.play_driver.specs.Playing.{HasLeft, NotLeft};
 ghost use Rattle.play_driver.specs.Sessions.{selected_in, count_of, feed_of};
 ghost use Rattle.play_driver.specs.Stages.{stage_of};
-ghost use Rattle.imap_session.specs.Exchange.{FailsFor, HasReply, Talks};
+ghost use Rattle.imap_session.specs.Exchange.{FailsFor, IsHeard, Talks};
 
-use imap_model::{Mark, Replies};
+use imap_model::{Last, Listen, Mark};
 use imap_session::{Chosen, Ready, SessionFault};
 use mail_base::BoxName;
 use world_traits::{Clocked, Link};
@@ -24,22 +27,26 @@ pub enum Session {
 }
 
 impl Session {
-    /// Selects a mailbox, as `Ready::select` and `Chosen::select` do.
-    pub fn select<L: Link>(
+    /// Selects a mailbox, as `Ready::select_into` and `Chosen::select_into` do.
+    pub fn select_into<L: Link, H: Listen>(
         self,
         link: &mut L,
         name: &BoxName,
         since: Option<Mark>,
-    ) -> Result<(Chosen, Replies), SessionFault>
+        listener: &mut H,
+    ) -> Result<(Chosen, Last), SessionFault>
         requires room { count_of self + 1 < 4294967295 }
         requires follows { L.tells_files → Follows (L.link link.old).connection (feed_of self) }
         requires stands { L.tells_server → Stands (selected_in self)
             (L.clock link.old) (L.link link.old).connection (feed_of self) }
         ensures talks { Talks L.Clocked (next_tag (count_of self)) (commands.Select name.now since)
             link.old link.new result }
-        ensures replied { IfOk result (λ p. HasReply L.Clocked (next_tag (count_of self))
+        ensures heard { IfOk result (λ p. (told : List Response)
+            × IsHeard L.Clocked H.Stands (next_tag (count_of self))
             (commands.Select name.now since) link.old link.new
-            (feed_of self) p.0.conversation.feed p.1) }
+            (feed_of self) p.0.conversation.feed listener.old listener.new told p.1
+            × (p.0.permits ≡ permitted None (read_as told p.1.ending p.1.code))) }
+        ensures some { OnErr result (TookSome H.Stands listener.old listener.new) }
         ensures fails { FailsFor L.Clocked (next_tag (count_of self))
             (commands.Select name.now since) link.old link.new (feed_of self) result }
         ensures stands { L.tells_server → IfOk result (λ p. Stands (Some name.now)
@@ -48,11 +55,10 @@ impl Session {
             → IfOk result (λ p. Follows (L.link link.new).connection p.0.conversation.feed) }
         ensures name { IfOk result (λ p. p.0.name ≡ name.now) }
         ensures counted { IfOk result (λ p. p.0.conversation.count ≡ count_of self + 1) }
-        ensures permits { IfOk result (λ p. p.0.permits ≡ permitted None p.1) }
     {
         match self {
-            Session::Ready(ready) => ready.select(link, name, since),
-            Session::Chosen(chosen) => chosen.select(link, name, since),
+            Session::Ready(ready) => ready.select_into(link, name, since, listener),
+            Session::Chosen(chosen) => chosen.select_into(link, name, since, listener),
         }
     }
 

@@ -21,6 +21,7 @@ use Rattle.play_driver.proofs.ToldRefusals.{entry_told, never_told}
 use Rattle.play_driver.proofs.Enters.{enabling_told, entered_so, entering_told, unfit_so, unknown_so}
 use Rattle.play_driver.proofs.GroundChains.{connects_grounded, enabling_grounded, entering_grounded, greets_grounded, grounds_then}
 use Rattle.play_driver.proofs.Opened.{in_any, opens_from}
+use Rattle.play_driver.proofs.SentRuns.{unentered_once}
 use Rattle.play_driver.proofs.entering.enter.Goals as goal
 
 pub returns-in_err-fresh-clause-enters : goal.returns-in_err-fresh-clause-enters
@@ -32,6 +33,7 @@ returns-in_err-fresh-clause-enters g c = record {
   why = λ t fault is.
       unconnected (c.connect.ensures.only fault (search rules)) (c.in_err-fresh.ensures.unsent t) (c.in_err-fresh.ensures.unmade t);
   one = λ t. inl (c.in_err-fresh.ensures.unmade t);
+  sends = λ t fault is. inl (record { sent = c.in_err-fresh.ensures.unsent t; earlier = c.in_err-fresh.ensures.unmade t });
   honest = search rules;
   blames = search rules;
 }
@@ -57,6 +59,10 @@ returns-in_err-greeted-clause-enters g c = record {
   one = λ t.
       once_then (g.L.Clocked.link c.args.link.now) (g.L.Clocked.link c.connect.new.link) (g.L.Clocked.link c.greet.new.link)
       (inr (c.in_ok-fresh.ensures.earlier t)) (c.greet.ensures.receives.earlier t);
+  sends = λ t fault is.
+      unentered_once c.args.account.now (g.L.Clocked.link c.args.link.now) (g.L.Clocked.link c.greet.new.link) fault
+      (c.greet.ensures.receives.earlier t ∙ c.in_ok-fresh.ensures.earlier t)
+      (ungreeted (c.greet.ensures.why t fault (search rules)) (c.greet.ensures.receives.sent t ∙ c.in_ok-fresh.ensures.sent t));
   honest = search rules;
   blames = search rules;
 }
@@ -104,6 +110,17 @@ returns-in_err-known-clause-enters g c = record {
       let first = once_then (g.L.Clocked.link c.args.link.now) (g.L.Clocked.link c.connect.new.link) (g.L.Clocked.link c.greet.new.link)
       (inr (c.in_ok-fresh.ensures.earlier t)) (c.greet.ensures.receives.earlier t) in
       once_then (g.L.Clocked.link c.args.link.now) (g.L.Clocked.link c.greet.new.link) (g.L.Clocked.link c.authenticate.new.link) first (c.authenticate.ensures.converses.earlier t);
+  sends = λ t fault is.
+      let greeted = c.in_ok-greeted.greeted in
+      let p : Stage = record { link = g.L.Clocked.link c.greet.new.link; feed = greeted.conversation.feed; count = greeted.conversation.count } in
+      unentered_once c.args.account.now (g.L.Clocked.link c.args.link.now) (g.L.Clocked.link c.authenticate.new.link) fault
+      (c.authenticate.ensures.converses.earlier t ∙ c.greet.ensures.receives.earlier t ∙ c.in_ok-fresh.ensures.earlier t)
+      (unknown_so c.args.account.now (g.L.Clocked.link c.args.link.now) greeted.preauth p
+      (record {
+        unasked = c.in_ok-greeted.ensures.counted ∙ c.in_ok-fresh.ensures.counted;
+        unsent = c.greet.ensures.receives.sent t ∙ c.in_ok-fresh.ensures.sent t;
+        greets = c.in_ok-greeted.ensures.greeting t;
+      }) (c.in_ok-greeted.ensures.still t) c.authenticate.result (g.L.Clocked.link c.authenticate.new.link) (c.authenticate.ensures.converses.why t) fault (search rules));
   honest = search rules;
   blames = search rules;
 }
@@ -178,6 +195,21 @@ returns-clause-enters g c = record {
       (inr (c.in_ok-fresh.ensures.earlier t)) (c.greet.ensures.receives.earlier t) in
       let second = once_then (g.L.Clocked.link c.args.link.now) (g.L.Clocked.link c.greet.new.link) (g.L.Clocked.link c.authenticate.new.link) first (c.authenticate.ensures.converses.earlier t) in
       once_then (g.L.Clocked.link c.args.link.now) (g.L.Clocked.link c.authenticate.new.link) (g.L.Clocked.link c.enable.new.link) second (c.enable.ensures.converses.earlier t);
+  sends = λ t fault is.
+      let greeted = c.in_ok-greeted.greeted in
+      let known = c.in_ok-known.known in
+      let p : Stage = record { link = g.L.Clocked.link c.greet.new.link; feed = greeted.conversation.feed; count = greeted.conversation.count } in
+      let k : Stage = record { link = g.L.Clocked.link c.authenticate.new.link; feed = known.conversation.feed; count = known.conversation.count } in
+      unentered_once c.args.account.now (g.L.Clocked.link c.args.link.now) (g.L.Clocked.link c.enable.new.link) fault
+      (c.enable.ensures.converses.earlier t ∙ c.authenticate.ensures.converses.earlier t ∙ c.greet.ensures.receives.earlier t
+      ∙ c.in_ok-fresh.ensures.earlier t)
+      (unfit_so c.args.account.now (g.L.Clocked.link c.args.link.now) greeted.preauth p
+      (record {
+        unasked = c.in_ok-greeted.ensures.counted ∙ c.in_ok-fresh.ensures.counted;
+        unsent = c.greet.ensures.receives.sent t ∙ c.in_ok-fresh.ensures.sent t;
+        greets = c.in_ok-greeted.ensures.greeting t;
+      }) (c.in_ok-greeted.ensures.still t) known.rev2 k (c.in_ok-known.ensures.concludes.came t) (c.in_ok-known.ensures.still t) (g.L.Clocked.link c.enable.new.link)
+      c.enable.result (c.enable.ensures.converses.why t) fault is);
   honest = search rules;
   blames = search rules;
 }
@@ -200,6 +232,12 @@ returns-clause-entered g c = λ t.
 
 pub returns-clause-stands : goal.returns-clause-stands
 returns-clause-stands g c = λ t. if_ok_more c.enable.result _ _ (λ s ends. ends.stands t) c.enable.ensures.concludes
+
+pub returns-clause-made : goal.returns-clause-made
+returns-clause-made g c = λ t.
+    in_any c.enable.result _
+    (c.enable.ensures.converses.earlier t ∙ c.authenticate.ensures.converses.earlier t ∙ c.greet.ensures.receives.earlier t
+    ∙ c.in_ok-fresh.ensures.earlier t)
 
 pub returns-clause-opened : goal.returns-clause-opened
 returns-clause-opened g c = λ t.

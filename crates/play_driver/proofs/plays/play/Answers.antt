@@ -2,6 +2,7 @@ use Rattle.play_driver.proofs.CompleteRun.{comes_session, comes_turn, leaving_la
 use Rattle.play_driver.proofs.EntersServed.{enters_talking}
 use Rattle.play_driver.proofs.GroundChains.{grounds_then, leave_grounded}
 use Rattle.play_driver.proofs.Links.{left_there}
+use Rattle.play_driver.proofs.SentRuns.{left_once, stayed_once, stopped_once}
 use Rattle.play_driver.proofs.Surely.{run_surely}
 use Rattle.play_driver.proofs.RenewedEntered.{renewed_entered}
 use Rattle.play_driver.proofs.Faulting.{ok_no_err, told_as}
@@ -38,6 +39,7 @@ returns-in_err-ready-clause-goes_on g c = record {
       linked_sides AnyStep _ _ (rests_left c.args.store.now (g.W.Clocked.clock c.args.world.now) _ (c.requires.left t)) (c.enter.ensures.enters.files t);
   once = λ t. enters_run _ _ (c.enter.ensures.enters.once t);
   one = c.enter.ensures.enters.one;
+  sends = λ t. c.enter.ensures.enters.sends t c.in_err-ready.field-0.0 c.in_err-ready.was;
 }
 
 pub returns-in_err-ready-clause-reasons : goal.returns-in_err-ready-clause-reasons
@@ -117,6 +119,12 @@ returns-in_err-last-clause-goes_on g c = record {
   one = λ t.
       once_then (g.W.Clocked.link c.args.world.now) (g.W.Clocked.link c.enter.new.link) (g.W.Clocked.link c.play_on.new.world)
       (c.enter.ensures.enters.one t) (c.play_on.ensures.goes_on.earlier t);
+  sends = λ t.
+      let begun = begins_so c.args.alloc _ _ _ c.begin-player.ensures.value c.book-2.ensures in
+      stopped_once c.args.account.now c.args.alloc c.args.store.now c.begin-player.result begun (g.W.Clocked.link c.enter.new.link)
+      c.in_ok-ready.ready (c.in_ok-ready.ensures.entered t) (g.W.Clocked.link c.args.world.now) (g.W.Clocked.link c.play_on.new.world)
+      (c.play_on.ensures.goes_on.earlier t ∙ c.in_ok-ready.ensures.made t) _ _
+      (c.play_on.ensures.runs.why t c.in_err-last.field-0.0 c.in_err-last.was);
 }
 
 pub returns-in_err-last-clause-reasons : goal.returns-in_err-last-clause-reasons
@@ -227,6 +235,13 @@ returns-in_err-leave-clause-goes_on g c = record {
       let first = once_then (g.W.Clocked.link c.args.world.now) (g.W.Clocked.link c.enter.new.link) (g.W.Clocked.link c.play_on.new.world)
       (c.enter.ensures.enters.one t) (c.play_on.ensures.goes_on.earlier t) in
       once_then (g.W.Clocked.link c.args.world.now) (g.W.Clocked.link c.play_on.new.world) (g.W.Clocked.link c.leave.new.link) first (c.leave.ensures.talks.earlier t);
+  sends = λ t.
+      let begun = begins_so c.args.alloc _ _ _ c.begin-player.ensures.value c.book-2.ensures in
+      stayed_once c.args.account.now c.args.alloc c.args.store.now c.begin-player.result begun (g.W.Clocked.link c.enter.new.link)
+      c.in_ok-ready.ready (c.in_ok-ready.ensures.entered t) (g.W.Clocked.link c.args.world.now) (g.W.Clocked.link c.leave.new.link)
+      (c.leave.ensures.talks.earlier t ∙ c.play_on.ensures.goes_on.earlier t ∙ c.in_ok-ready.ensures.made t)
+      (standing_of (g.W.Clocked.link c.play_on.new.world) c.in_ok-last.last c.play_on.new.store c.play_on.new.player)
+      c.in_err-leave.field-0.0 (c.in_ok-last.ensures.runs.runs t) (c.leave.ensures.why t c.in_err-leave.field-0.0 c.in_err-leave.was);
 }
 
 pub returns-in_err-leave-clause-reasons : goal.returns-in_err-leave-clause-reasons
@@ -336,6 +351,13 @@ returns-clause-goes_on g c = record {
       let first = once_then (g.W.Clocked.link c.args.world.now) (g.W.Clocked.link c.enter.new.link) (g.W.Clocked.link c.play_on.new.world)
       (c.enter.ensures.enters.one t) (c.play_on.ensures.goes_on.earlier t) in
       once_then (g.W.Clocked.link c.args.world.now) (g.W.Clocked.link c.play_on.new.world) (g.W.Clocked.link c.leave.new.link) first (c.leave.ensures.talks.earlier t);
+  sends = λ t.
+      let begun = begins_so c.args.alloc _ _ _ c.begin-player.ensures.value c.book-2.ensures in
+      left_once c.args.account.now c.args.alloc c.args.store.now c.begin-player.result begun (g.W.Clocked.link c.enter.new.link)
+      c.in_ok-ready.ready (c.in_ok-ready.ensures.entered t) (g.W.Clocked.link c.args.world.now) (g.W.Clocked.link c.leave.new.link)
+      (c.leave.ensures.talks.earlier t ∙ c.play_on.ensures.goes_on.earlier t ∙ c.in_ok-ready.ensures.made t)
+      (standing_of (g.W.Clocked.link c.play_on.new.world) c.in_ok-last.last c.play_on.new.store c.play_on.new.player)
+      (c.in_ok-last.ensures.runs.runs t) (c.in_ok-leave.ensures.left t);
 }
 
 pub returns-clause-reasons : goal.returns-clause-reasons

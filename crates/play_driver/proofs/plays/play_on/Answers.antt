@@ -15,7 +15,7 @@ use Rattle.play_driver.specs.Settled.{IsSyncedSoFar}
 use Rattle.play_driver.specs.TrueRecords.{IsTrueBefore, IsTrueSince}
 use Rattle.play_driver.specs.Turning.{standing_of}
 use Rattle.playback.specs.Needs.{NeedsNoMemory, need_of}
-use Rattle.std.proofs.Common.{Ok, refl, subst, ◌≡◌, ◌∙◌}
+use Rattle.std.proofs.Common.{refl, subst, ◌≡◌, ◌∙◌}
 use Rattle.play_driver.specs.declared.fault.PlayFault.TheVariants as faults
 use Rattle.std.proofs.Common.{rules, arith}
 use Rattle.std.specs.declared.alloc.AllocError.{AllocError}
@@ -82,11 +82,9 @@ returns-in_err-need-clause-runs g c = record {
   finished = search rules;
   counted = search rules;
   why = λ t fault is.
-      stops_wanting _ (standing_of (g.W.Clocked.link c.loop-at.world) c.loop-at.at c.loop-at.store c.loop-at.player) c.next.result
-      c.in_err-need.field-0.0 fault
-      (c.loop-at.invariant.runs t) c.in_err-need.was
-      (subst (λ (b : Meaning). NeedsNoMemory (need_of c.loop-at.player b) → c.next.result ≡ Ok (need_of c.loop-at.player b)) c.book.ensures
-      c.next.ensures.at_hand)
+      stops_wanting _ (standing_of (g.W.Clocked.link c.loop-at.world) c.loop-at.at c.loop-at.store c.loop-at.player) fault
+      (c.loop-at.invariant.runs t)
+      (subst (λ (b : Meaning). NeedsNoMemory (need_of c.loop-at.player b) → ⊥) c.book.ensures (c.next_need.ensures.wanting (search rules)))
       (told_as (λ (e : AllocError). faults.Memory) c.from_residual.result c.in_err-need.field-0.0 c.from_residual.ensures.1 fault is);
 }
 

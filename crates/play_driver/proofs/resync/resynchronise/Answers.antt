@@ -1,10 +1,10 @@
 use Rattle.std.proofs.Common.{rules, arith}
 use Rattle.std.specs.Option.{option_copied}
-use Rattle.play_driver.proofs.Gathers.{learnable, makes_delta}
+use Rattle.play_driver.proofs.Gathers.{at_most_one, learnable, makes_delta}
 use Rattle.play_driver.proofs.resync.resynchronise.Goals as goal
 
-pub returns-in_err-came-clause-gathers : goal.returns-in_err-came-clause-gathers
-returns-in_err-came-clause-gathers g c = record {
+pub returns-in-Err-clause-gathers : goal.returns-in-Err-clause-gathers
+returns-in-Err-clause-gathers g c = record {
   files = search rules;
   told = search rules;
   asks = search rules;
@@ -16,28 +16,38 @@ returns-in_err-came-clause-gathers g c = record {
   blames = search rules;
 }
 
-pub returns-clause-value : goal.returns-clause-value
-returns-clause-value g c = λ t. record {
-  gathered = c.in_ok-came.came.1;
-  permitted = c.in_ok-came.ensures.permits;
-  asked = omega (arith, c.in_ok-came.ensures.counted);
-  answered = c.in_ok-came.ensures.gathered.answered t;
-  makes = makes_delta (option_copied c.args.kept) c.in_ok-came.came.1 (option_copied c.as_ref.result) c.delta_of-delta.result c.as_ref.ensures.value
-      c.in_ok-came.ensures.gathered.fetched c.delta_of-delta.ensures.value c.delta_of-delta.ensures.fault;
-}
+pub returns-in-Ok-clause-value : goal.returns-in-Ok-clause-value
+returns-in-Ok-clause-value g c = λ t.
+    let x = c.in-Ok.ensures.heard in
+    record {
+      gathered = x.gathered;
+      permitted = x.permitted;
+      asked = omega (arith, x.asked);
+      answered = x.heard.answered t;
+      makes = makes_delta (option_copied c.args.kept) _ _ _ x.gathered c.finish-delta.result x.stand x.heard.fetched
+          c.finish-delta.ensures.value c.finish-delta.ensures.fault;
+    }
 
-pub returns-clause-came : goal.returns-clause-came
-returns-clause-came g c = λ t heard h. record {
-  gathered = c.in_ok-came.came.1;
-  permitted = c.in_ok-came.ensures.permits;
-  asked = omega (arith, c.in_ok-came.ensures.counted);
-  came = c.in_ok-came.ensures.gathered.came t heard h;
-  makes = makes_delta (option_copied c.args.kept) c.in_ok-came.came.1 (option_copied c.as_ref.result) c.delta_of-delta.result c.as_ref.ensures.value
-      c.in_ok-came.ensures.gathered.fetched c.delta_of-delta.ensures.value c.delta_of-delta.ensures.fault;
-}
+pub returns-in-Ok-clause-came : goal.returns-in-Ok-clause-came
+returns-in-Ok-clause-came g c = λ t heard h.
+    let x = c.in-Ok.ensures.heard in
+    record {
+      gathered = x.gathered;
+      permitted = x.permitted;
+      asked = omega (arith, x.asked);
+      came = x.heard.came t heard h;
+      makes = makes_delta (option_copied c.args.kept) _ _ _ x.gathered c.finish-delta.result x.stand x.heard.fetched
+          c.finish-delta.ensures.value c.finish-delta.ensures.fault;
+    }
 
-pub returns-clause-learnable : goal.returns-clause-learnable
-returns-clause-learnable g c =
-    learnable (option_copied c.args.kept) c.in_ok-came.came.1.selected c.in_ok-came.came.1.all (option_copied c.as_ref.result)
-    c.delta_of-delta.result c.as_ref.ensures.value c.in_ok-came.ensures.gathered.small.0 c.in_ok-came.ensures.gathered.small.1
-    c.delta_of-delta.ensures.value c.delta_of-delta.ensures.fits
+pub returns-in-Ok-clause-learnable : goal.returns-in-Ok-clause-learnable
+returns-in-Ok-clause-learnable g c =
+    let x = c.in-Ok.ensures.heard in
+    learnable (option_copied c.args.kept) x.gathered c.finish-delta.result x.heard.small.0 x.heard.small.1
+    (makes_delta (option_copied c.args.kept) _ _ _ x.gathered c.finish-delta.result x.stand x.heard.fetched
+    c.finish-delta.ensures.value c.finish-delta.ensures.fault)
+    c.finish-delta.ensures.fits
+
+pub returns-in-Ok-clause-counted : goal.returns-in-Ok-clause-counted
+returns-in-Ok-clause-counted g c =
+    let x = c.in-Ok.ensures.heard in omega (arith, x.asked, at_most_one x.gathered.all)

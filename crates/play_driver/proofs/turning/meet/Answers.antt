@@ -1,6 +1,6 @@
 use Rattle.std.proofs.Common.{sym, ◌∙◌}
 use Rattle.play_driver.proofs.OneTurn.{question_selected}
-use Rattle.play_driver.proofs.turning.turn.Goals as goal
+use Rattle.play_driver.proofs.turning.meet.Goals as goal
 
 pub next_tag_in-tag-requires : goal.next_tag_in-tag-requires
 next_tag_in-tag-requires g c =

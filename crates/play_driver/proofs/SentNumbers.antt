@@ -1,0 +1,297 @@
+-- The actions whose commands a run sends have rising numbers: what is left falls with each turn.
+use Rattle.std.proofs.Common.{◌≡◌, ◌⊎◌, inl, inr, ℕ, zero, suc, ◌+◌, ◌-◌, ◌*◌, ◌<◌, ◌≤◌, List, [], ◌∷◌, ◌++◌, length, Option, Some, None}
+use Rattle.std.proofs.Common.{refl, sym, ◌∙◌, ap, subst, arith, rules}
+use Rattle.std.specs.Prelude.{IsSome, if◌then◌else◌, nat_lt, slice_get}
+use Rattle.std.specs.List.{AllByRecursion}
+use Rattle.std.specs.Option.{option_to_list}
+use Rattle.std.proofs.lemmas.List.{append-nil, length-map}
+use Rattle.action_queue.specs.Book.{Meaning, after}
+use Rattle.action_queue.specs.Queues.{AllSettled, change_first, change_queued, due, due_action, settled}
+use Rattle.action_queue.specs.declared.action.Action.{Action}
+use Rattle.action_queue.specs.declared.action.Action.TheVariants as actions
+use Rattle.action_queue.specs.declared.book.Known.{Known}
+use Rattle.action_queue.specs.declared.event.Event.{Event}
+use Rattle.action_queue.specs.declared.event.Event.TheVariants as events
+use Rattle.action_queue.specs.declared.intent.Intent.{Intent}
+use Rattle.action_queue.specs.declared.intent.Intent.TheVariants as intents
+use Rattle.action_queue.specs.declared.outcome.Outcome.{Outcome}
+use Rattle.action_queue.specs.declared.queued.Queued.{Queued}
+use Rattle.action_queue.proofs.Queueing.{all_settled, due_within, none_due, settled_all}
+use Rattle.mail_base.specs.Tags.{action_of}
+use Rattle.mail_base.specs.declared.tag.Tag.{Tag}
+use Rattle.imap_model.specs.declared.command.Command.{Command}
+use Rattle.imap_session.specs.Dialogue.{next_tag}
+use Rattle.playback.specs.Allowed.{Records}
+use Rattle.playback.specs.Choosing.{IsChosen, Wanted, chosen, chosen_in, committed, counted, wanted}
+use Rattle.playback.specs.Left.{left, rank, rank_of}
+use Rattle.playback.specs.Needs.{due_id, need_for, need_ids, need_learn, need_of, need_search, need_send, search_of, send_meant, send_of}
+use Rattle.playback.specs.Steps.{step_due, step_learn, step_of}
+use Rattle.playback.specs.declared.finding.Finding.{Finding}
+use Rattle.playback.specs.declared.finding.Finding.TheVariants as findings
+use Rattle.playback.specs.declared.finding.Resynced.{Resynced}
+use Rattle.playback.specs.declared.need.Need.{Need}
+use Rattle.playback.specs.declared.need.Need.TheVariants as needs
+use Rattle.playback.specs.declared.player.Player.{Player}
+use Rattle.playback.specs.declared.step.Step.{Step}
+use Rattle.playback.specs.declared.step.Step.TheVariants as steps
+use Rattle.mailbox_cache.specs.declared.delta.Delta.{Delta}
+use Rattle.store_core.specs.Holding.{Holding}
+use Rattle.store_core.specs.Mail.{mail}
+use Rattle.play_driver.specs.Progress.{IsLater, IsPlayEvent}
+use Rattle.play_driver.specs.Recording.{recorded}
+use Rattle.play_driver.specs.SendsOnce.{NumbersRise}
+use Rattle.play_driver.specs.Turning.{IsAskedFor, Standing, Turns, need_at}
+use Rattle.play_driver.specs.Turning.Turns.{asks, records, selects}
+use Rattle.play_driver.proofs.Progressing.{later_event}
+use Rattle.play_driver.proofs.Reasons.{of_playback}
+use Rattle.play_driver.proofs.Shortness.{place_before}
+
+-- the number of the action whose command is needed
+abbrev pub sends_for : Need → List ℕ
+sends_for (needs.Select name) = []
+sends_for (needs.Ask command) = []
+sends_for (needs.Commit event) = []
+sends_for (needs.Settle n outcome) = []
+sends_for (needs.Send n command) = n ∷ []
+sends_for needs.Finished = []
+
+pub asked_numbers : (need : Need) (count : ℕ) (tag : Tag) (command : Command) → IsAskedFor need count tag command →
+    option_to_list (action_of tag) ≡ sends_for need
+asked_numbers (needs.Select name) count tag command x = absurd x
+asked_numbers (needs.Ask asked) count tag command x = ap (λ (t : Tag). option_to_list (action_of t)) x.1
+asked_numbers (needs.Commit event) count tag command x = absurd x
+asked_numbers (needs.Settle n outcome) count tag command x = absurd x
+asked_numbers (needs.Send n sent) count tag command x = ap (λ (t : Tag). option_to_list (action_of t)) x.1
+asked_numbers needs.Finished count tag command x = absurd x
+
+pub recorded_numbers : (need : Need) (event : Event) → Records need event → [] ≡ sends_for need
+recorded_numbers (needs.Select name) event x = absurd x
+recorded_numbers (needs.Ask command) event x = absurd x
+recorded_numbers (needs.Commit told) event x = refl
+recorded_numbers (needs.Settle n outcome) event x = refl
+recorded_numbers (needs.Send n command) event x = absurd x
+recorded_numbers needs.Finished event x = absurd x
+
+-- ---- rising numbers
+
+all_and : (P : ℕ → Type 0) (ns : List ℕ) (m : ℕ) → AllByRecursion P ns → P m → AllByRecursion P (ns ++ m ∷ [])
+all_and P [] m all p = (p, tt)
+all_and P (n ∷ ns) m all p = (all.0, all_and P ns m all.1 p)
+
+all_weaker : (P Q : ℕ → Type 0) → ((n : ℕ) → P n → Q n) → (ns : List ℕ) → AllByRecursion P ns → AllByRecursion Q ns
+all_weaker P Q f [] all = tt
+all_weaker P Q f (n ∷ ns) all = (f n all.0, all_weaker P Q f ns all.1)
+
+rise_and : (ns : List ℕ) (m : ℕ) → AllByRecursion (λ (n : ℕ). n < m) ns → NumbersRise ns → NumbersRise (ns ++ m ∷ [])
+rise_and [] m below rising = (tt, tt)
+rise_and (n ∷ ns) m below rising = (all_and (λ (k : ℕ). n < k) ns m rising.0 below.0, rise_and ns m below.1 rising.1)
+
+-- ---- what is left where a command is needed
+
+ids_none : (told : Finding) → sends_for (need_ids told) ≡ []
+ids_none findings.Nothing = refl
+ids_none findings.NoRow = refl
+ids_none (findings.Row modseq so) = refl
+ids_none findings.Barred = refl
+ids_none (findings.Ended outcome) = refl
+ids_none (findings.Next validity uidnext) = refl
+ids_none (findings.Candidates uids) = refl
+ids_none (findings.Probed verdict) = refl
+
+search_one : (uidnext : ℕ) (action : Action) → sends_for (search_of uidnext action) ≡ []
+search_one uidnext (actions.Flag target add flags) = refl
+search_one uidnext (actions.Move target to) = refl
+search_one uidnext (actions.Append to flags text id) = refl
+
+search_none : (uidnext : ℕ) (o : Option Queued) → sends_for (need_search uidnext o) ≡ []
+search_none uidnext None = refl
+search_none uidnext (Some q) = search_one uidnext q.action
+
+learn_none : (o : Option Resynced) → sends_for (need_learn o) ≡ []
+learn_none None = refl
+learn_none (Some told) = refl
+
+send_one : (n : ℕ) (action : Action) (intent : Intent) →
+    (sends_for (send_of n action intent) ≡ []) ⊎ (sends_for (send_of n action intent) ≡ n ∷ [])
+send_one n (actions.Flag target add flags) (intents.Store name validity uid modseq) = inr refl
+send_one n (actions.Flag target add flags) (intents.Shift from validity uid to) = inl refl
+send_one n (actions.Flag target add flags) (intents.Put to validity uidnext) = inl refl
+send_one n (actions.Move target other) (intents.Store name validity uid modseq) = inl refl
+send_one n (actions.Move target other) (intents.Shift from validity uid to) = inr refl
+send_one n (actions.Move target other) (intents.Put to validity uidnext) = inl refl
+send_one n (actions.Append other flags text id) (intents.Store name validity uid modseq) = inl refl
+send_one n (actions.Append other flags text id) (intents.Shift from validity uid to) = inl refl
+send_one n (actions.Append other flags text id) (intents.Put to validity uidnext) = inr refl
+
+meant_one : (n : ℕ) (action : Action) (pending : Option Intent) →
+    (sends_for (send_meant n action pending) ≡ []) ⊎ (sends_for (send_meant n action pending) ≡ n ∷ [])
+meant_one n action None = inl refl
+meant_one n action (Some intent) = send_one n action intent
+
+module _ (p : Player) (b : Meaning) where
+  -- none is needed for a step; or it is that of the action that is due, and the step's rank is 2
+  abbrev SendsDue : Need → ℕ → Type 0
+  SendsDue need ranked = (sends_for need ≡ []) ⊎ ((sends_for need ≡ due_id b ∷ []) × (ranked ≡ 2) × (due b.queue < length b.queue))
+
+  with_due : (need : Need) → due b.queue < length b.queue → (sends_for need ≡ []) ⊎ (sends_for need ≡ due_id b ∷ []) → SendsDue need 2
+  with_due need there (inl none) = inl none
+  with_due need there (inr one) = inr (one, refl, there)
+
+  send_due : (o : Option Queued) → due_action b.queue ≡ o → SendsDue (need_send (due_id b) o b.pending) 2
+  send_due None e = inl refl
+  send_due (Some q) e =
+      with_due (send_meant (due_id b) q.action b.pending) (place_before b.queue (due b.queue) q e) (meant_one (due_id b) q.action b.pending)
+
+  step_sends : (step : Step) → SendsDue (need_for step p b) (rank step)
+  step_sends steps.Learn = inl (learn_none p.learns)
+  step_sends (steps.Select name under) = inl refl
+  step_sends (steps.AskRow uid) = inl refl
+  step_sends (steps.Search uidnext) = inl (search_none uidnext (due_action b.queue))
+  step_sends steps.AskIds = inl (ids_none p.told)
+  step_sends (steps.Intend intent) = inl refl
+  step_sends (steps.Settle outcome) = inl refl
+  step_sends steps.Send = send_due (due_action b.queue) refl
+  step_sends steps.Finished = inl refl
+
+  learns_sends : (o : Option Resynced) → p.learns ≡ o → SendsDue (need_of p b) (rank_of p b o)
+  learns_sends None e = step_sends (step_of p b)
+  learns_sends (Some told) e =
+      inl (ap (λ (o : Option Resynced). sends_for (need_for (step_learn p b o) p b)) e ∙ learn_none p.learns)
+
+  pub need_sends : SendsDue (need_of p b) (rank_of p b p.learns)
+  need_sends = learns_sends p.learns refl
+
+-- ---- what stays from turn to turn
+
+-- so many actions and mailboxes are in its book; and where a mailbox was resynchronised since, every action is settled
+pub record StandsIn (n m : ℕ) (p : Standing) : Type 0 where
+  pub queued : length p.store.book.queue ≡ n
+  pub known : length p.store.book.boxes ≡ m
+  pub last : 0 < p.player.resynced → due p.store.book.queue ≡ length p.store.book.queue
+
+change_then : (f : Queued → Queued) (q : Queued) (qs changed : List Queued) (o : Option Outcome) → IsSome o → changed ≡ qs →
+    change_queued f q qs changed o ≡ q ∷ qs
+change_then f q qs changed None some same = absurd (search rules)
+change_then f q qs changed (Some old) some same = ap (λ (ys : List Queued). q ∷ ys) same
+
+-- where every action is settled none is left to settle
+change_none : (f : Queued → Queued) (qs : List Queued) → AllSettled qs → change_first f qs ≡ qs
+change_none f [] all = refl
+change_none f (q ∷ qs) all = change_then f q qs (change_first f qs) q.outcome all.0 (change_none f qs all.1)
+
+settled_still : (f : Queued → Queued) (qs : List Queued) → due qs ≡ length qs → due (change_first f qs) ≡ length (change_first f qs)
+settled_still f qs all =
+    let same = change_none f qs (all_settled qs all) in
+    subst (λ (ys : List Queued). due ys ≡ length ys) (sym same) all
+
+event_still : (b : Meaning) (event : Event) → IsPlayEvent event → due b.queue ≡ length b.queue →
+    due (after b event).queue ≡ length (after b event).queue
+event_still b (events.Begin names) of_play all = absurd of_play
+event_still b (events.Accept id action) of_play all = absurd of_play
+event_still b (events.Intend id intent) of_play all = all
+event_still b (events.Settle id outcome) of_play all = settled_still (settled outcome) b.queue all
+event_still b (events.Learn name delta) of_play all = all
+event_still b (events.Old id action outcome) of_play all = absurd of_play
+event_still b (events.Reset name kept told) of_play all = absurd of_play
+event_still b (events.Withdraw id tries) of_play all = absurd of_play
+
+counted_last : (learns : Option Resynced) (queue : List Queued) (o : Option Queued) → due_action queue ≡ o → (boxes count : ℕ) →
+    (0 < count → due queue ≡ length queue) → 0 < counted learns o boxes count → due queue ≡ length queue
+counted_last None queue o e boxes count before more = before more
+counted_last (Some told) queue None e boxes count before more = none_due queue e
+counted_last (Some told) queue (Some q) e boxes count before more = before more
+
+same_actions : (b c : Meaning) → IsLater b c → length c.queue ≡ length b.queue
+same_actions b c later =
+    sym (length-map c.queue (λ (q : Queued). q.action)) ∙ ap length later.actions ∙ length-map b.queue (λ (q : Queued). q.action)
+
+same_boxes : (b c : Meaning) → IsLater b c → length c.boxes ≡ length b.boxes
+same_boxes b c later =
+    sym (length-map c.boxes (λ (k : Known). k.name)) ∙ ap length later.names ∙ length-map b.boxes (λ (k : Known). k.name)
+
+module _ (n m : ℕ) (q r : Standing) (stands : StandsIn n m q) where
+  -- the store is the same, and as many mailboxes were resynchronised
+  alike : r.store ≡ q.store → r.player.resynced ≡ q.player.resynced → StandsIn n m r
+  alike store count = record {
+    queued = ap (λ (s : Holding mail). length s.book.queue) store ∙ stands.queued;
+    known = ap (λ (s : Holding mail). length s.book.boxes) store ∙ stands.known;
+    last = λ more. ap (λ (s : Holding mail). due s.book.queue) store ∙ stands.last (subst (λ (k : ℕ). 0 < k) count more)
+        ∙ sym (ap (λ (s : Holding mail). length s.book.queue) store);
+  }
+
+  behind_record : (event : Event) → Records (need_at q) event →
+      StandsIn n m (record q { store = recorded q.store event; player = committed q.player (after q.store.book event) })
+  behind_record event needed =
+      let b = q.store.book in
+      let of_play = of_playback q.player b event needed in
+      let later = later_event b event of_play in
+      record {
+        queued = same_actions b (after b event) later ∙ stands.queued;
+        known = same_boxes b (after b event) later ∙ stands.known;
+        last = λ more.
+            counted_last q.player.learns (after b event).queue (due_action (after b event).queue) refl (length (after b event).boxes)
+            q.player.resynced (λ before. event_still b event of_play (stands.last before)) more;
+      }
+
+chosen_count : (p : Player) (b : Meaning) (delta : Delta) (o : Option Wanted) → (chosen_in p b delta o).resynced ≡ p.resynced
+chosen_count p b delta None = refl
+chosen_count p b delta (Some box) = refl
+
+pub stands_then : (n m : ℕ) (q r : Standing) → StandsIn n m q → Turns q r → StandsIn n m r
+stands_then n m q r stands (records event needed is) = subst (StandsIn n m) (sym is) (behind_record n m q r stands event needed)
+stands_then n m q r stands (selects name delta needed came taken selected same) =
+    alike n m q r stands same
+    (ap (λ (x : Player). x.resynced) taken.1 ∙ chosen_count q.player q.store.book delta (wanted q.player q.store.book))
+stands_then n m q r stands (asks tag command replies asked came heard selected permits same) =
+    alike n m q r stands same (ap (λ (x : Player). x.resynced) heard.is)
+
+-- ---- what is left, and the numbers
+
+zero_of : (k : ℕ) → (0 < k → ⊥) → k ≡ 0
+zero_of zero none = refl
+zero_of (suc k) none = absurd (none (omega arith))
+
+-- so much is left for each number that was sent, in a run of so many actions and mailboxes
+abbrev pub Below : ℕ → ℕ → Standing → List ℕ → Type 0
+Below n m q ns = AllByRecursion (λ (k : ℕ). left q.player q.store.book + 8 * k < 10 + 8 * (n + m)) ns
+
+module _ (n m : ℕ) (q : Standing) (stands : StandsIn n m q) where
+  -- as a command is sent
+  left_now : rank_of q.player q.store.book q.player.learns ≡ 2 → due q.store.book.queue < length q.store.book.queue →
+      left q.player q.store.book + 8 * due_id q.store.book ≡ 10 + 8 * (n + m)
+  left_now ranked there =
+      let none : q.player.resynced ≡ 0 =
+      zero_of q.player.resynced (λ more. let all = stands.last more in let e : ⊥ = absurd (omega (arith, all, there)) in e) in
+      let is : left q.player q.store.book ≡ rank_of q.player q.store.book q.player.learns
+      + 8 * (length q.store.book.queue - due q.store.book.queue) + 8 * (length q.store.book.boxes - q.player.resynced) = refl in
+      omega (arith, is, ranked, there, none, stands.queued, stands.known)
+
+  -- another number rises above all before
+  pub rises_next : (ns : List ℕ) → NumbersRise ns → Below n m q ns → NumbersRise (ns ++ sends_for (need_at q))
+  rises_next ns rising below = by (need_sends q.player q.store.book) where
+    by : SendsDue q.player q.store.book (need_at q) (rank_of q.player q.store.book q.player.learns) → NumbersRise (ns ++ sends_for (need_at q))
+    by (inl none) =
+        subst (λ (ms : List ℕ). NumbersRise (ns ++ ms)) (sym none) (subst NumbersRise (sym (append-nil ns)) rising)
+    by (inr (one, ranked, there)) =
+        let now = left_now ranked there in
+        subst (λ (ms : List ℕ). NumbersRise (ns ++ ms)) (sym one)
+        (rise_and ns (due_id q.store.book)
+        (all_weaker (λ (k : ℕ). left q.player q.store.book + 8 * k < 10 + 8 * (n + m)) (λ (k : ℕ). k < due_id q.store.book)
+        (λ k less. omega (arith, less, now)) ns below) rising)
+
+  -- and behind the turn less is left for all of them
+  pub below_next : (r : Standing) (ns : List ℕ) → left r.player r.store.book < left q.player q.store.book → Below n m q ns →
+      Below n m r (ns ++ sends_for (need_at q))
+  below_next r ns falls below = by (need_sends q.player q.store.book) where
+    later : Below n m r ns
+    later =
+        all_weaker (λ (k : ℕ). left q.player q.store.book + 8 * k < 10 + 8 * (n + m)) (λ (k : ℕ). left r.player r.store.book + 8 * k < 10 + 8 * (n + m))
+        (λ k less. omega (arith, less, falls)) ns below
+
+    by : SendsDue q.player q.store.book (need_at q) (rank_of q.player q.store.book q.player.learns) → Below n m r (ns ++ sends_for (need_at q))
+    by (inl none) =
+        subst (λ (ms : List ℕ). Below n m r (ns ++ ms)) (sym none) (subst (Below n m r) (sym (append-nil ns)) later)
+    by (inr (one, ranked, there)) =
+        let now = left_now ranked there in
+        subst (λ (ms : List ℕ). Below n m r (ns ++ ms)) (sym one)
+        (all_and (λ (k : ℕ). left r.player r.store.book + 8 * k < 10 + 8 * (n + m)) ns (due_id q.store.book) later (omega (arith, now, falls)))
