@@ -9,6 +9,7 @@ use Rattle.world_traits.specs.LinkState.{LinkState}
 use Rattle.world_traits.specs.Moments.{Moment, Within}
 use Rattle.world_traits.specs.declared.clocked.Clocked.{Ghosts}
 use Rattle.world_traits.specs.declared.streams.Source.{Ghosts as SourceGhosts}
+use Rattle.mail_top.specs.AnyServer.{IsWhole, StaysWhole}
 use Rattle.mail_top.specs.BesideServer.{BesideServer}
 use Rattle.mail_top.specs.Causing.{HasCauses}
 use Rattle.mail_top.specs.CompletePlay.{IsTheServers}
@@ -25,6 +26,7 @@ use Rattle.mail_top.specs.Telling.{status_of, TellsNoPlace}
 use Rattle.mail_top.specs.Words.{Request, Queue, Play, AsksNothing}
 use Rattle.mail_top.specs.declared.refusal.Refusal.{Refusal}
 use Rattle.mail_top.specs.declared.refusal.Refusal.TheVariants as refusals
+use Rattle.mail_top.proofs.AnyServers.{none_sent, reads_whole}
 use Rattle.mail_top.proofs.Connections.{none_once, request_alone}
 use Rattle.mail_top.proofs.Endings.{completes_act, completes_init, completes_rows, completes_queue, completes_report}
 use Rattle.mail_top.proofs.Goings.{asks_given, nothing_taken}
@@ -47,10 +49,17 @@ pub record GoesApart (k : Course) : Type 0 where
   pub never : request ≡ Play → ⊥
   pub records : HasRecords request
   pub goes : GoesBy request k
+  pub whole : IsWhole k.old.now → StaysWhole k.old k.new
 
 -- so it is with one that only reads, whichever it is
 pub reads_apart : (k : Course) → OnlyReads k.old k.new → GoesApart k
-reads_apart k reads = record { request = Queue; never = never_queue; records = queue_records; goes = reads_go Queue k (λ m w. w) reads }
+reads_apart k reads = record {
+  request = Queue;
+  never = never_queue;
+  records = queue_records;
+  goes = reads_go Queue k (λ m w. w) reads;
+  whole = λ was. reads_whole k.seen k.old k.new was reads;
+}
 
 -- what such a request gives of the book beside the server
 module _ {Self : Type 0} (W : Ghosts Self) (files : W.tells_server → W.tells_files) (seen : Self → Files) (old new : Self) where
@@ -76,6 +85,7 @@ module _ {Self : Type 0} (W : Ghosts Self) (files : W.tells_server → W.tells_f
           request_alone went.request went.never (MayBeLeft went.request (W.clock old).now (seen old)) (W.clock old) (W.clock new) went.goes.keeps;
       once = λ tells. none_once (W.link old) (W.link new) link;
     };
+    any_server = λ tells. record { whole = (goes tells).whole; once = none_sent (W.link old) (W.link new) link };
   }
 
 -- under another name for the premise, the status and the text
@@ -92,6 +102,7 @@ handed W seen old new P Q s t x y of same text_is b = record {
   faultless = λ f is. b.faultless f (sym same ∙ is);
   honest = λ tells is. subst TellsNoPlace (sym text_is) (b.honest tells (sym same ∙ is));
   connects = b.connects;
+  any_server = b.any_server;
 }
 
 -- a disk that failed is told by its status

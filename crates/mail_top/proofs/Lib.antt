@@ -1,4 +1,5 @@
 pub mod Admitting
+pub mod AnyServers
 pub mod Beginnings
 pub mod Besides
 pub mod Between

@@ -41,10 +41,10 @@ use Rattle.mail_top.specs.Runs.{HasNames}
 use Rattle.mail_top.specs.Runs.{IsReady, AnyBook}
 use Rattle.mail_top.specs.Words.{Wanted, Request, Init, Act, Rows, Queue, Report, Play, Asks, WritesPlay}
 
-held_self : (m : Moment) → LosesNone m m
+pub held_self : (m : Moment) → LosesNone m m
 held_self m = record { held = λ place action named h. h }
 
-held_then : (l m n : Moment) → LosesNone l m → LosesNone m n → LosesNone l n
+pub held_then : (l m n : Moment) → LosesNone l m → LosesNone m n → LosesNone l n
 held_then l m n p q = record { held = λ place action named h. q.held place action named (p.held place action named h) }
 
 -- what is held at a moment is held at each later one

@@ -11,6 +11,7 @@ use Rattle.store_core.specs.Taking.{HasBooks}
 use Rattle.play_driver.specs.Joining.{AllFair, Grows}
 use Rattle.play_driver.specs.Played.{played}
 use Rattle.play_driver.specs.Serving.{AllServing}
+use Rattle.mail_top.specs.AnyServer.{StandsAny}
 use Rattle.mail_top.specs.CompletePlay.{IsTheServers, WaitsForNone}
 use Rattle.mail_top.specs.Connecting.{Connects}
 use Rattle.mail_top.specs.Headline.{StaysOnce}
@@ -42,7 +43,8 @@ pub record EntersKept {Self : Type 0} (W : Ghosts Self) (old : Self) : Type 0 wh
   pub have : HasBooks mail books (W.clock old).now
   pub kept : IsKeptNow (W.clock old).now
 
--- What a run gives of the book beside the server, and what more where it is a `play`: each field is the clause of `run` of this name.
+-- What a run gives of the book beside the server, what more where it is a `play`, and what at any server (`any_server`): each field is the
+-- clause of `run` of this name.
 -- (`kept` hands the book on to the next run; by `serves` a server that serves ends no `play`.)
 pub record BesideServer {Self : Type 0} (W : Ghosts Self) (seen : Self → Files) (IsPlay : Type 0) (old new : Self) (s : Status) (text : List ℕ)
     : Type 0 where
@@ -57,3 +59,4 @@ pub record BesideServer {Self : Type 0} (W : Ghosts Self) (seen : Self → Files
   pub faultless : Fairly W old new → s ≡ status.Reply → ⊥
   pub honest : W.tells_server → s ≡ status.Reply → TellsNoPlace text
   pub connects : Connects W old new
+  pub any_server : W.tells_files → StandsAny W old new

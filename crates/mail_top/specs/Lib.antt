@@ -1,4 +1,5 @@
 pub mod Actions
+pub mod AnyServer
 pub mod BesideServer
 pub mod Causing
 pub mod CompletePlay

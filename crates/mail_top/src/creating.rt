@@ -3,8 +3,9 @@
 ghost use Rattle.std.specs.Prelude.{◌≡◌, ◌≤◌, map, string_bytes, IsErrOf};
 ghost use Rattle.world_traits.specs.Calls.{Rose};
 ghost use Rattle.world_traits.specs.Links.{Any};
-ghost use Rattle.world_traits.specs.Moments.{OneSideAtRest, Since};
+ghost use Rattle.world_traits.specs.Moments.{Narrows, OneSideAtRest, Since};
 ghost use Rattle.mail_base.specs.Lines.{ready};
+ghost use Rattle.journal_core.specs.Creating.{IsTaken};
 ghost use Rattle.journal_core.specs.OneSide.{EachOneSide};
 ghost use Rattle.store_core.specs.Mail.{mail};
 ghost use Rattle.store_core.specs.Steps.{Books};
@@ -47,6 +48,10 @@ pub fn init<D: Disk>(alloc: Global, disk: &mut D, texts: &[String]) -> Result<()
     ensures books { D.tells_files → OneSideAtRest (D.clock disk.old).now →
         (books : Books mail) → HasBooks mail books (D.clock disk.old).now →
         Since Any (RequestStep (Init (map name_of (map string_bytes texts.now)))) (D.clock disk.old) (D.clock disk.new) }
+
+    // A journal that is there isn't written, also where the disk fails.
+    ensures taken { D.tells_files → IsTaken (D.seen disk.old) → Narrows (D.clock disk.old) (D.clock disk.new) }
+
     ensures one_side { D.tells_files → OneSideAtRest (D.clock disk.old).now → OneSideAtRest (D.clock disk.new).now }
     ensures each_one_side { D.tells_files → OneSideAtRest (D.clock disk.old).now →
         EachOneSide (D.clock disk.old) (D.clock disk.new) }

@@ -3,6 +3,7 @@
 ghost use Rattle.std.specs.Prelude.{◌≡◌, ◌≢◌, ◌↔◌, ℕ, List, map, string_bytes};
 ghost use Rattle.world_traits.specs.Moments.{Clock};
 ghost use Rattle.play_driver.specs.Serving.{AllServing};
+ghost use Rattle.mail_top.specs.AnyServer.{StandsAny};
 ghost use Rattle.mail_top.specs.BesideServer.{BesideServer, EntersKept, FairUpTo, Fairly};
 ghost use Rattle.mail_top.specs.Causing.{HasCauses, HasOutputCause, NoDiskFault, NoInputFault, NoLinkFault, NoOutputFault};
 ghost use Rattle.mail_top.specs.CompletePlay.{IsPlayed, WaitsForNone};
@@ -152,6 +153,10 @@ pub fn run<W: World, I: Source, S: Sink>(
     // No action that all images hold at entry is lost; and one side of the journal stays at rest.
     ensures held { W.tells_files → LosesNone (W.clock world.old).now (W.clock world.new).now }
     ensures sides { W.tells_files → KeepsOneSide (W.clock world.old) (W.clock world.new) }
+
+    // Whatever a server sends: where each image held a lawful book at entry, each does at every moment, with the actions and the outcomes
+    // that all images held then; and no action's command is sent twice. Nothing is asked of the server or of others.
+    ensures any_server { W.tells_files → StandsAny W.Clocked world.old world.new }
 
     // Up to each moment to which others were fair: each moment is kept, and joined to the one before it by one step of the book beside
     // the server; no action has two changes there; and none is this client's that no action wants of the book that a stop leaves.

@@ -6,6 +6,7 @@ use Rattle.journal_core.proofs.HeldBodies.{narrowed}
 use Rattle.action_queue.specs.Events.{AreNames}
 use Rattle.mail_top.specs.Names.{name_of}
 use Rattle.mail_top.specs.Words.{Init}
+use Rattle.mail_top.proofs.AnyServers.{narrows_start}
 use Rattle.mail_top.proofs.Beginnings.{uncreated_named, created_named, keeps_named, steps_named, out_of_memory}
 use Rattle.mail_top.proofs.Moving.{steps_none, left_now, left_start, left_none}
 use Rattle.mail_top.proofs.Openings.{never_err, store_disk, store_failed}
@@ -23,6 +24,9 @@ returns-in_err-names-clause-books g c tells one books have = steps_none _ _
 
 pub returns-in_err-names-clause-each_one_side : goal.returns-in_err-names-clause-each_one_side
 returns-in_err-names-clause-each_one_side g c tells one = each_none _
+
+pub returns-in_err-names-clause-taken : goal.returns-in_err-names-clause-taken
+returns-in_err-names-clause-taken g c tells is = narrows_start _
 
 pub init-requires : goal.init-requires
 init-requires g c = subst AreNames (sym c.in_ok-names.ensures) c.requires.names
@@ -82,3 +86,9 @@ returns-clause-keeps g c tells = keeps_named _ _ c.in_ok-names.ensures _ (g.D.Di
 pub returns-clause-books : goal.returns-clause-books
 returns-clause-books g c tells one books have =
     steps_named _ _ c.in_ok-names.ensures _ _ c.requires.names ((c.init.ensures.moments tells).begins one books have)
+
+pub returns-in_err-_store-clause-taken : goal.returns-in_err-_store-clause-taken
+returns-in_err-_store-clause-taken g c tells is = c.init.ensures.taken tells is
+
+pub returns-clause-taken : goal.returns-clause-taken
+returns-clause-taken g c tells is = c.init.ensures.taken tells is

@@ -5,6 +5,7 @@ use Rattle.journal_core.proofs.AtRest.{each_then}
 use Rattle.store_core.proofs.Choosing.{only_left}
 use Rattle.mail_top.specs.TruePlay.PlaysTruly.{unready, recorded}
 use Rattle.mail_top.specs.Words.{Play}
+use Rattle.mail_top.proofs.AnyServers.{none_sent, play_whole, then_sends}
 use Rattle.mail_top.proofs.Besides.{same_count}
 use Rattle.mail_top.proofs.Connections.{none_once, readies_alone, readies_then, then_once}
 use Rattle.mail_top.proofs.Headlines.{kept_last, play_once, still_once}
@@ -49,6 +50,12 @@ returns-in_err-store-clause-server g c = record {
   connects = record {
     at_first = λ tells. readies_alone _ _ _ (c.made_ready.ensures.moments (g.W.Clocked.server_with_files tells)).keeps;
     once = λ tells. none_once _ _ c.made_ready.ensures.blames.link;
+  };
+  any_server = λ tells. record {
+    whole = λ was.
+        play_whole (g.W.Disk.seen c.args.world.now) (g.W.Clocked.clock c.args.world.now) (g.W.Clocked.clock c.made_ready.new.disk) was
+        (ready_keeps _ _ _ _ (c.made_ready.ensures.moments tells).keeps);
+    once = none_sent _ _ c.made_ready.ensures.blames.link;
   };
 }
 
@@ -147,6 +154,14 @@ returns-in_err-played-clause-server g c = record {
         then_once (g.W.Clocked.link c.args.world.now) (g.W.Clocked.link c.made_ready.new.disk) (g.W.Clocked.link c.play.new.world) c.made_ready.ensures.blames.link
         (c.play.ensures.goes_on.one tells);
   };
+  any_server = λ tells. record {
+    whole = λ was.
+        play_whole (g.W.Disk.seen c.args.world.now) (g.W.Clocked.clock c.args.world.now) (g.W.Clocked.clock c.play.new.world) was
+        (play_keeps _ _ (c.in_ok-store.ensures.opened tells).holds _ _ _ _ (c.made_ready.ensures.moments tells).keeps (c.play.ensures.goes_on.progress tells));
+    once =
+        then_sends (g.W.Clocked.link c.args.world.now) (g.W.Clocked.link c.made_ready.new.disk) (g.W.Clocked.link c.play.new.world)
+        c.made_ready.ensures.blames.link (c.play.ensures.goes_on.sends tells);
+  };
 }
 
 pub returns-in_err-played-clause-causes : goal.returns-in_err-played-clause-causes
@@ -232,6 +247,14 @@ returns-clause-server g c = record {
     once = λ tells.
         then_once (g.W.Clocked.link c.args.world.now) (g.W.Clocked.link c.made_ready.new.disk) (g.W.Clocked.link c.play.new.world) c.made_ready.ensures.blames.link
         (c.play.ensures.goes_on.one tells);
+  };
+  any_server = λ tells. record {
+    whole = λ was.
+        play_whole (g.W.Disk.seen c.args.world.now) (g.W.Clocked.clock c.args.world.now) (g.W.Clocked.clock c.play.new.world) was
+        (play_keeps _ _ (c.in_ok-store.ensures.opened tells).holds _ _ _ _ (c.made_ready.ensures.moments tells).keeps (c.play.ensures.goes_on.progress tells));
+    once =
+        then_sends (g.W.Clocked.link c.args.world.now) (g.W.Clocked.link c.made_ready.new.disk) (g.W.Clocked.link c.play.new.world)
+        c.made_ready.ensures.blames.link (c.play.ensures.goes_on.sends tells);
   };
 }
 

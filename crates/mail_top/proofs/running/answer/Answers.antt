@@ -5,6 +5,7 @@ use Rattle.mail_top.specs.Reading.{AwaitsAsked, IsAppend}
 use Rattle.mail_top.specs.Telling.{status_of}
 use Rattle.mail_top.specs.Words.{Init, Act, Rows, Queue, Report, IsLawful, IsPlay, request_of, wanted_of}
 use Rattle.mail_top.specs.declared.request.Asked.{Asked}
+use Rattle.mail_top.proofs.AnyServers.{act_whole, init_whole}
 use Rattle.mail_top.proofs.Besides.{apart, causes_as, handed, input_unread, reads_apart, reads_go, refused_causes}
 use Rattle.mail_top.proofs.Goings.{went_so, went_init, went_act, went_rows, went_queue, went_report, went_play, few_with, action_done, input_failed}
 use Rattle.mail_top.proofs.Joinings.{init_records, action_records}
@@ -41,6 +42,9 @@ returns-in-Init-clause-server g c =
       never = never_init _;
       records = init_records _;
       goes = record { keeps = c.init.ensures.keeps tells; books = λ one books have. c.init.ensures.books tells one books have };
+      whole = λ was.
+          init_whole (g.W.Disk.seen c.args.world.now) (g.W.Clocked.clock c.args.world.now) (g.W.Clocked.clock c.init.new.disk) was
+          (g.met.W.Disk.seen_is c.args.world.now tells) (c.init.ensures.taken tells);
     })
     c.init.ensures.link (λ play. subst IsPlay c.in-Init.is play) (λ is. no_reply _ _ c.ending_of_init.ensures.status is)
 
@@ -90,6 +94,9 @@ returns-in-Act-clause-server g c =
       never = never_act _;
       records = action_records _ (few_with _ went.0 (subst IsLawful c.in-Act.is c.requires));
       goes = went.2.goes;
+      whole = λ was.
+          act_whole (g.W.Disk.seen c.args.world.now) (g.W.Clocked.clock c.args.world.now) (g.W.Clocked.clock c.accept.new.disk) was (wanted_of _ went.0)
+          went.2.goes.keeps;
     })
     c.accept.ensures.link (λ play. subst IsPlay c.in-Act.is play) (λ is. no_reply _ _ c.ending_of_action.ensures.status is)
 

@@ -5,6 +5,7 @@ use Rattle.store_core.specs.Mail.{mail}
 use Rattle.play_driver.specs.Played.{played}
 use Rattle.play_driver.proofs.Calls.{stays_start}
 use Rattle.mail_top.specs.Words.{Act, Append, Play}
+use Rattle.mail_top.proofs.AnyServers.{any_none}
 use Rattle.mail_top.proofs.Besides.{handed, input_unread, reads_as, words_not_input, words_not_reply}
 use Rattle.mail_top.proofs.Connections.{nothing_made}
 use Rattle.mail_top.proofs.Goings.{append_asks, asks_append, asks_play, awaits_asked, play_asks}
@@ -50,6 +51,7 @@ returns-in-None-clause-server g c = record {
   faultless = λ f is. words_not_reply _ c.ending_of_words.ensures.status is;
   honest = λ tells is. absurd (words_not_reply _ c.ending_of_words.ensures.status is);
   connects = record { at_first = λ tells. nothing_made _; once = λ tells. inl refl };
+  any_server = λ tells. any_none g.W.Clocked _;
 }
 
 pub returns-in-None-clause-sides : goal.returns-in-None-clause-sides

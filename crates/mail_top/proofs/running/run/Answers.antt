@@ -76,6 +76,9 @@ returns-clause-complete_play g c asks fairly serving none no_disk no_link no_sin
 pub returns-clause-held : goal.returns-clause-held
 returns-clause-held g c tells = held_later _ _ _ _ _ (c.carry_out-ending.ensures.goes tells).2.every
 
+pub returns-clause-any_server : goal.returns-clause-any_server
+returns-clause-any_server g c tells = c.carry_out-ending.ensures.server.any_server tells
+
 pub returns-clause-joined : goal.returns-clause-joined
 returns-clause-joined g c enters = c.carry_out-ending.ensures.server.joined enters
 
