@@ -63,11 +63,7 @@ pub fn vec_of(alloc: Global, bytes: Bytes) -> Result<Vec<u8>, AllocError>
 fn last_image(world: &QuietWorld) -> Result<Files, AllocError>
     ensures { IfOk result (λ files. MayLeave (now_of world.now) (bytes_of files)) }
 {
-    // No memory holds so many moments.
-    let Err(ImageFault::NoMoment { moments }) = world.images_at(u64::MAX, 1) else {
-        return Err(AllocError);
-    };
-    match world.images_at(moments.saturating_sub(1), 1) {
+    match world.images_at(world.moments().saturating_sub(1), 1) {
         Ok(files) => Ok(files),
         Err(ImageFault::Memory) => Err(AllocError),
         Err(ImageFault::NoMoment { .. }) => unreachable!(),

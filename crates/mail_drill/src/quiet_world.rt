@@ -68,12 +68,17 @@ impl QuietWorld {
         self.world.server().server()
     }
 
+    /// How many moments there are, the one now included.
+    pub fn moments(&self) -> u64
+        ensures { result ≡ length (moments_in self.now.world) }
+    {
+        self.world.moments()
+    }
+
     /// One of the images that a stop may leave at a moment: the one that the pick takes.
     pub fn images_at(&self, moment: u64, pick: u64) -> Result<Files, ImageFault>
         ensures lawful { (m : Moment) → slice_get (moments_in self.now.world) moment ≡ Some m
             → IfOk result (λ files. MayLeave m (bytes_of files)) }
-        ensures no_moment { length (moments_in self.now.world) ≤ moment
-            → result ≡ Err (ImageFault.NoMoment (length (moments_in self.now.world))) }
         ensures there { moment < length (moments_in self.now.world)
             → IfErr result (λ fault. fault ≡ ImageFault.Memory) }
     {

@@ -178,6 +178,13 @@ impl MemWorld {
         self.refused
     }
 
+    /// How many moments there are, the one now included.
+    pub fn moments(&self) -> u64
+        ensures { result ≡ length (moments_in self.now) }
+    {
+        self.course.moments()
+    }
+
     /// One of the images that a stop may leave at a moment, whose number counts from 0: the one
     /// that the pick takes.
     pub fn images_at(&self, moment: u64, pick: u64) -> Result<Files, ImageFault>
