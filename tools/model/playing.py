@@ -239,7 +239,11 @@ class Run:
             return 'no' if rule else ('done', box.validity, new)
         front = 'APPEND %s (%s) {%d}' % (astring(to), flag_text(keys(flags)), len(text))
         came = self.command('P%d' % number, front, text + b'\r\n', carried=carried, refused=self.world.refused == to)
-        return conflict(NO) if came == 'no' else came
+        if came == 'no':
+            return conflict(NO)
+        if self.world.is_muted:
+            raise Fault(6, 'error reply lacks APPENDUID')
+        return came
 
     def probe(self, to: str, text: bytes, uidnext: int) -> List[int]:
         """The messages that have exactly the Message-ID, from a UID on."""

@@ -66,6 +66,10 @@ class Scenario:
     def stand(self) -> None:
         self.line('world')
 
+    def stand_muted(self) -> None:
+        self.line('muted')
+        self.world.is_muted = True
+
     # The plan of the next run.
 
     def disk(self, number: int) -> None:

@@ -47,6 +47,8 @@ class Server:
         self.permits: Optional[Tuple[bool, List[str]]] = None
         # The mailbox whose APPEND is refused.
         self.refused: Optional[str] = None
+        # Whether it leaves APPENDUID out, as no lawful server does.
+        self.is_muted = False
         self.history: List[tuple] = []
 
     def box(self, name: str) -> Optional[Box]:

@@ -1,5 +1,5 @@
-"""Makes the scenarios in which actions are played back as files of cases (playback, drawn, lost_moves, lost_appends, lost_one_move), by
-the plain models of tools/model.
+"""Makes the scenarios in which actions are played back as files of cases (playback, drawn, lost_moves, lost_appends, lost_one_move,
+lost_searches), by the plain models of tools/model.
 
 usage: tools/scenarios/gen_playback.py FOLDER    (crates/mail_scenario, or a folder with a folder data in it)
 """
@@ -108,6 +108,13 @@ def appended(**more) -> Played:
 
 def one_move() -> Played:
     return new().asks('move INBOX 42 Archive')
+
+
+def searched() -> Played:
+    """The next play looks for an append's message, which is there."""
+    s = appended()
+    s.link(15, 'all')
+    return s.plays('error link')
 
 
 def worked(c: Cases) -> None:
@@ -546,6 +553,7 @@ def main(folder: str) -> None:
     Lost('A move and a change of flags where it comes are', moved).all().write(folder, 'lost_moves', 'gen_playback')
     Lost('An append is', appended).all().write(folder, 'lost_appends', 'gen_playback')
     Lost('A move is', one_move).all().write(folder, 'lost_one_move', 'gen_playback')
+    Lost('An append whose reply was lost is', searched).all().write(folder, 'lost_searches', 'gen_playback')
 
 
 if __name__ == '__main__':

@@ -180,11 +180,12 @@ class Draw(random.Random):
             s.history()
             s.run('queue')
 
-    def playing(self):
-        """Actions that the book takes, runs and others in turn; it is played to the end, and no action took effect twice."""
+    def playing(self, *sides):
+        """Actions that the book takes, runs and others in turn; it is played to the end, and no action took effect twice. It begins with
+        these files, or with a journal that has both mailboxes of the worked server."""
         s = without_head()
         known = journal(begin(*NAMES), INBOX_LEARNED, ARCHIVE_LEARNED)
-        s.server(OFFERS, WORKED + [('Other', 3, 1, 1, [], [])], left=known)
+        s.server(OFFERS, WORKED + [('Other', 3, 1, 1, [], [])], **dict(zip(('left', 'right'), sides or [known])))
         if self.likely(0.2):
             s.permit(self.choice(['any', 'only']), *self.some(['\\Seen', '\\Flagged', 'work'], 3))
         if self.likely(0.1):

@@ -14,6 +14,7 @@ mod events;
 mod flags;
 mod frames;
 mod headers;
+mod makers;
 mod numbers;
 mod outcomes;
 mod plain_delta;

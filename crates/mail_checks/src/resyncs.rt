@@ -4,13 +4,14 @@
 
 use crate::compared::put_compared;
 use crate::deltas::{put_delta, whole_delta};
+use crate::makers::put_made;
 use crate::numbers::known;
 use crate::plain_delta::put_plain;
 use case_words::{Answer, CaseFault, Input, bytes, put_modseq, put_uid, put_validity};
 use imap_model::{Item, Replies, Response};
 use imap_response::read;
 use mail_base::{Frame, List};
-use mailbox_cache::Cache;
+use mailbox_cache::{Cache, Delta};
 use qresync_core::{CodeFault, ResyncFault, codes_of, delta_of, is_told_empty};
 use std::alloc::Global;
 
@@ -33,7 +34,7 @@ pub struct Resync {
     pub all: Option<Replies>,
 }
 
-// The delta, which the plain program tells too.
+// The delta, which the plain program and makers tell too.
 fn put_told(input: &mut Input, answer: &mut Answer) -> Result<(), CaseFault> {
     let resync = read_resync(input)?;
     let told = put_both(input.alloc, &resync, answer);
@@ -49,7 +50,8 @@ fn put_both(alloc: Global, resync: &Resync, answer: &mut Answer) -> Result<(), C
         came.as_str(),
         "but the plain program tells",
         plain.as_str(),
-    )
+    )?;
+    put_made(alloc, resync, answer)
 }
 
 fn shown(alloc: Global, resync: &Resync) -> Result<Answer, CaseFault> {
@@ -60,7 +62,15 @@ fn shown(alloc: Global, resync: &Resync) -> Result<Answer, CaseFault> {
 
 fn put_shown(alloc: Global, resync: &Resync, answer: &mut Answer) -> Result<(), CaseFault> {
     let (kept, all) = (resync.kept.as_ref(), resync.all.as_ref());
-    match delta_of(alloc, kept, &resync.selected, all) {
+    put_outcome(answer, delta_of(alloc, kept, &resync.selected, all))
+}
+
+/// Adds the words of a delta, or those of the fault that there is in its place.
+pub fn put_outcome(
+    answer: &mut Answer,
+    outcome: Result<Delta, ResyncFault>,
+) -> Result<(), CaseFault> {
+    match outcome {
         Ok(delta) => {
             let told = put_delta(answer, &delta);
             drop(delta);

@@ -1,6 +1,7 @@
 -- What contracts see of the world of a muted server.
 use Rattle.std.specs.Prelude.{ℕ}
 use Rattle.world_traits.specs.Files.{Files}
+use Rattle.world_traits.specs.LinkState.{LinkState}
 use Rattle.world_traits.specs.Memory as memory
 use Rattle.world_traits.specs.Moments.{Clock, MayLeave}
 use Rattle.world_traits.specs.Replay.{State}
@@ -20,6 +21,10 @@ clock_of world = (disk_of world).clock
 abbrev pub files_of : MutedWorld → Files
 files_of world = (disk_of world).files
 
+-- its link
+abbrev pub link_of : MutedWorld → LinkState
+link_of world = world.link
+
 -- how often its disk failed
 abbrev pub disk_faults_of : MutedWorld → ℕ
 disk_faults_of world = memory.refused_of world.disk
@@ -35,6 +40,6 @@ course_between old new = record {
   new = clock_of new;
   seen = files_of old;
   seen_after = files_of new;
-  link = old.link;
-  link_after = new.link;
+  link = link_of old;
+  link_after = link_of new;
 }

@@ -1,7 +1,7 @@
 //! The cases of a file, played and told.
 
 use crate::held::begun;
-use crate::play::{Play, fault_of};
+use crate::play::{Play, Way, fault_of};
 use action_queue::Book;
 use case_files::{Case, CaseFile, Fault, Line, Stop, Tally, case_file_of, print_stop};
 use std::alloc::Global;
@@ -44,12 +44,13 @@ fn play_all(
 // Plays them on a new book, and says how much was compared.
 fn play_block(
     alloc: Global,
+    way: Way,
     head: &[Line<'_>],
     front: &[Line<'_>],
     block: &[Line<'_>],
 ) -> Result<u64, Stop> {
     match begun_book(alloc) {
-        Ok(book) => play_on(alloc, book, head, front, block),
+        Ok(book) => play_on(alloc, way, book, head, front, block),
         Err(fault) => Err(Stop {
             number: last_number(block),
             fault,
@@ -59,12 +60,13 @@ fn play_block(
 
 fn play_on(
     alloc: Global,
+    way: Way,
     mut book: Book,
     head: &[Line<'_>],
     front: &[Line<'_>],
     block: &[Line<'_>],
 ) -> Result<u64, Stop> {
-    let mut play = Play::new(alloc);
+    let mut play = Play::new(alloc, way);
     play_all(&mut play, &mut book, head, front, block)
 }
 
@@ -77,19 +79,26 @@ fn begun_book(alloc: Global) -> Result<Book, Fault> {
 
 // Plays a case, and says how much was compared. Where lines `each` stand in it, the lines in front of the first are played with
 // each block behind one of them.
-fn play_case(alloc: Global, head: &[Line<'_>], lines: &[Line<'_>]) -> Result<u64, Stop> {
+fn play_case(alloc: Global, way: Way, head: &[Line<'_>], lines: &[Line<'_>]) -> Result<u64, Stop> {
     let mut blocks = lines.split(|line| line.text == "each");
     let Some(front) = blocks.next() else {
         return Ok(0);
     };
     if front.len() == lines.len() {
-        return play_block(alloc, head, &[], lines);
+        return play_block(alloc, way, head, &[], lines);
     }
     let mut compared = 0u64;
     for block in blocks {
-        compared = compared.saturating_add(play_block(alloc, head, front, block)?);
+        compared = compared.saturating_add(play_block(alloc, way, head, front, block)?);
     }
     Ok(compared)
+}
+
+// Plays a case twice: what was told of a mailbox is copied into its event, and it is moved.
+fn play_both(alloc: Global, head: &[Line<'_>], lines: &[Line<'_>]) -> Result<u64, Stop> {
+    let copied = play_case(alloc, Way::Copied, head, lines)?;
+    let moved = play_case(alloc, Way::Moved, head, lines)?;
+    Ok(copied.saturating_add(moved))
 }
 
 // Plays a case, and prints where it stops.
@@ -100,7 +109,7 @@ fn check_case<R: Print + AllocGlobal>(
     case: &Case<'_>,
     tally: &mut Tally,
 ) -> io::Result<()> {
-    match play_case(rt.alloc(), head, &case.lines) {
+    match play_both(rt.alloc(), head, &case.lines) {
         Ok(compared) => {
             tally.pass(compared);
             Ok(())

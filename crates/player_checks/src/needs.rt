@@ -4,7 +4,7 @@
 use crate::events::{put_event, put_numbered};
 use crate::outcomes::put_outcome;
 use crate::words::{put_bytes, put_name};
-use action_queue::Outcome;
+use action_queue::{Event, Outcome};
 use case_words::{Answer, CaseFault};
 use imap_command::write;
 use imap_model::Command;
@@ -24,6 +24,15 @@ pub fn put_need(alloc: Global, answer: &mut Answer, need: &Need) -> Result<(), C
         Need::Settle(id, outcome) => put_settled(answer, *id, outcome),
         Need::Send(id, command) => put_command(alloc, answer, Tag::Play(id.number()), command),
         Need::Finished => answer.word("finished"),
+    }
+}
+
+/// Whether it is to record what was told of a mailbox.
+pub fn is_learn(need: &Need) -> bool {
+    match need {
+        Need::Commit(event) => matches!(event, Event::Learn { .. }),
+        Need::Select(_) | Need::Ask(_) | Need::Settle(_, _) | Need::Send(_, _) | Need::Finished =>
+            false,
     }
 }
 

@@ -1,11 +1,11 @@
 //! A case, played line by line.
 
 use crate::ear::Ear;
-use crate::events::event_of;
+use crate::events::{event_of, put_event};
 use crate::faults::put_fault;
 use crate::held::{enter, settle};
 use crate::lines::{Kind, kind_of};
-use crate::needs::put_need;
+use crate::needs::{is_learn, put_need};
 use crate::telling::{choose, wants_rows};
 use action_queue::{Book, Event, Outcome};
 use case_files::{Fault, differs, same_text};
@@ -26,10 +26,20 @@ enum Owed {
     Reply,
 }
 
+/// How what was told of a mailbox comes into its event.
+#[derive(Clone, Copy, PartialEq, Eq)]
+pub enum Way {
+    /// `next` copies it, and `committed` goes on behind the record.
+    Copied,
+    /// `learn` moves it out.
+    Moved,
+}
+
 /// A player, and what the server says to it.
 #[derive(Drop)]
 pub struct Play {
     alloc: Global,
+    way: Way,
     player: Option<Player>,
     ear: Ear,
     owed: Owed,
@@ -51,9 +61,10 @@ pub fn fault_of(fault: CaseFault) -> Fault {
 
 impl Play {
     /// No run began.
-    pub fn new(alloc: Global) -> Play {
+    pub fn new(alloc: Global, way: Way) -> Play {
         Play {
             alloc,
+            way,
             player: None,
             ear: Ear::new(alloc),
             owed: Owed::Nothing,
@@ -126,7 +137,60 @@ impl Play {
         }
         let need = self.next(book)?;
         self.compare(&need, wanted)?;
+        if self.is_moved(&need)? {
+            drop(need);
+            return self.move_out(book, wanted);
+        }
         self.meet(book, need, wanted)
+    }
+
+    // Whether the need is moved out. A delta waits exactly where what was told of a mailbox is needed.
+    fn is_moved(&self, need: &Need) -> Result<bool, Fault> {
+        let waits = self.has_delta();
+        if waits != is_learn(need) {
+            return Err(differs(self.alloc, b"a delta that waits", b"another need"));
+        }
+        Ok(waits && self.way == Way::Moved)
+    }
+
+    fn has_delta(&self) -> bool {
+        match &self.player {
+            Some(player) => player.has_delta(),
+            None => false,
+        }
+    }
+
+    // The delta that waits is moved out into the same event, which is recorded. Then none waits.
+    fn move_out(&mut self, book: &mut Book, wanted: &str) -> Result<(), Fault> {
+        let Some(player) = &mut self.player else {
+            return Err(Fault::Form);
+        };
+        if !player.has_delta() {
+            return Err(Fault::Form);
+        }
+        let event = player.learn(book);
+        self.record_moved(book, event, wanted)
+    }
+
+    fn record_moved(&mut self, book: &mut Book, event: Event, wanted: &str) -> Result<(), Fault> {
+        let same = self.compare_moved(&event, wanted);
+        if let Err(fault) = same {
+            drop(event);
+            return Err(fault);
+        }
+        record(self.alloc, book, event, wanted)
+    }
+
+    // The event is the wanted one, and none waits any more.
+    fn compare_moved(&mut self, event: &Event, wanted: &str) -> Result<(), Fault> {
+        if self.has_delta() {
+            return Err(differs(self.alloc, b"no delta that waits", wanted.as_bytes()));
+        }
+        self.compared = self.compared.saturating_add(1);
+        match shown_event(self.alloc, event) {
+            Ok(told) => same_text(self.alloc, wanted, told.as_str()),
+            Err(fault) => Err(fault_of(fault)),
+        }
     }
 
     fn next(&self, book: &Book) -> Result<Need, Fault> {
@@ -317,6 +381,12 @@ fn unlawful(alloc: Global, text: &str) -> Fault {
 fn shown_need(alloc: Global, need: &Need) -> Result<Answer, CaseFault> {
     let mut answer = Answer::new(alloc);
     put_need(alloc, &mut answer, need)?;
+    Ok(answer)
+}
+
+fn shown_event(alloc: Global, event: &Event) -> Result<Answer, CaseFault> {
+    let mut answer = Answer::new(alloc);
+    put_event(&mut answer, event)?;
     Ok(answer)
 }
 

@@ -12,3 +12,7 @@ returns-clause-goes c =
           (course_between c.args.world.now c.run.new.world) c.run.result told.2) (told.1 tt) told.3,
       told.5 tt,
     )
+
+-- whatever the server sends
+pub returns-clause-any_server : goal.returns-clause-any_server
+returns-clause-any_server c = let any = c.run.ensures.any_server tt in (any.whole, any.once)
