@@ -1,7 +1,7 @@
 """The comparisons at one server, counted; and the front with what stands behind it, as it is installed."""
 import pathlib
 import shutil
-from typing import Any, List
+from typing import Any, List, Optional
 
 from .clients import Other, Program
 
@@ -53,14 +53,14 @@ class Trial:
                 return
         self.same(f"{title}: {len(wanted)} rows of {name}", (len(told), status), (len(wanted), 0))
 
-    def folder(self) -> pathlib.Path:
+    def folder(self, home: Optional[pathlib.Path] = None) -> pathlib.Path:
         """A name for a new folder."""
         self.folders += 1
-        return self.home / f"folder{self.folders}"
+        return (home or self.home) / f"folder{self.folders}"
 
-    def begin(self, *boxes: str) -> Program:
+    def begin(self, *boxes: str, home: Optional[pathlib.Path] = None) -> Program:
         """The program with a new journal for these mailboxes."""
-        mine = Program(self.program, self.folder(), self.port)
+        mine = Program(self.program, self.folder(home), self.port)
         mine.say("init", *boxes)
         return mine
 

@@ -1,15 +1,16 @@
 //! What the words of the program ask for: which stream, and how long (RFC 9051, sections 2.2 and 4.3); what is done with a
 //! record, and how often; or with a journal, and how long it is; or what a resynchronisation tells, and how often; or how often
-//! the book of the journal in the present folder is told anew.
+//! the book of the journal in the present folder is told anew; or of how many lines a delta is made.
 
 ghost use Rattle.std.specs.Prelude.{◌≡◌, ◌<◌, ◌*◌, length, map, string_bytes, IfOk, IfSome, IsNone};
 ghost use Rattle.mail_bench.specs.Asked.{Asks, AsksFor};
 ghost use Rattle.mail_bench.specs.Cases.{piece_of, unit_of};
-ghost use Rattle.mail_bench.specs.Names.{name_of_case, name_of_direction, name_of_part, name_of_told};
+ghost use Rattle.mail_bench.specs.Names.{name_of_case, name_of_direction, name_of_kind, name_of_part, name_of_told};
 ghost use Rattle.mail_bench.specs.Texts.{long_line, repeated_text, short_line};
 
 use crate::commits::Told;
 use crate::records::Direction;
+use crate::replies::{Keeper, Kind};
 use crate::stores::Part;
 use mail_base::read_u32;
 use std::alloc::{AllocError, Global};
@@ -80,11 +81,13 @@ pub enum Task {
     Commit(Told, u32),
     /// The book of the journal in the present folder is told anew so often.
     Turn(u32),
+    /// A delta is made of so many lines of a kind.
+    Hear(Keeper, Kind, u32),
 }
 
-/// What `feed CASE NUMBER`, `read CASE NUMBER`, `record DIRECTION NUMBER`, `store PART NUMBER`, `commit TOLD NUMBER` or
-/// `turn here NUMBER` asks for. A number counts 1,000,000 bytes each, or 1,000 for the case `bytes`; that of a record, a commit
-/// or a turn says how often.
+/// What `feed CASE NUMBER`, `read CASE NUMBER`, `record DIRECTION NUMBER`, `store PART NUMBER`, `commit TOLD NUMBER`,
+/// `turn here NUMBER`, `make KIND NUMBER` or `gather KIND NUMBER` asks for. A number counts 1,000,000 bytes each, or 1,000 for
+/// the case `bytes`; that of a record, a commit or a turn says how often, and the last two count lines.
 pub fn task_of(words: &[String]) -> Option<Task>
     ensures some { IfSome result (Asks (map string_bytes words.now)) }
     ensures none { IsNone result → (task : _) → ¬ (Asks (map string_bytes words.now) task) }
@@ -108,6 +111,8 @@ fn task_for(what: &str, case: &str, number: u32) -> Option<Task>
         "store" => Some(Task::Store(part_of(case)?, number)),
         "commit" => Some(Task::Commit(told_of(case)?, number)),
         "turn" if case == "here" => Some(Task::Turn(number)),
+        "make" => Some(Task::Hear(Keeper::Make, kind_of(case)?, number)),
+        "gather" => Some(Task::Hear(Keeper::Gather, kind_of(case)?, number)),
         _ => None,
     }
 }
@@ -155,6 +160,21 @@ fn told_of(word: &str) -> Option<Told>
     match word {
         "nothing" => Some(Told::Nothing),
         "all" => Some(Told::All),
+        _ => None,
+    }
+}
+
+// The kind of lines that a word names.
+fn kind_of(word: &str) -> Option<Kind>
+    ensures some { IfSome result (λ kind. word.now ≡ name_of_kind kind) }
+    ensures none { IsNone result → (kind : _) → word.now ≡ name_of_kind kind → ⊥ }
+{
+    match word {
+        "rising" => Some(Kind::Rising),
+        "mixed" => Some(Kind::Mixed),
+        "same" => Some(Kind::Same),
+        "vanished" => Some(Kind::Vanished),
+        "idle" => Some(Kind::Idle),
         _ => None,
     }
 }

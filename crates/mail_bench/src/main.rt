@@ -1,6 +1,6 @@
 //! The program `mail_bench`: pushes a long stream through a feed, reads its frames where that is asked for, and tells how many
 //! frames and bytes came; writes or reads a large record again and again; makes a long journal and opens it; commits a
-//! resynchronisation again and again; or tells the book of a journal anew again and again. It is there to be timed.
+//! resynchronisation again and again; tells the book of a journal anew again and again; or makes a delta of many lines. It is there to be timed.
 #![tactic(auto)]
 
 mod block;
@@ -9,6 +9,7 @@ mod fault;
 mod load;
 mod meter;
 mod records;
+mod replies;
 mod stores;
 mod turns;
 
@@ -21,6 +22,7 @@ use mail_base::{FeedFault, Status};
 use meter::{Meter, measure};
 use record_codec::RecordFault;
 use records::{Direction, ROWS, learned, repeat};
+use replies::{Keeper, Kind, rows_told};
 use std::env;
 use std::fs::{File, Files};
 use std::net::{Net, TcpStream};
@@ -57,6 +59,7 @@ where
         Some(Task::Store(part, megabytes)) => store(rt, part, megabytes),
         Some(Task::Commit(told, times)) => commit(rt, told, times),
         Some(Task::Turn(times)) => turn(rt, times),
+        Some(Task::Hear(keeper, kind, lines)) => hear(rt, keeper, kind, lines),
     }
 }
 
@@ -132,6 +135,21 @@ where
             Err(_) => Status::Output,
         },
         Err(fault) => reported(rt, status_of(fault)),
+    }
+}
+
+// Makes a delta of so many lines, and tells how many rows it has.
+fn hear<R: Print + AllocGlobal>(rt: &R, keeper: Keeper, kind: Kind, lines: u32) -> Status {
+    match rows_told(rt.alloc(), keeper, kind, lines) {
+        Ok(rows) => {
+            let name = keeper.name();
+            let kind = kind.name();
+            match println!(rt; "{name} {kind} {lines} lines {rows} rows") {
+                Ok(()) => Status::Done,
+                Err(_) => Status::Output,
+            }
+        }
+        Err(status) => reported(rt, status),
     }
 }
 
