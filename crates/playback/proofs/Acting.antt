@@ -100,7 +100,8 @@ begun_kept =
     (record { some = lit≤ tt; few = lit≤ tt; distinct = ((apart, tt), (tt, tt)) }) (tt, nothing_waits)
 
 move_accepted : KeptBook book_with_move server_of_two None
-move_accepted = event_keeps book_of_two (events.Accept 1 moves) server_of_two None begun_kept (record { version = First; unbroken = refl }) tt
+move_accepted = event_keeps book_of_two (events.Accept 1 moves) server_of_two None begun_kept (record { version = First; unbroken = refl })
+    (tt, record { box = box_with [] 10; there = refl; not_below = lit≤ tt; facts = λ _. tt })
 
 move_meant : KeptBook book_that_moves server_of_two None
 move_meant =

@@ -1,7 +1,7 @@
 -- What the player needs may be done, and what it records is true.
 use Rattle.std.proofs.Common.{◌≡◌, ◌≢◌, inl, inr, ℕ, ◌≤◌, Bool, true, false, cond, eqb, List, [], length, Option, Some, None, refl, sym}
-use Rattle.std.proofs.Common.{◌∙◌, ap, subst}
-use Rattle.std.proofs.lemmas.Bool.{cond_both, eqb-true, eqb-false}
+use Rattle.std.proofs.Common.{◌<◌, ◌∙◌, ap, subst}
+use Rattle.std.proofs.lemmas.Bool.{both_ways, cond_both, eqb-true, eqb-false}
 use Rattle.std.proofs.lemmas.Option.{same_Some}
 use Rattle.std.specs.Prelude.{Err, IfOk, Ok, Result, slice_get}
 use Rattle.std.specs.declared.alloc.AllocError.{AllocError}
@@ -29,6 +29,9 @@ use Rattle.action_queue.specs.declared.target.Target.{Target}
 use Rattle.append_probe.specs.Question.{append_id}
 use Rattle.append_probe.specs.declared.verdict.Verdict.{Verdict}
 use Rattle.append_probe.specs.declared.verdict.Verdict.TheVariants as verdicts
+use Rattle.playback.proofs.Elsewhere.{IsAbove, elsewhere_any}
+use Rattle.playback.specs.Steps.{above_at, elsewhere, renewed_as}
+use Rattle.playback.specs.Why.{WasAboveIntent}
 use Rattle.playback.specs.Allowed.{IsAllowed, MaySend}
 use Rattle.playback.specs.Course.{AtMoment}
 use Rattle.playback.specs.InBox.{InBox, InBoxNow}
@@ -41,7 +44,7 @@ use Rattle.playback.specs.Open.{IntentFacts, IsOpen, PutFacts, intent_name, inte
 use Rattle.playback.specs.Resolved.{Resolves}
 use Rattle.playback.specs.Steps.{append_again, append_first, append_in_box, append_judged, append_meant, append_new, append_open, conflict}
 use Rattle.playback.specs.Steps.{flag_again, flag_first, flag_judged, flag_meant, flag_new, flag_open, in_box, is_selected, is_selected_at}
-use Rattle.playback.specs.Steps.{move_again, move_first, move_meant, move_open, select_any, select_box, select_under, step_action}
+use Rattle.playback.specs.Steps.{move_again, move_first, move_meant, move_open, select_any, step_action}
 use Rattle.playback.specs.Steps.{step_append, step_box, step_due, step_flag_at, step_flag_found, step_learn, step_move_at, step_move_found}
 use Rattle.playback.specs.Why.{AreTwo, IsMark, IsNever, IsOpenStill, RowAt, RowSo, RowWas, SomeRow, TellsNext, TwoWere, WasSelected}
 use Rattle.playback.specs.Why.{WhyIntent}
@@ -108,6 +111,24 @@ module _ (p : Player) (b : Meaning) (w : World) (kept : KeptBook b w.course.now 
       let that : IsThat p.selected name validity = selected_that p.selected name validity selected in
       ap name_of (rest.resting.selected ∙ that.is) ∙ ap (λ (n : List ℕ). Some n) that.same_name
 
+  -- or that is selected under a greater UIDVALIDITY
+  under_above : (name : List ℕ) (validity n : ℕ) → IsAbove p.selected name validity n → IsUnder name n w.course.now
+  under_above name validity n a =
+      subst (λ (x : List ℕ). IsUnder x n w.course.now) a.named
+      (subst (λ (v : ℕ). IsUnder a.sel.name v w.course.now) a.told (known.valid a.sel (rest.resting.selected ∙ a.is)))
+
+  -- without an intent: the message's mailbox was renewed
+  changed_ok : b.pending ≡ None → (spot : Spot) → IsAboutSpot b.queue q.action spot → (n : ℕ) → spot.validity < n → IsUnder spot.name n w.course.now →
+      IsGoodStep p b w (conflict (kinds.ValidityChanged spot.validity n))
+  changed_ok free spot about n l now =
+      settles (outcomes.Conflict (kinds.ValidityChanged spot.validity n)) (
+        kept.once.idle free,
+        (
+          known.fresh free,
+          record { queued = q; there = e; holds = (spot.name, spot.uid, about, l, (w.course.now, inl refl, now)) },
+        ),
+      )
+
   -- an intent that is true and whose facts hold may be recorded
   intends : b.pending ≡ None → (intent : Intent) →
       InBoxNow (IntentFacts q.action [] intent) (intent_name intent) (intent_validity intent) w.course.now.boxes →
@@ -157,10 +178,14 @@ module _ (p : Player) (b : Meaning) (w : World) (kept : KeptBook b w.course.now 
   suits_of intent pending = suited_is b kept.sound q e intent pending
 
   -- a step in the selected mailbox
-  boxed : (spot : Spot) (step : Step) → (is_selected p.selected spot ≡ true → IsGoodStep p b w step) →
-      IsGoodStep p b w (in_box p.selected spot step)
-  boxed spot step f =
-      cond_both (is_selected p.selected spot) step (select_box spot) (λ (s : Step). IsGoodStep p b w s) f (λ t. tt)
+  boxed : (meant : Bool) (spot : Spot) (step : Step) → (is_selected p.selected spot ≡ true → IsGoodStep p b w step) →
+      (is_selected p.selected spot ≡ false → (n : ℕ) → spot.validity < n → IsUnder spot.name n w.course.now →
+      IsGoodStep p b w (conflict (renewed_as meant spot.validity n))) → IsGoodStep p b w (in_box p.selected meant spot step)
+  boxed meant spot step f above =
+      cond_both (is_selected p.selected spot) step (elsewhere meant (above_at p.selected spot.name spot.validity) spot.name spot.validity)
+      (λ (s : Step). IsGoodStep p b w s) f
+      (λ t. elsewhere_any (λ (s : Step). IsGoodStep p b w s) p.selected meant spot.name spot.validity tt
+      (λ n a. above t n a.above (under_above spot.name spot.validity n a)))
 
   -- where an earlier run recorded the intent
   module _ (resumed : p.resumed ≡ true) (told : Finding) (unsent : IsUnsent told p.resumed b w) where
@@ -174,6 +199,24 @@ module _ (p : Player) (b : Meaning) (w : World) (kept : KeptBook b w.course.now 
     opened : (intent : Intent) → b.pending ≡ Some intent → (s : Server) → Among s w →
         IsOpen q.action (ours (due_id b) s.history) intent s.boxes
     opened intent pending s a = known.resumed resumed s a intent pending q e
+
+  -- with one: the intent's mailbox was renewed, and it wasn't this run that recorded the intent
+  reset_ok : (told : Finding) → IsUnsent told p.resumed b w → (intent : Intent) → b.pending ≡ Some intent →
+      is_selected_at p.selected (intent_name intent) (intent_validity intent) ≡ false → (n : ℕ) → intent_validity intent < n →
+      IsUnder (intent_name intent) n w.course.now → IsGoodStep p b w (conflict (kinds.ResetAfterLoss (intent_validity intent) n))
+  reset_ok told unsent intent pending apart n l now = by p.resumed refl
+    where
+      by : (r : Bool) → p.resumed ≡ r → IsGoodStep p b w (conflict (kinds.ResetAfterLoss (intent_validity intent) n))
+      by false r = absurd (both_ways (is_selected_at p.selected (intent_name intent) (intent_validity intent)) apart (known.placed r intent pending))
+      by true r =
+          settles (outcomes.Conflict (kinds.ResetAfterLoss (intent_validity intent) n)) (
+            at_most_one,
+            (
+              open_still r told unsent,
+              subst (λ (o : Option Intent). WasAboveIntent (intent_validity intent) n o w.course) (sym pending)
+                  (refl, l, (w.course.now, inl refl, now)),
+            ),
+          )
 
   -- of a message
   module _ (spot : Spot) (about : IsAboutSpot b.queue q.action spot) where
@@ -206,19 +249,20 @@ module _ (p : Player) (b : Meaning) (w : World) (kept : KeptBook b w.course.now 
         (under_of spot.name spot.validity selected)) i
 
     first_ok : b.pending ≡ None → (told : Finding) → IsTold told b w.course → Rests told p.resumed b w →
-        IsGoodStep p b w (in_box p.selected spot (flag_first told spot))
+        IsGoodStep p b w (in_box p.selected false spot (flag_first told spot))
     first_ok free findings.NoRow i r =
-        boxed spot (conflict kinds.MessageGone) (λ t. settles (outcomes.Conflict kinds.MessageGone)
-        (kept.once.idle free, (known.fresh free, i)))
+        boxed false spot (conflict kinds.MessageGone) (λ t. settles (outcomes.Conflict kinds.MessageGone)
+        (kept.once.idle free, (known.fresh free, i))) (λ f. changed_ok free spot flag_about)
     first_ok free (findings.Row modseq so) i r =
-        boxed spot (flag_new modseq so spot) (λ t. new_ok free t (findings.Row modseq so) r modseq so i)
+        boxed false spot (flag_new modseq so spot) (λ t. new_ok free t (findings.Row modseq so) r modseq so i) (λ f. changed_ok free spot flag_about)
     first_ok free findings.Barred i r =
-        boxed spot (conflict kinds.NotPermanent) (λ t. settles (outcomes.Conflict kinds.NotPermanent) (kept.once.idle free, i))
-    first_ok free findings.Nothing i r = boxed spot (steps.AskRow spot.uid) (λ t. tt)
-    first_ok free (findings.Ended outcome) i r = boxed spot (steps.AskRow spot.uid) (λ t. tt)
-    first_ok free (findings.Next validity uidnext) i r = boxed spot (steps.AskRow spot.uid) (λ t. tt)
-    first_ok free (findings.Candidates uids) i r = boxed spot (steps.AskRow spot.uid) (λ t. tt)
-    first_ok free (findings.Probed verdict) i r = boxed spot (steps.AskRow spot.uid) (λ t. tt)
+        boxed false spot (conflict kinds.NotPermanent) (λ t. settles (outcomes.Conflict kinds.NotPermanent) (kept.once.idle free, i))
+        (λ f. changed_ok free spot flag_about)
+    first_ok free findings.Nothing i r = boxed false spot (steps.AskRow spot.uid) (λ t. tt) (λ f. changed_ok free spot flag_about)
+    first_ok free (findings.Ended outcome) i r = boxed false spot (steps.AskRow spot.uid) (λ t. tt) (λ f. changed_ok free spot flag_about)
+    first_ok free (findings.Next validity uidnext) i r = boxed false spot (steps.AskRow spot.uid) (λ t. tt) (λ f. changed_ok free spot flag_about)
+    first_ok free (findings.Candidates uids) i r = boxed false spot (steps.AskRow spot.uid) (λ t. tt) (λ f. changed_ok free spot flag_about)
+    first_ok free (findings.Probed verdict) i r = boxed false spot (steps.AskRow spot.uid) (λ t. tt) (λ f. changed_ok free spot flag_about)
 
     module _ (modseq : ℕ) (pending : b.pending ≡ Some (intents.Store spot.name spot.validity spot.uid modseq)) where
       abbrev store : Intent
@@ -286,8 +330,9 @@ module _ (p : Player) (b : Meaning) (w : World) (kept : KeptBook b w.course.now 
       again_ok true r selected told i unsent = open_ok r selected told i unsent
 
       again_in : (told : Finding) → IsTold told b w.course → IsUnsent told p.resumed b w →
-          IsGoodStep p b w (in_box p.selected spot (flag_again p.resumed modseq told spot))
-      again_in told i unsent = boxed spot (flag_again p.resumed modseq told spot) (λ t. again_ok p.resumed refl t told i unsent)
+          IsGoodStep p b w (in_box p.selected true spot (flag_again p.resumed modseq told spot))
+      again_in told i unsent =
+          boxed true spot (flag_again p.resumed modseq told spot) (λ t. again_ok p.resumed refl t told i unsent) (reset_ok told unsent store pending)
 
       meant_ok : (told : Finding) → IsTold told b w.course → Rests told p.resumed b w → IsGoodStep p b w (flag_meant p modseq spot told)
       meant_ok (findings.Ended outcome) i r = ended_ok outcome r
@@ -328,19 +373,19 @@ module _ (p : Player) (b : Meaning) (w : World) (kept : KeptBook b w.course.now 
         (was_map (RowTold modseq so) SomeRow b w.course (row_is modseq so) i)
 
     move_first_ok : b.pending ≡ None → (told : Finding) → IsTold told b w.course → Rests told p.resumed b w →
-        IsGoodStep p b w (in_box p.selected spot (move_first told spot to))
+        IsGoodStep p b w (in_box p.selected false spot (move_first told spot to))
     move_first_ok free findings.NoRow i r =
-        boxed spot (conflict kinds.MessageGone) (λ t. settles (outcomes.Conflict kinds.MessageGone)
-        (kept.once.idle free, (known.fresh free, i)))
+        boxed false spot (conflict kinds.MessageGone) (λ t. settles (outcomes.Conflict kinds.MessageGone)
+        (kept.once.idle free, (known.fresh free, i))) (λ f. changed_ok free spot move_about)
     move_first_ok free (findings.Row modseq so) i r =
-        boxed spot (steps.Intend (intents.Shift spot.name spot.validity spot.uid to))
-        (λ t. move_new_ok free t (findings.Row modseq so) r modseq so i)
-    move_first_ok free findings.Nothing i r = boxed spot (steps.AskRow spot.uid) (λ t. tt)
-    move_first_ok free findings.Barred i r = boxed spot (steps.AskRow spot.uid) (λ t. tt)
-    move_first_ok free (findings.Ended outcome) i r = boxed spot (steps.AskRow spot.uid) (λ t. tt)
-    move_first_ok free (findings.Next validity uidnext) i r = boxed spot (steps.AskRow spot.uid) (λ t. tt)
-    move_first_ok free (findings.Candidates uids) i r = boxed spot (steps.AskRow spot.uid) (λ t. tt)
-    move_first_ok free (findings.Probed verdict) i r = boxed spot (steps.AskRow spot.uid) (λ t. tt)
+        boxed false spot (steps.Intend (intents.Shift spot.name spot.validity spot.uid to))
+        (λ t. move_new_ok free t (findings.Row modseq so) r modseq so i) (λ f. changed_ok free spot move_about)
+    move_first_ok free findings.Nothing i r = boxed false spot (steps.AskRow spot.uid) (λ t. tt) (λ f. changed_ok free spot move_about)
+    move_first_ok free findings.Barred i r = boxed false spot (steps.AskRow spot.uid) (λ t. tt) (λ f. changed_ok free spot move_about)
+    move_first_ok free (findings.Ended outcome) i r = boxed false spot (steps.AskRow spot.uid) (λ t. tt) (λ f. changed_ok free spot move_about)
+    move_first_ok free (findings.Next validity uidnext) i r = boxed false spot (steps.AskRow spot.uid) (λ t. tt) (λ f. changed_ok free spot move_about)
+    move_first_ok free (findings.Candidates uids) i r = boxed false spot (steps.AskRow spot.uid) (λ t. tt) (λ f. changed_ok free spot move_about)
+    move_first_ok free (findings.Probed verdict) i r = boxed false spot (steps.AskRow spot.uid) (λ t. tt) (λ f. changed_ok free spot move_about)
 
     module _ (pending : b.pending ≡ Some (intents.Shift spot.name spot.validity spot.uid to)) where
       abbrev shift : Intent
@@ -381,8 +426,9 @@ module _ (p : Player) (b : Meaning) (w : World) (kept : KeptBook b w.course.now 
       move_again_ok true r selected told i unsent = move_open_ok r selected told i unsent
 
       move_again_in : (told : Finding) → IsTold told b w.course → IsUnsent told p.resumed b w →
-          IsGoodStep p b w (in_box p.selected spot (move_again p.resumed told spot))
-      move_again_in told i unsent = boxed spot (move_again p.resumed told spot) (λ t. move_again_ok p.resumed refl t told i unsent)
+          IsGoodStep p b w (in_box p.selected true spot (move_again p.resumed told spot))
+      move_again_in told i unsent =
+          boxed true spot (move_again p.resumed told spot) (λ t. move_again_ok p.resumed refl t told i unsent) (reset_ok told unsent shift pending)
 
       move_meant_ok : (told : Finding) → IsTold told b w.course → Rests told p.resumed b w → IsGoodStep p b w (move_meant p spot told)
       move_meant_ok (findings.Ended outcome) i r = ended_ok outcome r
@@ -534,9 +580,11 @@ module _ (p : Player) (b : Meaning) (w : World) (kept : KeptBook b w.course.now 
       put_in : (told : Finding) → IsTold told b w.course → IsUnsent told p.resumed b w →
           IsGoodStep p b w (append_in_box p to validity uidnext told)
       put_in told i unsent =
-          cond_both (is_selected_at p.selected to validity) (append_again p.resumed told to validity uidnext) (select_under to validity)
-          (λ (s : Step). IsGoodStep p b w s)
-          (λ t. again_put_ok p.resumed refl t told i unsent) (λ f. tt)
+          cond_both (is_selected_at p.selected to validity) (append_again p.resumed told to validity uidnext)
+          (elsewhere true (above_at p.selected to validity) to validity) (λ (s : Step). IsGoodStep p b w s)
+          (λ t. again_put_ok p.resumed refl t told i unsent)
+          (λ f. elsewhere_any (λ (s : Step). IsGoodStep p b w s) p.selected true to validity tt
+          (λ n above. reset_ok told unsent put pending f n above.above (under_above to validity n above)))
 
       put_meant_ok : (told : Finding) → IsTold told b w.course → Rests told p.resumed b w →
           IsGoodStep p b w (append_meant p to validity uidnext told)

@@ -30,7 +30,7 @@ use Rattle.playback.proofs.Learnable.{may_learn, rows_within}
 use Rattle.playback.proofs.Purposes.{AsksRow, Purpose, SendsIt, a_box, a_row, a_search, an_effect, purpose_of, selects_known, the_ids}
 use Rattle.playback.proofs.Taking.{IsOwed, carried_by, owed_of}
 use Rattle.playback.specs.Allowed.{IsReply}
-use Rattle.playback.specs.Choosing.{FitsWanted, IsChosen, box_fault, chosen_box, chosen_due, chosen_for, chosen_in, is_many, is_other}
+use Rattle.playback.specs.Choosing.{FitsWanted, IsChosen, box_fault, chosen_box, chosen_due, chosen_for, chosen_in, is_below, is_many}
 use Rattle.playback.specs.Choosing.{rows_fault, rows_with, target_fault, wanted_by}
 use Rattle.playback.specs.Kept.{KeptBook}
 use Rattle.playback.specs.Knows.{IsNeeded, Knows}
@@ -48,11 +48,10 @@ use Rattle.playback.specs.declared.need.Unheard.{Unheard}
 use Rattle.playback.specs.declared.player.Player.{Player}
 use Rattle.playback.specs.declared.step.Step.{Step}
 use Rattle.qresync_core.specs.Fitting.{Fits}
-use Rattle.qresync_core.specs.Marking.{mark_of}
 use Rattle.std.proofs.Common.{Bool, Err, List, [], None, Ok, Option, Result, Some, ap, arith, cond, false, inl, inr, length, not, refl}
 use Rattle.std.proofs.Common.{subst, sym, true, ℕ, ◌&&◌, ◌∙◌, ◌∷◌, ◌≡◌, ◌≢◌, ◌≤◌}
 use Rattle.std.proofs.lemmas.Bool.{cond_both, ltb-false}
-use Rattle.std.specs.Option.{is_some, option_map}
+use Rattle.std.specs.Option.{is_some}
 use Rattle.std.specs.Prelude.{nat_lt, slice_get}
 use Rattle.uid_sets.specs.declared.uid.UidRange.{UidRange}
 use Rattle.action_queue.specs.declared.action.Action.TheVariants as actions
@@ -77,7 +76,7 @@ few_told : (b : Meaning) (delta : Delta) (name : List ℕ) (under : Option ℕ) 
     length (learned (cache_at name b.boxes) delta).rows ≤ MAX_ROWS
 few_told b delta name under e =
     let count : ℕ = rows_with name b delta in
-    few_rows (nat_lt MAX_ROWS count) count refl (no_target (is_other under delta.validity) (rows_fault (is_many count)) e)
+    few_rows (nat_lt MAX_ROWS count) count refl (no_target (is_below under delta.validity) (rows_fault (is_many count)) e)
 
 module _ (p : Player) (b : Meaning) (delta : Delta) (fits : FitsWanted p b (Ok delta)) (sound : IsSound b) (beside : IsBeside p b) where
   -- the mailbox is the next one, where every action is settled
@@ -332,7 +331,7 @@ module _ (p : Player) (b : Meaning) (w : World) (permits : Bool) (r : Replies) (
   whole_by : Purpose p b w c → lacks p b permits r ≡ None
   whole_by (a_row x) = row_whole x
   whole_by (an_effect x) = send_whole x
-  whole_by (a_box x) = absurd (other x.name (option_map mark_of (cache_at x.name b.boxes)) x.selects.is)
+  whole_by (a_box x) = absurd (other x.name x.selects.since x.selects.is)
   whole_by (a_search x) = lacks_by p b permits r x.append.queued (steps.Search x.uidnext) x.append.there x.step refl
   whole_by (the_ids x) = lacks_by p b permits r x.found.append.queued steps.AskIds x.found.append.there x.step refl
 

@@ -9,7 +9,7 @@ use Rattle.imap_model.specs.Lookups.{box_at, message_at, put_message, highest_of
 use Rattle.imap_model.specs.Ours.{is_try, ours}
 use Rattle.imap_model.specs.Mutating.{is_mutating}
 use Rattle.imap_model.specs.WellFormed.{IsWellFormed}
-use Rattle.imap_model.specs.Changes.{Adds, Sets, Drops, Rewrites, Shifts, floor_of, deed_of, Changes}
+use Rattle.imap_model.specs.Changes.{Adds, Sets, Drops, Rewrites, Shifts, floor_of, deed_of, receiver, Changes}
 use Rattle.imap_model.specs.Carrying.{IsChanged, Stores, StoresNothing, Moves, MovesNothing, Appends, Accepted, Carries, Waiting}
 use Rattle.imap_model.specs.Evolving.{EvolvesFrom}
 use Rattle.imap_model.proofs.Finding.{cond_two, message_at-uid, message_at-put_same, message_at-without}
@@ -51,6 +51,7 @@ use Rattle.playback.proofs.Queueing.{Suited, is_suited}
 use Rattle.playback.proofs.Marks.{has_its_id, marked_push}
 use Rattle.playback.proofs.Deeds.{ours_push_other, ours_push_mine, owned_push}
 use Rattle.playback.proofs.Facts.{fresh_evolves}
+use Rattle.playback.proofs.Reaching.{acted_reached, reached_here}
 
 -- the action that is due has no outcome
 pub due_open : (b : Meaning) → IsSound b → (q : Queued) → slice_get b.queue (due b.queue) ≡ Some q → q.outcome ≡ None
@@ -113,8 +114,9 @@ module _ (b : Meaning) (s t : Server) (waiting : Option Waiting) (kept : KeptBoo
       }
 
   pub acted : IsWanted b.queue queued.action name (validity_of (box_at name t.boxes)) change →
+      (x : Mailbox) → box_at (receiver name change) t.boxes ≡ Some x →
       IsOpen queued.action (deed_of (Ours tag) name change t.boxes ∷ []) intent t.boxes → KeptBook b t None
-  acted wanted opened =
+  acted wanted x put opened =
       let all : IsWellFormed t.boxes × EvolvesFrom s.boxes s.boxes t.boxes = effect_all s.boxes name change s.boxes t.boxes kept.well becomes.effect in
       record {
         sound = kept.sound;
@@ -125,6 +127,8 @@ module _ (b : Meaning) (s t : Server) (waiting : Option Waiting) (kept : KeptBoo
             (subst (λ (x : Queued). IsOpen x.action (ours (suc (due b.queue)) t.history) intent t.boxes) (same_Some queued q (sym there ∙ e))
             (subst (λ (l : List Deed). IsOpen queued.action l intent t.boxes) (sym mine) opened));
         fresh = fresh_evolves b s.boxes t.boxes all.1 kept.fresh;
+        reached = acted_reached b s t (deed_of (Ours tag) name change t.boxes) becomes.history all.1
+            (reached_here (receiver name change) t.boxes x put) kept.reached;
         waits = λ m. absurd (nothing_waits m);
       }
 
@@ -233,12 +237,12 @@ module _ (b : Meaning) (s t : Server) (waiting : Option Waiting) (kept : KeptBoo
   -- the change of the pending intent was made
   acts : (action : Action) (intent : Intent) → of.queued.action ≡ action → of.intent ≡ intent → (name : List ℕ) (change : Change) →
       Changes s.boxes (Ours (tag_of (suc (due b.queue)) of.queued)) name change s t →
-      IsWanted b.queue action name (validity_of (box_at name t.boxes)) change →
+      IsWanted b.queue action name (validity_of (box_at name t.boxes)) change → (x : Mailbox) → box_at (receiver name change) t.boxes ≡ Some x →
       IsOpen action (deed_of (Ours (tag_of (suc (due b.queue)) of.queued)) name change t.boxes ∷ []) intent t.boxes → KeptBook b t None
-  acts action intent a i name change becomes wanted open_now =
+  acts action intent a i name change becomes wanted x put open_now =
       acted b s t waiting kept of.intent of.queued of.pending of.there of.none (tag_of (suc (due b.queue)) of.queued)
       (tag_is b kept.sound (due b.queue) of.queued of.there) name change becomes
-      (subst (λ (x : Action). IsWanted b.queue x name (validity_of (box_at name t.boxes)) change) (sym a) wanted)
+      (subst (λ (y : Action). IsWanted b.queue y name (validity_of (box_at name t.boxes)) change) (sym a) wanted) x put
       (subst (λ (x : Action). IsOpen x (deed_of (Ours (tag_of (suc (due b.queue)) of.queued)) name change t.boxes ∷ []) of.intent t.boxes) (sym a)
       (subst (λ (x : Intent). IsOpen action (deed_of (Ours (tag_of (suc (due b.queue)) of.queued)) name change t.boxes ∷ []) x t.boxes) (sym i) open_now))
 
@@ -259,7 +263,7 @@ module _ (b : Meaning) (s t : Server) (waiting : Option Waiting) (kept : KeptBoo
         subst (λ (v : ℕ). resolved b.queue target ≡ found.Real name v uid) (sym now_v)
             (suited (actions.Flag target add asked) (intents.Store name validity uid modseq) a i),
         key_with add asked e.found.message.flags e.flags e.changed,
-      )
+      ) r.after there
       (record {
         box = r.after;
         there = there;
@@ -286,7 +290,8 @@ module _ (b : Meaning) (s t : Server) (waiting : Option Waiting) (kept : KeptBoo
       let fits : Suited b.queue (actions.Move target other) (intents.Shift from validity uid to) = suited (actions.Move target other)
       (intents.Shift from validity uid to) a i in
       acts (actions.Move target other) (intents.Shift from validity uid to) a i from (changes.Shift uid to e.received) becomes
-      (subst (λ (v : ℕ). resolved b.queue target ≡ found.Real from v uid) (sym now_v) fits.0, fits.1)
+      (subst (λ (v : ℕ). resolved b.queue target ≡ found.Real from v uid) (sym now_v) fits.0, fits.1) h.comes.after
+      (added_there (floor_of s.boxes to) h.message.flags h.message.text e.received to h.middle t.boxes h.comes)
       (record {
         box = h.leaves.after;
         there = there;
@@ -309,7 +314,7 @@ module _ (b : Meaning) (s t : Server) (waiting : Option Waiting) (kept : KeptBoo
       let writable : IsWritableAction (actions.Append other flags text id) =
       subst IsWritableAction a (kept.sound.writable (due b.queue) of.queued of.there) in
       acts (actions.Append other flags text id) (intents.Put to validity uidnext) a i to (changes.Add flags text e.uid) e.becomes
-      (suited (actions.Append other flags text id) (intents.Put to validity uidnext) a i, refl, refl)
+      (suited (actions.Append other flags text id) (intents.Put to validity uidnext) a i, refl, refl) r.after there
       (record {
         box = r.after;
         there = there;
@@ -328,6 +333,7 @@ module _ (b : Meaning) (s t : Server) (waiting : Option Waiting) (kept : KeptBoo
     once = kept.once;
     open_intent = kept.open_intent;
     fresh = kept.fresh;
+    reached = kept.reached;
     waits = λ m. absurd (nothing_waits m);
   })
 
@@ -425,6 +431,7 @@ accepted_book b s t w k e false m = subst (λ (x : Server). KeptBook b x None) (
   once = k.once;
   open_intent = k.open_intent;
   fresh = k.fresh;
+  reached = k.reached;
   waits = λ n. absurd (nothing_waits n);
 })
 
@@ -442,6 +449,7 @@ carries_book (Some b) s t w k (inl e) = subst (λ (x : Server). KeptBook b x Non
   once = k.once;
   open_intent = k.open_intent;
   fresh = k.fresh;
+  reached = k.reached;
   waits = λ n. absurd (nothing_waits n);
 })
 carries_book (Some b) s t w k (inr e) = accepted_book b s t w k e (is_mutating w.command) refl

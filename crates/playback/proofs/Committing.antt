@@ -104,13 +104,13 @@ module _ (p : Player) (b : Meaning) (fresh : b.pending ≡ None → p.resumed �
   flag_intends : (pending : Option Intent) → b.pending ≡ pending → (spot : Spot) →
       Sends (λ intent. step_flag_at intended (Some intent) spot) (step_flag_at p pending spot)
   flag_intends None none spot =
-      boxed (Sends (λ intent. step_flag_at intended (Some intent) spot)) p.selected spot (flag_first p.told spot)
+      boxed (Sends (λ intent. step_flag_at intended (Some intent) spot)) p.selected false spot (flag_first p.told spot)
       (λ t. flag_first_any (Sends (λ intent. step_flag_at intended (Some intent) spot)) (λ outcome. tt) spot tt
-      (λ modseq. below_boxed 3 p.selected spot (flag_again (p.resumed && true) modseq findings.Nothing spot) t
+      (λ modseq. below_boxed 3 p.selected true spot (flag_again (p.resumed && true) modseq findings.Nothing spot) t
       (flag_sends (p.resumed && true) modseq spot (unresumed none))) p.told)
-      tt
+      (λ f. tt) (λ n. tt)
   flag_intends (Some (intents.Store name validity uid mark)) none spot =
-      flag_meant_any (Sends (λ intent. step_flag_at intended (Some intent) spot)) (λ outcome. tt) p mark spot tt (λ t. tt) (λ t. tt) p.told
+      flag_meant_any (Sends (λ intent. step_flag_at intended (Some intent) spot)) (λ outcome. tt) p mark spot (λ f. tt) (λ t. tt) (λ t. tt) p.told
   flag_intends (Some (intents.Shift from validity uid to)) none spot = tt
   flag_intends (Some (intents.Put to validity uidnext)) none spot = tt
 
@@ -122,13 +122,13 @@ module _ (p : Player) (b : Meaning) (fresh : b.pending ≡ None → p.resumed �
   move_intends : (to : List ℕ) (pending : Option Intent) → b.pending ≡ pending → (spot : Spot) →
       Sends (λ intent. step_move_at intended (Some intent) spot to) (step_move_at p pending spot to)
   move_intends to None none spot =
-      boxed (Sends (λ intent. step_move_at intended (Some intent) spot to)) p.selected spot (move_first p.told spot to)
+      boxed (Sends (λ intent. step_move_at intended (Some intent) spot to)) p.selected false spot (move_first p.told spot to)
       (λ t. move_first_any (Sends (λ intent. step_move_at intended (Some intent) spot to)) (λ outcome. tt) spot to tt
-      (below_boxed 3 p.selected spot (move_again (p.resumed && true) findings.Nothing spot) t
+      (below_boxed 3 p.selected true spot (move_again (p.resumed && true) findings.Nothing spot) t
       (move_sends (p.resumed && true) spot (unresumed none))) p.told)
-      tt
+      (λ f. tt) (λ n. tt)
   move_intends to (Some (intents.Shift from validity uid other)) none spot =
-      move_meant_any (Sends (λ intent. step_move_at intended (Some intent) spot to)) (λ outcome. tt) p spot tt (λ t. tt) (λ t. tt) p.told
+      move_meant_any (Sends (λ intent. step_move_at intended (Some intent) spot to)) (λ outcome. tt) p spot (λ f. tt) (λ t. tt) (λ t. tt) p.told
   move_intends to (Some (intents.Store name validity uid modseq)) none spot = tt
   move_intends to (Some (intents.Put other validity uidnext)) none spot = tt
 

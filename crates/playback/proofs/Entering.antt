@@ -1,8 +1,8 @@
 -- Events enter the book.
-use Rattle.std.proofs.Common.{◌≡◌, ◌⊎◌, inl, inr, ℕ, suc, ◌<◌, ◌≤◌, List, [], ◌∷◌, ◌++◌, length, map, Option, Some, None, refl, sym, ◌∙◌, ap, subst, arith}
+use Rattle.std.proofs.Common.{◌≡◌, ◌⊎◌, ⊎_elim, inl, inr, ℕ, suc, ◌<◌, ◌≤◌, List, [], ◌∷◌, ◌++◌, length, map, Option, Some, None, refl, sym, ◌∙◌, ap, subst, arith}
 use Rattle.std.specs.Prelude.{slice_get, bytes_eq}
 use Rattle.std.proofs.lemmas.Bool.{cond_both}
-use Rattle.std.proofs.lemmas.Option.{same_Some}
+use Rattle.std.proofs.lemmas.Option.{none-some, same_Some}
 use Rattle.imap_model.specs.Carrying.{Waiting}
 use Rattle.imap_model.specs.Ours.{ours}
 use Rattle.imap_model.specs.declared.deed.Deed.{Deed}
@@ -10,7 +10,7 @@ use Rattle.imap_model.specs.declared.server.Server.{Server}
 use Rattle.mailbox_cache.specs.declared.cache.Cache.{Cache}
 use Rattle.mailbox_cache.specs.declared.delta.Delta.{Delta}
 use Rattle.action_queue.specs.Queues.{due, due_action, accepted, settled, change_first}
-use Rattle.action_queue.specs.Book.{Meaning, known_at, cache_of, cache_at, learned, known_of, begun, after}
+use Rattle.action_queue.specs.Book.{Meaning, known_at, cache_of, cache_at, learned, known_of, begun, after, put_cache}
 use Rattle.action_queue.specs.Events.{IsLawful, next_book}
 use Rattle.action_queue.specs.declared.action.Action.{Action}
 use Rattle.action_queue.specs.declared.intent.Intent.{Intent}
@@ -30,6 +30,7 @@ use Rattle.playback.specs.Permitted.{MayFollow, Permits}
 use Rattle.playback.proofs.Queueing.{get_push, get_pushed, grows_push, due_push, IsChangedAt, changed_at, grows_settle, due_settle, cache_put}
 use Rattle.playback.proofs.Sounding.{begun_sound, accept_sound, intend_sound, settle_sound, caches_sound}
 use Rattle.playback.proofs.Lawful.{accept_known, accept_good, intend_due, settle_due, IsDue}
+use Rattle.playback.proofs.Reaching.{accept_reached, none_reached, settle_reached}
 use Rattle.playback.proofs.Deeds.{owned_grows, all_none_owned, none_ours}
 
 no_cache : (name : List ℕ) (names : List (List ℕ)) (cache : Cache) → cache_at name (map known_of names) ≡ Some cache → ⊥
@@ -51,6 +52,7 @@ begun_kept names s waiting k = record {
   };
   open_intent = λ intent p q e. absurd (cc);
   fresh = λ name cache e. absurd (no_cache name names cache e);
+  reached = record { waiting = λ i q e o. absurd (cc); deeds = none_reached s.boxes s.history k.none };
   waits = λ m. absurd (k.quiet m);
 }
 
@@ -66,10 +68,10 @@ module _ (b : Meaning) (id : ℕ) (action : Action) (s : Server) (waiting : Opti
 
   accept_keeps : IsLawful b (events.Accept id action) → Permits (Some b) (events.Accept id action) s waiting →
       KeptBook (after b (events.Accept id action)) s waiting
-  accept_keeps lawful writable =
+  accept_keeps lawful permitted =
       let new : Queued = accepted action in
       record {
-        sound = accept_sound b action kept.sound writable (accept_known b id action lawful) (accept_good b id action lawful);
+        sound = accept_sound b action kept.sound permitted.0 (accept_known b id action lawful) (accept_good b id action lawful);
         well = kept.well;
         once = record {
           owned = owned_grows b.queue (b.queue ++ new ∷ []) s.history (grows_push b.queue new) kept.once.owned;
@@ -86,6 +88,7 @@ module _ (b : Meaning) (id : ℕ) (action : Action) (s : Server) (waiting : Opti
             subst (λ (k : ℕ). IsOpen q.action (ours (suc k) s.history) intent s.boxes) (sym same_due)
             (kept.open_intent intent p q (h.there ∙ ap (λ (x : Queued). Some x) is));
         fresh = kept.fresh;
+        reached = record { waiting = accept_reached b action s kept.reached permitted.1; deeds = kept.reached.deeds };
         waits = λ m. let of : IsOf b s m.command = kept.waits m in record {
           intent = of.intent;
           pending = of.pending;
@@ -108,6 +111,7 @@ intend_keeps b id intent s waiting kept has permitted = record {
   open_intent = λ other p q e.
       subst (λ (x : Intent). IsOpen q.action (ours (suc (due b.queue)) s.history) x s.boxes) (same_Some intent other p) (now_in (permitted.1 q e));
   fresh = kept.fresh;
+  reached = record { waiting = kept.reached.waiting; deeds = kept.reached.deeds };
   waits = λ m. absurd (permitted.0 m);
 }
 
@@ -138,6 +142,7 @@ settle_keeps b id outcome s waiting kept has permitted =
       };
       open_intent = λ intent p q e. absurd (cc);
       fresh = kept.fresh;
+      reached = record { waiting = settle_reached b outcome s kept.reached; deeds = kept.reached.deeds };
       waits = λ m. absurd (permitted.0 m);
     }
 
@@ -149,6 +154,13 @@ learned_fresh b name delta s fresh permitted n cache (inr was) = fresh n cache w
 learned_fresh b name delta s fresh permitted n cache (inl new) =
     subst (λ (k : List ℕ). IsFreshFor k cache s.boxes) (sym new.0)
     (subst (λ (x : Cache). IsFreshFor name x s.boxes) (same_Some (learned (cache_at name b.boxes) delta) cache new.1) (now_in permitted))
+
+-- what has a cache behind one that was taken away had it before
+pub still_cached : (name n : List ℕ) (boxes : List Known) (cache : Cache) → cache_at n (put_cache name None boxes) ≡ Some cache →
+    cache_at n boxes ≡ Some cache
+still_cached name n boxes cache e =
+    ⊎_elim (λ (new : (n ≡ name) × (None ≡ Some cache)). absurd (none-some cache new.1)) (λ (was : cache_at n boxes ≡ Some cache). was)
+    (cache_put name n None boxes cache e)
 
 -- another cache, and the rest of the book as it was
 caches_keep : (b c : Meaning) (s : Server) (waiting : Option Waiting) → KeptBook b s waiting → IsSound c → c.queue ≡ b.queue →
@@ -167,6 +179,10 @@ caches_keep b c s waiting kept sound queue pending fresh = record {
       subst (λ (l : List Queued). IsOpen q.action (ours (suc (due l)) s.history) intent s.boxes) (sym queue)
       (kept.open_intent intent (sym pending ∙ p) q (subst (λ (l : List Queued). due_action l ≡ Some q) queue e));
   fresh = fresh;
+  reached = record {
+    waiting = λ i q e o. kept.reached.waiting i q (subst (λ (l : List Queued). slice_get l i ≡ Some q) queue e) o;
+    deeds = kept.reached.deeds;
+  };
   waits = λ m. let of : IsOf b s m.command = kept.waits m in record {
     intent = of.intent;
     pending = pending ∙ of.pending;
@@ -190,7 +206,9 @@ event_keeps b (events.Learn name delta) s waiting kept follows permitted =
     caches_keep b (after b (events.Learn name delta)) s waiting kept (caches_sound b name new kept.sound) refl refl
     (λ n cache e. learned_fresh b name delta s kept.fresh permitted n cache (cache_put name n new b.boxes cache e))
 event_keeps b (events.Old id action outcome) s waiting kept follows permitted = absurd permitted
-event_keeps b (events.Reset name before told) s waiting kept follows permitted = absurd permitted
+event_keeps b (events.Reset name kept_validity told) s waiting kept follows permitted =
+    caches_keep b (after b (events.Reset name kept_validity told)) s waiting kept (caches_sound b name None kept.sound) refl refl
+    (λ n cache e. kept.fresh n cache (still_cached name n b.boxes cache e))
 event_keeps b (events.Withdraw id tries) s waiting kept follows permitted = absurd permitted
 
 pub book_keeps : (b : Option Meaning) (event : Event) (s : Server) (waiting : Option Waiting) → Kept b s waiting → MayFollow b event →
@@ -201,6 +219,6 @@ book_keeps None (events.Intend id intent) s waiting kept follows permitted = abs
 book_keeps None (events.Settle id outcome) s waiting kept follows permitted = absurd permitted
 book_keeps None (events.Learn name delta) s waiting kept follows permitted = absurd permitted
 book_keeps None (events.Old id action outcome) s waiting kept follows permitted = absurd permitted
-book_keeps None (events.Reset name before told) s waiting kept follows permitted = absurd permitted
+book_keeps None (events.Reset name kept_validity told) s waiting kept follows permitted = absurd permitted
 book_keeps None (events.Withdraw id tries) s waiting kept follows permitted = absurd permitted
 book_keeps (Some b) event s waiting kept follows permitted = event_keeps b event s waiting kept follows permitted

@@ -16,7 +16,8 @@ use Rattle.playback.proofs.Ranks.{add_less, append_first_any, append_judged_any,
 use Rattle.playback.proofs.Ranks.{box_any, boxed, due_search_any, due_sent_any, flag_first_any, flag_meant_any, ids_any, judged_any}
 use Rattle.playback.proofs.Ranks.{move_first_any, move_meant_any, rank_unlearned, unlearned}
 use Rattle.playback.proofs.Readings.{append_ends, if_read, move_ends, row_any, store_ends}
-use Rattle.playback.specs.Choosing.{IsChosen, begun_with, box_fault, chosen_due, chosen_for, chosen_in, is_many, is_other, rows_fault}
+use Rattle.playback.proofs.Elsewhere.{selected_now}
+use Rattle.playback.specs.Choosing.{IsChosen, begun_with, box_fault, chosen_due, chosen_for, chosen_in, is_many, is_below, rows_fault}
 use Rattle.playback.specs.Choosing.{rows_with, target_fault, wanted_by}
 use Rattle.playback.specs.Left.{Awaits, LeftAtFirst, left, rank, rank_behind, rank_of, unsettled}
 use Rattle.playback.specs.Needs.{due_id, need_for, need_learn, need_of}
@@ -25,7 +26,7 @@ use Rattle.playback.specs.Replying.{last_fetch, read_append, read_move, read_sto
 use Rattle.playback.specs.Sound.{HasIntent, IsSound}
 use Rattle.playback.specs.Steps.{append_again, append_first, append_in_box, append_meant, append_new, flag_again, flag_first, flag_judged}
 use Rattle.playback.specs.Steps.{flag_meant, flag_new, in_box, is_selected, is_selected_at, move_again, move_first, move_meant, select_any}
-use Rattle.playback.specs.Steps.{select_box, select_under, step_action, step_append, step_due, step_flag_at, step_flag_found, step_learn}
+use Rattle.playback.specs.Steps.{step_action, step_append, step_due, step_flag_at, step_flag_found, step_learn}
 use Rattle.playback.specs.Steps.{step_move_at, step_move_found, step_of}
 use Rattle.playback.specs.declared.finding.Finding.{Finding}
 use Rattle.playback.specs.declared.finding.Resynced.{Resynced}
@@ -37,7 +38,7 @@ use Rattle.playback.specs.declared.step.Step.{Step}
 use Rattle.qresync_core.specs.declared.fault.ResyncFault.{ResyncFault}
 use Rattle.std.proofs.Common.{Bool, Err, List, None, Ok, Option, Result, Some, [], ap, arith, false, length, not, refl, subst, sym, true, ℕ}
 use Rattle.std.proofs.Common.{◌*◌, ◌+◌, ◌-◌, ◌<◌, ◌∙◌, ◌∷◌, ◌≡◌, ◌≤◌}
-use Rattle.std.proofs.lemmas.Bool.{and_from, and_parts, cond-true, cond_both, eq-eqb, eqb-true}
+use Rattle.std.proofs.lemmas.Bool.{and_from, and_parts, cond-true, eq-eqb}
 use Rattle.std.proofs.lemmas.Option.{same_Some}
 use Rattle.std.specs.Prelude.{bytes_eq, slice_get, ◌==◌}
 use Rattle.uid_sets.specs.declared.uid.UidRange.{UidRange}
@@ -58,16 +59,6 @@ left_at_first alloc b = let h : rank (step_of (begun_with alloc b) b) ≤ 7 = at
 abbrev OnSelect : (List ℕ → Option ℕ → Type 0) → Step → Type 0
 OnSelect So (steps.Select name under) = So name under
 OnSelect So step = Unit {0}
-
--- where the mailbox has the UIDVALIDITY that it is to have, it is selected then
-same_validity : (old told : ℕ) → is_other (Some old) told ≡ None → (told == old) ≡ true
-same_validity old told =
-    cond_both (old == told) None (Some (old, told)) (λ (o : Option (ℕ × ℕ)). o ≡ None → (told == old) ≡ true)
-    (λ t e. eq-eqb told old (sym (eqb-true old told t))) (λ f e. absurd (cc))
-
-selected_now : (name : List ℕ) (old told : ℕ) → is_other (Some old) told ≡ None →
-    is_selected_at (Some (record { name = name; validity = told })) name old ≡ true
-selected_now name old told e = and_from (bytes_eq name name) (told == old) (names_same name name refl) (same_validity old told e)
 
 flag_again_low : (resumed : Bool) (mark : ℕ) (spot : Spot) → rank (flag_again resumed mark findings.Nothing spot) ≤ 5
 flag_again_low false mark spot = omega arith
@@ -92,27 +83,23 @@ module _ (p : Player) (b : Meaning) (delta : Delta) where
 
   -- behind the SELECT that is due the step isn't another SELECT
   abbrev Low : Finding → (Player → Step) → Step → Type 0
-  Low told step = OnSelect (λ name under. is_other under delta.validity ≡ None → 1 + rank (step (chosen_with name told)) ≤ 6)
+  Low told step = OnSelect (λ name under. is_below under delta.validity ≡ None → 1 + rank (step (chosen_with name told)) ≤ 6)
 
-  now_boxed : (spot : Spot) (step : Step) → rank step ≤ 5 → is_other (Some spot.validity) delta.validity ≡ None →
-      1 + rank (in_box (Some (record { name = spot.name; validity = delta.validity })) spot step) ≤ 6
-  now_boxed spot step low e =
-      subst (λ (s : Step). 1 + rank s ≤ 6)
-      (sym
-      (cond-true (is_selected (Some (record { name = spot.name; validity = delta.validity })) spot) step (select_box spot)
-      (selected_now spot.name spot.validity delta.validity e)))
-      (omega (arith, low))
+  now_boxed : (meant : Bool) (spot : Spot) (step : Step) → rank step ≤ 5 → is_below (Some spot.validity) delta.validity ≡ None →
+      1 + rank (in_box (Some (record { name = spot.name; validity = delta.validity })) meant spot step) ≤ 6
+  now_boxed meant spot step low e =
+      selected_now (λ (s : Step). 1 + rank s ≤ 6) meant spot.name spot.validity delta.validity step e (omega (arith, low)) (λ n. omega arith)
 
   module _ (target : Target) (add : Bool) (flags : List (List ℕ)) where
     flag_low : (pending : Option Intent) → ((intent : Intent) → pending ≡ Some intent → suits b.queue (actions.Flag target add flags) intent ≡ true) →
         (spot : Spot) → Low findings.Nothing (λ n. step_flag_at n pending spot) (step_flag_at p pending spot)
     flag_low None suited spot =
-        boxed (Low findings.Nothing (λ n. step_flag_at n None spot)) p.selected spot (flag_first p.told spot)
+        boxed (Low findings.Nothing (λ n. step_flag_at n None spot)) p.selected false spot (flag_first p.told spot)
         (λ t. flag_first_any (Low findings.Nothing (λ n. step_flag_at n None spot)) (λ outcome. tt) spot tt (λ modseq. tt) p.told)
-        (now_boxed spot (steps.AskRow spot.uid) (omega arith))
+        (λ f. now_boxed false spot (steps.AskRow spot.uid) (omega arith)) (λ n. tt)
     flag_low (Some (intents.Store name validity uid modseq)) suited spot =
         flag_meant_any (Low findings.Nothing (λ n. step_flag_at n (Some (intents.Store name validity uid modseq)) spot)) (λ outcome. tt) p modseq spot
-        (now_boxed spot (flag_again p.resumed modseq findings.Nothing spot) (flag_again_low p.resumed modseq spot)) (λ t. tt) (λ t. tt) p.told
+        (λ f. now_boxed true spot (flag_again p.resumed modseq findings.Nothing spot) (flag_again_low p.resumed modseq spot)) (λ t. tt) (λ t. tt) p.told
     flag_low (Some (intents.Shift from validity uid to)) suited spot =
         let f : false ≡ true = suited (intents.Shift from validity uid to) refl in absurd (cc)
     flag_low (Some (intents.Put to validity uidnext)) suited spot =
@@ -129,12 +116,12 @@ module _ (p : Player) (b : Meaning) (delta : Delta) where
     move_low : (pending : Option Intent) → ((intent : Intent) → pending ≡ Some intent → suits b.queue (actions.Move target to) intent ≡ true) →
         (spot : Spot) → Low findings.Nothing (λ n. step_move_at n pending spot to) (step_move_at p pending spot to)
     move_low None suited spot =
-        boxed (Low findings.Nothing (λ n. step_move_at n None spot to)) p.selected spot (move_first p.told spot to)
+        boxed (Low findings.Nothing (λ n. step_move_at n None spot to)) p.selected false spot (move_first p.told spot to)
         (λ t. move_first_any (Low findings.Nothing (λ n. step_move_at n None spot to)) (λ outcome. tt) spot to tt tt p.told)
-        (now_boxed spot (steps.AskRow spot.uid) (omega arith))
+        (λ f. now_boxed false spot (steps.AskRow spot.uid) (omega arith)) (λ n. tt)
     move_low (Some (intents.Shift from validity uid other)) suited spot =
         move_meant_any (Low findings.Nothing (λ n. step_move_at n (Some (intents.Shift from validity uid other)) spot to)) (λ outcome. tt) p spot
-        (now_boxed spot (move_again p.resumed findings.Nothing spot) (move_again_low p.resumed spot)) (λ t. tt) (λ t. tt) p.told
+        (λ f. now_boxed true spot (move_again p.resumed findings.Nothing spot) (move_again_low p.resumed spot)) (λ t. tt) (λ t. tt) p.told
     move_low (Some (intents.Store name validity uid modseq)) suited spot =
         let f : false ≡ true = suited (intents.Store name validity uid modseq) refl in absurd (cc)
     move_low (Some (intents.Put other validity uidnext)) suited spot =
@@ -162,16 +149,13 @@ module _ (p : Player) (b : Meaning) (delta : Delta) where
         (steps.Intend (intents.Put to delta.validity delta.uidnext)) (select_any to) selected_here))
         (omega arith)
 
-    put_low : (validity uidnext : ℕ) → is_other (Some validity) delta.validity ≡ None →
+    put_low : (validity uidnext : ℕ) → is_below (Some validity) delta.validity ≡ None →
         1 + rank (append_in_box (chosen_with to next_told) to validity uidnext next_told) ≤ 6
     put_low validity uidnext e =
         let low : rank (append_again p.resumed next_told to validity uidnext) ≤ 5 =
         append_again_low p.resumed to validity uidnext delta.validity delta.uidnext in
-        subst (λ (s : Step). 1 + rank s ≤ 6)
-        (sym
-        (cond-true (is_selected_at (Some (record { name = to; validity = delta.validity })) to validity)
-        (append_again p.resumed next_told to validity uidnext) (select_under to validity) (selected_now to validity delta.validity e)))
-        (omega (arith, low))
+        selected_now (λ (s : Step). 1 + rank s ≤ 6) true to validity delta.validity (append_again p.resumed next_told to validity uidnext) e
+        (omega (arith, low)) (λ n. omega arith)
 
     append_low : (pending : Option Intent) →
         ((intent : Intent) → pending ≡ Some intent → suits b.queue (actions.Append to flags text id) intent ≡ true) →
@@ -201,7 +185,7 @@ module _ (p : Player) (b : Meaning) (delta : Delta) where
   -- what was told of the mailbox is recorded before that step
   abbrev LowLearned : Option Queued → Step → Type 0
   LowLearned queued =
-      OnSelect (λ name under. is_other under delta.validity ≡ None → rank_behind (chosen_with name (chosen_due queued delta)) b queued ≤ 6)
+      OnSelect (λ name under. is_below under delta.validity ≡ None → rank_behind (chosen_with name (chosen_due queued delta)) b queued ≤ 6)
 
   due_low : IsSound b → (queued : Option Queued) → due_action b.queue ≡ queued → LowLearned queued (step_due p b queued)
   due_low sound None e = box_any (LowLearned None) tt (λ name other. omega arith) (slice_get b.boxes p.resynced)
@@ -233,7 +217,7 @@ module _ (p : Player) (b : Meaning) (delta : Delta) where
   step_low sound name (steps.Select box under) e need fault =
       let low : rank_behind (chosen_with box (chosen_due (due_action b.queue) delta)) b (due_action b.queue) ≤ 6 =
       subst (LowLearned (due_action b.queue)) e (learn_low sound p.learns)
-      (none_other (is_other under delta.validity) (rows_fault (is_many (rows_with box b delta))) fault) in
+      (none_other (is_below under delta.validity) (rows_fault (is_many (rows_with box b delta))) fault) in
       let was : rank_of p b p.learns ≡ 7 = ap (λ (learns : Option Resynced). rank_of p b learns) (none_learned p.learns box under e) ∙ ap rank e in
       add_less (rank_behind (chosen_with box (chosen_due (due_action b.queue) delta)) b (due_action b.queue)) (rank_of p b p.learns)
       (8 * unsettled b.queue) (8 * (length b.boxes - p.resynced)) (omega (arith, low, was))
@@ -340,12 +324,12 @@ module _ (p : Player) (b : Meaning) (permits : Bool) (r : Replies) (finding : Fi
 
   module _ (target : Target) (add : Bool) (flags : List (List ℕ)) where
     flag_first_falls : (spot : Spot) → is_selected p.selected spot ≡ true →
-        Lowers (actions.Flag target add flags) None (in_box p.selected spot (flag_first finding spot)) (steps.AskRow spot.uid)
+        Lowers (actions.Flag target add flags) None (in_box p.selected false spot (flag_first finding spot)) (steps.AskRow spot.uid)
     flag_first_falls spot t w h =
-        row_any (λ (f : Finding). rank (in_box p.selected spot (flag_first f spot)) < 4) (is_barred permits (actions.Flag target add flags) None)
-        (actions.Flag target add flags) (below_boxed 4 p.selected spot (flag_first findings.NoRow spot) t (omega arith))
-        (λ modseq so. below_boxed 4 p.selected spot (flag_new modseq so spot) t (new_below modseq so spot))
-        (λ barred. below_boxed 4 p.selected spot (flag_first findings.Barred spot) t (omega arith)) (last_fetch spot.uid r.untagged) finding h
+        row_any (λ (f : Finding). rank (in_box p.selected false spot (flag_first f spot)) < 4) (is_barred permits (actions.Flag target add flags) None)
+        (actions.Flag target add flags) (below_boxed 4 p.selected false spot (flag_first findings.NoRow spot) t (omega arith))
+        (λ modseq so. below_boxed 4 p.selected false spot (flag_new modseq so spot) t (new_below modseq so spot))
+        (λ barred. below_boxed 4 p.selected false spot (flag_first findings.Barred spot) t (omega arith)) (last_fetch spot.uid r.untagged) finding h
 
     flag_asked_falls : (name : List ℕ) (validity uid mark : ℕ) (spot : Spot) → is_selected p.selected spot ≡ true →
         Lowers (actions.Flag target add flags) (Some (intents.Store name validity uid mark)) (flag_meant heard_now mark spot finding)
@@ -354,8 +338,8 @@ module _ (p : Player) (b : Meaning) (permits : Bool) (r : Replies) (finding : Fi
         row_any (λ (f : Finding). rank (flag_meant heard_now mark spot f) < 4)
         (is_barred permits (actions.Flag target add flags) (Some (intents.Store name validity uid mark)))
         (actions.Flag target add flags)
-        (below_boxed 4 p.selected spot (flag_again p.resumed mark findings.NoRow spot) t (flag_none_below p.resumed mark spot))
-        (λ modseq so. below_boxed 4 p.selected spot (flag_again p.resumed mark (findings.Row modseq so) spot) t
+        (below_boxed 4 p.selected true spot (flag_again p.resumed mark findings.NoRow spot) t (flag_none_below p.resumed mark spot))
+        (λ modseq so. below_boxed 4 p.selected true spot (flag_again p.resumed mark (findings.Row modseq so) spot) t
         (flag_row_below p.resumed mark modseq so spot))
         (λ barred. let f : false ≡ true = (and_parts (not permits) false barred).1 in absurd (cc)) (last_fetch spot.uid r.untagged) finding h
 
@@ -368,15 +352,15 @@ module _ (p : Player) (b : Meaning) (permits : Bool) (r : Replies) (finding : Fi
     flag_falls : (pending : Option Intent) (spot : Spot) →
         Lowers (actions.Flag target add flags) pending (step_flag_at heard_now pending spot) (step_flag_at p pending spot)
     flag_falls None spot =
-        boxed (Lowers (actions.Flag target add flags) None (in_box p.selected spot (flag_first finding spot))) p.selected spot
+        boxed (Lowers (actions.Flag target add flags) None (in_box p.selected false spot (flag_first finding spot))) p.selected false spot
         (flag_first p.told spot)
-        (λ t. flag_first_any (Lowers (actions.Flag target add flags) None (in_box p.selected spot (flag_first finding spot)))
+        (λ t. flag_first_any (Lowers (actions.Flag target add flags) None (in_box p.selected false spot (flag_first finding spot)))
         (λ outcome w h. absurd w) spot (flag_first_falls spot t) (λ modseq w h. absurd w) p.told)
-        (λ w h. absurd w)
+        (λ f w h. absurd w) (λ n w h. absurd w)
     flag_falls (Some (intents.Store name validity uid mark)) spot =
         flag_meant_any
         (Lowers (actions.Flag target add flags) (Some (intents.Store name validity uid mark)) (flag_meant heard_now mark spot finding))
-        (λ outcome w h. absurd w) p mark spot (λ w h. absurd w) (flag_asked_falls name validity uid mark spot)
+        (λ outcome w h. absurd w) p mark spot (λ f w h. absurd w) (flag_asked_falls name validity uid mark spot)
         (λ t. flag_sent_falls name validity uid mark spot) p.told
     flag_falls (Some (intents.Shift from validity uid to)) spot = λ w h. absurd w
     flag_falls (Some (intents.Put to validity uidnext)) spot = λ w h. absurd w
@@ -389,19 +373,19 @@ module _ (p : Player) (b : Meaning) (permits : Bool) (r : Replies) (finding : Fi
 
   module _ (target : Target) (to : List ℕ) where
     move_first_falls : (spot : Spot) → is_selected p.selected spot ≡ true →
-        Lowers (actions.Move target to) None (in_box p.selected spot (move_first finding spot to)) (steps.AskRow spot.uid)
+        Lowers (actions.Move target to) None (in_box p.selected false spot (move_first finding spot to)) (steps.AskRow spot.uid)
     move_first_falls spot t w h =
-        row_any (λ (f : Finding). rank (in_box p.selected spot (move_first f spot to)) < 4) false (actions.Move target to)
-        (below_boxed 4 p.selected spot (move_first findings.NoRow spot to) t (omega arith))
-        (λ modseq so. below_boxed 4 p.selected spot (move_first (findings.Row modseq so) spot to) t (omega arith))
+        row_any (λ (f : Finding). rank (in_box p.selected false spot (move_first f spot to)) < 4) false (actions.Move target to)
+        (below_boxed 4 p.selected false spot (move_first findings.NoRow spot to) t (omega arith))
+        (λ modseq so. below_boxed 4 p.selected false spot (move_first (findings.Row modseq so) spot to) t (omega arith))
         (λ barred. absurd (cc)) (last_fetch spot.uid r.untagged) finding h
 
     move_asked_falls : (from : List ℕ) (validity uid : ℕ) (other : List ℕ) (spot : Spot) → is_selected p.selected spot ≡ true →
         Lowers (actions.Move target to) (Some (intents.Shift from validity uid other)) (move_meant heard_now spot finding) (steps.AskRow spot.uid)
     move_asked_falls from validity uid other spot t w h =
         row_any (λ (f : Finding). rank (move_meant heard_now spot f) < 4) false (actions.Move target to)
-        (below_boxed 4 p.selected spot (move_again p.resumed findings.NoRow spot) t (move_none_below p.resumed spot))
-        (λ modseq so. below_boxed 4 p.selected spot (move_again p.resumed (findings.Row modseq so) spot) t (move_row_below p.resumed modseq so spot))
+        (below_boxed 4 p.selected true spot (move_again p.resumed findings.NoRow spot) t (move_none_below p.resumed spot))
+        (λ modseq so. below_boxed 4 p.selected true spot (move_again p.resumed (findings.Row modseq so) spot) t (move_row_below p.resumed modseq so spot))
         (λ barred. absurd (cc)) (last_fetch spot.uid r.untagged) finding h
 
     move_sent_falls : (from : List ℕ) (validity uid : ℕ) (other : List ℕ) (spot : Spot) →
@@ -414,13 +398,13 @@ module _ (p : Player) (b : Meaning) (permits : Bool) (r : Replies) (finding : Fi
     move_falls : (pending : Option Intent) (spot : Spot) →
         Lowers (actions.Move target to) pending (step_move_at heard_now pending spot to) (step_move_at p pending spot to)
     move_falls None spot =
-        boxed (Lowers (actions.Move target to) None (in_box p.selected spot (move_first finding spot to))) p.selected spot (move_first p.told spot to)
-        (λ t. move_first_any (Lowers (actions.Move target to) None (in_box p.selected spot (move_first finding spot to))) (λ outcome w h. absurd w)
+        boxed (Lowers (actions.Move target to) None (in_box p.selected false spot (move_first finding spot to))) p.selected false spot (move_first p.told spot to)
+        (λ t. move_first_any (Lowers (actions.Move target to) None (in_box p.selected false spot (move_first finding spot to))) (λ outcome w h. absurd w)
         spot to (move_first_falls spot t) (λ w h. absurd w) p.told)
-        (λ w h. absurd w)
+        (λ f w h. absurd w) (λ n w h. absurd w)
     move_falls (Some (intents.Shift from validity uid other)) spot =
         move_meant_any (Lowers (actions.Move target to) (Some (intents.Shift from validity uid other)) (move_meant heard_now spot finding))
-        (λ outcome w h. absurd w) p spot (λ w h. absurd w) (move_asked_falls from validity uid other spot)
+        (λ outcome w h. absurd w) p spot (λ f w h. absurd w) (move_asked_falls from validity uid other spot)
         (λ t. move_sent_falls from validity uid other spot) p.told
     move_falls (Some (intents.Store name validity uid modseq)) spot = λ w h. absurd w
     move_falls (Some (intents.Put other validity uidnext)) spot = λ w h. absurd w

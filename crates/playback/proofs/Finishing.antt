@@ -20,11 +20,13 @@ use Rattle.action_queue.specs.declared.target.Target.{Target}
 use Rattle.action_queue.proofs.Queueing.{all_settled, due_within, settled_all}
 use Rattle.append_probe.specs.declared.verdict.Verdict.{Verdict}
 use Rattle.append_probe.specs.declared.verdict.Verdict.TheVariants as verdicts
+use Rattle.playback.proofs.Elsewhere.{elsewhere_any}
+use Rattle.playback.specs.Steps.{above_at, elsewhere}
 use Rattle.playback.specs.Needs.{IsFinished, due_id, need_for, need_ids, need_learn, need_of, need_search, need_send}
 use Rattle.playback.specs.Needs.{search_of, send_meant, send_of}
 use Rattle.playback.specs.Steps.{append_again, append_first, append_in_box, append_judged, append_meant, append_new, append_open, conflict}
 use Rattle.playback.specs.Steps.{flag_again, flag_first, flag_judged, flag_meant, flag_new, flag_open, in_box, is_selected, is_selected_at}
-use Rattle.playback.specs.Steps.{move_again, move_first, move_meant, move_open, select_any, select_box, select_under, step_action}
+use Rattle.playback.specs.Steps.{move_again, move_first, move_meant, move_open, select_any, step_action}
 use Rattle.playback.specs.Steps.{step_append, step_box, step_due, step_flag_at, step_flag_found, step_learn, step_move_at, step_move_found}
 use Rattle.playback.specs.declared.finding.Finding.{Finding}
 use Rattle.playback.specs.declared.finding.Finding.TheVariants as findings
@@ -78,8 +80,11 @@ abbrev pub HasItsNeed : Player → Meaning → Step → Type 0
 HasItsNeed p b step = IsNeedOf step (need_for step p b)
 
 module _ (p : Player) (b : Meaning) (q : Queued) (e : due_action b.queue ≡ Some q) where
-  boxed_has : (spot : Spot) (step : Step) → HasItsNeed p b step → HasItsNeed p b (in_box p.selected spot step)
-  boxed_has spot step h = cond_both (is_selected p.selected spot) step (select_box spot) (λ (s : Step). HasItsNeed p b s) (λ t. h) (λ f. tt)
+  boxed_has : (meant : Bool) (spot : Spot) (step : Step) → HasItsNeed p b step → HasItsNeed p b (in_box p.selected meant spot step)
+  boxed_has meant spot step h =
+      cond_both (is_selected p.selected spot) step (elsewhere meant (above_at p.selected spot.name spot.validity) spot.name spot.validity)
+      (λ (s : Step). HasItsNeed p b s) (λ t. h)
+      (λ f. elsewhere_any (λ (s : Step). HasItsNeed p b s) p.selected meant spot.name spot.validity tt (λ n a. tt))
 
   send_has : (intent : Intent) → b.pending ≡ Some intent → IsSend (send_of (due_id b) q.action intent) → HasItsNeed p b steps.Send
   send_has intent pending h =
@@ -124,8 +129,8 @@ module _ (p : Player) (b : Meaning) (q : Queued) (e : due_action b.queue ≡ Som
     again_has false mark told spot = sends
     again_has true mark told spot = open_has mark told spot
 
-    again_boxed : (mark : ℕ) (told : Finding) (spot : Spot) → HasItsNeed p b (in_box p.selected spot (flag_again p.resumed mark told spot))
-    again_boxed mark told spot = boxed_has spot (flag_again p.resumed mark told spot) (again_has p.resumed mark told spot)
+    again_boxed : (mark : ℕ) (told : Finding) (spot : Spot) → HasItsNeed p b (in_box p.selected true spot (flag_again p.resumed mark told spot))
+    again_boxed mark told spot = boxed_has true spot (flag_again p.resumed mark told spot) (again_has p.resumed mark told spot)
 
     meant_has : (mark : ℕ) (spot : Spot) (told : Finding) → HasItsNeed p b (flag_meant p mark spot told)
     meant_has mark spot findings.Nothing = again_boxed mark findings.Nothing spot
@@ -152,8 +157,8 @@ module _ (p : Player) (b : Meaning) (q : Queued) (e : due_action b.queue ≡ Som
     move_again_has false told spot = sends
     move_again_has true told spot = move_open_has told spot
 
-    move_boxed : (told : Finding) (spot : Spot) → HasItsNeed p b (in_box p.selected spot (move_again p.resumed told spot))
-    move_boxed told spot = boxed_has spot (move_again p.resumed told spot) (move_again_has p.resumed told spot)
+    move_boxed : (told : Finding) (spot : Spot) → HasItsNeed p b (in_box p.selected true spot (move_again p.resumed told spot))
+    move_boxed told spot = boxed_has true spot (move_again p.resumed told spot) (move_again_has p.resumed told spot)
 
     move_meant_has : (spot : Spot) (told : Finding) → HasItsNeed p b (move_meant p spot told)
     move_meant_has spot findings.Nothing = move_boxed findings.Nothing spot
@@ -188,9 +193,10 @@ module _ (p : Player) (b : Meaning) (q : Queued) (e : due_action b.queue ≡ Som
 
       put_boxed : (told : Finding) → p.told ≡ told → HasItsNeed p b (append_in_box p to validity uidnext told)
       put_boxed told is =
-          cond_both (is_selected_at p.selected to validity) (append_again p.resumed told to validity uidnext) (select_under to validity)
+          cond_both (is_selected_at p.selected to validity) (append_again p.resumed told to validity uidnext)
+          (elsewhere true (above_at p.selected to validity) to validity)
           (λ (s : Step). HasItsNeed p b s)
-          (λ t. put_again_has p.resumed told is) (λ f. tt)
+          (λ t. put_again_has p.resumed told is) (λ f. elsewhere_any (λ (s : Step). HasItsNeed p b s) p.selected true to validity tt (λ n a. tt))
 
       put_meant_has : (told : Finding) → p.told ≡ told → HasItsNeed p b (append_meant p to validity uidnext told)
       put_meant_has findings.Nothing is = put_boxed findings.Nothing is
@@ -204,7 +210,7 @@ module _ (p : Player) (b : Meaning) (q : Queued) (e : due_action b.queue ≡ Som
 
   module _ (target : Target) (add : Bool) (flags : List (List ℕ)) (a : q.action ≡ actions.Flag target add flags) where
     flag_at_has : (pending : Option Intent) → b.pending ≡ pending → (spot : Spot) → HasItsNeed p b (step_flag_at p pending spot)
-    flag_at_has None h spot = boxed_has spot (flag_first p.told spot) (first_has p.told spot)
+    flag_at_has None h spot = boxed_has false spot (flag_first p.told spot) (first_has p.told spot)
     flag_at_has (Some (intents.Store name validity uid modseq)) h spot =
         meant_has
         (send_has (intents.Store name validity uid modseq) h
@@ -230,7 +236,7 @@ module _ (p : Player) (b : Meaning) (q : Queued) (e : due_action b.queue ≡ Som
 
   module _ (target : Target) (to : List ℕ) (a : q.action ≡ actions.Move target to) where
     move_at_has : (pending : Option Intent) → b.pending ≡ pending → (spot : Spot) → HasItsNeed p b (step_move_at p pending spot to)
-    move_at_has None h spot = boxed_has spot (move_first p.told spot to) (move_first_has p.told spot to)
+    move_at_has None h spot = boxed_has false spot (move_first p.told spot to) (move_first_has p.told spot to)
     move_at_has (Some (intents.Shift from validity uid other)) h spot =
         move_meant_has
         (send_has (intents.Shift from validity uid other) h

@@ -28,6 +28,7 @@ use Rattle.playback.specs.Kept.{KeptBook, Kept}
 use Rattle.playback.specs.Polite.{KeepsBox, KeepsWaiting, Spares, SparesBook}
 use Rattle.playback.proofs.Queueing.{Suited, is_suited}
 use Rattle.playback.proofs.Deeds.{batch_ours, batch_owned, batch_none}
+use Rattle.playback.proofs.Reaching.{others_reached}
 use Rattle.playback.proofs.Facts.{store_goes, shift_goes, put_goes, fresh_evolves, box_evolves, under_kept}
 
 -- the facts of a pending intent stay
@@ -107,6 +108,7 @@ module _ (b : Meaning) (s t : Server) (waiting : Option Waiting) (kept : KeptBoo
         };
         open_intent = open_after all.1;
         fresh = fresh_evolves b s.boxes t.boxes all.1 kept.fresh;
+        reached = others_reached b s t foreign all.1 kept.reached;
         waits = λ m. of_after b s t m.command foreign (subst (λ (o : Option Waiting). KeepsWaiting o s.boxes t.boxes) m.waits keeps) (kept.waits m);
       }
 

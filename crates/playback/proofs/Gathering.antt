@@ -2,6 +2,7 @@
 use Rattle.action_queue.specs.Book.{Meaning, cache_at, learned}
 use Rattle.action_queue.specs.Queues.{due_action}
 use Rattle.action_queue.specs.declared.action.Action.{Action}
+use Rattle.action_queue.specs.declared.intent.Intent.{Intent}
 use Rattle.action_queue.specs.declared.queued.Queued.{Queued}
 use Rattle.append_probe.specs.Question.{question_part}
 use Rattle.imap_model.proofs.Evolution.{box_same}
@@ -22,6 +23,7 @@ use Rattle.playback.proofs.Deducing.{put_intends}
 use Rattle.playback.proofs.Facts.{box_evolves, now_in, put_goes, squeezed}
 use Rattle.playback.proofs.Moments.{grows_given, since_same}
 use Rattle.playback.proofs.Onward.{knows_again, rest_now}
+use Rattle.playback.proofs.Placed.{no_select}
 use Rattle.playback.proofs.Purposes.{ChoosesBox, OfBox, Purpose, a_box, a_row, a_search, an_effect, purpose_of, the_ids}
 use Rattle.playback.specs.Allowed.{IsGathered, is_due, reply_of}
 use Rattle.playback.specs.Choosing.{IsChosen, chosen_box, chosen_due, chosen_for, chosen_in, wanted_by}
@@ -29,7 +31,7 @@ use Rattle.playback.specs.Course.{IsOneOf, Said}
 use Rattle.playback.specs.Fresh.{IsFreshFor}
 use Rattle.playback.specs.InBox.{InBox}
 use Rattle.playback.specs.Kept.{KeptBook}
-use Rattle.playback.specs.Knows.{Came, HasCome, Holds, IsAnswered, IsFetched, IsNeeded, IsQuiet, IsTold, IsUnsent, Knows, Rests}
+use Rattle.playback.specs.Knows.{Came, HasCome, Holds, IsAnswered, IsFetched, IsNeeded, IsPlaced, IsQuiet, IsTold, IsUnsent, Knows, Rests}
 use Rattle.playback.specs.Knows.{SelectsBox, with_rows}
 use Rattle.playback.specs.Needs.{IsPlain, need_of}
 use Rattle.playback.specs.Open.{PutFacts}
@@ -54,18 +56,18 @@ use Rattle.std.specs.Prelude.{◌==◌, nat_lt, if◌then◌else◌}
 use Rattle.std.proofs.Common.{not, ◌∷◌, ◌≡◌, ◌≢◌, ◌≤◌}
 use Rattle.std.proofs.lemmas.Bool.{cond_both, eqb-true, not-false}
 use Rattle.std.proofs.lemmas.Option.{same_Some}
-use Rattle.std.specs.Option.{is_some, option_map}
+use Rattle.std.specs.Option.{is_some}
 use Rattle.action_queue.specs.declared.action.Action.TheVariants as actions
 use Rattle.imap_model.specs.declared.command.Command.TheVariants as commands
 use Rattle.imap_model.specs.declared.ending.Ending.TheVariants as endings
 use Rattle.playback.specs.declared.finding.Finding.TheVariants as findings
 
 -- the command that is owed was answered
-record IsAsked (c : Waiting) (p : Player) (b : Meaning) (w : World) : Type 0 where
+pub record IsAsked (c : Waiting) (p : Player) (b : Meaning) (w : World) : Type 0 where
   pub needed : IsNeeded (need_of p b) c p.selected b
   pub answered : IsAnswered c p b w
 
-came_asked : (c : Waiting) (p : Player) (b : Meaning) (w : World) (owed waiting : Option Waiting) → owed ≡ Some c → waiting ≡ None →
+pub came_asked : (c : Waiting) (p : Player) (b : Meaning) (w : World) (owed waiting : Option Waiting) → owed ≡ Some c → waiting ≡ None →
     Came owed waiting p b w → IsAsked c p b w
 came_asked c p b w None None = λ o n k. absurd (cc)
 came_asked c p b w None (Some x) = λ o n k. absurd (cc)
@@ -80,11 +82,11 @@ AsksAll rows = (e : Said) → rows ≡ Some e → e.command.command ≡ commands
 apart : (x y : Said) → x ≡ y → x.command.command ≡ commands.FetchAll → y.command.command ≢ commands.FetchAll → ⊥
 apart x y e all n = n (sym (ap (λ (s : Said). s.command.command) e) ∙ all)
 
-record IsSameSaid (said other : Said) (rows others : Option Said) : Type 0 where
+pub record IsSameSaid (said other : Said) (rows others : Option Said) : Type 0 where
   pub one : said ≡ other
   pub rows_are : rows ≡ others
 
-same_said : (rows others : Option Said) (said other : Said) (rest rests : List Said) → AsksAll rows → AsksAll others →
+pub same_said : (rows others : Option Said) (said other : Said) (rest rests : List Said) → AsksAll rows → AsksAll others →
     said.command.command ≢ commands.FetchAll → other.command.command ≢ commands.FetchAll →
     with_rows rows (said ∷ rest) ≡ with_rows others (other ∷ rests) → IsSameSaid said other rows others
 same_said None None said other rest rests f g m n = λ e. record { one = cc; rows_are = refl }
@@ -94,18 +96,16 @@ same_said (Some x) (Some y) said other rest rests f g m n = λ e.
     let is : x ≡ y = cc in record { one = cc; rows_are = ap (λ (s : Said). Some s) is }
 
 -- the command of a SELECT is that of the step
-chooses : (p : Player) (b : Meaning) (w : World) (c : Waiting) (name : List ℕ) → SelectsBox name b c → Purpose p b w c → ChoosesBox p b c
+pub chooses : (p : Player) (b : Meaning) (w : World) (c : Waiting) (name : List ℕ) → SelectsBox name b c → Purpose p b w c → ChoosesBox p b c
 chooses p b w c name s (a_row x) =
-    let h : commands.FetchRow x.uid ≡ commands.Select name (option_map mark_of (cache_at name b.boxes)) = sym x.command
-    ∙ s.is in absurd (cc)
+    let h : commands.FetchRow x.uid ≡ commands.Select name s.since = sym x.command ∙ s.is in absurd (cc)
 chooses p b w c name s (an_effect x) = let h : true ≡ false = sym x.mutating ∙ ap is_mutating s.is in absurd (cc)
 chooses p b w c name s (a_box x) = x
 chooses p b w c name s (a_search x) =
-    let h : commands.Search x.uidnext (question_part x.append.id) ≡ commands.Select name (option_map mark_of (cache_at name b.boxes)) =
+    let h : commands.Search x.uidnext (question_part x.append.id) ≡ commands.Select name s.since =
     sym x.command ∙ s.is in absurd (cc)
 chooses p b w c name s (the_ids x) =
-    let h : commands.FetchIds x.found.uids ≡ commands.Select name (option_map mark_of (cache_at name b.boxes)) = sym x.command
-    ∙ s.is in absurd (cc)
+    let h : commands.FetchIds x.found.uids ≡ commands.Select name s.since = sym x.command ∙ s.is in absurd (cc)
 
 with_said : (rows : Option Said) (said : Said) (rest l : List Said) → l ≡ with_rows rows (said ∷ rest) → IsOneOf said l
 with_said None said rest l e = subst (λ (x : List Said). IsOneOf said x) (sym e) (inl refl)
@@ -123,9 +123,10 @@ module _ (p : Player) (b : Meaning) (w : World) (kept : KeptBook b w.course.now 
     (c : Waiting) (a : IsAnswered c p b w) (name : List ℕ) (box : OfBox name b) (selects : SelectsBox name b c)
     (accepted : a.said.reply.ending ≡ endings.Ok) (all_accepted : (e : Said) → a.rows ≡ Some e → e.reply.ending ≡ endings.Ok)
     (fetched : is_some a.rows ≡ is_due (cache_at name b.boxes) a.said.reply)
-    (tells : TellsDelta (cache_at name b.boxes) a.said.reply (reply_of a.rows) delta) where
+    (tells : TellsDelta (cache_at name b.boxes) a.said.reply (reply_of a.rows) delta)
+    (placed : p.resumed ≡ false → (intent : Intent) → b.pending ≡ Some intent → IsPlaced intent (chosen_box p b delta name)) where
   abbrev mark : Option Mark
-  mark = option_map mark_of (cache_at name b.boxes)
+  mark = selects.since
 
   abbrev s : Server
   s = a.said.before
@@ -216,7 +217,7 @@ module _ (p : Player) (b : Meaning) (w : World) (kept : KeptBook b w.course.now 
       let facts : FreshFacts cache old.box = old.facts (same_old cache e old.box old.there (reply_of None) t) in
       let levels : Levels cache delta old.box =
       kept_levels name cache old.box a.said.reply
-      (answers (Some (mark_of cache)) (ap (λ (o : Option Cache). option_map mark_of o) e) old.box old.there)
+      (answers (Some (mark_of cache)) (selects.knows cache e) old.box old.there)
       (sym (same_old cache e old.box old.there (reply_of None) t)) facts delta t in
       now_fresh (applied cache delta) s a.among old.box old.there levels.mirrors.fresh
   fresh_by (Some cache) e (Some x) r f t = absurd (cc)
@@ -288,7 +289,7 @@ module _ (p : Player) (b : Meaning) (w : World) (kept : KeptBook b w.course.now 
   taken_with told is plain i rests =
       knows_again p taken b w (given w) refl (grows_given w) known.course
       (since_same w.course.now kept.well) kept.well kept.open_intent known.valid
-      (subst (λ (t : Finding). IsTold t b w.course) (sym is) i)
+      (subst (λ (t : Finding). IsTold t b w.course) (sym is) i) placed
       (record {
         selected = refl;
         plain = subst (λ (t : Finding). IsPlain t) (sym is) plain;
@@ -315,11 +316,11 @@ module _ (p : Player) (b : Meaning) (w : World) (kept : KeptBook b w.course.now 
   pub taken_knows : Knows taken b (given w)
   taken_knows = taken_due (due_action b.queue) refl
 
-select_no_all : (c : Waiting) (name : List ℕ) (b : Meaning) → SelectsBox name b c → c.command ≢ commands.FetchAll
+pub select_no_all : (c : Waiting) (name : List ℕ) (b : Meaning) → SelectsBox name b c → c.command ≢ commands.FetchAll
 select_no_all c name b s e =
-    let h : commands.Select name (option_map mark_of (cache_at name b.boxes)) ≡ commands.FetchAll = sym s.is ∙ e in absurd (cc)
+    let h : commands.Select name s.since ≡ commands.FetchAll = sym s.is ∙ e in absurd (cc)
 
-no_all : (x : Said) (c : Waiting) → x.command ≡ c → c.command ≢ commands.FetchAll → x.command.command ≢ commands.FetchAll
+pub no_all : (x : Said) (c : Waiting) → x.command ≡ c → c.command ≢ commands.FetchAll → x.command.command ≢ commands.FetchAll
 no_all x c is n e = n (sym (ap (λ (y : Waiting). y.command) is) ∙ e)
 
 pub chosen_knows : (p r : Player) (b : Meaning) (w : World) (delta : Delta) → KeptBook b w.course.now w.waiting → IsGathered delta b w →
@@ -333,9 +334,7 @@ chosen_knows p r b w delta kept g chosen_is known =
     same_said a.rows g.rows a.said g.selected a.rest g.rest (λ e h. (a.fetched e h).asks) g.all_asks
     (no_all a.said g.command a.command never)
     (no_all g.selected g.command g.asks never) (sym a.last ∙ g.last) in
-    let names : commands.Select g.name (option_map mark_of (cache_at g.name b.boxes)) ≡ commands.Select x.name
-    (option_map mark_of (cache_at x.name b.boxes)) =
-    sym g.selects.is ∙ x.selects.is in
+    let names : commands.Select g.name g.selects.since ≡ commands.Select x.name x.selects.since = sym g.selects.is ∙ x.selects.is in
     let name_is : g.name ≡ x.name = cc in
     let fetched : is_some a.rows ≡ is_due (cache_at x.name b.boxes) a.said.reply =
     ap (λ (o : Option Said). is_some o) same.rows_are ∙ g.fetched
@@ -348,4 +347,5 @@ chosen_knows p r b w delta kept g chosen_is known =
     subst (λ (y : Player). Knows y b (given w)) (sym (chosen_is.1 ∙ ap (λ (t : Step). chosen_in p b delta (wanted_by t)) x.step))
     (taken_knows p b w kept g.answered known delta g.command a x.name x.box x.selects
     (ap (λ (y : Said). y.reply.ending) same.one ∙ g.accepted)
-    (λ e h. g.all_accepted e (sym same.rows_are ∙ h)) fetched tells)
+    (λ e h. g.all_accepted e (sym same.rows_are ∙ h)) fetched tells
+    (λ r intent e. absurd (no_select p b kept.sound r intent e (known.placed r intent e) p.learns x.name x.under x.step)))

@@ -53,6 +53,7 @@ sent b s before w k of = record {
   once = k.once;
   open_intent = k.open_intent;
   fresh = k.fresh;
+  reached = k.reached;
   waits = λ m. subst (λ (x : Waiting). IsOf b s x) (same_Some w m.command m.waits) of;
 }
 
@@ -84,6 +85,7 @@ quiet_keeps (Some b) s before later q k = record {
   once = k.once;
   open_intent = k.open_intent;
   fresh = k.fresh;
+  reached = k.reached;
   waits = λ m. absurd (q m);
 }
 

@@ -2,9 +2,9 @@
 use Rattle.std.proofs.Common.{◌≡◌, inl, inr, ℕ, suc, zero, ◌+◌, arith, Bool, true, false, cond, eqb, not, ◌&&◌, ◌||◌, List, [], ◌∷◌, Option}
 use Rattle.std.proofs.Common.{Some, None, Result, Ok, Err, refl, sym, ◌∙◌, ap, subst}
 use Rattle.std.specs.Option.{is_none, is_some}
-use Rattle.std.specs.Prelude.{IfOk, bytes_eq, slice_get}
+use Rattle.std.specs.Prelude.{IfOk, bytes_eq, nat_lt, slice_get, ◌<◌}
 use Rattle.std.specs.declared.alloc.AllocError.{AllocError}
-use Rattle.std.proofs.lemmas.Bool.{and_from, cond_both, cond-false, cond-true, eq-eqb}
+use Rattle.std.proofs.lemmas.Bool.{and_from, cond_both, cond-false, cond-true, eq-eqb, lt-ltb}
 use Rattle.std.proofs.lemmas.Option.{same_Some}
 use Rattle.imap_model.specs.declared.code.Code.{Code}
 use Rattle.imap_model.specs.declared.code.Code.TheVariants as codings
@@ -21,6 +21,9 @@ use Rattle.imap_model.specs.declared.command.Command.TheVariants as commands
 use Rattle.action_queue.specs.Book.{Meaning, known_at}
 use Rattle.action_queue.specs.Writable.{IsWritableAction}
 use Rattle.append_probe.specs.Laws.{PartsAreParts}
+use Rattle.playback.proofs.Elsewhere.{elsewhere_any}
+use Rattle.playback.specs.Steps.{above_at, elsewhere, renewed_as}
+use Rattle.action_queue.specs.Rules.{is_found_under, names_validity, intent_validity}
 use Rattle.playback.specs.declared.finding.Selected.{Selected}
 use Rattle.action_queue.specs.Queues.{due, due_action}
 use Rattle.action_queue.specs.Rules.{comes_before_intent, fits, follows_intent, is_early, is_misfit, is_misfit_of, is_misplaced, is_misplaced_of}
@@ -54,7 +57,7 @@ use Rattle.playback.specs.Resolved.{Resolves}
 use Rattle.playback.specs.Sound.{IsSound}
 use Rattle.playback.specs.Steps.{append_again, append_first, append_in_box, append_judged, append_meant, append_new, append_open, conflict}
 use Rattle.playback.specs.Steps.{flag_again, flag_first, flag_judged, flag_meant, flag_new, flag_open, in_box, is_selected, is_selected_at}
-use Rattle.playback.specs.Steps.{move_again, move_first, move_meant, move_open, select_any, select_box, select_under, step_action}
+use Rattle.playback.specs.Steps.{move_again, move_first, move_meant, move_open, select_any, step_action}
 use Rattle.playback.specs.Steps.{step_append, step_box, step_due, step_flag_at, step_flag_found, step_learn, step_move_at, step_move_found}
 use Rattle.playback.specs.declared.finding.Finding.{Finding}
 use Rattle.playback.specs.declared.finding.Finding.TheVariants as findings
@@ -137,6 +140,12 @@ module _ (b : Meaning) (q : Queued) (e : due_action b.queue ≡ Some q) where
       settle_ready outcome (ap (λ (o : Option Intent). is_none o && rests_on_intent outcome) pending)
       (none_and (is_some b.pending) (comes_before_intent outcome) later) placed fit
 
+-- what a target resolves to has one UIDVALIDITY
+one_validity : (f : Found) (spot : Spot) (name : List ℕ) (validity uid : ℕ) → f ≡ found.Real spot.name spot.validity spot.uid →
+    f ≡ found.Real name validity uid → validity ≡ spot.validity
+one_validity f spot name validity uid e g =
+    let is : found.Real spot.name spot.validity spot.uid ≡ found.Real name validity uid = sym e ∙ g in cc
+
 -- the step's need can be done
 abbrev IsLawfulStep : Player → Meaning → Step → Type 0
 IsLawfulStep p b step = IsLawfulNeed (need_for step p b) p b
@@ -149,11 +158,24 @@ selected_some (Some sel) name validity = λ t. refl
 
 -- the action that is due
 module _ (p : Player) (b : Meaning) (sound : IsSound b) (q : Queued) (e : due_action b.queue ≡ Some q) where
-  boxed_may : (spot : Spot) (step : Step) → IsKnown spot.name b → (is_some p.selected ≡ true → IsLawfulStep p b step) →
-      IsLawfulStep p b (in_box p.selected spot step)
-  boxed_may spot step known h =
-      cond_both (is_selected p.selected spot) step (select_box spot) (λ (s : Step). IsLawfulStep p b s)
-      (λ t. h (selected_some p.selected spot.name spot.validity t)) (λ f. known)
+  boxed_may : (meant : Bool) (spot : Spot) (step : Step) → IsKnown spot.name b → (is_some p.selected ≡ true → IsLawfulStep p b step) →
+      ((n : ℕ) → spot.validity < n → IsLawfulStep p b (conflict (renewed_as meant spot.validity n))) →
+      IsLawfulStep p b (in_box p.selected meant spot step)
+  boxed_may meant spot step known h above =
+      cond_both (is_selected p.selected spot) step (elsewhere meant (above_at p.selected spot.name spot.validity) spot.name spot.validity)
+      (λ (s : Step). IsLawfulStep p b s) (λ t. h (selected_some p.selected spot.name spot.validity t))
+      (λ f. elsewhere_any (λ (s : Step). IsLawfulStep p b s) p.selected meant spot.name spot.validity known (λ n a. above n a.above))
+
+  -- the numbers of a mailbox that was renewed
+  found_fits : (f : Found) (name : List ℕ) (v uid n : ℕ) → f ≡ found.Real name v uid → v < n → (is_found_under f v && nat_lt v n) ≡ true
+  found_fits f name v uid n is l =
+      and_from (is_found_under f v) (nat_lt v n) (ap (λ (x : Found). is_found_under x v) is ∙ eq-eqb v v refl) (lt-ltb v n l)
+
+  intent_fits : (intent : Intent) → b.pending ≡ Some intent → (v n : ℕ) → intent_validity intent ≡ v → v < n →
+      (names_validity b.pending v && nat_lt v n) ≡ true
+  intent_fits intent pending v n is l =
+      and_from (names_validity b.pending v) (nat_lt v n)
+      (ap (λ (o : Option Intent). names_validity o v) pending ∙ eq-eqb (intent_validity intent) v is) (lt-ltb v n l)
 
   knows_boxes : is_unknown_action b.boxes q.action ≡ false
   knows_boxes = sound.boxes (due b.queue) q e
@@ -203,7 +225,8 @@ module _ (p : Player) (b : Meaning) (sound : IsSound b) (q : Queued) (e : due_ac
         flag_first_may (findings.Candidates uids) t = (tt, t)
         flag_first_may (findings.Probed verdict) t = (tt, t)
 
-      module _ (name : List ℕ) (validity uid mark : ℕ) (pending : b.pending ≡ Some (intents.Store name validity uid mark)) where
+      module _ (name : List ℕ) (validity uid mark : ℕ) (pending : b.pending ≡ Some (intents.Store name validity uid mark))
+          (under : validity ≡ spot.validity) where
         flag_send_may : is_some p.selected ≡ true → IsLawfulStep p b steps.Send
         flag_send_may =
             send_may (intents.Store name validity uid mark) pending (commands.Store uid mark add asked) refl
@@ -237,8 +260,11 @@ module _ (p : Player) (b : Meaning) (sound : IsSound b) (q : Queued) (e : due_ac
         flag_again_may false told t = flag_send_may t
         flag_again_may true told t = flag_open_may told t
 
-        flag_boxed_may : (told : Finding) → IsLawfulStep p b (in_box p.selected spot (flag_again p.resumed mark told spot))
-        flag_boxed_may told = boxed_may spot (flag_again p.resumed mark told spot) known (flag_again_may p.resumed told)
+        flag_boxed_may : (told : Finding) → IsLawfulStep p b (in_box p.selected true spot (flag_again p.resumed mark told spot))
+        flag_boxed_may told =
+            boxed_may true spot (flag_again p.resumed mark told spot) known (flag_again_may p.resumed told)
+            (λ n l. flag_later (intents.Store name validity uid mark) pending (kinds.ResetAfterLoss spot.validity n) refl
+            (intent_fits (intents.Store name validity uid mark) pending spot.validity n under l))
 
         flag_meant_may : (told : Finding) → MayEnd told b → IsLawfulStep p b (flag_meant p mark spot told)
         flag_meant_may findings.Nothing m = flag_boxed_may findings.Nothing
@@ -252,8 +278,15 @@ module _ (p : Player) (b : Meaning) (sound : IsSound b) (q : Queued) (e : due_ac
 
       flag_at_may : MayEnd p.told b → resolved b.queue target ≡ found.Real spot.name spot.validity spot.uid → (pending : Option Intent) →
           b.pending ≡ pending → IsLawfulStep p b (step_flag_at p pending spot)
-      flag_at_may ends is None h = boxed_may spot (flag_first p.told spot) known (flag_first_may is h p.told)
-      flag_at_may ends is (Some (intents.Store name validity uid mark)) h = flag_meant_may name validity uid mark h p.told ends
+      flag_at_may ends is None h =
+          boxed_may false spot (flag_first p.told spot) known (flag_first_may is h p.told)
+          (λ n l. flag_free h (kinds.ValidityChanged spot.validity n) refl
+          (found_fits (resolved b.queue target) spot.name spot.validity spot.uid n is l))
+      flag_at_may ends is (Some (intents.Store name validity uid mark)) h =
+          let s : Suited b.queue (actions.Flag target add asked) (intents.Store name validity uid mark) =
+          subst (λ (x : Action). Suited b.queue x (intents.Store name validity uid mark)) a
+          (suited_is b sound q e (intents.Store name validity uid mark) h) in
+          flag_meant_may name validity uid mark h (one_validity (resolved b.queue target) spot name validity uid is s) p.told ends
       flag_at_may ends is (Some (intents.Shift from validity uid to)) h = known
       flag_at_may ends is (Some (intents.Put to validity uidnext)) h = known
 
@@ -298,7 +331,7 @@ module _ (p : Player) (b : Meaning) (sound : IsSound b) (q : Queued) (e : due_ac
         move_first_may (findings.Probed verdict) t = (tt, t)
 
       module _ (from : List ℕ) (validity uid : ℕ) (other : List ℕ)
-          (pending : b.pending ≡ Some (intents.Shift from validity uid other)) where
+          (pending : b.pending ≡ Some (intents.Shift from validity uid other)) (under : validity ≡ spot.validity) where
         move_send_may : is_some p.selected ≡ true → IsLawfulStep p b steps.Send
         move_send_may =
             send_may (intents.Shift from validity uid other) pending (commands.Shift uid other) refl
@@ -323,8 +356,12 @@ module _ (p : Player) (b : Meaning) (sound : IsSound b) (q : Queued) (e : due_ac
         move_again_may false told t = move_send_may t
         move_again_may true told t = move_open_may told t
 
-        move_boxed_may : (told : Finding) → IsLawfulStep p b (in_box p.selected spot (move_again p.resumed told spot))
-        move_boxed_may told = boxed_may spot (move_again p.resumed told spot) known (move_again_may p.resumed told)
+        move_boxed_may : (told : Finding) → IsLawfulStep p b (in_box p.selected true spot (move_again p.resumed told spot))
+        move_boxed_may told =
+            boxed_may true spot (move_again p.resumed told spot) known (move_again_may p.resumed told)
+            (λ n l. meant_ready b q e (intents.Shift from validity uid other) pending (outcomes.Conflict (kinds.ResetAfterLoss spot.validity n)) refl refl
+            (ap not (subst (λ (x : Action). fits b x (kinds.ResetAfterLoss spot.validity n) ≡ true) (sym a)
+            (intent_fits (intents.Shift from validity uid other) pending spot.validity n under l))))
 
         move_meant_may : (told : Finding) → MayEnd told b → IsLawfulStep p b (move_meant p spot told)
         move_meant_may findings.Nothing m = move_boxed_may findings.Nothing
@@ -338,8 +375,15 @@ module _ (p : Player) (b : Meaning) (sound : IsSound b) (q : Queued) (e : due_ac
 
       move_at_may : MayEnd p.told b → resolved b.queue target ≡ found.Real spot.name spot.validity spot.uid → (pending : Option Intent) →
           b.pending ≡ pending → IsLawfulStep p b (step_move_at p pending spot to)
-      move_at_may ends is None h = boxed_may spot (move_first p.told spot to) known (move_first_may is h p.told)
-      move_at_may ends is (Some (intents.Shift from validity uid other)) h = move_meant_may from validity uid other h p.told ends
+      move_at_may ends is None h =
+          boxed_may false spot (move_first p.told spot to) known (move_first_may is h p.told)
+          (λ n l. move_free h (kinds.ValidityChanged spot.validity n) refl
+          (found_fits (resolved b.queue target) spot.name spot.validity spot.uid n is l))
+      move_at_may ends is (Some (intents.Shift from validity uid other)) h =
+          let s : Suited b.queue (actions.Move target to) (intents.Shift from validity uid other) =
+          subst (λ (x : Action). Suited b.queue x (intents.Shift from validity uid other)) a
+          (suited_is b sound q e (intents.Shift from validity uid other) h) in
+          move_meant_may from validity uid other h (one_validity (resolved b.queue target) spot from validity uid is s.0) p.told ends
       move_at_may ends is (Some (intents.Store name validity uid mark)) h = known
       move_at_may ends is (Some (intents.Put other validity uidnext)) h = known
 
@@ -422,9 +466,13 @@ module _ (p : Player) (b : Meaning) (sound : IsSound b) (q : Queued) (e : due_ac
 
       put_boxed_may : (told : Finding) → p.told ≡ told → IsLawfulStep p b (append_in_box p to validity uidnext told)
       put_boxed_may told is =
-          cond_both (is_selected_at p.selected to validity) (append_again p.resumed told to validity uidnext) (select_under to validity)
-          (λ (s : Step). IsLawfulStep p b s)
-          (λ t. put_again_may p.resumed told is (selected_some p.selected to validity t)) (λ f. knows_box)
+          cond_both (is_selected_at p.selected to validity) (append_again p.resumed told to validity uidnext)
+          (elsewhere true (above_at p.selected to validity) to validity) (λ (s : Step). IsLawfulStep p b s)
+          (λ t. put_again_may p.resumed told is (selected_some p.selected to validity t))
+          (λ f. elsewhere_any (λ (s : Step). IsLawfulStep p b s) p.selected true to validity knows_box
+          (λ n above. meant_ready b q e (intents.Put other validity uidnext) pending (outcomes.Conflict (kinds.ResetAfterLoss validity n)) refl refl
+          (ap not (subst (λ (x : Action). fits b x (kinds.ResetAfterLoss validity n) ≡ true) (sym a)
+          (intent_fits (intents.Put other validity uidnext) pending validity n refl above.above)))))
 
       put_meant_may : (told : Finding) → p.told ≡ told → MayEnd told b → IsLawfulStep p b (append_meant p to validity uidnext told)
       put_meant_may findings.Nothing is m = put_boxed_may findings.Nothing is

@@ -6,6 +6,7 @@ pub mod Marks
 pub mod Staying
 pub mod Deeds
 pub mod Facts
+pub mod Reaching
 pub mod Carrying
 pub mod Foreign
 pub mod Entering
@@ -30,6 +31,8 @@ pub mod PlayerRows
 pub mod WhyNot
 pub mod Moments
 pub mod Onward
+pub mod Elsewhere
+pub mod Placed
 pub mod Recording
 pub mod RowFacts
 pub mod Endings
@@ -39,6 +42,10 @@ pub mod Fetches
 pub mod Purposes
 pub mod Taking
 pub mod Gathering
+pub mod Resetting
+pub mod ResetBook
+pub mod Naming
+pub mod Lower
 pub mod Playing
 pub mod Calls
 pub mod Besides
@@ -51,3 +58,4 @@ pub mod Committing
 pub mod Learning
 pub mod CodesTold
 pub mod PlayedThrough
+pub mod PlayedOver

@@ -19,28 +19,29 @@ use Rattle.action_queue.specs.declared.queued.Queued.{Queued}
 use Rattle.action_queue.specs.Book.{Meaning, after, learned}
 use Rattle.action_queue.specs.Events.{IsLawful}
 use Rattle.action_queue.specs.declared.event.Event.TheVariants as events
+use Rattle.action_queue.specs.declared.intent.Intent.{Intent}
 use Rattle.action_queue.specs.declared.intent.Intent.TheVariants as intents
 use Rattle.action_queue.specs.declared.outcome.Outcome.TheVariants as outcomes
 use Rattle.action_queue.specs.declared.rule.Version.TheVariants.{First}
-use Rattle.playback.specs.InBox.{InBox}
-use Rattle.playback.specs.Open.{IsOpenNow, StoreFacts, PutFacts, some_of}
+use Rattle.playback.specs.InBox.{InBox, InBoxNow}
+use Rattle.playback.specs.Open.{IsOpenNow, StoreFacts, PutFacts, intent_name, intent_validity, some_of}
 use Rattle.append_probe.specs.Marked.{at_least, marked}
 use Rattle.playback.specs.Fresh.{IsFreshFor}
 use Rattle.playback.specs.Of.{IsOf}
 use Rattle.playback.specs.Kept.{KeptBook}
 use Rattle.playback.specs.Example.{box_name, box_with, message_with, server_before, server_after, asked, meant, sent_out, book_one, book_two, book_three}
 use Rattle.playback.specs.Needed.{done, refused, meant_above, without_the_row, learns, text, id, appends, book_that_appends}
-use Rattle.playback.specs.Needed.{box_with_one_more, server_with_one_more, BreaksIt}
+use Rattle.playback.specs.Needed.{box_renewed, box_with_one_more, server_renewed, server_with_one_more, BreaksIt}
 use Rattle.playback.proofs.Carrying.{nothing_waits, carries_book}
 use Rattle.playback.proofs.Entering.{book_keeps, event_keeps}
 use Rattle.playback.proofs.Keeping.{sent}
-use Rattle.playback.proofs.Showing.{begin_follows, accept_follows, intend_follows, intend_may, is_of, carried_out, start_kept}
+use Rattle.playback.proofs.Showing.{begin_follows, accept_follows, accept_may, intend_follows, intend_may, is_of, carried_out, start_kept}
 
 kept_one : KeptBook book_one server_before None
 kept_one = book_keeps None (events.Begin (box_name ∷ [])) server_before None start_kept begin_follows (tt, nothing_waits)
 
 pub kept_two : KeptBook book_two server_before None
-kept_two = event_keeps book_one (events.Accept 1 asked) server_before None kept_one accept_follows (lit≤ tt, lit≤ tt)
+kept_two = event_keeps book_one (events.Accept 1 asked) server_before None kept_one accept_follows accept_may
 
 pub kept_three : KeptBook book_three server_before None
 kept_three = event_keeps book_two (events.Intend 1 meant) server_before None kept_two intend_follows intend_may
@@ -125,7 +126,8 @@ book_with_append = after book_one (events.Accept 1 appends)
 
 append_accepted : KeptBook book_with_append server_before None
 append_accepted =
-    event_keeps book_one (events.Accept 1 appends) server_before None kept_one (record { version = First; unbroken = refl }) (lit≤ tt, text_id)
+    event_keeps book_one (events.Accept 1 appends) server_before None kept_one (record { version = First; unbroken = refl })
+    ((lit≤ tt, text_id), tt)
 
 pub append_meant : KeptBook book_that_appends server_before None
 append_meant =
@@ -174,3 +176,31 @@ more_breaks k =
 pub others_spare : KeptBook book_that_appends server_before None × Batch server_before.boxes server_before server_with_one_more
     × ¬ (KeptBook book_that_appends server_with_one_more None)
 others_spare = (append_meant, one_more, more_breaks)
+
+renewed : Batch server_before.boxes server_before server_renewed
+renewed = more box_name (changes.Reset 6 (1 ∷ []) 2 12) (record {
+  effect = record {
+    before = box_with [] 10;
+    after = box_renewed;
+    there = refl;
+    becomes = record { above = lit< tt; rise = (lit≤ tt, lit< tt, tt); as_many = refl; becomes = refl };
+    put = refl;
+  };
+  history = refl;
+}) none
+
+-- the STORE that waits is one for the UIDVALIDITY of its intent
+renewed_breaks : ¬ (KeptBook book_three server_renewed (Some sent_out))
+renewed_breaks k =
+    let of : IsOf book_three server_renewed sent_out = k.waits (record { command = sent_out; waits = refl; mutating = refl }) in
+    let is : Some meant ≡ Some of.intent = of.pending in
+    let at : InBoxNow (λ _. Unit {0}) (intent_name of.intent) (intent_validity of.intent) server_renewed.boxes = of.at in
+    let here : InBoxNow (λ _. Unit {0}) box_name 5 server_renewed.boxes =
+    subst (λ (i : Intent). InBoxNow (λ _. Unit {0}) (intent_name i) (intent_validity i) server_renewed.boxes) (sym (same_Some meant of.intent is)) at in
+    let box : box_renewed ≡ here.box = same_Some box_renewed here.box here.there in
+    let six : 6 ≡ here.box.validity = ap (λ (b : Mailbox). b.validity) box in
+    absurd (omega (arith, six, here.same))
+
+pub others_settle : KeptBook book_three server_before (Some sent_out) × Batch server_before.boxes server_before server_renewed
+    × ¬ (KeptBook book_three server_renewed (Some sent_out))
+others_settle = (kept_sent, renewed, renewed_breaks)

@@ -1,5 +1,5 @@
 -- What the player knows is kept as the server goes on, and as commands are sent and carried out.
-use Rattle.action_queue.specs.Book.{Meaning, cache_at}
+use Rattle.action_queue.specs.Book.{Meaning}
 use Rattle.action_queue.specs.Targets.{resolved}
 use Rattle.action_queue.specs.declared.action.Action.{Action}
 use Rattle.action_queue.specs.declared.found.Found.{Found}
@@ -29,7 +29,7 @@ use Rattle.playback.proofs.Moments.{intent_grows, learns_stay, rests_grows, sent
 use Rattle.playback.proofs.Moments.{since_same, stays_is, stays_others, stays_same, stays_then, told_grows, under_stays, unsent_grows}
 use Rattle.playback.specs.Course.{IsCourse, Said}
 use Rattle.playback.specs.Kept.{KeptBook}
-use Rattle.playback.specs.Knows.{Came, FetchesRows, HasCome, HasEnded, IsAnswered, IsFetched, IsNeeded, IsResting, IsTold, IsUnsent}
+use Rattle.playback.specs.Knows.{Came, FetchesRows, HasCome, HasEnded, IsAnswered, IsFetched, IsNeeded, IsPlaced, IsResting, IsTold, IsUnsent}
 use Rattle.playback.specs.Knows.{IsWaiting, Knows, Learning, MayAskRows, Rests, Stays, with_rows}
 use Rattle.playback.specs.Needs.{due_id, need_for, need_learn, need_of}
 use Rattle.playback.specs.Of.{IsOf}
@@ -48,11 +48,9 @@ use Rattle.playback.specs.declared.player.Player.{Player}
 use Rattle.playback.specs.declared.step.Step.{Step}
 use Rattle.qresync_core.proofs.Replying.{codes_true, select_box, selecting}
 use Rattle.qresync_core.specs.Laws.{codes_of_box}
-use Rattle.qresync_core.specs.Marking.{mark_of}
 use Rattle.qresync_core.specs.ToldCodes.{told_codes}
 use Rattle.std.proofs.Common.{Bool, List, None, Ok, Option, Some, ap, false, inl, inr, refl, subst, sym, true, ℕ, ⊎_elim, ◌∙◌, ◌∷◌, ◌≡◌}
 use Rattle.std.proofs.lemmas.Option.{same_Some}
-use Rattle.std.specs.Option.{option_map}
 use Rattle.action_queue.specs.declared.action.Action.TheVariants as actions
 use Rattle.imap_model.specs.declared.command.Command.TheVariants as commands
 use Rattle.imap_model.specs.declared.ending.Ending.TheVariants as endings
@@ -69,13 +67,15 @@ use Rattle.playback.specs.declared.step.Step.TheVariants as steps
 pub knows_again : (p r : Player) (b : Meaning) (w v : World) → r.resumed ≡ p.resumed → Grows w v → IsCourse v.course →
     Since w.course.now v.course.now → IsWellFormed v.course.now.boxes → Open b v.course.now →
     ((selected : Selected) → v.selected ≡ Some selected → IsAt selected v.course.now) → IsTold r.told b v.course →
+    (r.resumed ≡ false → (intent : Intent) → b.pending ≡ Some intent → IsPlaced intent r) →
     Learning r.learns r b v.course.now → Came v.owed v.waiting r b v → Knows p b w → Knows r b v
-knows_again p r b w v same g course step well opened valid told learns came k = record {
+knows_again p r b w v same g course step well opened valid told placed learns came k = record {
   course = course;
   since = since_grows w v g step well k.since;
   valid = valid;
   fresh = λ n. same ∙ k.fresh n;
   meant = λ t intent e. intent_grows intent b w v g (k.meant (sym same ∙ t) intent e);
+  placed = placed;
   resumed = λ t. each_moment (λ (s : Server). Open b s) w v g opened (k.resumed (sym same ∙ t));
   told = told;
   learns = learns;
@@ -87,7 +87,7 @@ pub knows_from : (p : Player) (b : Meaning) (w v : World) → Grows w v → IsCo
     ((selected : Selected) → v.selected ≡ Some selected → IsAt selected v.course.now) →
     Came v.owed v.waiting p b v → Knows p b w → Knows p b v
 knows_from p b w v g course step well opened valid came k =
-    knows_again p p b w v refl g course step well opened valid (told_grows p.told b w v g k.told)
+    knows_again p p b w v refl g course step well opened valid (told_grows p.told b w v g k.told) k.placed
     (learns_stay p.learns p b w.course.now v.course.now step k.learns) came k
 
 -- nothing is owed, so nothing waits
@@ -299,7 +299,7 @@ module _ (p : Player) (b : Meaning) (w : World) (c : Waiting) (may : MayAskRows 
       let lists : x ∷ a.said ∷ a.rest ≡ may.said ∷ may.rest =
       sym (a.last ∙ ap (λ (o : Option Said). with_rows o (a.said ∷ a.rest)) e) ∙ may.last in
       let same : x ≡ may.said = cc in
-      let select : commands.FetchAll ≡ commands.Select may.name (option_map mark_of (cache_at may.name b.boxes)) =
+      let select : commands.FetchAll ≡ commands.Select may.name may.selects.since =
       sym f.asks ∙ ap (λ (s : Said). s.command.command) same ∙ ap (λ (x : Waiting). x.command) may.answers ∙ may.selects.is in
       absurd (cc)
 
@@ -330,6 +330,7 @@ asks_know p b w c may k = record {
   valid = k.valid;
   fresh = k.fresh;
   meant = k.meant;
+  placed = k.placed;
   resumed = k.resumed;
   told = k.told;
   learns = k.learns;

@@ -19,8 +19,11 @@ use Rattle.imap_model.specs.declared.server.Server.{Server}
 use Rattle.imap_model.specs.declared.server.Mailbox.{Mailbox}
 use Rattle.imap_model.specs.declared.server.Message.{Message}
 use Rattle.imap_model.proofs.Remarking.{here}
+use Rattle.mailbox_cache.specs.Cache.{first}
+use Rattle.mailbox_cache.specs.declared.cache.Cache.{Cache}
 use Rattle.mailbox_cache.specs.declared.delta.Delta.{Delta}
 use Rattle.qresync_core.specs.Fitting.{Fits}
+use Rattle.qresync_core.specs.Marking.{mark_of}
 use Rattle.qresync_core.specs.Resync.{TellsDelta}
 use Rattle.playback.specs.Allowed.{IsGathered, IsReply}
 use Rattle.playback.specs.Choosing.{FitsWanted}
@@ -29,6 +32,7 @@ use Rattle.playback.specs.Example.{asked, book_two, box_name, box_with, flag, me
 use Rattle.playback.specs.Games.{Game, IsGood, Play}
 use Rattle.playback.specs.Games.Play.{rests, turns}
 use Rattle.playback.specs.Games.Turn.{asks, carries, chooses, hears, records, sends}
+use Rattle.playback.specs.Knows.{SelectsBox}
 use Rattle.playback.specs.Needs.{need_of}
 use Rattle.playback.specs.PlaysThrough.{PlaysThrough, ask_row, ask_rows, box_told, delta_first, delta_last, first_told, game_end}
 use Rattle.playback.specs.PlaysThrough.{game_learned, game_meant, game_one, game_settled, game_told, last_told, new_row, one_row, row_told}
@@ -79,7 +83,7 @@ first_selects : CarriesOut select_first server_before first_told server_before (
 first_selects = record { box = box_with [] 10; there = refl; server = refl; selection = refl; tells = first_tells }
 
 -- the rows are told
-row_there : (flags : List (List ℕ)) (modseq uid : ℕ) (m : Message) → message_at uid (message_with flags modseq ∷ []) ≡ Some m
+pub row_there : (flags : List (List ℕ)) (modseq uid : ℕ) (m : Message) → message_at uid (message_with flags modseq ∷ []) ≡ Some m
     → RowTold (row_told flags modseq ∷ []) m
 row_there flags modseq uid m e =
     one_message flags modseq uid m (λ (x : Message). RowTold (row_told flags modseq ∷ []) x) (here (row_told flags modseq) []) e
@@ -173,7 +177,7 @@ name_in (needs.Select name) = name
 name_in need = []
 
 -- what is told fits the one mailbox that is to be selected
-fits : (p : Player) (b : Meaning) (delta : Delta) → need_of p b ≡ needs.Select box_name → Fits (cache_at box_name b.boxes) delta
+pub fits : (p : Player) (b : Meaning) (delta : Delta) → need_of p b ≡ needs.Select box_name → Fits (cache_at box_name b.boxes) delta
     → HaveFewFlags delta.rows → FitsWanted p b (Ok delta)
 fits p b delta is f few name e =
     subst (λ (n : List ℕ). Fits (cache_at n b.boxes) delta × HaveFewFlags delta.rows) (ap name_in (sym is ∙ e)) (f, few)
@@ -181,6 +185,17 @@ fits p b delta is f few name e =
 -- the FETCH of all rows, as it was answered
 abbrev rows_said : Said
 rows_said = record { command = ask_rows; before = server_before; behind = server_before; reply = one_row }
+
+-- each SELECT names what was recorded of its mailbox
+selects_first : (alloc : Global) → SelectsBox box_name (game_one alloc).book select_first
+selects_first alloc = record { since = None; is = refl; knows = λ cache e. absurd (cc) }
+
+selects_last : (alloc : Global) → SelectsBox box_name (game_settled alloc).book select_last
+selects_last alloc = record {
+  since = Some (record { validity = 5; modseq = 10 });
+  is = refl;
+  knows = λ cache e. ap (λ (x : Cache). Some (mark_of x)) (same_Some (first delta_first) cache e);
+}
 
 first_gathered : (alloc : Global) → IsGathered delta_first (game_told alloc).book (game_told alloc).world
 first_gathered alloc = record {
@@ -193,7 +208,7 @@ first_gathered alloc = record {
   answered = refl;
   asks = refl;
   name = box_name;
-  selects = record { is = refl };
+  selects = selects_first alloc;
   accepted = refl;
   all_asks = λ e is. subst (λ (x : Said). x.command.command ≡ commands.FetchAll) (same_Some rows_said e is) refl;
   all_accepted = λ e is. subst (λ (x : Said). x.reply.ending ≡ endings.Ok) (same_Some rows_said e is) refl;
@@ -216,7 +231,7 @@ last_gathered alloc = record {
   answered = refl;
   asks = refl;
   name = box_name;
-  selects = record { is = refl };
+  selects = selects_last alloc;
   accepted = refl;
   all_asks = λ e is. absurd (cc);
   all_accepted = λ e is. absurd (cc);
@@ -244,14 +259,14 @@ is_reply c r t x apart ok = record {
 -- the turns up to the first record, and from each record to the next
 learns_first : (alloc : Global) → Play (game_learned alloc) (game_end alloc) → Play (game_one alloc) (game_end alloc)
 learns_first alloc later =
-    turns (sends select_first refl (record { is = refl }))
+    turns (sends select_first refl (selects_first alloc))
     (turns (carries select_first first_told server_before (Some box_name) refl first_selects)
     (turns (asks ask_rows (record {
       select = select_first;
       owed = refl;
       none_waits = refl;
       name = box_name;
-      selects = record { is = refl };
+      selects = selects_first alloc;
       said = _;
       rest = [];
       last = refl;
@@ -287,7 +302,7 @@ settles_it alloc later =
 
 learns_last : (alloc : Global) → Play (game_settled alloc) (game_end alloc)
 learns_last alloc =
-    turns (sends select_last refl (record { is = refl }))
+    turns (sends select_last refl (selects_last alloc))
     (turns (carries select_last last_told server_after (Some box_name) refl last_selects)
     (turns (chooses delta_last (chooses_to delta_last (game_last alloc)).player
     (fits (game_last alloc).player (game_last alloc).book delta_last refl (refl, refl, lit≤ tt) (lit≤ tt, tt))

@@ -3,7 +3,7 @@ use Rattle.std.proofs.Common.{List, [], arith, inl, inr, refl, subst, suc, sym, 
 use Rattle.imap_model.specs.CarriedOut.{FoundTold}
 use Rattle.imap_model.specs.declared.response.Response.{Response}
 use Rattle.imap_model.specs.declared.response.Response.TheVariants as responses
-use Rattle.playback.specs.PlayerRows.{AppendRows, FlagRows, MoveRows, NeedsInCases, OpenStoreRows, StoreRows, one, told}
+use Rattle.playback.specs.PlayerRows.{AppendRows, FlagRows, MoveRows, NeedsInCases, OpenStoreRows, RenewedRows, StoreRows, one, told}
 use Rattle.playback.specs.Replying.{HearsFound}
 use Rattle.playback.specs.declared.finding.Finding.TheVariants as findings
 use Rattle.append_probe.specs.declared.verdict.Verdict.TheVariants as verdicts
@@ -65,6 +65,24 @@ move_rows alloc = record {
   source_gone = refl;
 }
 
+renewed_rows : (alloc : Global) → RenewedRows alloc
+renewed_rows alloc = record {
+  flag = refl;
+  move = refl;
+  lower = refl;
+  elsewhere = refl;
+  open_flag = refl;
+  open_move = refl;
+  open_append = refl;
+  append = refl;
+  below = refl;
+  above = refl;
+  takes_away = refl;
+  same = refl;
+  fell = refl;
+  none_kept = refl;
+}
+
 append_rows : (alloc : Global) → AppendRows alloc
 append_rows alloc = record {
   selects = refl;
@@ -80,4 +98,4 @@ append_rows alloc = record {
 }
 
 pub needs_rows : NeedsInCases
-needs_rows = record { flag = flag_rows; store = store_rows; open_store = open_store_rows; move = move_rows; append = append_rows }
+needs_rows = record { flag = flag_rows; store = store_rows; open_store = open_store_rows; move = move_rows; append = append_rows; renewed = renewed_rows }

@@ -19,11 +19,12 @@ use Rattle.playback.proofs.Allowing.{allowed_need}
 use Rattle.playback.proofs.Lawfulness.{lawful_need}
 use Rattle.playback.proofs.Taking.{heard_knows}
 use Rattle.playback.proofs.Gathering.{chosen_knows}
+use Rattle.playback.proofs.Resetting.{is_reset, reset_beside, reset_kept, reset_knows}
 use Rattle.playback.proofs.Besides.{chosen_beside, heard_beside}
 use Rattle.playback.proofs.Calls.{counts, covers, parts}
 use Rattle.playback.specs.Allowed.{IsAllowed, MaySend, Records}
-use Rattle.playback.specs.Games.{Game, IsGood, IsSafe, Play, PlaysWell, Turn}
-use Rattle.playback.specs.Games.{asks, carries, chooses, hears, others, records, rests, sends, turns}
+use Rattle.playback.specs.Games.{Game, IsGood, IsSafe, IsSafeNeed, Play, PlaysWell, Turn}
+use Rattle.playback.specs.Games.{asks, carries, chooses, hears, others, records, resets, rests, sends, turns}
 use Rattle.playback.specs.Kept.{KeptBook}
 use Rattle.playback.specs.Knows.{IsNeeded, OfTag}
 use Rattle.playback.specs.Needs.{IsLawfulNeed, due_id, need_of}
@@ -75,9 +76,12 @@ records_keep p b w event (needs.Settle n outcome) kept lawful ok is =
 records_keep p b w event (needs.Send n command) kept lawful ok is = absurd is
 records_keep p b w event needs.Finished kept lawful ok is = absurd is
 
-safe_now : (x : Game) → IsGood x → IsSafe x
-safe_now x good owed =
+safe_need : (x : Game) → IsGood x → IsSafeNeed x
+safe_need x good owed =
     (lawful_need parts x.player x.book good.kept.sound good.beside, allowed_need x.player x.book x.world good.kept owed good.knows)
+
+safe_now : (x : Game) → IsGood x → IsSafe x
+safe_now x good = (safe_need x good, λ name kept told may. is_reset x.player x.book x.world name kept told may good.kept good.knows)
 
 turn_keeps : (x y : Game) → Turn x y → IsGood x → IsGood y
 turn_keeps x y (others t act) good = record {
@@ -119,7 +123,7 @@ turn_keeps x y (chooses delta p fits is chosen) good = record {
 }
 turn_keeps x y (records event owed is) good =
     let safe : IsLawfulNeed (need_of x.player x.book) x.player x.book × IsAllowed (need_of x.player x.book) x.player x.book x.world =
-    safe_now x good owed in
+    safe_need x good owed in
     let later : KeptBook (after x.book event) x.world.course.now x.world.waiting =
     records_keep x.player x.book x.world event (need_of x.player x.book) good.kept safe.0 safe.1 is in
     record {
@@ -127,6 +131,11 @@ turn_keeps x y (records event owed is) good =
       beside = committed_beside x.player x.book (after x.book event) event refl is good.beside;
       knows = committed_knows x.player x.book (after x.book event) x.world event refl is good.kept later owed good.knows;
     }
+turn_keeps x y (resets name kept told may) good = record {
+  kept = reset_kept x.player x.book x.world name kept told may good.kept good.knows;
+  beside = reset_beside x.player x.book x.world name kept told may good.kept good.knows good.beside;
+  knows = reset_knows x.player x.book x.world name kept told may good.kept good.knows;
+}
 
 play_keeps : (x y : Game) → Play x y → IsGood x → IsGood y
 play_keeps x y rests good = good

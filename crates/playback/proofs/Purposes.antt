@@ -16,13 +16,15 @@ use Rattle.imap_model.specs.Carrying.{Waiting}
 use Rattle.imap_model.specs.Mutating.{is_mutating}
 use Rattle.playback.proofs.Resolving.{of_flag, of_move}
 use Rattle.playback.proofs.RowFacts.{row_mark, was_map}
+use Rattle.playback.proofs.Elsewhere.{elsewhere_any}
+use Rattle.playback.specs.Steps.{above_at, elsewhere}
 use Rattle.playback.specs.Knows.{IsNeeded, IsTold, Knows, RowTold, SelectsBox, WasSeen}
 use Rattle.playback.specs.Needs.{due_id, need_for, need_ids, need_learn, need_of, need_search, need_send, search_of, send_meant, send_of}
 use Rattle.playback.specs.Resolved.{Resolves}
 use Rattle.playback.specs.Sound.{HasIntent, IsSound}
 use Rattle.playback.specs.Steps.{append_again, append_first, append_in_box, append_judged, append_meant, append_open, conflict}
 use Rattle.playback.specs.Steps.{flag_again, flag_first, flag_judged, flag_meant, flag_new, flag_open, in_box, is_selected}
-use Rattle.playback.specs.Steps.{is_selected_at, move_again, move_first, move_meant, move_open, select_any, select_box, select_under}
+use Rattle.playback.specs.Steps.{is_selected_at, move_again, move_first, move_meant, move_open, select_any, select_box}
 use Rattle.playback.specs.Steps.{step_action, step_append, step_box, step_due, step_flag_at, step_flag_found, step_learn, step_move_at}
 use Rattle.playback.specs.Steps.{step_move_found, step_of}
 use Rattle.playback.specs.Why.{IsAbout, RowAt, RowNotSo, WhyIntent}
@@ -158,8 +160,10 @@ module _ (Seen : Intent → Type 0) (p : Player) (b : Meaning) (sound : IsSound 
       asks : is_selected p.selected spot ≡ true → Is (steps.AskRow spot.uid)
       asks that = record { queued = q; there = e; name = spot.name; validity = spot.validity; about = about; that = that }
 
-      here : (step : Step) → (is_selected p.selected spot ≡ true → Is step) → Is (in_box p.selected spot step)
-      here step f = cond_both (is_selected p.selected spot) step (select_box spot) (λ (x : Step). Is x) f (λ _. box)
+      here : (meant : Bool) (step : Step) → (is_selected p.selected spot ≡ true → Is step) → Is (in_box p.selected meant spot step)
+      here meant step f =
+          cond_both (is_selected p.selected spot) step (elsewhere meant (above_at p.selected spot.name spot.validity) spot.name spot.validity)
+          (λ (x : Step). Is x) f (λ _. elsewhere_any (λ (x : Step). Is x) p.selected meant spot.name spot.validity box (λ n a. tt))
 
       -- a flag action
       new_for : (modseq : ℕ) (so : Bool) → Is (flag_new modseq so spot)
@@ -197,10 +201,10 @@ module _ (Seen : Intent → Type 0) (p : Player) (b : Meaning) (sound : IsSound 
 
         meant_for : (told : Finding) → p.told ≡ told → Is (flag_meant p mark spot told)
         meant_for (findings.Ended outcome) t = tt
-        meant_for told t = here (flag_again p.resumed mark told spot) (λ s. again_for p.resumed refl told t s)
+        meant_for told t = here true (flag_again p.resumed mark told spot) (λ s. again_for p.resumed refl told t s)
 
       flag_at_for : (pending : Option Intent) → b.pending ≡ pending → Is (step_flag_at p pending spot)
-      flag_at_for None h = here (flag_first p.told spot) (λ s. first_for p.told s)
+      flag_at_for None h = here false (flag_first p.told spot) (λ s. first_for p.told s)
       flag_at_for (Some (intents.Store name validity uid modseq)) h = meant_for name validity uid modseq h p.told refl
       flag_at_for (Some (intents.Shift from validity uid to)) h = box
       flag_at_for (Some (intents.Put to validity uidnext)) h = box
@@ -223,10 +227,10 @@ module _ (Seen : Intent → Type 0) (p : Player) (b : Meaning) (sound : IsSound 
 
         move_meant_for : (told : Finding) → Is (move_meant p spot told)
         move_meant_for (findings.Ended outcome) = tt
-        move_meant_for told = here (move_again p.resumed told spot) (λ s. move_again_for p.resumed told s)
+        move_meant_for told = here true (move_again p.resumed told spot) (λ s. move_again_for p.resumed told s)
 
       move_at_for : (to : List ℕ) (pending : Option Intent) → b.pending ≡ pending → Is (step_move_at p pending spot to)
-      move_at_for to None h = here (move_first p.told spot to) (λ s. move_first_for p.told to s)
+      move_at_for to None h = here false (move_first p.told spot to) (λ s. move_first_for p.told to s)
       move_at_for to (Some (intents.Store name validity uid modseq)) h = box
       move_at_for to (Some (intents.Shift from validity uid other)) h = move_meant_for from validity uid other h p.told
       move_at_for to (Some (intents.Put other validity uidnext)) h = box
@@ -315,8 +319,9 @@ module _ (Seen : Intent → Type 0) (p : Player) (b : Meaning) (sound : IsSound 
 
         append_in_for : (told : Finding) → p.told ≡ told → Is (append_in_box p to validity uidnext told)
         append_in_for told t =
-            cond_both (is_selected_at p.selected to validity) (append_again p.resumed told to validity uidnext) (select_under to validity)
-            (λ (x : Step). Is x) (λ that. append_again_for that p.resumed told t) (λ _. any)
+            cond_both (is_selected_at p.selected to validity) (append_again p.resumed told to validity uidnext)
+            (elsewhere true (above_at p.selected to validity) to validity) (λ (x : Step). Is x) (λ that. append_again_for that p.resumed told t)
+            (λ _. elsewhere_any (λ (x : Step). Is x) p.selected true to validity any (λ n a. tt))
 
         append_meant_for : (told : Finding) → p.told ≡ told → Is (append_meant p to validity uidnext told)
         append_meant_for (findings.Ended outcome) t = tt

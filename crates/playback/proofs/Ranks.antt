@@ -10,6 +10,8 @@ use Rattle.action_queue.specs.declared.queued.Queued.{Queued}
 use Rattle.append_probe.specs.Question.{question_of}
 use Rattle.append_probe.specs.declared.verdict.Verdict.{Verdict}
 use Rattle.imap_model.specs.declared.command.Command.{Command}
+use Rattle.playback.proofs.Elsewhere.{elsewhere_any}
+use Rattle.playback.specs.Steps.{above_at, elsewhere, renewed_as}
 use Rattle.playback.specs.Left.{rank, rank_of}
 use Rattle.playback.specs.Needs.{need_ids, need_search, need_send, search_of, send_meant, send_of}
 use Rattle.playback.specs.Steps.{append_again, append_first, append_in_box, append_judged, append_meant, append_open, conflict, flag_again}
@@ -42,9 +44,12 @@ module _ (P : Step → Type 0) where
   either : (test : Bool) (x y : Step) → P x → P y → P (cond test x y)
   either test x y a b = cond_both test x y P (λ t. a) (λ f. b)
 
-  pub boxed : (selected : Option Selected) (spot : Spot) (step : Step) → (is_selected selected spot ≡ true → P step) → P (select_box spot) →
-      P (in_box selected spot step)
-  boxed selected spot step here selects = cond_both (is_selected selected spot) step (select_box spot) P here (λ f. selects)
+  pub boxed : (selected : Option Selected) (meant : Bool) (spot : Spot) (step : Step) → (is_selected selected spot ≡ true → P step) →
+      (is_selected selected spot ≡ false → P (select_box spot)) → ((n : ℕ) → P (conflict (renewed_as meant spot.validity n))) →
+      P (in_box selected meant spot step)
+  boxed selected meant spot step here selects above =
+      cond_both (is_selected selected spot) step (elsewhere meant (above_at selected spot.name spot.validity) spot.name spot.validity) P here
+      (λ f. elsewhere_any P selected meant spot.name spot.validity (selects f) (λ n a. above n))
 
   module _ (settles : (outcome : Outcome) → P (steps.Settle outcome)) where
     pub ends : (kind : Kind) → P (conflict kind)
@@ -74,11 +79,12 @@ module _ (P : Step → Type 0) where
     flag_again_any spot asks sends false mark told = sends
     flag_again_any spot asks sends true mark told = flag_open_any spot asks sends mark told
 
-    module _ (p : Player) (mark : ℕ) (spot : Spot) (selects : P (select_box spot))
+    module _ (p : Player) (mark : ℕ) (spot : Spot) (selects : is_selected p.selected spot ≡ false → P (select_box spot))
         (asks : is_selected p.selected spot ≡ true → P (steps.AskRow spot.uid)) (sends : is_selected p.selected spot ≡ true → P steps.Send) where
-      flag_boxed_any : (told : Finding) → P (in_box p.selected spot (flag_again p.resumed mark told spot))
+      flag_boxed_any : (told : Finding) → P (in_box p.selected true spot (flag_again p.resumed mark told spot))
       flag_boxed_any told =
-          boxed p.selected spot (flag_again p.resumed mark told spot) (λ t. flag_again_any spot (asks t) (sends t) p.resumed mark told) selects
+          boxed p.selected true spot (flag_again p.resumed mark told spot) (λ t. flag_again_any spot (asks t) (sends t) p.resumed mark told) selects
+          (λ n. ends (kinds.ResetAfterLoss spot.validity n))
 
       pub flag_meant_any : (told : Finding) → P (flag_meant p mark spot told)
       flag_meant_any (findings.Ended outcome) = settles outcome
@@ -99,11 +105,13 @@ module _ (P : Step → Type 0) where
     move_again_any spot asks sends false told = sends
     move_again_any spot asks sends true told = move_open_any spot asks sends told
 
-    module _ (p : Player) (spot : Spot) (selects : P (select_box spot)) (asks : is_selected p.selected spot ≡ true → P (steps.AskRow spot.uid))
+    module _ (p : Player) (spot : Spot) (selects : is_selected p.selected spot ≡ false → P (select_box spot))
+        (asks : is_selected p.selected spot ≡ true → P (steps.AskRow spot.uid))
         (sends : is_selected p.selected spot ≡ true → P steps.Send) where
-      move_boxed_any : (told : Finding) → P (in_box p.selected spot (move_again p.resumed told spot))
+      move_boxed_any : (told : Finding) → P (in_box p.selected true spot (move_again p.resumed told spot))
       move_boxed_any told =
-          boxed p.selected spot (move_again p.resumed told spot) (λ t. move_again_any spot (asks t) (sends t) p.resumed told) selects
+          boxed p.selected true spot (move_again p.resumed told spot) (λ t. move_again_any spot (asks t) (sends t) p.resumed told) selects
+          (λ n. ends (kinds.ResetAfterLoss spot.validity n))
 
       pub move_meant_any : (told : Finding) → P (move_meant p spot told)
       move_meant_any (findings.Ended outcome) = settles outcome
@@ -141,8 +149,10 @@ module _ (P : Step → Type 0) where
             ((uids : List UidRange) → told ≡ findings.Candidates uids → is_selected_at p.selected to validity ≡ true → P steps.AskIds) →
             P (append_in_box p to validity uidnext told)
         append_boxed_any told asks =
-            cond_both (is_selected_at p.selected to validity) (append_again p.resumed told to validity uidnext) (select_under to validity) P
-            (λ t. append_again_any (searches t) (sends t) p.resumed told (λ uids e. asks uids e t)) (λ f. selects)
+            cond_both (is_selected_at p.selected to validity) (append_again p.resumed told to validity uidnext)
+            (elsewhere true (above_at p.selected to validity) to validity) P
+            (λ t. append_again_any (searches t) (sends t) p.resumed told (λ uids e. asks uids e t))
+            (λ f. elsewhere_any P p.selected true to validity selects (λ n a. ends (kinds.ResetAfterLoss validity n)))
 
         pub append_meant_any : (told : Finding) →
             ((uids : List UidRange) → told ≡ findings.Candidates uids → is_selected_at p.selected to validity ≡ true → P steps.AskIds) →
@@ -206,12 +216,15 @@ pub rank_unlearned : (p : Player) (b : Meaning) → p.learns ≡ None → rank_o
 rank_unlearned p b e = ap (λ (learns : Option Resynced). rank_of p b learns) e ∙ ap rank (unlearned p b e)
 
 -- the step in the mailbox that is selected
-pub below_boxed : (n : ℕ) (selected : Option Selected) (spot : Spot) (step : Step) → is_selected selected spot ≡ true → rank step < n →
-    rank (in_box selected spot step) < n
-below_boxed n selected spot step t h = subst (λ (s : Step). rank s < n) (sym (cond-true (is_selected selected spot) step (select_box spot) t)) h
+pub below_boxed : (n : ℕ) (selected : Option Selected) (meant : Bool) (spot : Spot) (step : Step) → is_selected selected spot ≡ true → rank step < n →
+    rank (in_box selected meant spot step) < n
+below_boxed n selected meant spot step t h =
+    subst (λ (s : Step). rank s < n)
+    (sym (cond-true (is_selected selected spot) step (elsewhere meant (above_at selected spot.name spot.validity) spot.name spot.validity) t)) h
 
 pub below_selected : (n : ℕ) (p : Player) (to : List ℕ) (validity uidnext : ℕ) (told : Finding) → is_selected_at p.selected to validity ≡ true →
     rank (append_again p.resumed told to validity uidnext) < n → rank (append_in_box p to validity uidnext told) < n
 below_selected n p to validity uidnext told t h =
     subst (λ (s : Step). rank s < n)
-    (sym (cond-true (is_selected_at p.selected to validity) (append_again p.resumed told to validity uidnext) (select_under to validity) t)) h
+    (sym (cond-true (is_selected_at p.selected to validity) (append_again p.resumed told to validity uidnext)
+    (elsewhere true (above_at p.selected to validity) to validity) t)) h

@@ -19,20 +19,22 @@ use Rattle.mailbox_cache.specs.declared.row.Row.{Row}
 use Rattle.playback.proofs.Allowing.{allowed_need}
 use Rattle.playback.proofs.Moments.{since_same}
 use Rattle.playback.proofs.Onward.{IsIdle, Settles, ended_settles, idle, learns_need, rest_now}
+use Rattle.playback.proofs.Elsewhere.{elsewhere_any}
+use Rattle.playback.proofs.Placed.{intend_placed}
 use Rattle.playback.proofs.Queueing.{due_settle}
 use Rattle.playback.specs.Allowed.{IsAllowed, Records}
 use Rattle.playback.specs.Choosing.{IsEntered, begun_with, committed, counted, told_after}
 use Rattle.playback.specs.Course.{Course}
 use Rattle.playback.specs.InBox.{InBox}
 use Rattle.playback.specs.Kept.{KeptBook}
-use Rattle.playback.specs.Knows.{Came, IsLearning, IsResting, IsTold, IsUnsent, Knows, Learning, OfAppend, Rests}
+use Rattle.playback.specs.Knows.{Came, IsLearning, IsPlaced, IsResting, IsTold, IsUnsent, Knows, Learning, OfAppend, Rests}
 use Rattle.playback.specs.Needs.{IsBeside, IsNextBox, IsPlain, MayEnd, due_id, need_for, need_ids, need_learn, need_of, need_search}
 use Rattle.playback.specs.Needs.{need_send, search_of, send_meant, send_of}
 use Rattle.playback.specs.Open.{Open, PutFacts}
 use Rattle.playback.specs.Sound.{IsSound}
-use Rattle.playback.specs.Steps.{append_again, append_in_box, append_judged, append_meant, append_open, conflict, flag_again, flag_judged}
-use Rattle.playback.specs.Steps.{flag_meant, flag_open, in_box, is_selected, is_selected_at, move_again, move_meant, move_open, select_box}
-use Rattle.playback.specs.Steps.{select_under, step_action, step_append, step_box, step_due, step_flag_found, step_learn, step_move_found}
+use Rattle.playback.specs.Steps.{above_at, append_again, append_in_box, append_judged, append_meant, append_open, conflict, flag_again, flag_judged}
+use Rattle.playback.specs.Steps.{flag_meant, flag_open, in_box, is_selected, is_selected_at, move_again, move_meant, move_open}
+use Rattle.playback.specs.Steps.{elsewhere, step_action, step_append, step_box, step_due, step_flag_found, step_learn, step_move_found}
 use Rattle.playback.specs.Steps.{step_of}
 use Rattle.playback.specs.Why.{RowNotSo, RowWas, SomeRow, TellsNext, WasSelected, WhyIntent, is_open}
 use Rattle.playback.specs.Worlds.{Since, World, begins}
@@ -72,8 +74,10 @@ NoIntend (steps.Settle outcome) = Unit {0}
 NoIntend steps.Send = Unit {0}
 NoIntend steps.Finished = Unit {0}
 
-box_none : (selected : Option Selected) (spot : Spot) (step : Step) → NoIntend step → NoIntend (in_box selected spot step)
-box_none selected spot step h = cond_both (is_selected selected spot) step (select_box spot) NoIntend (λ t. h) (λ f. tt)
+box_none : (selected : Option Selected) (meant : Bool) (spot : Spot) (step : Step) → NoIntend step → NoIntend (in_box selected meant spot step)
+box_none selected meant spot step h =
+    cond_both (is_selected selected spot) step (elsewhere meant (above_at selected spot.name spot.validity) spot.name spot.validity) NoIntend
+    (λ t. h) (λ f. elsewhere_any NoIntend selected meant spot.name spot.validity tt (λ n a. tt))
 
 judged_none : (mark modseq : ℕ) (so : Bool) → NoIntend (flag_judged mark modseq so)
 judged_none mark modseq so =
@@ -95,8 +99,8 @@ flag_again_none false mark told spot = tt
 flag_again_none true mark told spot = flag_open_none mark told spot
 
 flag_box_none : (p : Player) (mark : ℕ) (spot : Spot) (told : Finding) →
-    NoIntend (in_box p.selected spot (flag_again p.resumed mark told spot))
-flag_box_none p mark spot told = box_none p.selected spot (flag_again p.resumed mark told spot) (flag_again_none p.resumed mark told spot)
+    NoIntend (in_box p.selected true spot (flag_again p.resumed mark told spot))
+flag_box_none p mark spot told = box_none p.selected true spot (flag_again p.resumed mark told spot) (flag_again_none p.resumed mark told spot)
 
 flag_meant_none : (p : Player) (mark : ℕ) (spot : Spot) (told : Finding) → NoIntend (flag_meant p mark spot told)
 flag_meant_none p mark spot findings.Nothing = flag_box_none p mark spot findings.Nothing
@@ -130,8 +134,8 @@ move_again_none : (resumed : Bool) (told : Finding) (spot : Spot) → NoIntend (
 move_again_none false told spot = tt
 move_again_none true told spot = move_open_none told spot
 
-move_box_none : (p : Player) (spot : Spot) (told : Finding) → NoIntend (in_box p.selected spot (move_again p.resumed told spot))
-move_box_none p spot told = box_none p.selected spot (move_again p.resumed told spot) (move_again_none p.resumed told spot)
+move_box_none : (p : Player) (spot : Spot) (told : Finding) → NoIntend (in_box p.selected true spot (move_again p.resumed told spot))
+move_box_none p spot told = box_none p.selected true spot (move_again p.resumed told spot) (move_again_none p.resumed told spot)
 
 move_meant_none : (p : Player) (spot : Spot) (told : Finding) → NoIntend (move_meant p spot told)
 move_meant_none p spot findings.Nothing = move_box_none p spot findings.Nothing
@@ -173,8 +177,9 @@ append_again_none true told to validity uidnext = append_open_none told to valid
 
 append_box_none : (p : Player) (to : List ℕ) (validity uidnext : ℕ) (told : Finding) → NoIntend (append_in_box p to validity uidnext told)
 append_box_none p to validity uidnext told =
-    cond_both (is_selected_at p.selected to validity) (append_again p.resumed told to validity uidnext) (select_under to validity) NoIntend
-    (λ t. append_again_none p.resumed told to validity uidnext) (λ f. tt)
+    cond_both (is_selected_at p.selected to validity) (append_again p.resumed told to validity uidnext)
+    (elsewhere true (above_at p.selected to validity) to validity) NoIntend
+    (λ t. append_again_none p.resumed told to validity uidnext) (λ f. elsewhere_any NoIntend p.selected true to validity tt (λ n a. tt))
 
 append_meant_none : (p : Player) (to : List ℕ) (validity uidnext : ℕ) (told : Finding) → NoIntend (append_meant p to validity uidnext told)
 append_meant_none p to validity uidnext findings.Nothing = append_box_none p to validity uidnext findings.Nothing
@@ -352,17 +357,17 @@ why_book (intents.Shift from validity uid to) b pending c i = was_book SomeRow b
 why_book (intents.Put to validity uidnext) b pending c i = i
 
 -- a book with the same queue and the same intent
-was_boxes : (P : Action → Option Row → Type 0) (b : Meaning) (boxes : List Known) (c : Course) → RowWas P b c →
+pub was_boxes : (P : Action → Option Row → Type 0) (b : Meaning) (boxes : List Known) (c : Course) → RowWas P b c →
     RowWas P (record b { boxes = boxes }) c
 was_boxes P b boxes c o = record { queued = o.queued; there = o.there; holds = o.holds }
 
-why_boxes : (intent : Intent) (b : Meaning) (boxes : List Known) (c : Course) → WhyIntent intent b c →
+pub why_boxes : (intent : Intent) (b : Meaning) (boxes : List Known) (c : Course) → WhyIntent intent b c →
     WhyIntent intent (record b { boxes = boxes }) c
 why_boxes (intents.Store name validity uid modseq) b boxes c i = was_boxes (RowNotSo (λ k. k ≡ modseq)) b boxes c i
 why_boxes (intents.Shift from validity uid to) b boxes c i = was_boxes SomeRow b boxes c i
 why_boxes (intents.Put to validity uidnext) b boxes c i = i
 
-append_boxes : (P : List ℕ → List ℕ → Type 0) (b : Meaning) (boxes : List Known) → OfAppend P b → OfAppend P (record b { boxes = boxes })
+pub append_boxes : (P : List ℕ → List ℕ → Type 0) (b : Meaning) (boxes : List Known) → OfAppend P b → OfAppend P (record b { boxes = boxes })
 append_boxes P b boxes x = record {
   queued = x.queued;
   there = x.there;
@@ -442,6 +447,8 @@ module _ (p : Player) (b : Meaning) (w : World) (kept : KeptBook b w.course.now 
         meant = λ r other e.
             subst (λ (x : Intent). WhyIntent x (after b (events.Intend (due_id b) intent)) w.course) (same_Some intent other e)
             (why_book intent b (Some intent) w.course ok.1);
+        placed = λ r other e.
+            subst (λ (x : Intent). IsPlaced x p) (same_Some intent other e) (intend_placed p b intent p.learns step);
         resumed = λ r. absurd (both_ways p.resumed (known.fresh free) (and_parts p.resumed true r).0);
         told = tt;
         learns = tt;
@@ -461,6 +468,7 @@ module _ (p : Player) (b : Meaning) (w : World) (kept : KeptBook b w.course.now 
         valid = known.valid;
         fresh = λ e. and_right p.resumed false refl;
         meant = λ r intent e. absurd (cc);
+        placed = λ r intent e. absurd (cc);
         resumed = λ r. let f : false ≡ true = (and_parts p.resumed false r).1 in absurd (cc);
         told = tt;
         learns = tt;
@@ -487,6 +495,7 @@ module _ (p : Player) (b : Meaning) (w : World) (kept : KeptBook b w.course.now 
     valid = known.valid;
     fresh = known.fresh;
     meant = λ r intent e. why_boxes intent b boxes w.course (known.meant r intent e);
+    placed = known.placed;
     resumed = known.resumed;
     told = told_boxes p.told b boxes w.course plain known.told;
     learns = tt;
@@ -560,7 +569,7 @@ none_false None = λ n. refl
 none_false (Some intent) = λ n. absurd (cc)
 
 -- behind a record nothing is to be recorded yet, and the mailboxes were resynchronised in their order
-next_none : (due_now : Option Queued) (count : ℕ) (boxes : List Known) → IsNextBox due_now None count boxes
+pub next_none : (due_now : Option Queued) (count : ℕ) (boxes : List Known) → IsNextBox due_now None count boxes
 next_none None count boxes = tt
 next_none (Some q) count boxes = tt
 
@@ -701,6 +710,7 @@ begins_know alloc b s kept = record {
   valid = λ selected e. absurd (cc);
   fresh = λ n. none_false b.pending n;
   meant = λ r intent e. let n : b.pending ≡ None = none_apart b.pending r in absurd (cc);
+  placed = λ r intent e. let n : b.pending ≡ None = none_apart b.pending r in absurd (cc);
   resumed = λ r x a. ⊎_elim (λ (e : x ≡ s). subst (λ (y : Server). Open b y) (sym e) kept.open_intent) (λ (n : ⊥). absurd n) a;
   told = tt;
   learns = tt;

@@ -103,6 +103,9 @@ intend_may = (
   },
 )
 
+pub accept_may : Permits (Some book_one) (events.Accept 1 asked) server_before None
+accept_may = ((lit≤ tt, lit≤ tt), record { box = box_with [] 10; there = refl; not_below = lit≤ tt; facts = λ _. tt })
+
 pub settle_may : Permits (Some book_three) (events.Settle 1 (outcomes.Done None)) server_after None
 settle_may = (nothing_waits, tt)
 
@@ -115,7 +118,7 @@ shown = (
     goes_on None (Some book_one) server_before None,
     (
       both (Some book_one) (Some book_two) server_before None,
-      begins (Some book_one) (events.Accept 1 asked) server_before None accept_follows (lit≤ tt, lit≤ tt),
+      begins (Some book_one) (events.Accept 1 asked) server_before None accept_follows accept_may,
       (
         firm (Some book_two) server_before None,
         goes_on (Some book_one) (Some book_two) server_before None,

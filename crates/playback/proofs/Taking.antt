@@ -1,5 +1,5 @@
 -- A reply is taken.
-use Rattle.action_queue.specs.Book.{Meaning, cache_at}
+use Rattle.action_queue.specs.Book.{Meaning}
 use Rattle.action_queue.specs.Queues.{due_action}
 use Rattle.action_queue.specs.declared.action.Action.{Action}
 use Rattle.action_queue.specs.declared.intent.Intent.{Intent}
@@ -55,12 +55,11 @@ use Rattle.playback.specs.declared.finding.Selected.{Selected}
 use Rattle.playback.specs.declared.player.Player.{Player}
 use Rattle.playback.specs.declared.step.Step.{Step}
 use Rattle.qresync_core.specs.Fresh.{server_row}
-use Rattle.qresync_core.specs.Marking.{mark_of}
 use Rattle.std.proofs.Common.{Bool, List, [], None, Ok, Option, Some, ap, false, inl, not, refl, subst, sym, true, ℕ}
 use Rattle.std.proofs.Common.{◌&&◌, ◌∙◌, ◌∷◌, ◌≡◌, ◌≢◌, ◌≤◌, leb}
 use Rattle.std.proofs.lemmas.Bool.{and_parts, cond_both, leb-true, not-true}
 use Rattle.std.proofs.lemmas.Option.{same_Some}
-use Rattle.std.specs.Option.{is_none, option_map}
+use Rattle.std.specs.Option.{is_none}
 use Rattle.std.specs.Prelude.{Contains}
 use Rattle.uid_sets.specs.declared.uid.UidRange.{UidRange}
 use Rattle.action_queue.specs.declared.action.Action.TheVariants as actions
@@ -208,7 +207,7 @@ module _ (p : Player) (b : Meaning) (w : World) (kept : KeptBook b w.course.now 
     heard_with finding told rests =
         knows_again p (heard_player finding) b w (given w) refl (grows_given w) known.course
         (since_same w.course.now kept.well) kept.well kept.open_intent
-        known.valid told
+        known.valid told known.placed
         (subst (λ (l : Option Resynced). Learning l (heard_player finding) b w.course.now) (sym (learns_none p b c owed.needed)) tt)
         (rest_now (heard_player finding) b (given w) w.waiting quiet (record { selected = selected_still; rests = rests })) known
 
@@ -546,7 +545,7 @@ module _ (p : Player) (b : Meaning) (w : World) (kept : KeptBook b w.course.now 
     pub by_purpose : Purpose p b w c → Knows (heard_player finding) b (given w)
     by_purpose (a_row x) = by_row permits finding hears x fair (accepted (ap is_mutating x.command))
     by_purpose (an_effect x) = by_send permits finding hears x
-    by_purpose (a_box x) = absurd (other x.name (option_map mark_of (cache_at x.name b.boxes)) x.selects.is)
+    by_purpose (a_box x) = absurd (other x.name x.selects.since x.selects.is)
     by_purpose (a_search x) = by_search x
     by_purpose (the_ids x) = by_ids x
 

@@ -11,12 +11,14 @@ use Rattle.action_queue.specs.declared.target.Target.{Target}
 use Rattle.append_probe.specs.declared.verdict.Verdict.{Verdict}
 use Rattle.mail_base.specs.declared.limits.TheConstants.{MAX_ROWS}
 use Rattle.mailbox_cache.specs.declared.delta.Delta.{Delta}
+use Rattle.playback.proofs.Elsewhere.{elsewhere_any}
+use Rattle.playback.specs.Steps.{above_at, elsewhere}
 use Rattle.playback.specs.Allowed.{IsToHave, WhyNotChosen}
-use Rattle.playback.specs.Choosing.{IsChosenFault, box_fault, is_many, is_other, of_resync, rows_fault, rows_with, target_fault, wanted_by}
+use Rattle.playback.specs.Choosing.{IsChosenFault, box_fault, is_many, is_below, of_resync, rows_fault, rows_with, target_fault, wanted_by}
 use Rattle.playback.specs.Needs.{need_for, need_of}
 use Rattle.playback.specs.Steps.{append_again, append_first, append_in_box, append_judged, append_meant, append_open, flag_again}
 use Rattle.playback.specs.Steps.{flag_first, flag_judged, flag_meant, flag_open, in_box, is_selected, is_selected_at, move_again}
-use Rattle.playback.specs.Steps.{move_first, move_meant, move_open, select_box, select_under, step_action, step_append}
+use Rattle.playback.specs.Steps.{move_first, move_meant, move_open, step_action, step_append}
 use Rattle.playback.specs.Steps.{step_box, step_due, step_flag_at, step_flag_found, step_learn, step_move_at, step_move_found}
 use Rattle.playback.specs.Steps.{step_of}
 use Rattle.playback.specs.Why.{OfDue}
@@ -30,7 +32,7 @@ use Rattle.playback.specs.declared.step.Step.{Step}
 use Rattle.qresync_core.specs.declared.fault.ResyncFault.{ResyncFault}
 use Rattle.std.proofs.Common.{Bool, Err, List, None, Ok, Option, Result, Some, ap, cond, false, refl, subst, sym, true, ℕ, ⊎_elim}
 use Rattle.std.proofs.Common.{◌<◌, ◌≡◌}
-use Rattle.std.proofs.lemmas.Bool.{both_ways, cond_both, eq-eqb, ltb-true}
+use Rattle.std.proofs.lemmas.Bool.{cond_both, ltb-true}
 use Rattle.std.specs.Prelude.{nat_lt, slice_get, ◌==◌}
 use Rattle.action_queue.specs.declared.action.Action.TheVariants as actions
 use Rattle.playback.specs.declared.finding.Finding.TheVariants as findings
@@ -64,8 +66,10 @@ module _ (So : List ℕ → ℕ → Type 0) where
   either false x y a b = b
 
   module _ (spot : Spot) (so : So spot.name spot.validity) where
-    boxed : (selected : Option Selected) (step : Step) → Under So step → Under So (in_box selected spot step)
-    boxed selected step u = either (is_selected selected spot) step (select_box spot) u so
+    boxed : (selected : Option Selected) (meant : Bool) (step : Step) → Under So step → Under So (in_box selected meant spot step)
+    boxed selected meant step u =
+        either (is_selected selected spot) step (elsewhere meant (above_at selected spot.name spot.validity) spot.name spot.validity) u
+        (elsewhere_any (Under So) selected meant spot.name spot.validity so (λ n a. tt {0}))
 
     first_flag : (told : Finding) → Under So (flag_first told spot)
     first_flag findings.Nothing = tt {0}
@@ -96,17 +100,17 @@ module _ (So : List ℕ → ℕ → Type 0) where
 
     module _ (p : Player) where
       meant_flag : (mark : ℕ) (told : Finding) → Under So (flag_meant p mark spot told)
-      meant_flag mark findings.Nothing = boxed p.selected _ (again_flag p.resumed mark findings.Nothing)
-      meant_flag mark findings.NoRow = boxed p.selected _ (again_flag p.resumed mark findings.NoRow)
-      meant_flag mark (findings.Row modseq set) = boxed p.selected _ (again_flag p.resumed mark (findings.Row modseq set))
-      meant_flag mark findings.Barred = boxed p.selected _ (again_flag p.resumed mark findings.Barred)
+      meant_flag mark findings.Nothing = boxed p.selected true _ (again_flag p.resumed mark findings.Nothing)
+      meant_flag mark findings.NoRow = boxed p.selected true _ (again_flag p.resumed mark findings.NoRow)
+      meant_flag mark (findings.Row modseq set) = boxed p.selected true _ (again_flag p.resumed mark (findings.Row modseq set))
+      meant_flag mark findings.Barred = boxed p.selected true _ (again_flag p.resumed mark findings.Barred)
       meant_flag mark (findings.Ended outcome) = tt {0}
-      meant_flag mark (findings.Next validity uidnext) = boxed p.selected _ (again_flag p.resumed mark (findings.Next validity uidnext))
-      meant_flag mark (findings.Candidates uids) = boxed p.selected _ (again_flag p.resumed mark (findings.Candidates uids))
-      meant_flag mark (findings.Probed verdict) = boxed p.selected _ (again_flag p.resumed mark (findings.Probed verdict))
+      meant_flag mark (findings.Next validity uidnext) = boxed p.selected true _ (again_flag p.resumed mark (findings.Next validity uidnext))
+      meant_flag mark (findings.Candidates uids) = boxed p.selected true _ (again_flag p.resumed mark (findings.Candidates uids))
+      meant_flag mark (findings.Probed verdict) = boxed p.selected true _ (again_flag p.resumed mark (findings.Probed verdict))
 
       flag_under : (pending : Option Intent) → Under So (step_flag_at p pending spot)
-      flag_under None = boxed p.selected _ (first_flag p.told)
+      flag_under None = boxed p.selected false _ (first_flag p.told)
       flag_under (Some (intents.Store name validity uid modseq)) = meant_flag modseq p.told
       flag_under (Some (intents.Shift from validity uid to)) = so
       flag_under (Some (intents.Put to validity uidnext)) = so
@@ -137,17 +141,17 @@ module _ (So : List ℕ → ℕ → Type 0) where
 
     module _ (p : Player) where
       meant_move : (told : Finding) → Under So (move_meant p spot told)
-      meant_move findings.Nothing = boxed p.selected _ (again_move p.resumed findings.Nothing)
-      meant_move findings.NoRow = boxed p.selected _ (again_move p.resumed findings.NoRow)
-      meant_move (findings.Row modseq set) = boxed p.selected _ (again_move p.resumed (findings.Row modseq set))
-      meant_move findings.Barred = boxed p.selected _ (again_move p.resumed findings.Barred)
+      meant_move findings.Nothing = boxed p.selected true _ (again_move p.resumed findings.Nothing)
+      meant_move findings.NoRow = boxed p.selected true _ (again_move p.resumed findings.NoRow)
+      meant_move (findings.Row modseq set) = boxed p.selected true _ (again_move p.resumed (findings.Row modseq set))
+      meant_move findings.Barred = boxed p.selected true _ (again_move p.resumed findings.Barred)
       meant_move (findings.Ended outcome) = tt {0}
-      meant_move (findings.Next validity uidnext) = boxed p.selected _ (again_move p.resumed (findings.Next validity uidnext))
-      meant_move (findings.Candidates uids) = boxed p.selected _ (again_move p.resumed (findings.Candidates uids))
-      meant_move (findings.Probed verdict) = boxed p.selected _ (again_move p.resumed (findings.Probed verdict))
+      meant_move (findings.Next validity uidnext) = boxed p.selected true _ (again_move p.resumed (findings.Next validity uidnext))
+      meant_move (findings.Candidates uids) = boxed p.selected true _ (again_move p.resumed (findings.Candidates uids))
+      meant_move (findings.Probed verdict) = boxed p.selected true _ (again_move p.resumed (findings.Probed verdict))
 
       move_under : (pending : Option Intent) (to : List ℕ) → Under So (step_move_at p pending spot to)
-      move_under None to = boxed p.selected _ (first_move p.told to)
+      move_under None to = boxed p.selected false _ (first_move p.told to)
       move_under (Some (intents.Store name validity uid modseq)) to = so
       move_under (Some (intents.Shift from validity uid other)) to = meant_move p.told
       move_under (Some (intents.Put other validity uidnext)) to = so
@@ -184,7 +188,8 @@ module _ (So : List ℕ → ℕ → Type 0) where
 
     module _ (p : Player) where
       boxed_append : (told : Finding) → Under So (append_in_box p to validity uidnext told)
-      boxed_append told = either (is_selected_at p.selected to validity) _ (select_under to validity) (again_append p.resumed told) so
+      boxed_append told = either (is_selected_at p.selected to validity) _ (elsewhere true (above_at p.selected to validity) to validity) (again_append p.resumed told)
+          (elsewhere_any (Under So) p.selected true to validity so (λ n a. tt {0}))
 
       meant_append : (told : Finding) → Under So (append_meant p to validity uidnext told)
       meant_append findings.Nothing = boxed_append findings.Nothing
@@ -277,29 +282,29 @@ module _ (p : Player) (b : Meaning) (delta : Delta) (name : List ℕ) (unheard :
       (delta, refl, record { name = name; selects = selects; many = many.0; is = refl })
 
   other_why : (old : ℕ) → need_of p b ≡ needs.Select name → OfDue (IsToHave name old b) b →
-      target_fault (is_other (Some old) delta.validity) (rows_fault (is_many (rows_with name b delta))) ≡ Some unheard →
+      target_fault (is_below (Some old) delta.validity) (rows_fault (is_many (rows_with name b delta))) ≡ Some unheard →
       WhyNotChosen unheard (Ok delta) p b
   other_why old selects have =
-      cond_both (old == delta.validity) None (Some (old, delta.validity))
+      cond_both (nat_lt delta.validity old) (Some (old, delta.validity)) None
       (λ (o : Option (ℕ × ℕ)). target_fault o (rows_fault (is_many (rows_with name b delta))) ≡ Some unheard →
       WhyNotChosen unheard (Ok delta) p b)
-      (λ same e. rows_why selects e)
-      (λ apart e.
+      (λ below e.
       let is : unheard ≡ unheards.Target old delta.validity = cc in
       subst (λ (x : Unheard). WhyNotChosen x (Ok delta) p b) (sym is) (
         delta,
         refl,
         record {
-          apart = λ same. absurd (both_ways (old == delta.validity) apart (eq-eqb old delta.validity same));
+          below = ltb-true delta.validity old below;
           is_told = refl;
           name = name;
           selects = selects;
           to_have = have;
         },
       ))
+      (λ same e. rows_why selects e)
 
   select_why : (under : Option ℕ) → need_of p b ≡ needs.Select name → SoUnder (λ v. OfDue (IsToHave name v b) b) under →
-      target_fault (is_other under delta.validity) (rows_fault (is_many (rows_with name b delta))) ≡ Some unheard →
+      target_fault (is_below under delta.validity) (rows_fault (is_many (rows_with name b delta))) ≡ Some unheard →
       WhyNotChosen unheard (Ok delta) p b
   select_why None selects so e = rows_why selects e
   select_why (Some old) selects so e = other_why old selects so e

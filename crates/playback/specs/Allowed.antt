@@ -18,7 +18,7 @@ use Rattle.playback.specs.Knows.{OfTag, SelectsBox, with_rows}
 use Rattle.playback.specs.Needs.{need_of}
 use Rattle.playback.specs.Of.{IsOf, MutatingWaits}
 use Rattle.playback.specs.Permitted.{Permits}
-use Rattle.playback.specs.Why.{OfDue, TellsLack, WasSelected, WhyIntent, WhyOutcome}
+use Rattle.playback.specs.Why.{OfDue, TellsLack, TellsValidity, WasSelected, WhyIntent, WhyOutcome}
 use Rattle.playback.specs.Worlds.{World, name_of}
 use Rattle.playback.specs.declared.need.Need.{Need}
 use Rattle.playback.specs.declared.need.Unheard.{Unheard}
@@ -51,7 +51,7 @@ WhyCommit (events.Intend n intent) b c = WhyIntent intent b c
 WhyCommit (events.Settle n outcome) b c = ⊥
 WhyCommit (events.Learn name delta) b c = Unit {0}
 WhyCommit (events.Old n action outcome) b c = ⊥
-WhyCommit (events.Reset name before told) b c = ⊥
+WhyCommit (events.Reset name kept told) b c = (kept < told) × WasSelected name (TellsValidity told) c
 WhyCommit (events.Withdraw n tries) b c = ⊥
 
 -- the event may be recorded now, the outcome too, each for its reason; the command may be sent
@@ -132,9 +132,9 @@ IsToHave name validity b (actions.Move target to) = (uid : ℕ) × (resolved b.q
 IsToHave name validity b (actions.Append to flags text id) =
     (uidnext : ℕ) × (other : List ℕ) × (name ≡ to) × (b.pending ≡ Some (intents.Put other validity uidnext))
 
--- the SELECT of that mailbox told another UIDVALIDITY than that
-pub record IsOtherValidity (old told : ℕ) (delta : Delta) (p : Player) (b : Meaning) : Type 0 where
-  pub apart : old ≢ told
+-- the SELECT of that mailbox told a UIDVALIDITY below that
+pub record IsLowerValidity (old told : ℕ) (delta : Delta) (p : Player) (b : Meaning) : Type 0 where
+  pub below : told < old
   pub is_told : delta.validity ≡ told
   pub name : List ℕ
   pub selects : need_of p b ≡ needs.Select name
@@ -151,6 +151,6 @@ pub record IsTooManyRows (count : ℕ) (delta : Delta) (p : Player) (b : Meaning
 abbrev pub WhyNotChosen : Unheard → Result Delta ResyncFault → Player → Meaning → Type 0
 WhyNotChosen unheards.Memory told p b = Unit {0}
 WhyNotChosen (unheards.Resync fault) told p b = told ≡ Err fault
-WhyNotChosen (unheards.Target old new) told p b = (delta : Delta) × (told ≡ Ok delta) × IsOtherValidity old new delta p b
+WhyNotChosen (unheards.Target old new) told p b = (delta : Delta) × (told ≡ Ok delta) × IsLowerValidity old new delta p b
 WhyNotChosen (unheards.Lacks item) told p b = ⊥
 WhyNotChosen (unheards.Rows count) told p b = (delta : Delta) × (told ≡ Ok delta) × IsTooManyRows count delta p b

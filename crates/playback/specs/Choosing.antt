@@ -4,8 +4,10 @@ use Rattle.action_queue.specs.Book.{Meaning, cache_at, learned}
 use Rattle.action_queue.specs.Queues.{due, due_action}
 use Rattle.action_queue.specs.Writable.{HaveFewFlags}
 use Rattle.action_queue.specs.declared.action.Action.{Action}
+use Rattle.action_queue.specs.declared.event.Event.{Event}
 use Rattle.action_queue.specs.declared.queued.Queued.{Queued}
 use Rattle.mail_base.specs.declared.limits.TheConstants.{MAX_ROWS}
+use Rattle.mailbox_cache.specs.declared.cache.Cache.{Cache}
 use Rattle.mailbox_cache.specs.declared.delta.Delta.{Delta}
 use Rattle.playback.specs.Needs.{need_of}
 use Rattle.playback.specs.Steps.{step_of}
@@ -17,9 +19,10 @@ use Rattle.playback.specs.declared.player.Player.{Player}
 use Rattle.playback.specs.declared.step.Step.{Step}
 use Rattle.qresync_core.specs.declared.fault.ResyncFault.{ResyncFault}
 use Rattle.std.specs.Option.{is_some}
-use Rattle.std.specs.Prelude.{Err, List, None, Ok, Option, Result, Some, if◌then◌else◌, length, nat_lt, true, ℕ, ◌&&◌, ◌+◌, ◌==◌, ◌≡◌, ◌≤◌, ◌⊎◌}
+use Rattle.std.specs.Prelude.{Err, List, None, Ok, Option, Result, Some, if◌then◌else◌, length, nat_lt, true, ℕ, ◌&&◌, ◌+◌, ◌≡◌, ◌≤◌, ◌⊎◌}
 use Rattle.std.specs.declared.alloc.Global.{Global}
 use Rattle.action_queue.specs.declared.action.Action.TheVariants as actions
+use Rattle.action_queue.specs.declared.event.Event.TheVariants as events
 use Rattle.playback.specs.declared.finding.Finding.TheVariants as findings
 use Rattle.qresync_core.specs.Fitting as fitting
 use Rattle.playback.specs.declared.need.Need.TheVariants as needs
@@ -58,6 +61,16 @@ wanted_by steps.Finished = None
 abbrev pub wanted : Player → Meaning → Option Wanted
 wanted p b = wanted_by (step_of p b)
 
+-- where a SELECT told this UIDVALIDITY above that of the cache, the cache is to be taken away
+abbrev pub reset_of : List ℕ → Option Cache → ℕ → Option Event
+reset_of name None told = None
+reset_of name (Some cache) told = if nat_lt cache.validity told then Some (events.Reset name cache.validity told) else None
+
+-- the same of the mailbox that is to be selected
+abbrev pub reset_in : Meaning → ℕ → Option Wanted → Option Event
+reset_in b told None = None
+reset_in b told (Some box) = reset_of box.name (cache_at box.name b.boxes) told
+
 -- of an append the UIDNEXT is kept
 abbrev pub chosen_for : Action → Delta → Finding
 chosen_for (actions.Flag target add flags) delta = findings.Nothing
@@ -86,10 +99,10 @@ chosen_in p b delta (Some box) = chosen_box p b delta box.name
 abbrev pub chosen : Player → Meaning → Delta → Player
 chosen p b delta = chosen_in p b delta (wanted p b)
 
--- the mailbox has another UIDVALIDITY than it is to have
-abbrev pub is_other : Option ℕ → ℕ → Option (ℕ × ℕ)
-is_other None told = None
-is_other (Some old) told = if old == told then None else Some (old, told)
+-- the mailbox has a UIDVALIDITY below the one that it is to have
+abbrev pub is_below : Option ℕ → ℕ → Option (ℕ × ℕ)
+is_below None told = None
+is_below (Some old) told = if nat_lt told old then Some (old, told) else None
 
 -- so many rows are more than a cache may have
 abbrev pub is_many : ℕ → Option ℕ
@@ -104,7 +117,7 @@ abbrev pub rows_fault : Option ℕ → Option Unheard
 rows_fault None = None
 rows_fault (Some count) = Some (unheards.Rows count)
 
--- the other UIDVALIDITY comes before any later fault
+-- the lower UIDVALIDITY comes before any later fault
 abbrev pub target_fault : Option (ℕ × ℕ) → Option Unheard → Option Unheard
 target_fault None later = later
 target_fault (Some pair) later = Some (unheards.Target pair.0 pair.1)
@@ -112,7 +125,7 @@ target_fault (Some pair) later = Some (unheards.Target pair.0 pair.1)
 -- why the delta of this mailbox isn't taken
 abbrev pub box_fault : Meaning → Delta → Option Wanted → Option Unheard
 box_fault b delta None = None
-box_fault b delta (Some box) = target_fault (is_other box.under delta.validity) (rows_fault (is_many (rows_with box.name b delta)))
+box_fault b delta (Some box) = target_fault (is_below box.under delta.validity) (rows_fault (is_many (rows_with box.name b delta)))
 
 -- why a delta isn't taken: the first that holds
 abbrev pub chosen_fault : Player → Meaning → Delta → Option Unheard

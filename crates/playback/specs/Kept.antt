@@ -12,6 +12,7 @@ use Rattle.playback.specs.Sound.{IsSound}
 use Rattle.playback.specs.Once.{Once}
 use Rattle.playback.specs.Open.{Open}
 use Rattle.playback.specs.Fresh.{Fresh}
+use Rattle.playback.specs.Reached.{Reached}
 use Rattle.playback.specs.Of.{IsOf, MutatingWaits}
 
 -- no change in the history is this client's
@@ -24,14 +25,15 @@ pub record KeptBefore (s : Server) (waiting : Option Waiting) : Type 0 where
   pub none : NoneOurs s.history
   pub quiet : ¬ (MutatingWaits waiting)
 
--- With a book: the server is well formed; no action takes effect twice; the pending intent and each cache say what is so; and a
--- command that changes a mailbox, where one waits, is the book's.
+-- With a book: the server is well formed; no action takes effect twice; the pending intent and each cache say what is so; no UIDVALIDITY
+-- that is named is above its mailbox's; and a command that changes a mailbox, where one waits, is the book's.
 pub record KeptBook (b : Meaning) (s : Server) (waiting : Option Waiting) : Type 0 where
   pub sound : IsSound b
   pub well : IsWellFormed s.boxes
   pub once : Once b s.history
   pub open_intent : Open b s
   pub fresh : Fresh b s.boxes
+  pub reached : Reached b s
   pub waits : (m : MutatingWaits waiting) → IsOf b s m.command
 
 -- no book stands for no journal

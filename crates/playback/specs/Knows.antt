@@ -16,8 +16,10 @@ use Rattle.imap_model.specs.Evolving.{EvolvesFrom}
 use Rattle.imap_model.specs.Mutating.{is_mutating}
 use Rattle.imap_model.specs.Ours.{ours}
 use Rattle.imap_model.specs.declared.command.Command.{Command}
+use Rattle.imap_model.specs.declared.mark.Mark.{Mark}
 use Rattle.imap_model.specs.declared.server.Mailbox.{Mailbox}
 use Rattle.imap_model.specs.declared.server.Server.{Server}
+use Rattle.mailbox_cache.specs.declared.cache.Cache.{Cache}
 use Rattle.mailbox_cache.specs.declared.row.Row.{Row}
 use Rattle.playback.specs.Course.{AtMoment, Course, IsCourse, IsOneOf, Said}
 use Rattle.playback.specs.Fresh.{Fresh, IsFreshFor}
@@ -26,9 +28,10 @@ use Rattle.playback.specs.Kept.{KeptBook}
 use Rattle.playback.specs.Needs.{IsPlain, due_id, need_of}
 use Rattle.playback.specs.Of.{IsOf, tag_of}
 use Rattle.playback.specs.Once.{Fits}
-use Rattle.playback.specs.Open.{Open, PutFacts}
+use Rattle.playback.specs.Open.{Open, PutFacts, intent_name, intent_validity}
 use Rattle.playback.specs.Polite.{Spares}
 use Rattle.playback.specs.Replying.{read_sent}
+use Rattle.playback.specs.Steps.{is_selected_at}
 use Rattle.playback.specs.Why.{AreTwo, NoRow, OfDue, RowAt, RowNotSo, RowSo, RowWas, TellsNext, WasRefused, WasSelected, WhyIntent}
 use Rattle.playback.specs.Worlds.{Among, IsAt, Since, World, name_of, selected_after}
 use Rattle.playback.specs.declared.finding.Finding.{Finding}
@@ -37,12 +40,14 @@ use Rattle.playback.specs.declared.finding.Selected.{Selected}
 use Rattle.playback.specs.declared.need.Need.{Need}
 use Rattle.playback.specs.declared.player.Player.{Player}
 use Rattle.qresync_core.specs.Marking.{mark_of}
-use Rattle.std.specs.Option.{option_map}
-use Rattle.std.specs.Prelude.{Bool, List, None, Ok, Option, Some, [], false, true, ℕ, ◌∷◌, ◌≡◌, ◌≤◌, ◌⊎◌}
+use Rattle.qresync_core.specs.ToldCodes.{told_codes}
+use Rattle.qresync_core.specs.declared.codes.Codes.{Codes}
+use Rattle.std.specs.Prelude.{Bool, List, None, Ok, Option, Some, [], false, true, ℕ, ◌<◌, ◌∷◌, ◌≡◌, ◌≤◌, ◌⊎◌}
 use Rattle.uid_sets.specs.UidSet.{Member}
 use Rattle.uid_sets.specs.declared.uid.UidRange.{UidRange}
 use Rattle.action_queue.specs.declared.action.Action.TheVariants as actions
 use Rattle.imap_model.specs.declared.command.Command.TheVariants as commands
+use Rattle.imap_model.specs.declared.ending.Ending.TheVariants as endings
 use Rattle.playback.specs.declared.finding.Finding.TheVariants as findings
 use Rattle.action_queue.specs.declared.intent.Intent.TheVariants as intents
 use Rattle.playback.specs.declared.need.Need.TheVariants as needs
@@ -175,9 +180,11 @@ pub record OfTag (n : ℕ) (command : Command) (c : Waiting) (selected : Option 
   pub there : due_action b.queue ≡ Some queued
   pub is : c ≡ record { selected = name_of selected; tag = tag_of (due_id b) queued; command = command }
 
--- a SELECT of this mailbox, with what its cache knows
+-- A SELECT of this mailbox, with what its cache knows. (Where it has none, it may have had one as the command was sent.)
 pub record SelectsBox (name : List ℕ) (b : Meaning) (c : Waiting) : Type 0 where
-  pub is : c.command ≡ commands.Select name (option_map mark_of (cache_at name b.boxes))
+  pub since : Option Mark
+  pub is : c.command ≡ commands.Select name since
+  pub knows : (cache : Cache) → cache_at name b.boxes ≡ Some cache → since ≡ Some (mark_of cache)
 
 -- a question about the mailbox that is selected
 pub record IsQuestion (command : Command) (selected : Option Selected) (c : Waiting) : Type 0 where
@@ -271,8 +278,13 @@ Came None (Some waits) p b w = ⊥
 Came (Some c) (Some waits) p b w = IsNeeded (need_of p b) c p.selected b × (IsWaiting c waits p b w ⊎ FetchesRows c waits p b w)
 Came (Some c) None p b w = IsNeeded (need_of p b) c p.selected b × IsAnswered c p b w
 
+-- the mailbox of the intent is selected under its UIDVALIDITY
+abbrev pub IsPlaced : Intent → Player → Type 0
+IsPlaced intent p = is_selected_at p.selected (intent_name intent) (intent_validity intent) ≡ true
+
 -- What the player knows: the course tells the truth; each server of its moments went on to the one now; the selected mailbox has the
--- UIDVALIDITY that was told; an intent that this run recorded had its reason, and one of an earlier run says what is so at each moment;
+-- UIDVALIDITY that was told; an intent that this run recorded had its reason, and its mailbox is selected still; one of an earlier run
+-- says what is so at each moment;
 -- what it keeps was so; and how far the conversation is.
 pub record Knows (p : Player) (b : Meaning) (w : World) : Type 0 where
   pub course : IsCourse w.course
@@ -280,6 +292,7 @@ pub record Knows (p : Player) (b : Meaning) (w : World) : Type 0 where
   pub valid : (selected : Selected) → w.selected ≡ Some selected → IsAt selected w.course.now
   pub fresh : b.pending ≡ None → p.resumed ≡ false
   pub meant : p.resumed ≡ false → (intent : Intent) → b.pending ≡ Some intent → WhyIntent intent b w.course
+  pub placed : p.resumed ≡ false → (intent : Intent) → b.pending ≡ Some intent → IsPlaced intent p
   pub resumed : p.resumed ≡ true → (s : Server) → Among s w → Open b s
   pub told : IsTold p.told b w.course
   pub learns : Learning p.learns p b w.course.now
@@ -298,3 +311,23 @@ pub record MayAskRows (c : Waiting) (p : Player) (b : Meaning) (w : World) : Typ
   pub answers : said.command ≡ select
   pub asks : c.command ≡ commands.FetchAll
   pub selected : c.selected ≡ name_of w.selected
+
+-- Behind a SELECT whose reply is owed its mailbox's cache may be taken away: the reply told a UIDVALIDITY above the cache's, and the rows
+-- of all messages weren't asked for yet.
+pub record MayReset (name : List ℕ) (kept told : ℕ) (b : Meaning) (w : World) : Type 0 where
+  pub select : Waiting
+  pub owed : w.owed ≡ Some select
+  pub none_waits : w.waiting ≡ None
+  pub selects : SelectsBox name b select
+  pub said : Said
+  pub rest : List Said
+  pub last : w.course.said ≡ said ∷ rest
+  pub answers : said.command ≡ select
+  pub accepted : said.reply.ending ≡ endings.Ok
+  pub codes : Codes
+  pub tells : told_codes said.reply ≡ Ok codes
+  pub validity : codes.validity ≡ told
+  pub cache : Cache
+  pub there : cache_at name b.boxes ≡ Some cache
+  pub old : cache.validity ≡ kept
+  pub above : kept < told

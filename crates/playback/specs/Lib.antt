@@ -4,6 +4,7 @@ pub mod Once
 pub mod InBox
 pub mod Open
 pub mod Fresh
+pub mod Reached
 pub mod Sound
 pub mod Resolved
 pub mod Of

@@ -67,6 +67,16 @@ server_with_one_more = record {
   history = record { author = Other; name = box_name; validity = 5; received = 5; change = changes.Add [] text 2 } ∷ [];
 }
 
+-- another client renews the mailbox
+abbrev pub box_renewed : Mailbox
+box_renewed = record { name = box_name; validity = 6; uidnext = 2; highest = 12; messages = message_with [] 12 ∷ []; gone = [] }
+
+abbrev pub server_renewed : Server
+server_renewed = record {
+  boxes = box_renewed ∷ [];
+  history = record { author = Other; name = box_name; validity = 6; received = 6; change = changes.Reset 6 (1 ∷ []) 2 12 } ∷ [];
+}
+
 -- an event that may come next leads from a kept book to one that isn't kept
 pub record BreaksIt (b : Meaning) (event : Event) (s : Server) : Type 0 where
   pub kept : KeptBook b s None
@@ -74,7 +84,8 @@ pub record BreaksIt (b : Meaning) (event : Event) (s : Server) : Type 0 where
   pub broken : ¬ (KeptBook (after b event) s None)
 
 -- Without "the outcome fits the deeds", "no command waits", "the intent says what is so", "the new cache is fresh", "the action has no deed
--- as its command is sent", and "others spare the append that is due", the law would be false.
+-- as its command is sent", "others spare the append that is due", and "others renew no mailbox in which a command waits", the law would be
+-- false.
 pub record ConditionsAreNeeded : Type 0 where
   pub outcome_fits : BreaksIt book_three done server_before
   pub none_waits : KeptBook book_three server_before (Some sent_out) × IsLawful book_three refused × (ours 1 server_before.history ≡ [])
@@ -84,3 +95,5 @@ pub record ConditionsAreNeeded : Type 0 where
   pub no_deed_yet : KeptBook book_three server_after None × ¬ (KeptBook book_three server_after (Some sent_out))
   pub others_spare : KeptBook book_that_appends server_before None × Batch server_before.boxes server_before server_with_one_more
       × ¬ (KeptBook book_that_appends server_with_one_more None)
+  pub others_settle : KeptBook book_three server_before (Some sent_out) × Batch server_before.boxes server_before server_renewed
+      × ¬ (KeptBook book_three server_renewed (Some sent_out))

@@ -12,18 +12,20 @@ use Rattle.action_queue.specs.declared.event.Event.{Event}
 use Rattle.action_queue.specs.declared.event.Event.TheVariants as events
 use Rattle.playback.specs.Once.{Fits}
 use Rattle.playback.specs.Open.{OpensNow}
-use Rattle.playback.specs.Fresh.{IsFreshNow}
+use Rattle.playback.specs.Fresh.{IsFreshNow, IsRenewed}
 use Rattle.playback.specs.Of.{MutatingWaits}
 use Rattle.playback.specs.Kept.{NoneOurs}
+use Rattle.playback.specs.Reached.{ActionReached}
 
 -- the event may come next, whatever the server is
 abbrev pub MayFollow : Option Meaning → Event → Type 0
 MayFollow None event = IsFirst event
 MayFollow (Some b) event = IsLawful b event
 
--- A book begins where this client changed nothing and is about to change nothing. An action is accepted that can be written. An
--- intent is recorded that says what is so, and an outcome that fits the action's deeds, each while no command waits that changes
--- something. A delta is learned where the new cache says what is so.
+-- A book begins where this client changed nothing and is about to change nothing. An action is accepted that can be written, and
+-- names no UIDVALIDITY above its mailbox's. An intent is recorded that says what is so, and an outcome that fits the action's deeds, each
+-- while no command waits that changes something. A delta is learned where the new cache says what is so, and a cache is taken away where
+-- its mailbox was renewed.
 abbrev pub Permits : Option Meaning → Event → Server → Option Waiting → Type 0
 Permits None (events.Begin names) s waiting = NoneOurs s.history × ¬ (MutatingWaits waiting)
 Permits None (events.Accept id action) s waiting = ⊥
@@ -31,13 +33,13 @@ Permits None (events.Intend id intent) s waiting = ⊥
 Permits None (events.Settle id outcome) s waiting = ⊥
 Permits None (events.Learn name delta) s waiting = ⊥
 Permits None (events.Old id action outcome) s waiting = ⊥
-Permits None (events.Reset name before told) s waiting = ⊥
+Permits None (events.Reset name kept told) s waiting = ⊥
 Permits None (events.Withdraw id tries) s waiting = ⊥
 Permits (Some b) (events.Begin names) s waiting = ⊥
-Permits (Some b) (events.Accept id action) s waiting = IsWritable (events.Accept id action)
+Permits (Some b) (events.Accept id action) s waiting = IsWritable (events.Accept id action) × ActionReached s.boxes action
 Permits (Some b) (events.Intend id intent) s waiting = ¬ (MutatingWaits waiting) × OpensNow b intent s
 Permits (Some b) (events.Settle id outcome) s waiting = ¬ (MutatingWaits waiting) × Fits outcome (ours (suc (due b.queue)) s.history)
 Permits (Some b) (events.Learn name delta) s waiting = IsFreshNow name (learned (cache_at name b.boxes) delta) s.boxes
 Permits (Some b) (events.Old id action outcome) s waiting = ⊥
-Permits (Some b) (events.Reset name before told) s waiting = ⊥
+Permits (Some b) (events.Reset name kept told) s waiting = IsRenewed name kept s.boxes
 Permits (Some b) (events.Withdraw id tries) s waiting = ⊥

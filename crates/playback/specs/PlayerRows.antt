@@ -10,6 +10,8 @@ use Rattle.imap_model.specs.declared.ending.Ending.{Ending}
 use Rattle.imap_model.specs.declared.item.Item.{Item}
 use Rattle.imap_model.specs.declared.replies.Replies.{Replies}
 use Rattle.imap_model.specs.declared.response.Response.{Response}
+use Rattle.mailbox_cache.specs.declared.cache.Cache.{Cache}
+use Rattle.playback.specs.Choosing.{is_below, reset_of, target_fault}
 use Rattle.playback.specs.Needs.{need_of}
 use Rattle.playback.specs.Replying.{HearsFound, read_of}
 use Rattle.playback.specs.Steps.{step_of}
@@ -35,6 +37,7 @@ use Rattle.imap_model.specs.declared.item.Item.TheVariants as items
 use Rattle.imap_model.specs.declared.response.Response.TheVariants as responses
 use Rattle.playback.specs.declared.finding.Finding.TheVariants as findings
 use Rattle.playback.specs.declared.need.Need.TheVariants as needs
+use Rattle.playback.specs.declared.need.Unheard.TheVariants as unheards
 
 -- message 42 is moved to Archive
 abbrev pub moves_it : Action
@@ -195,6 +198,33 @@ pub record AppendRows (alloc : Global) : Type 0 where
       needed (in_archive alloc true (findings.Probed (verdicts.Several 7 8))) appends_it (Some (puts 7))
       ≡ needs.Settle 1 (outcomes.Conflict (kinds.Ambiguous 7 8))
 
+-- a cache of INBOX
+abbrev pub kept_cache : Cache
+kept_cache = record { validity = 5; highest = 715; uidnext = 43; rows = [] }
+
+-- INBOX is selected under another UIDVALIDITY
+abbrev pub in_renewed : Global → Bool → ℕ → Player
+in_renewed alloc resumed validity = player_in alloc resumed inbox validity findings.Nothing
+
+-- Where the mailbox was renewed the action ends; under a lower UIDVALIDITY, or where another mailbox is selected, it is selected first.
+pub record RenewedRows (alloc : Global) : Type 0 where
+  pub flag : needed (in_renewed alloc false 6) flags_it None ≡ needs.Settle 1 (outcomes.Conflict (kinds.ValidityChanged 5 6))
+  pub move : needed (in_renewed alloc false 6) moves_it None ≡ needs.Settle 1 (outcomes.Conflict (kinds.ValidityChanged 5 6))
+  pub lower : needed (in_renewed alloc false 4) flags_it None ≡ needs.Select inbox
+  pub elsewhere : needed (in_archive alloc false findings.Nothing) flags_it None ≡ needs.Select inbox
+  pub open_flag : needed (in_renewed alloc true 6) flags_it (Some (stores 715)) ≡ needs.Settle 1 (outcomes.Conflict (kinds.ResetAfterLoss 5 6))
+  pub open_move : needed (in_renewed alloc true 6) moves_it (Some shifts) ≡ needs.Settle 1 (outcomes.Conflict (kinds.ResetAfterLoss 5 6))
+  pub open_append :
+      needed (player_in alloc true archive 10 (findings.Next 10 2)) appends_it (Some (puts 7))
+      ≡ needs.Settle 1 (outcomes.Conflict (kinds.ResetAfterLoss 9 10))
+  pub append : needed (player_in alloc false archive 10 (findings.Next 10 2)) appends_it None ≡ needs.Commit (events.Intend 1 (intents.Put archive 10 2))
+  pub below : target_fault (is_below (Some 5) 4) None ≡ Some (unheards.Target 5 4)
+  pub above : target_fault (is_below (Some 5) 6) None ≡ None
+  pub takes_away : reset_of inbox (Some kept_cache) 6 ≡ Some (events.Reset inbox 5 6)
+  pub same : reset_of inbox (Some kept_cache) 5 ≡ None
+  pub fell : reset_of inbox (Some kept_cache) 4 ≡ None
+  pub none_kept : reset_of inbox None 6 ≡ None
+
 -- all of these
 pub record NeedsInCases : Type 0 where
   pub flag : (alloc : Global) → FlagRows alloc
@@ -202,3 +232,4 @@ pub record NeedsInCases : Type 0 where
   pub open_store : (alloc : Global) → OpenStoreRows alloc
   pub move : (alloc : Global) → MoveRows alloc
   pub append : (alloc : Global) → AppendRows alloc
+  pub renewed : (alloc : Global) → RenewedRows alloc

@@ -1,26 +1,32 @@
 -- A connection in which a flag action is played to its end, so that the player's law isn't empty: the mailbox is selected, its rows are
 -- asked for and recorded, the action's message is asked for, its intent is recorded, its command is carried out, its outcome is recorded,
 -- and the mailbox is resynchronised (RFC 9051, sections 6.3.2, 6.4.5 and 6.4.6; RFC 7162, sections 3.1.3 and 3.2.5).
-use Rattle.action_queue.specs.Book.{after}
+use Rattle.action_queue.specs.Book.{after, cache_at}
 use Rattle.action_queue.specs.Queues.{AllSettled, accepted, settled}
 use Rattle.action_queue.specs.declared.event.Event.{Event}
 use Rattle.imap_model.specs.Carrying.{Waiting}
+use Rattle.imap_model.specs.Changes.{deed_of}
 use Rattle.imap_model.specs.Ours.{ours}
 use Rattle.imap_model.specs.ToldRows.{row_of}
 use Rattle.imap_model.specs.declared.code.Code.{Code}
 use Rattle.imap_model.specs.declared.replies.Replies.{Replies}
 use Rattle.imap_model.specs.declared.response.Response.{Response}
+use Rattle.imap_model.specs.declared.deed.Author.TheVariants.{Other}
+use Rattle.imap_model.specs.declared.deed.Change.{Change}
+use Rattle.imap_model.specs.declared.deed.Change.TheVariants as changes
+use Rattle.imap_model.specs.declared.server.Mailbox.{Mailbox}
 use Rattle.imap_model.specs.declared.server.Server.{Server}
 use Rattle.mail_base.specs.declared.tag.Tag.TheVariants.{Count}
+use Rattle.mailbox_cache.specs.Cache.{first}
 use Rattle.mailbox_cache.specs.declared.delta.Delta.{Delta}
 use Rattle.mailbox_cache.specs.declared.row.Row.{Row}
 use Rattle.playback.specs.Choosing.{begun_with, chosen, committed}
-use Rattle.playback.specs.Example.{asked, book_two, box_name, flag, meant, message_with, sent_out, server_after, server_before}
+use Rattle.playback.specs.Example.{asked, book_two, box_name, box_with, flag, meant, message_with, sent_out, server_after, server_before}
 use Rattle.playback.specs.Games.{Game, IsGood, Play}
 use Rattle.playback.specs.Needs.{need_of}
-use Rattle.playback.specs.Worlds.{asks_rows, begins, carried, given, says}
+use Rattle.playback.specs.Worlds.{asks_rows, begins, carried, given, moved, says}
 use Rattle.playback.specs.declared.finding.Finding.{Finding}
-use Rattle.std.specs.Prelude.{Bool, List, None, Some, [], false, length, refl, true, ℕ, ◌∷◌, ◌≡◌}
+use Rattle.std.specs.Prelude.{Bool, List, None, Some, [], false, length, refl, true, ℕ, ◌++◌, ◌∷◌, ◌≡◌}
 use Rattle.std.specs.declared.alloc.Global.{Global}
 use Rattle.imap_model.specs.declared.code.Code.TheVariants as codings
 use Rattle.imap_model.specs.declared.command.Command.TheVariants as commands
@@ -160,3 +166,66 @@ pub record PlaysThrough (alloc : Global) : Type 0 where
   pub done : (game_end alloc).book.queue ≡ settled (outcomes.Done None) (accepted asked) ∷ []
   pub settled : AllSettled (game_end alloc).book.queue
   pub finished : need_of (game_end alloc).player (game_end alloc).book ≡ needs.Finished
+
+-- Then others renew the mailbox, and in a connection of its own it is resynchronised: its cache is taken away while the reply to the SELECT
+-- is owed, and the rows of all messages are asked for.
+abbrev pub renewed_box : Mailbox
+renewed_box = record (box_with (flag ∷ []) 20) { validity = 6 }
+
+abbrev pub renews : Change
+renews = changes.Reset 6 (1 ∷ []) 2 20
+
+abbrev pub server_renewed : Server
+server_renewed = record {
+  boxes = renewed_box ∷ [];
+  history = server_after.history ++ deed_of Other box_name renews (renewed_box ∷ []) ∷ [];
+}
+
+abbrev pub select_again : Waiting
+select_again =
+    record { selected = None; tag = Count 1; command = commands.Select box_name (Some (record { validity = 5; modseq = 11 })) }
+
+abbrev pub ask_again : Waiting
+ask_again = record { selected = Some box_name; tag = Count 2; command = commands.FetchAll }
+
+abbrev pub again_told : Replies
+again_told = tells (responses.Exists 1 ∷ says_code (codings.UidValidity 6) ∷ says_code (codings.UidNext 2)
+    ∷ says_code (codings.HighestModSeq 20) ∷ says_code (codings.PermanentFlags (flag ∷ []) true) ∷ [])
+
+abbrev pub again_row : Replies
+again_row = tells (row_told (flag ∷ []) 20 ∷ [])
+
+abbrev pub delta_again : Delta
+delta_again = record (delta_with true (flag ∷ []) 20) { validity = 6 }
+
+abbrev pub moves_to : Server → Game → Game
+moves_to t x = record x { world = moved t x.world }
+
+abbrev pub resets_to : Event → Game → Game
+resets_to event x = record x { book = after x.book event }
+
+abbrev pub game_next : Global → Game
+game_next alloc =
+    record { player = begun_with alloc (game_end alloc).book; book = (game_end alloc).book; world = begins server_after }
+
+-- the SELECT is answered
+abbrev pub game_held : Global → Game
+game_held alloc = carries_to select_again again_told server_renewed (sends_to select_again (moves_to server_renewed (game_next alloc)))
+
+-- the cache is taken away
+abbrev pub game_reset : Global → Game
+game_reset alloc = resets_to (events.Reset box_name 5 6) (game_held alloc)
+
+-- the rows are asked for
+abbrev pub game_again : Global → Game
+game_again alloc = carries_to ask_again again_row server_renewed (asks_to ask_again (game_reset alloc))
+
+abbrev pub game_over : Global → Game
+game_over alloc = records_to (events.Learn box_name delta_again) (chooses_to delta_again (game_again alloc))
+
+-- It is a play that begins well; the cache is the new one, and nothing more is needed.
+pub record PlaysOver (alloc : Global) : Type 0 where
+  pub play : Play (game_next alloc) (game_over alloc)
+  pub good : IsGood (game_next alloc)
+  pub cache : cache_at box_name (game_over alloc).book.boxes ≡ Some (first delta_again)
+  pub finished : need_of (game_over alloc).player (game_over alloc).book ≡ needs.Finished

@@ -17,7 +17,7 @@ use Rattle.playback.specs.declared.finding.Selected.{Selected}
 use Rattle.playback.specs.declared.finding.Spot.{Spot}
 use Rattle.playback.specs.declared.player.Player.{Player}
 use Rattle.playback.specs.declared.step.Step.{Step}
-use Rattle.std.specs.Prelude.{Bool, List, None, Option, Some, bytes_eq, false, if◌then◌else◌, slice_get, true, ℕ, ◌&&◌, ◌==◌}
+use Rattle.std.specs.Prelude.{Bool, List, None, Option, Some, bytes_eq, false, if◌then◌else◌, nat_lt, slice_get, true, ℕ, ◌&&◌, ◌==◌}
 use Rattle.action_queue.specs.declared.action.Action.TheVariants as actions
 use Rattle.playback.specs.declared.finding.Finding.TheVariants as findings
 use Rattle.action_queue.specs.declared.found.Found.TheVariants as found
@@ -48,9 +48,26 @@ select_under name validity = steps.Select name (Some validity)
 abbrev pub select_box : Spot → Step
 select_box spot = select_under spot.name spot.validity
 
--- this step, where the mailbox of the message is selected; else it is selected first
-abbrev pub in_box : Option Selected → Spot → Step → Step
-in_box selected spot step = if is_selected selected spot then step else select_box spot
+-- the UIDVALIDITY under which this mailbox is selected, where that is above this one
+abbrev pub above_at : Option Selected → List ℕ → ℕ → Option ℕ
+above_at None name validity = None
+above_at (Some selected) name validity =
+    if bytes_eq selected.name name && nat_lt validity selected.validity then Some selected.validity else None
+
+-- how an action ends whose mailbox was renewed: no intent is pending for it, or one is
+abbrev pub renewed_as : Bool → ℕ → ℕ → Kind
+renewed_as false o n = kinds.ValidityChanged o n
+renewed_as true o n = kinds.ResetAfterLoss o n
+
+-- the mailbox is selected under a greater UIDVALIDITY, and the action ends; or it is selected first
+abbrev pub elsewhere : Bool → Option ℕ → List ℕ → ℕ → Step
+elsewhere meant None name validity = select_under name validity
+elsewhere meant (Some n) name validity = conflict (renewed_as meant validity n)
+
+-- This step, where the mailbox of the message is selected under its UIDVALIDITY. Else the action ends, or the mailbox is selected first.
+abbrev pub in_box : Option Selected → Bool → Spot → Step → Step
+in_box selected meant spot step =
+    if is_selected selected spot then step else elsewhere meant (above_at selected spot.name spot.validity) spot.name spot.validity
 
 -- A flag action, and the row of its message is known. Where the flags are as asked nothing is to be done, and else the intent is
 -- recorded, with the row's mod-sequence.
@@ -93,19 +110,19 @@ flag_again true mark told spot = flag_open mark told spot
 
 -- a flag action with a pending STORE: where that was answered, the action ends
 abbrev pub flag_meant : Player → ℕ → Spot → Finding → Step
-flag_meant p mark spot findings.Nothing = in_box p.selected spot (flag_again p.resumed mark findings.Nothing spot)
-flag_meant p mark spot findings.NoRow = in_box p.selected spot (flag_again p.resumed mark findings.NoRow spot)
-flag_meant p mark spot (findings.Row modseq so) = in_box p.selected spot (flag_again p.resumed mark (findings.Row modseq so) spot)
-flag_meant p mark spot findings.Barred = in_box p.selected spot (flag_again p.resumed mark findings.Barred spot)
+flag_meant p mark spot findings.Nothing = in_box p.selected true spot (flag_again p.resumed mark findings.Nothing spot)
+flag_meant p mark spot findings.NoRow = in_box p.selected true spot (flag_again p.resumed mark findings.NoRow spot)
+flag_meant p mark spot (findings.Row modseq so) = in_box p.selected true spot (flag_again p.resumed mark (findings.Row modseq so) spot)
+flag_meant p mark spot findings.Barred = in_box p.selected true spot (flag_again p.resumed mark findings.Barred spot)
 flag_meant p mark spot (findings.Ended outcome) = steps.Settle outcome
 flag_meant p mark spot (findings.Next validity uidnext) =
-    in_box p.selected spot (flag_again p.resumed mark (findings.Next validity uidnext) spot)
-flag_meant p mark spot (findings.Candidates uids) = in_box p.selected spot (flag_again p.resumed mark (findings.Candidates uids) spot)
-flag_meant p mark spot (findings.Probed verdict) = in_box p.selected spot (flag_again p.resumed mark (findings.Probed verdict) spot)
+    in_box p.selected true spot (flag_again p.resumed mark (findings.Next validity uidnext) spot)
+flag_meant p mark spot (findings.Candidates uids) = in_box p.selected true spot (flag_again p.resumed mark (findings.Candidates uids) spot)
+flag_meant p mark spot (findings.Probed verdict) = in_box p.selected true spot (flag_again p.resumed mark (findings.Probed verdict) spot)
 
 -- A flag action on this message. (An intent of another kind isn't one of a lawful book; then nothing is done but to select the mailbox.)
 abbrev pub step_flag_at : Player → Option Intent → Spot → Step
-step_flag_at p None spot = in_box p.selected spot (flag_first p.told spot)
+step_flag_at p None spot = in_box p.selected false spot (flag_first p.told spot)
 step_flag_at p (Some (intents.Store name validity uid modseq)) spot = flag_meant p modseq spot p.told
 step_flag_at p (Some (intents.Shift from validity uid to)) spot = select_box spot
 step_flag_at p (Some (intents.Put to validity uidnext)) spot = select_box spot
@@ -149,18 +166,18 @@ move_again true told spot = move_open told spot
 
 -- a move whose intent is pending: where its command was answered, the action ends
 abbrev pub move_meant : Player → Spot → Finding → Step
-move_meant p spot findings.Nothing = in_box p.selected spot (move_again p.resumed findings.Nothing spot)
-move_meant p spot findings.NoRow = in_box p.selected spot (move_again p.resumed findings.NoRow spot)
-move_meant p spot (findings.Row modseq so) = in_box p.selected spot (move_again p.resumed (findings.Row modseq so) spot)
-move_meant p spot findings.Barred = in_box p.selected spot (move_again p.resumed findings.Barred spot)
+move_meant p spot findings.Nothing = in_box p.selected true spot (move_again p.resumed findings.Nothing spot)
+move_meant p spot findings.NoRow = in_box p.selected true spot (move_again p.resumed findings.NoRow spot)
+move_meant p spot (findings.Row modseq so) = in_box p.selected true spot (move_again p.resumed (findings.Row modseq so) spot)
+move_meant p spot findings.Barred = in_box p.selected true spot (move_again p.resumed findings.Barred spot)
 move_meant p spot (findings.Ended outcome) = steps.Settle outcome
-move_meant p spot (findings.Next validity uidnext) = in_box p.selected spot (move_again p.resumed (findings.Next validity uidnext) spot)
-move_meant p spot (findings.Candidates uids) = in_box p.selected spot (move_again p.resumed (findings.Candidates uids) spot)
-move_meant p spot (findings.Probed verdict) = in_box p.selected spot (move_again p.resumed (findings.Probed verdict) spot)
+move_meant p spot (findings.Next validity uidnext) = in_box p.selected true spot (move_again p.resumed (findings.Next validity uidnext) spot)
+move_meant p spot (findings.Candidates uids) = in_box p.selected true spot (move_again p.resumed (findings.Candidates uids) spot)
+move_meant p spot (findings.Probed verdict) = in_box p.selected true spot (move_again p.resumed (findings.Probed verdict) spot)
 
 -- a move of this message
 abbrev pub step_move_at : Player → Option Intent → Spot → List ℕ → Step
-step_move_at p None spot to = in_box p.selected spot (move_first p.told spot to)
+step_move_at p None spot to = in_box p.selected false spot (move_first p.told spot to)
 step_move_at p (Some (intents.Store name validity uid modseq)) spot to = select_box spot
 step_move_at p (Some (intents.Shift from validity uid other)) spot to = move_meant p spot p.told
 step_move_at p (Some (intents.Put other validity uidnext)) spot to = select_box spot
@@ -221,7 +238,8 @@ append_again true told to validity uidnext = append_open told to validity uidnex
 -- an append whose intent is pending, in its mailbox
 abbrev pub append_in_box : Player → List ℕ → ℕ → ℕ → Finding → Step
 append_in_box p to validity uidnext told =
-    if is_selected_at p.selected to validity then append_again p.resumed told to validity uidnext else select_under to validity
+    if is_selected_at p.selected to validity then append_again p.resumed told to validity uidnext
+    else elsewhere true (above_at p.selected to validity) to validity
 
 -- an append whose intent is pending: where its command was answered, the action ends
 abbrev pub append_meant : Player → List ℕ → ℕ → ℕ → Finding → Step

@@ -41,6 +41,7 @@ use Rattle.playback.specs.Course.{Said, Course, AtMoment, WasSaid}
 use Rattle.playback.specs.InBox.{InBoxNow}
 use Rattle.append_probe.specs.Marked.{at_least, marked}
 use Rattle.playback.specs.Of.{tag_of}
+use Rattle.playback.specs.Open.{intent_name, intent_validity}
 use Rattle.playback.specs.Wanted.{IsAsked}
 
 -- the action that is due has this
@@ -154,6 +155,10 @@ WasSelected name P c = WasSaid (λ e. ((since : Option Mark) × (e.command.comma
 abbrev pub TellsNext : ℕ → ℕ → Replies → Type 0
 TellsNext validity uidnext r = (codes : Codes) × (told_codes r ≡ Ok codes) × (codes.validity ≡ validity) × (codes.uidnext ≡ uidnext)
 
+-- the reply tells this UIDVALIDITY
+abbrev pub TellsValidity : ℕ → Replies → Type 0
+TellsValidity validity r = (codes : Codes) × (told_codes r ≡ Ok codes) × (codes.validity ≡ validity)
+
 -- PERMANENTFLAGS lack an asked flag, and lack `\*` where that flag is a keyword: one without `\` (RFC 9051, sections 2.3.2 and 7.1)
 pub record Lacks (asked permanent : List (List ℕ)) (any : Bool) : Type 0 where
   pub key : List ℕ
@@ -244,6 +249,17 @@ pub record IsOpenStill (resumed : Bool) (b : Meaning) (c : Course) : Type 0 wher
   pub open_then : resumed ≡ true
   pub as_many : length (ours (suc (due b.queue)) c.now.history) ≡ length (ours (suc (due b.queue)) c.first.history)
 
+-- the mailbox of the message had a UIDVALIDITY at a moment that is above the one under which it is named
+abbrev pub WasAbove : ℕ → ℕ → Meaning → Course → Type 0
+WasAbove o n b c = OfDue (λ action. (name : List ℕ) × (uid : ℕ) × IsAbout b.queue action name o uid × (o < n)
+    × AtMoment (λ s. InBoxNow (λ _. Unit {0}) name n s.boxes) c) b
+
+-- the same of the mailbox of the pending intent
+abbrev pub WasAboveIntent : ℕ → ℕ → Option Intent → Course → Type 0
+WasAboveIntent o n None c = ⊥
+WasAboveIntent o n (Some intent) c = (intent_validity intent ≡ o) × (o < n)
+    × AtMoment (λ s. InBoxNow (λ _. Unit {0}) (intent_name intent) n s.boxes) c
+
 -- Why the action that is due ended so. `resumed` says that its intent was pending as the run began.
 abbrev pub WhyKind : Kind → Bool → Meaning → Course → Type 0
 WhyKind kinds.MessageGone resumed b c = (resumed ≡ false) × RowWas NoRow b c
@@ -258,8 +274,8 @@ WhyKind (kinds.StoreUnsure m f) resumed b c = IsOpenStill resumed b c × IsMark 
 WhyKind kinds.SourceGone resumed b c = IsOpenStill resumed b c × RowWas NoRow b c
 WhyKind kinds.GoneAfterLoss resumed b c = IsOpenStill resumed b c × RowWas NoRow b c
 WhyKind (kinds.Ambiguous u v) resumed b c = IsOpenStill resumed b c × OfDue (TwoWere u v c b.pending) b
-WhyKind (kinds.ValidityChanged o n) resumed b c = ⊥
-WhyKind (kinds.ResetAfterLoss o n) resumed b c = ⊥
+WhyKind (kinds.ValidityChanged o n) resumed b c = (resumed ≡ false) × WasAbove o n b c
+WhyKind (kinds.ResetAfterLoss o n) resumed b c = IsOpenStill resumed b c × WasAboveIntent o n b.pending c
 
 -- Why an intent of the action that is due was recorded: at a moment the row had the intent's mod-sequence and flags that weren't as
 -- asked; the message that is to be moved was there; a SELECT told the UIDNEXT.
@@ -282,5 +298,5 @@ WhyEvent (events.Intend id intent) entry b c = WhyIntent intent b c
 WhyEvent (events.Settle id outcome) entry b c = WhyOutcome outcome (is_open entry b) b c
 WhyEvent (events.Learn name delta) entry b c = Unit {0}
 WhyEvent (events.Old id action outcome) entry b c = ⊥
-WhyEvent (events.Reset name before told) entry b c = ⊥
+WhyEvent (events.Reset name kept told) entry b c = (kept < told) × WasSelected name (TellsValidity told) c
 WhyEvent (events.Withdraw id tries) entry b c = ⊥

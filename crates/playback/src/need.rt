@@ -33,9 +33,9 @@ pub enum Unheard {
     /// The replies to the resynchronisation make no delta.
     #[error("the mailbox can't be resynchronised: {0}")]
     Resync(ResyncFault),
-    /// The mailbox has another UIDVALIDITY than the message that the action is about, or than the action's intent
+    /// The mailbox's UIDVALIDITY is below that of the message that the action is about, or of the action's intent
     /// (RFC 9051, section 2.3.1.1).
-    #[error("the mailbox has another UIDVALIDITY than the action's")]
+    #[error("the mailbox has a lower UIDVALIDITY than the action's")]
     Target { kept: Validity, told: Validity },
     /// The reply lacks what the server owes.
     #[error("the reply lacks an item")]

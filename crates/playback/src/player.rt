@@ -9,8 +9,8 @@ ghost use Rattle.imap_model.specs.declared.server.Server.{Server};
 ghost use Rattle.mailbox_cache.specs.declared.delta.Delta.{Delta};
 ghost use Rattle.playback.specs.Allowed.{IsAllowed, IsFair, IsGathered, IsReply, Records, WhyNotChosen};
 ghost use Rattle.playback.specs.Choosing.{FitsWanted, IsChosen, IsChosenFault, IsEntered, begun_with, box_fault};
-ghost use Rattle.playback.specs.Choosing.{chosen_box, chosen_due, committed, is_many, is_other, rows_fault};
-ghost use Rattle.playback.specs.Choosing.{target_fault};
+ghost use Rattle.playback.specs.Choosing.{chosen_box, chosen_due, committed, is_below, is_many, rows_fault};
+ghost use Rattle.playback.specs.Choosing.{reset_in, reset_of, target_fault, wanted};
 ghost use Rattle.playback.specs.Kept.{KeptBook};
 ghost use Rattle.playback.specs.Knows.{Knows};
 ghost use Rattle.playback.specs.Left.{Awaits, left};
@@ -81,8 +81,8 @@ impl Player {
 
     /// Takes what a SELECT told, and the FETCH of all rows where that was sent: the delta, or why there is none.
     ///
-    /// `Resync` where the replies make no delta; `Target` where the mailbox has another UIDVALIDITY than the message of
-    /// the action that is due, or than the action's intent (RFC 9051, section 2.3.1.1); `Rows` where its cache would
+    /// `Resync` where the replies make no delta; `Target` where the mailbox has a UIDVALIDITY below that of the message
+    /// of the action that is due, or of the action's intent (RFC 9051, section 2.3.1.1); `Rows` where its cache would
     /// have too many rows; the first of them that holds, or `Memory`. Then the player is as before.
     pub fn chosen(&mut self, book: &Book, told: Result<Delta, ResyncFault>) -> Result<(), Unheard>
         requires { FitsWanted self.old (meaning book.now) told }
@@ -92,6 +92,10 @@ impl Player {
         ensures falls { OnOk result ((name : List ℕ) → IsSound (meaning book.now) → need_of self.old (meaning book.now) ≡ needs.Select name
             → left self.new (meaning book.now) < left self.old (meaning book.now)) }
         ensures why { IfErr result (λ fault. WhyNotChosen fault told self.old (meaning book.now)) }
+
+        // A lawful server's SELECT tells no lower UIDVALIDITY.
+        ensures honest { (w : World) (delta : Delta) (old now : ℕ) → told ≡ Ok delta → KeptBook (meaning book.now) w.course.now w.waiting
+            → IsGathered delta (meaning book.now) w → Knows self.old (meaning book.now) w → IsErrOf result (unheards.Target old now) → ⊥ }
         ensures beside { OnOk result (IsSound (meaning book.now) → IsBeside self.old (meaning book.now)
             → IsBeside self.new (meaning book.now)) }
         ensures knows { OnOk result ((delta : Delta) (w : World) → told ≡ Ok delta
@@ -99,6 +103,17 @@ impl Player {
             → Knows self.old (meaning book.now) w → Knows self.new (meaning book.now) (given w)) }
     {
         self.choose(book, told)
+    }
+
+    /// Where the SELECT that it needed told a UIDVALIDITY above that of the mailbox's cache: the event that takes the cache away. Behind
+    /// its record the player is as before, and what the SELECT and the FETCH of all rows told is handed over then.
+    pub fn outdated(&self, book: &Book, told: Validity) -> Option<Event>
+        ensures { result ≡ reset_in (meaning book.now) told (wanted self.now (meaning book.now)) }
+    {
+        let Step::Select { name, .. } = self.step(book) else {
+            return None;
+        };
+        reset_of(&name, cache_in(book, &name), told)
     }
 
     /// Takes the reply to the question or the command that it needed. `permits` says whether the mailbox keeps the
@@ -281,19 +296,37 @@ fn box_fault(
     rows_fault(alloc, cache_in(book, name), delta)
 }
 
-// The mailbox has another UIDVALIDITY than it is to have.
+// The mailbox has a UIDVALIDITY below the one that it is to have.
 fn target_fault(under: Option<Validity>, told: Validity) -> Option<Unheard>
-    ensures { result ≡ target_fault (is_other under told) None }
+    ensures { result ≡ target_fault (is_below under told) None }
 {
     match under {
         None => None,
         Some(kept) => {
-            if kept.number() == told.number() {
-                None
-            } else {
+            if told.number() < kept.number() {
                 Some(Unheard::Target { kept, told })
+            } else {
+                None
             }
         }
+    }
+}
+
+// The cache is to be taken away where the UIDVALIDITY that was told is above its own.
+fn reset_of(name: &BoxName, kept: Option<&Cache>, told: Validity) -> Option<Event>
+    ensures { result ≡ reset_of name.now (option_copied kept.entry) told }
+{
+    let Some(cache) = kept else {
+        return None;
+    };
+    if cache.validity.number() < told.number() {
+        Some(Event::Reset {
+            name: name.copy(),
+            kept: cache.validity,
+            told,
+        })
+    } else {
+        None
     }
 }
 

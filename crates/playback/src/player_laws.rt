@@ -4,7 +4,7 @@
 ghost use Rattle.playback.specs.Games.{KnownOnward, PlaysWell};
 ghost use Rattle.playback.specs.Left.{LeftAtFirst};
 ghost use Rattle.playback.specs.PlayerRows.{NeedsInCases};
-ghost use Rattle.playback.specs.PlaysThrough.{PlaysThrough};
+ghost use Rattle.playback.specs.PlaysThrough.{PlaysOver, PlaysThrough};
 ghost use Rattle.std.specs.declared.alloc.Global.{Global};
 
 /// As others act, as a command that is needed arrives at the server, and as what waits is carried out,
@@ -23,6 +23,12 @@ pub fn plays_well()
 /// and nothing more is needed.
 pub fn plays_through()
     ensures { (alloc : Global) → PlaysThrough alloc }
+{}
+
+/// A play behind it in which others renewed the mailbox: its cache is taken away, and the rows of all
+/// messages are recorded anew.
+pub fn plays_over()
+    ensures { (alloc : Global) → PlaysOver alloc }
 {}
 
 /// A player as a connection begins comes to its end within so many records and replies.

@@ -103,7 +103,7 @@ impl Player {
         ensures { result ≡ spec.step_flag_at self.now pending.now spot.now }
     {
         match pending {
-            None => self.in_box(spot, flag_first(&self.told, spot)),
+            None => self.in_box(false, spot, flag_first(&self.told, spot)),
             Some(Intent::Store { modseq, .. }) => match &self.told {
                 Finding::Ended(outcome) => Step::Settle(*outcome),
                 Finding::Nothing
@@ -113,7 +113,11 @@ impl Player {
                 | Finding::Next { .. }
                 | Finding::Candidates(_)
                 | Finding::Probed(_) => {
-                    self.in_box(spot, flag_again(self.resumed, *modseq, &self.told, spot))
+                    self.in_box(
+                        true,
+                        spot,
+                        flag_again(self.resumed, *modseq, &self.told, spot),
+                    )
                 }
             },
             Some(Intent::Shift { .. }) | Some(Intent::Put { .. }) => select_box(spot),
@@ -146,7 +150,7 @@ impl Player {
         ensures { result ≡ spec.step_move_at self.now pending.now spot.now to.now }
     {
         match pending {
-            None => self.in_box(spot, move_first(&self.told, spot, to)),
+            None => self.in_box(false, spot, move_first(&self.told, spot, to)),
             Some(Intent::Shift { .. }) => match &self.told {
                 Finding::Ended(outcome) => Step::Settle(*outcome),
                 Finding::Nothing
@@ -156,6 +160,7 @@ impl Player {
                 | Finding::Next { .. }
                 | Finding::Candidates(_)
                 | Finding::Probed(_) => self.in_box(
+                    true,
                     spot,
                     move_again(self.resumed, &self.told, spot),
                 ),
@@ -200,20 +205,22 @@ impl Player {
                 if is_selected_at(&self.selected, to, validity) {
                     append_again(self.resumed, &self.told, to, validity, uidnext)
                 } else {
-                    select_under(to, validity)
+                    elsewhere(true, above_at(&self.selected, to, validity), to, validity)
                 }
             }
         }
     }
 
-    // The step, where the mailbox of the message is selected under its UIDVALIDITY. Else it is selected first.
-    fn in_box(&self, spot: &Spot, step: Step) -> Step
-        ensures { result ≡ spec.in_box self.now.selected spot.now step }
+    // The step, where the mailbox of the message is selected under its UIDVALIDITY. Else the action ends, or the mailbox is
+    // selected first.
+    fn in_box(&self, meant: bool, spot: &Spot, step: Step) -> Step
+        ensures { result ≡ spec.in_box self.now.selected meant spot.now step }
     {
         if is_selected_at(&self.selected, &spot.name, spot.validity) {
             step
         } else {
-            select_box(spot)
+            let above = above_at(&self.selected, &spot.name, spot.validity);
+            elsewhere(meant, above, &spot.name, spot.validity)
         }
     }
 }
@@ -227,6 +234,42 @@ fn is_selected_at(selected: &Option<Selected>, name: &BoxName, validity: Validit
         Some(selected) => {
             selected.name == *name && selected.validity.number() == validity.number()
         }
+    }
+}
+
+// The UIDVALIDITY under which this mailbox is selected, where that is above this one.
+fn above_at(selected: &Option<Selected>, name: &BoxName, validity: Validity) -> Option<Validity>
+    ensures { result ≡ spec.above_at selected.now name.now validity }
+{
+    match selected {
+        None => None,
+        Some(selected) => {
+            if selected.name == *name && validity.number() < selected.validity.number() {
+                Some(selected.validity)
+            } else {
+                None
+            }
+        }
+    }
+}
+
+// The mailbox is selected under a greater UIDVALIDITY, and the action ends; or it is selected first.
+fn elsewhere(meant: bool, above: Option<Validity>, name: &BoxName, validity: Validity) -> Step
+    ensures { result ≡ spec.elsewhere meant above name.now validity }
+{
+    match above {
+        None => select_under(name, validity),
+        Some(told) => conflict(renewed_as(meant, validity, told)),
+    }
+}
+
+fn renewed_as(meant: bool, o: Validity, n: Validity) -> Kind
+    ensures { result ≡ spec.renewed_as meant o n }
+{
+    if meant {
+        Kind::ResetAfterLoss { o, n }
+    } else {
+        Kind::ValidityChanged { o, n }
     }
 }
 

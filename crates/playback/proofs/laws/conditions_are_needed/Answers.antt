@@ -10,4 +10,5 @@ returns c = record {
   cache_is_fresh = needed.cache_is_fresh;
   no_deed_yet = needed.no_deed_yet;
   others_spare = needed.others_spare;
+  others_settle = needed.others_settle;
 }
