@@ -33,7 +33,7 @@ use Rattle.playback.specs.Of.{IsOf}
 use Rattle.playback.specs.Worlds.{World, given, name_of}
 use Rattle.playback.specs.declared.need.Need.{Need}
 use Rattle.playback.specs.declared.player.Player.{Player}
-use Rattle.std.proofs.Common.{List, Option, Some, ap, inl, inr, refl, subst, sym, ℕ, ◌∙◌, ◌≡◌}
+use Rattle.std.proofs.Common.{None, List, Option, Some, ap, inl, inr, refl, subst, sym, ℕ, ◌∙◌, ◌≡◌}
 use Rattle.store_core.proofs.MailBook.{one_mail_event}
 use Rattle.store_core.specs.Mail.{mail}
 use Rattle.store_core.specs.Steps.{Firm}
@@ -49,7 +49,7 @@ waiting_as : (s t : Option (List ℕ)) (u v : Tag) (c d : Command) → s ≡ t �
 waiting_as s t u v c d e f g = cc
 
 module _ (p : Player) (b : Meaning) (permits : Option Permits) (made old : Clock) (count : ℕ) (tag : Tag) (command : Command) (name : List ℕ)
-    (stands : StandsKept b old) (known : KnownAt made old permits p b) (at : name_of p.selected ≡ Some name)
+    (stands : StandsKept b old) (known : KnownAt made old permits None p b) (at : name_of p.selected ≡ Some name)
     (here : old.now.outside.talk.selected ≡ Some name) where
   abbrev W : World
   W = known.world
@@ -117,7 +117,7 @@ module _ (p : Player) (b : Meaning) (permits : Option Permits) (made old : Clock
 pub heard_known : (p new : Player) (b : Meaning) (permits : Option Permits) (made now : Clock) (r : Replies) (name : List ℕ) →
     now.now.outside.talk.selected ≡ Some name → HeardAt r made now permits p b →
     ((w : World) → KeptBook b w.course.now w.waiting → IsReply r w → IsFair (permits_due permits (due_action b.queue)) b w → Knows p b w →
-    Knows new b (given w)) → KnownAt made now permits new b
+    Knows new b (given w)) → KnownAt made now permits None new b
 heard_known p new b permits made now r name here heard knows = record {
   world = given heard.world;
   tells = record {

@@ -1,29 +1,38 @@
 -- A server that is well formed stays so while questions are asked, and what others keep of it is kept.
-use Rattle.std.proofs.Common.{◌≡◌, ℕ, List, [], ◌∷◌, sym, subst}
+use Rattle.std.proofs.Common.{◌≡◌, ℕ, List, [], ◌∷◌, None, Option, Some, refl, sym, ◌∙◌, subst}
+use Rattle.std.proofs.lemmas.Option.{same_Some}
 use Rattle.imap_model.specs.Changes.{Batch}
 use Rattle.imap_model.specs.Talking.{Peer, Answering, Connecting}
 use Rattle.imap_model.specs.Talking.Answering.{stays, others, goes_on, refuses, carries}
 use Rattle.imap_model.specs.Talking.Connecting.{as_before, begins, ends}
+use Rattle.imap_model.specs.Lookups.{box_at, validity_of}
 use Rattle.imap_model.specs.WellFormed.{IsWellFormed}
+use Rattle.imap_model.specs.declared.server.Mailbox.{Mailbox}
 use Rattle.imap_model.specs.declared.server.Server.{Server}
 use Rattle.imap_model.proofs.Evolution.{batches_stay}
 use Rattle.world_traits.specs.Asking.Asking.{answers, arrives}
 use Rattle.world_traits.specs.Links.{Any, LinkStep, Linked}
-use Rattle.world_traits.specs.Moments.{Moment, Clock}
-use Rattle.world_traits.proofs.Traces.{since_both, carried_now}
+use Rattle.world_traits.specs.Moments.{Moment, Clock, Since}
+use Rattle.world_traits.proofs.Passing.{since_weaker}
+use Rattle.world_traits.proofs.Traces.{since_both, since_carry, carried_now}
 use Rattle.imap_session.specs.Enquiring.{Enquiring, connecting, asking}
 use Rattle.play_driver.specs.Calm.{IsCalm, NoChangeWaits}
-use Rattle.play_driver.specs.Levelling.{LeavesValidity, SameValidity, ValidityStays}
+use Rattle.play_driver.specs.Levelling.{LeavesSelected, LeavesValidity, SameValidity, SelectedStays, ValidityStays}
+use Rattle.playback.specs.Polite.{KeepsBox, has_validity}
 use Rattle.play_driver.proofs.Parts.{grows, since_first, since_second}
 use Rattle.play_driver.proofs.QuestionsStay.{question_stays}
 
-module _ (name : List ℕ) (P : Server → Type 0)
-    (stands : (s t : Server) → IsWellFormed s.boxes → Batch s.boxes s t → SameValidity name s t → P s → P t) where
+-- others change something as is said
+record LeavesBy (R : Server → Server → Type 0) (m n : Moment) : Type 0 where
+  pub same : Batch m.outside.server.boxes m.outside.server n.outside.server → R m.outside.server n.outside.server
+
+module _ (R : Server → Server → Type 0) (P : Server → Type 0)
+    (stands : (s t : Server) → IsWellFormed s.boxes → Batch s.boxes s t → R s t → P s → P t) where
   abbrev Held : Peer → Type 0
   Held p = IsCalm p × P p.server
 
   abbrev Spared : Peer → Peer → Type 0
-  Spared p q = Batch p.server.boxes p.server q.server → SameValidity name p.server q.server
+  Spared p q = Batch p.server.boxes p.server q.server → R p.server q.server
 
   -- whatever is asked
   answering_held : (p q : Peer) → Answering p q → Spared p q → Held p → Held q
@@ -52,21 +61,41 @@ module _ (name : List ℕ) (P : Server → Type 0)
       (record { well = h.0.well; no_change = h.0.no_change }, h.1)
 
   abbrev Fairly : Moment → Moment → Type 0
-  Fairly m n = LinkStep Enquiring m n × LeavesValidity name m n
+  Fairly m n = LinkStep Enquiring m n × LeavesBy R m n
 
   held_on : (m n : Moment) → Any n × Any n → Fairly m n → Held m.outside → Held n.outside
   held_on m n any s h = enquiring_held m.outside n.outside s.0.outside s.1.same h
 
   -- over a time
-  pub held_now : (old new : Clock) → Linked Enquiring old new → ValidityStays name old new → Held old.now.outside → Held new.now.outside
-  held_now old new linked fair h =
+  held_by : (old new : Clock) → Linked Enquiring old new → Since Any (LeavesBy R) old new → Held old.now.outside → Held new.now.outside
+  held_by old new linked fair h =
       carried_now (λ m. Any m × Any m) (λ m. Held m.outside) Fairly held_on old h new
-      (since_both Any Any (LinkStep Enquiring) (LeavesValidity name) old new linked fair)
+      (since_both Any Any (LinkStep Enquiring) (LeavesBy R) old new linked fair)
+
+-- where others may do what they like
+freely : (m n : Moment) → LinkStep Enquiring m n → LeavesBy (λ s t. Unit {0}) m n
+freely m n step = record { same = λ batch. tt }
+
+pub held_freely : (P : Server → Type 0) → ((s t : Server) → IsWellFormed s.boxes → Batch s.boxes s t → P s → P t) → (old new : Clock) →
+    Linked Enquiring old new → IsCalm old.now.outside × P old.now.outside.server → IsCalm new.now.outside × P new.now.outside.server
+held_freely P stands old new linked h =
+    held_by (λ s t. Unit {0}) P (λ s t well batch u p. stands s t well batch p) old new linked
+    (since_weaker Any Any (LinkStep Enquiring) (LeavesBy (λ s t. Unit {0})) (λ m p. p) freely old new linked) h
+
+pub calm_now : (old new : Clock) → Linked Enquiring old new → IsCalm old.now.outside → IsCalm new.now.outside
+calm_now old new linked calm = (held_freely (λ s. Unit {0}) (λ s t well batch u. tt) old new linked (calm, tt)).0
 
 module _ (name : List ℕ) where
-  pub calm_now : (old new : Clock) → Linked Enquiring old new → ValidityStays name old new → IsCalm old.now.outside → IsCalm new.now.outside
-  calm_now old new linked fair calm =
-      (held_now name (λ s. Unit {0}) (λ s t well batch same u. tt) old new linked fair (calm, tt)).0
+  by_validity : (m n : Moment) → LeavesValidity name m n → LeavesBy (SameValidity name) m n
+  by_validity m n leaves = record { same = leaves.same }
+
+  -- where they leave the UIDVALIDITY
+  pub held_now : (P : Server → Type 0) → ((s t : Server) → IsWellFormed s.boxes → Batch s.boxes s t → SameValidity name s t → P s → P t) →
+      (old new : Clock) → Linked Enquiring old new → ValidityStays name old new → IsCalm old.now.outside × P old.now.outside.server →
+      IsCalm new.now.outside × P new.now.outside.server
+  held_now P stands old new linked fair h =
+      held_by (SameValidity name) P stands old new linked
+      (since_weaker Any Any (LeavesValidity name) (LeavesBy (SameValidity name)) (λ m p. p) by_validity old new fair) h
 
   -- parts of a time in which others left the UIDVALIDITY
   module _ (old mid new : Clock) (a : Linked Enquiring old mid) (b : Linked Enquiring mid new) (fair : ValidityStays name old new) where
@@ -77,3 +106,39 @@ module _ (name : List ℕ) where
     pub stays_second : ValidityStays name mid new
     stays_second =
         since_second Any (LeavesValidity name) old mid new (grows Any (LinkStep Enquiring) old mid a) (grows Any (LinkStep Enquiring) mid new b) fair
+
+-- From one moment to the next what is selected stays.
+abbrev pub SameSelected : Moment → Moment → Type 0
+SameSelected m n = n.outside.talk.selected ≡ m.outside.talk.selected
+
+same_validity : (x y : Option Mailbox) → has_validity x ≡ has_validity y → validity_of x ≡ validity_of y
+same_validity None None same = refl
+same_validity None (Some y) same = absurd cc
+same_validity (Some x) None same = absurd cc
+same_validity (Some x) (Some y) same = same_Some x.validity y.validity same
+
+-- While a mailbox is selected others leave its UIDVALIDITY.
+module _ (name : List ℕ) (at new : Clock) (chosen : Since Any SameSelected at new) (there : new.now.outside.talk.selected ≡ Some name)
+    (fair : SelectedStays at new) where
+  abbrev Chosen : Moment → Type 0
+  Chosen m = m.outside.talk.selected ≡ Some name
+
+  at_first : Chosen at.now
+  at_first =
+      sym (carried_now Any (λ m. m.outside.talk.selected ≡ at.now.outside.talk.selected) SameSelected (λ m n any s before. s ∙ before) at refl new chosen)
+      ∙ there
+
+  abbrev Both : Moment → Moment → Type 0
+  Both m n = SameSelected m n × LeavesSelected m n
+
+  leaves : (m n : Moment) → Chosen m × Both m n → LeavesValidity name m n
+  leaves m n s = record {
+    same = λ batch. same_validity (box_at name n.outside.server.boxes) (box_at name m.outside.server.boxes)
+        (subst (λ (o : Option (List ℕ)). KeepsBox o m.outside.server.boxes n.outside.server.boxes) s.0 (s.1.1.same batch));
+  }
+
+  pub stays_selected : ValidityStays name at new
+  stays_selected =
+      since_weaker (λ m. (Any m × Any m) × Chosen m) Any (λ m n. Chosen m × Both m n) (LeavesValidity name) (λ m p. tt) leaves at new
+      (since_carry (λ m. Any m × Any m) Chosen Both (λ m n any s here. s.0 ∙ here) at at_first new
+      (since_both Any Any SameSelected LeavesSelected at new chosen fair))

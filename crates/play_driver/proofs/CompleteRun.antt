@@ -36,16 +36,14 @@ comes_session (sessions.Lacking item) refused lacking bad fault is = absurd (lac
 comes_session (sessions.TooLarge limit number) refused lacking bad fault is = subst ComesAnyway (sym is) tt
 
 -- a fault of a turn that is none of these
-pub comes_turn : (fault : PlayFault) → ((line : List ℕ) → fault ≡ faults.Refused line → ⊥) → (IsReplyFault fault → ⊥) →
-    ((name : List ℕ) (kept told : ℕ) → fault ≡ faults.Validity name kept told → ⊥) → ComesAnyway fault
-comes_turn faults.Memory refused reply valid = tt
-comes_turn faults.Disk refused reply valid = tt
-comes_turn faults.Link refused reply valid = tt
-comes_turn (faults.Refused line) refused reply valid = refused line refl
-comes_turn (faults.BadReply why) refused reply valid = reply tt
-comes_turn (faults.Lacking what) refused reply valid = reply tt
-comes_turn (faults.Validity name kept told) refused reply valid = valid name kept told refl
-comes_turn (faults.Limit which number) refused reply valid = tt
+pub comes_turn : (fault : PlayFault) → ((line : List ℕ) → fault ≡ faults.Refused line → ⊥) → (IsReplyFault fault → ⊥) → ComesAnyway fault
+comes_turn faults.Memory refused reply = tt
+comes_turn faults.Disk refused reply = tt
+comes_turn faults.Link refused reply = tt
+comes_turn (faults.Refused line) refused reply = refused line refl
+comes_turn (faults.BadReply why) refused reply = reply tt
+comes_turn (faults.Lacking what) refused reply = reply tt
+comes_turn (faults.Limit which number) refused reply = tt
 
 -- LOGOUT lacks nothing
 staying_lacks : (heard : List Response) (tag : Tag) (had : List ℕ) (c : Option Connection) (item : Item) →

@@ -4,7 +4,6 @@ use Rattle.imap_model.specs.declared.command.Command.{Command}
 use Rattle.imap_model.specs.declared.item.Item.{Item}
 use Rattle.imap_model.specs.declared.replies.Replies.{Replies}
 use Rattle.imap_model.specs.declared.response.Response.{Response}
-use Rattle.imap_model.specs.declared.server.Server.{Server}
 use Rattle.imap_session.specs.Causes.{FailsBehind}
 use Rattle.imap_session.specs.Dialogue.{BrokeOff, next_tag, next_text}
 use Rattle.imap_session.specs.Dialogue.Dialogue.{Asks, Ends}
@@ -16,12 +15,11 @@ use Rattle.mailbox_cache.specs.declared.delta.Delta.{Delta}
 use Rattle.play_driver.proofs.Learned.{learns_faultless}
 use Rattle.play_driver.specs.Faults.{IsReplyFault, of_resync, of_session, of_unheard}
 use Rattle.play_driver.specs.Joining.{AllFair}
-use Rattle.play_driver.specs.KnownAt.{HeardAt, StandsKept}
-use Rattle.play_driver.specs.Levelling.{IsOutdated}
+use Rattle.play_driver.specs.KnownAt.{GatheredAt, HeardAt, StandsKept}
 use Rattle.play_driver.specs.Played.{played}
 use Rattle.play_driver.specs.Resynchronising.{Resyncs, fetches, resync, select_of}
 use Rattle.play_driver.specs.declared.fault.PlayFault.{PlayFault}
-use Rattle.playback.specs.Allowed.{IsReply, WhyNotChosen}
+use Rattle.playback.specs.Allowed.{IsGathered, IsReply, WhyNotChosen}
 use Rattle.playback.specs.Kept.{KeptBook}
 use Rattle.playback.specs.Knows.{Knows}
 use Rattle.playback.specs.Replying.{IsHeardFault}
@@ -30,7 +28,7 @@ use Rattle.playback.specs.declared.need.Unheard.{Unheard}
 use Rattle.playback.specs.declared.player.Player.{Player}
 use Rattle.qresync_core.specs.declared.fault.ResyncFault.{ResyncFault}
 use Rattle.qresync_core.specs.declared.fault.ResyncFault.TheVariants as resync_faults
-use Rattle.std.proofs.Common.{Bool, Err, List, None, Option, Result, Some, false, inl, inr, refl, subst, sym, true, ℕ, ⊎_elim, ◌++◌, ◌+◌, ◌≡◌, ◌≢◌}
+use Rattle.std.proofs.Common.{Bool, Err, List, Ok, Option, Result, false, inl, inr, refl, subst, sym, true, ℕ, ◌++◌, ◌+◌, ◌≡◌, ◌≢◌}
 use Rattle.std.specs.Prelude.{IsErrOf, if◌then◌else◌}
 use Rattle.store_core.specs.Mail.{mail}
 use Rattle.world_traits.specs.LinkState.{Connection, LinkState}
@@ -58,6 +56,10 @@ module _ (link : LinkState) (f : SessionFault) where
   rows_whole false count sent had heard broke = absurd broke
   rows_whole true count sent had heard (inl none) = asked_whole heard (next_tag count) commands.FetchAll had link.connection f none.failing
   rows_whole true count sent had heard (inr (r, came, lines, reply, rest)) = absurd rest
+
+  pub fetch_whole : (count : ℕ) (sent had : List ℕ) (heard : List Response) →
+      BrokeOff (Asks commands.FetchAll (λ all. Ends true)) count sent had heard link f → (item : Item) → f ≢ sessions.Lacking item
+  fetch_whole count sent had heard broke = rows_whole true count sent had heard broke
 
   pub resync_whole : (name : List ℕ) (kept : Option Cache) (count : ℕ) (sent had : List ℕ) (heard : List Response) →
       BrokeOff (resync name kept (Ends true)) count sent had heard link f → (item : Item) → f ≢ sessions.Lacking item
@@ -97,30 +99,33 @@ module _ (p : Player) (b : Meaning) (permits : Option Permits) (permitted : Bool
       fault ≡ of_unheard name unheard → IsReplyFault fault → ⊥
   heard_faultless unheard fault lacking honest told is = none_unheard unheard lacking honest (subst IsReplyFault told is)
 
--- that a mailbox was made anew is no fault of the reply
-none_outdated : (s : Server) (name : List ℕ) (kept : Option Cache) (fault : ResyncFault) → IsOutdated s name kept fault →
-    IsReplyFault (of_resync name fault) → ⊥
-none_outdated s name None fault outdated is = outdated
-none_outdated s name (Some cache) fault outdated is = subst (λ (f : ResyncFault). IsReplyFault (of_resync name f)) outdated.1 is
-
--- what was told of a mailbox, where the player doesn't take it
+-- What was told of a mailbox has no fault but want of memory: that of a SELECT, beside a book that is kept.
 module _ (b : Meaning) (old new : Clock) (stands : StandsKept b old) (fair : AllFair mail played old new) (name : List ℕ) (kept : Option Cache)
     (same_cache : kept ≡ cache_at name b.boxes) (told : Result Delta ResyncFault) (selected : Option (List ℕ)) (count after : ℕ)
-    (permits : Option Permits) (resyncs : Resyncs selected count after name kept told permits old new) (p : Player) where
-  none_resynced : (fault : ResyncFault) → told ≡ Err fault → IsReplyFault (of_resync name fault) → ⊥
-  none_resynced fault failed is =
-      ⊎_elim (λ (memory : fault ≡ resync_faults.Memory). subst (λ (f : ResyncFault). IsReplyFault (of_resync name f)) memory is)
-      (λ (outdated : IsOutdated old.now.outside.server name kept fault). none_outdated old.now.outside.server name kept fault outdated is)
-      (learns_faultless b name kept fault selected count after permits old new (sym same_cache) stands fair
-      (subst (λ (d : Result Delta ResyncFault). Resyncs selected count after name kept d permits old new) failed resyncs))
+    (permits : Option Permits) (resyncs : Resyncs selected count after name kept told permits old new) where
+  pub memory_resynced : (fault : ResyncFault) → told ≡ Err fault → fault ≡ resync_faults.Memory
+  memory_resynced fault failed =
+      learns_faultless b name kept fault selected count after permits old new (sym same_cache) stands fair
+      (subst (λ (d : Result Delta ResyncFault). Resyncs selected count after name kept d permits old new) failed resyncs)
 
-  none_untaken : (unheard : Unheard) → WhyNotChosen unheard told p b → IsReplyFault (of_unheard name unheard) → ⊥
-  none_untaken unheards.Memory why is = is
-  none_untaken (unheards.Resync fault) why is = none_resynced fault why is
-  none_untaken (unheards.Target before now) why is = is
-  none_untaken (unheards.Lacks item) why is = why
-  none_untaken (unheards.Rows count) why is = is
+-- then the player takes it
+module _ (p : Player) (b : Meaning) (name : List ℕ) (told : Result Delta ResyncFault) (permits : Option Permits) (made now : Clock)
+    (gathered : (delta : Delta) → told ≡ Ok delta → GatheredAt delta made now permits p b)
+    (memory : (fault : ResyncFault) → told ≡ Err fault → fault ≡ resync_faults.Memory) where
+  -- no lower UIDVALIDITY is told by a lawful server
+  abbrev pub TellsNoLower : Unheard → Type 0
+  TellsNoLower unheard = (w : World) (delta : Delta) (before now : ℕ) → told ≡ Ok delta → KeptBook b w.course.now w.waiting → IsGathered delta b w →
+      Knows p b w → unheard ≢ unheards.Target before now
 
-  pub chosen_faultless : (unheard : Unheard) (fault : PlayFault) → WhyNotChosen unheard told p b → fault ≡ of_unheard name unheard →
-      IsReplyFault fault → ⊥
-  chosen_faultless unheard fault why same is = none_untaken unheard why (subst IsReplyFault same is)
+  none_untaken : (unheard : Unheard) → WhyNotChosen unheard told p b → TellsNoLower unheard → IsReplyFault (of_unheard name unheard) → ⊥
+  none_untaken unheards.Memory why honest is = is
+  none_untaken (unheards.Resync fault) why honest is =
+      subst (λ (f : ResyncFault). IsReplyFault (of_resync name f)) (memory fault why) is
+  none_untaken (unheards.Target before now) why honest is =
+      let g = gathered why.0 why.1 in honest g.world why.0 before now why.1 g.kept g.gathered g.knows refl
+  none_untaken (unheards.Lacks item) why honest is = why
+  none_untaken (unheards.Rows count) why honest is = is
+
+  pub told_faultless : (unheard : Unheard) (fault : PlayFault) → WhyNotChosen unheard told p b → TellsNoLower unheard →
+      fault ≡ of_unheard name unheard → IsReplyFault fault → ⊥
+  told_faultless unheard fault why honest same is = none_untaken unheard why honest (subst IsReplyFault same is)

@@ -1,6 +1,7 @@
 -- What the player makes of what was told of the mailbox that it needs.
 use Rattle.action_queue.specs.Book.{Meaning, cache_at}
 use Rattle.action_queue.specs.Queues.{due_action}
+use Rattle.action_queue.specs.Writable.{HaveFewFlags}
 use Rattle.imap_model.specs.declared.response.Response.{Response}
 use Rattle.imap_session.specs.Dialogue.{BrokeOff}
 use Rattle.imap_session.specs.Dialogue.Dialogue.{Ends}
@@ -13,15 +14,15 @@ use Rattle.imap_session.specs.Session.{Follows}
 use Rattle.play_driver.specs.Turning.TurnFails.{not_chosen, not_told}
 use Rattle.play_driver.specs.Faults.{of_session, of_unheard}
 use Rattle.playback.specs.declared.step.Step.{Step}
-use Rattle.play_driver.specs.Resynchronising.{DeltaCame, resync}
-use Rattle.play_driver.specs.Sessions.{count_of, feed_of}
+use Rattle.play_driver.specs.Resynchronising.{DeltaCame, IsLearnable, resync}
+use Rattle.play_driver.specs.Sessions.{count_of, feed_of, held_in}
 use Rattle.play_driver.specs.Stages.{Broke, DeltaCameOf, Stage, stage_of}
 use Rattle.play_driver.specs.Turning.{TurnFails, standing_of}
 use Rattle.play_driver.specs.declared.fault.PlayFault.{PlayFault}
 use Rattle.play_driver.specs.declared.session.Session.{Session}
 use Rattle.playback.proofs.Ranks.{due_search_any, due_sent_any, ids_any}
 use Rattle.playback.specs.Allowed.{WhyNotChosen}
-use Rattle.playback.specs.Choosing.{IsChosen, IsChosenFault, Wanted, chosen_box, chosen_in, wanted, wanted_by}
+use Rattle.playback.specs.Choosing.{FitsWanted, IsChosen, IsChosenFault, Wanted, chosen_box, chosen_in, wanted, wanted_by}
 use Rattle.playback.specs.Needs.{due_id, need_for, need_learn, need_of}
 use Rattle.playback.specs.Steps.{step_learn, step_of}
 use Rattle.playback.specs.Worlds.{name_of}
@@ -29,8 +30,9 @@ use Rattle.playback.specs.declared.finding.Resynced.{Resynced}
 use Rattle.playback.specs.declared.need.Need.{Need}
 use Rattle.playback.specs.declared.need.Unheard.{Unheard}
 use Rattle.playback.specs.declared.player.Player.{Player}
+use Rattle.qresync_core.specs.Fitting.{Fits}
 use Rattle.qresync_core.specs.declared.fault.ResyncFault.{ResyncFault}
-use Rattle.std.proofs.Common.{Err, List, None, Ok, Option, Result, Some, [], ap, refl, subst, sym, true, ℕ, ◌∙◌, ◌≡◌}
+use Rattle.std.proofs.Common.{Err, IfOk, List, None, Ok, Option, Result, Some, [], ap, refl, subst, sym, true, ℕ, ◌∙◌, ◌≡◌}
 use Rattle.store_core.specs.Holding.{Holding}
 use Rattle.store_core.specs.Mail.{mail}
 use Rattle.world_traits.specs.LinkState.{LinkState}
@@ -42,6 +44,15 @@ use Rattle.playback.specs.declared.step.Step.TheVariants as steps
 abbrev name_in : Need → List ℕ
 name_in (needs.Select name) = name
 name_in need = []
+
+-- what may be learned of the cache fits what the player needs
+pub fits_wanted : (p : Player) (b : Meaning) (name : List ℕ) (kept : Option Cache) → need_of p b ≡ needs.Select name → kept ≡ cache_at name b.boxes →
+    (told : Result Delta ResyncFault) → IfOk told (IsLearnable kept) → FitsWanted p b told
+fits_wanted p b name kept needed same (Err fault) learnable = tt
+fits_wanted p b name kept needed same (Ok delta) learnable = λ other is.
+    let one : name ≡ other = ap name_in (sym needed ∙ is) in
+    subst (λ (n : List ℕ). Fits (cache_at n b.boxes) delta × HaveFewFlags delta.rows) one
+    (subst (λ (o : Option Cache). Fits o delta) same learnable.fits, learnable.few)
 
 -- what was taken is a delta
 pub taken_delta : (p new : Player) (b : Meaning) (told : Result Delta ResyncFault) → IsChosen p b told new →
@@ -128,7 +139,7 @@ refused_as f fault now is same = cc
 -- Why the turn fails.
 module _ (link : LinkState) (session : Session) (store : Holding mail) (player : Player) (b : Meaning) (same_book : store.book ≡ b)
     (name : List ℕ) (kept : Option Cache) (same_cache : kept ≡ cache_at name b.boxes) (needed : need_of player b ≡ needs.Select name)
-    (follows : Follows link.connection (feed_of session)) where
+    (resting : held_in session ≡ None) (follows : Follows link.connection (feed_of session)) where
   needed_there : need_of player store.book ≡ needs.Select name
   needed_there = subst (λ (x : Meaning). need_of player x ≡ needs.Select name) (sym same_book) needed
 
@@ -141,7 +152,7 @@ module _ (link : LinkState) (session : Session) (store : Holding mail) (player :
       BrokeOff (resync name kept (Ends true)) (count_of session) link.sent h.connection.received heard now f) →
       TurnFails (standing_of link session store player) now fault
   not_asked now f fault is why =
-      not_told name f needed_there is
+      not_told name f resting needed_there is
       (subst (λ (k : Option Cache). Broke (resync name k (Ends true)) (stage_of link session) now f) kept_there
       (record { heard = follows.0; hears = follows.1; broke = why follows.0 follows.1 }))
 
@@ -152,7 +163,7 @@ module _ (link : LinkState) (session : Session) (store : Holding mail) (player :
       IsChosenFault player b told unheard → WhyNotChosen unheard told player b → fault ≡ of_unheard name unheard →
       TurnFails (standing_of link session store player) q.link fault
   not_taken q told permits unheard fault came refused why is =
-      not_chosen name told permits unheard needed_there
+      not_chosen name told permits unheard resting needed_there
       (record { last = q; here = refl; came = came_of name kept _ kept_there (stage_of link session) q follows told permits came })
       (subst (λ (x : Meaning). IsChosenFault player x told unheard) (sym same_book) refused)
       (subst (λ (x : Meaning). WhyNotChosen unheard told player x) (sym same_book) why) is

@@ -68,6 +68,9 @@ both_told name since count tag old mid new first second =
     since_then Any (LinkStep Enquiring) old mid new (select_told name since count old mid first)
     (asks_enquires mid.now.outside.talk.told tag commands.FetchAll refl mid new second)
 
+pub fetch_told : (tag : Tag) (old new : Clock) → Linked (Asking old.now.outside.talk.told tag commands.FetchAll) old new → Linked Enquiring old new
+fetch_told tag old new linked = asks_enquires old.now.outside.talk.told tag commands.FetchAll refl old new linked
+
 module _ (name : List ℕ) (kept : Option Cache) (since : Option Mark) (same : since ≡ mark_kept kept) (count : ℕ) where
   -- what was answered
   pub answered_one : (selected : Option (List ℕ)) (r : Replies) (old new : Clock) (c : Option Connection) (feed : Stream) →

@@ -121,6 +121,10 @@ module _ (names : List (List ℕ)) where
       grounds_then old mid new (select_grounded name is since count old mid first)
       (stands_grounded (Some name) tag commands.FetchAll refl mid new c feed stands second)
 
+  pub fetch_grounded : (name : List ℕ) (tag : Tag) (old new : Clock) (c : Option Connection) (feed : Stream) → Stands (Some name) old c feed →
+      Linked (Asking old.now.outside.talk.told tag commands.FetchAll) old new → Since Any (GroundStep names) old new
+  fetch_grounded name tag old new c feed stands s = stands_grounded (Some name) tag commands.FetchAll refl old new c feed stands s
+
   -- what isn't on the disk stays
   still_grounded : (p q : Peer) → q ≡ p → Grounded names p q
   still_grounded p q same = subst (λ (x : Peer). Grounded names p x) (sym same) (connecting (as_before stays))

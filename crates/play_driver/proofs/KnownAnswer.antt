@@ -21,16 +21,16 @@ use Rattle.play_driver.proofs.Links.{books_there, fair_books}
 use Rattle.play_driver.proofs.Parts.{grows, grows_then, since_first, since_second}
 use Rattle.play_driver.specs.Joining.{AllFair, Grows, IsFair}
 use Rattle.play_driver.specs.KnownAt.{KnownAt, StandsKept, TellsOf}
-use Rattle.play_driver.specs.Played.{SameValidities, played}
+use Rattle.play_driver.specs.Played.{played}
 use Rattle.play_driver.specs.SentOnce.{Behind, MayAsk}
 use Rattle.playback.proofs.Carrying.{carries_book}
-use Rattle.play_driver.proofs.PlayedKept.{keeps_box}
 use Rattle.playback.proofs.Foreign.{of_after}
 use Rattle.playback.proofs.Keeping.{asked_quiet, quiet_keeps, sent}
 use Rattle.playback.proofs.Onward.{IsIdle, idle}
 use Rattle.playback.specs.Course.{Course, IsOneOf, Said}
 use Rattle.playback.specs.Kept.{KeptBook}
 use Rattle.playback.specs.Knows.{Knows}
+use Rattle.playback.specs.Polite.{KeepsBox}
 use Rattle.playback.specs.Worlds.{World, answered_course, name_of, selected_after}
 use Rattle.playback.specs.declared.finding.Selected.{Selected}
 use Rattle.playback.specs.declared.player.Player.{Player}
@@ -48,10 +48,10 @@ use Rattle.world_traits.specs.Moments.{Clock, Moment, Since, tick}
 use Rattle.imap_model.specs.declared.response.Response.TheVariants as responses
 
 -- a command that may be asked may be asked still, as others change something
-may_still : (b : Meaning) (s t : Server) (w : Waiting) → Batch s.boxes s t → SameValidities s.boxes t.boxes → MayAsk mail played b s w →
+may_still : (b : Meaning) (s t : Server) (w : Waiting) → Batch s.boxes s t → KeepsBox w.selected s.boxes t.boxes → MayAsk mail played b s w →
     MayAsk mail played b t w
-may_still b s t w batch same (inl question) = inl question
-may_still b s t w batch same (inr of) = inr (of_after b s t w batch (keeps_box s.boxes t.boxes same w.selected) of)
+may_still b s t w batch keeps (inl question) = inl question
+may_still b s t w batch keeps (inr of) = inr (of_after b s t w batch keeps of)
 
 -- a book is kept as it waits, and behind it
 pub kept_asked : (b : Meaning) (s : Server) (w : Waiting) → MayAsk mail played b s w → KeptBook b s None → KeptBook b s (Some w)
@@ -82,10 +82,10 @@ module _ (p : Player) (b : Meaning) (made old : Clock) (w : Waiting) (selected :
   abbrev FollowsNow : Clock → Type 0
   FollowsNow k = Follows p b made selected owed rest k
 
-  may_on : (s t : Server) → (Batch s.boxes s t → SameValidities s.boxes t.boxes) → (t ≡ s) ⊎ Batch s.boxes s t → MayAsk mail played b s w →
+  may_on : (s t : Server) → (Batch s.boxes s t → KeepsBox w.selected s.boxes t.boxes) → (t ≡ s) ⊎ Batch s.boxes s t → MayAsk mail played b s w →
       MayAsk mail played b t w
-  may_on s t renews (inl same) may = subst (λ (x : Server). MayAsk mail played b x w) (sym same) may
-  may_on s t renews (inr batch) may = may_still b s t w batch (renews batch) may
+  may_on s t keeps (inl same) may = subst (λ (x : Server). MayAsk mail played b x w) (sym same) may
+  may_on s t keeps (inr batch) may = may_still b s t w batch (keeps batch) may
 
   -- before the answer requests to go on alone were told, and the command may be asked; or a reply was told
   pub record Still (k : Clock) : Type 0 where
@@ -94,6 +94,7 @@ module _ (p : Player) (b : Meaning) (made old : Clock) (w : Waiting) (selected :
     pub all_go : AllGo asked
     pub one : One k.now.outside
     pub may : MayAsk mail played b k.now.outside.server w
+    pub at : w.selected ≡ name_of selected
     pub follows : FollowsNow k
 
   record Ended (k : Clock) : Type 0 where
@@ -113,9 +114,9 @@ module _ (p : Player) (b : Meaning) (made old : Clock) (w : Waiting) (selected :
   }
 
   ended_on : (k : Clock) (m : Moment) → Does k.now.outside m.outside → Ended k → Ended (tick k m)
-  ended_on k m (nothing same told) e = record { asked = e.asked; as_told = told ∙ e.as_told; not_go = e.not_go }
-  ended_on k m (changes batch told) e = record { asked = e.asked; as_told = told ∙ e.as_told; not_go = e.not_go }
-  ended_on k m (goes same told) e =
+  ended_on k m (nothing same told chosen) e = record { asked = e.asked; as_told = told ∙ e.as_told; not_go = e.not_go }
+  ended_on k m (changes batch told chosen) e = record { asked = e.asked; as_told = told ∙ e.as_told; not_go = e.not_go }
+  ended_on k m (goes same told chosen) e =
       replied k m e.asked (responses.Go ∷ []) e.as_told told (λ all. e.not_go (go_front e.asked (responses.Go ∷ []) all))
   ended_on k m (replies tag r told quiet) e =
       replied k m e.asked (told_in tag r) e.as_told told (λ all. e.not_go (go_front e.asked (told_in tag r) all))
@@ -125,29 +126,32 @@ module _ (p : Player) (b : Meaning) (made old : Clock) (w : Waiting) (selected :
     Changes = (m.outside.server ≡ k.now.outside.server) ⊎ Batch k.now.outside.server.boxes k.now.outside.server m.outside.server
 
     -- where others change something at most
-    others_at_most : Changes → FollowsNow k → FollowsNow (tick k m)
-    others_at_most (inl same) h =
-        same_follows p b made selected owed rest k m (books_there Steps k.now m step mail (Firm (Some b)) h.books) same h
-    others_at_most (inr batch) h =
+    others_at_most : Changes → m.outside.talk.selected ≡ k.now.outside.talk.selected → FollowsNow k → FollowsNow (tick k m)
+    others_at_most (inl same) chosen h =
+        same_follows p b made selected owed rest k m (books_there Steps k.now m step mail (Firm (Some b)) h.books) same chosen h
+    others_at_most (inr batch) chosen h =
         others_follow p b made selected owed rest k m (books_there Steps k.now m step mail (Firm (Some b)) h.books) batch
-        (fair_books mail played (Firm (Some b)) k.now m h.books fair batch) h
+        (fair_books mail played (Firm (Some b)) k.now m h.books fair batch) chosen h
 
-    still : Changes → (h : Still k) (asked : List Response) → m.outside.talk.told ≡ Told ++ asked → AllGo asked → Still (tick k m)
-    still so h asked told all = record {
+    still : Changes → m.outside.talk.selected ≡ k.now.outside.talk.selected → (h : Still k) (asked : List Response) →
+        m.outside.talk.told ≡ Told ++ asked → AllGo asked → Still (tick k m)
+    still so chosen h asked told all = record {
       asked = asked;
       as_told = told;
       all_go = all;
       one = asking_one Told w.tag w.command k.now.outside m.outside step.outside h.one;
       may = may_on k.now.outside.server m.outside.server
-          (λ batch. (fair_books mail played (Firm (Some b)) k.now m h.follows.books fair batch).1) so h.may;
-      follows = others_at_most so h.follows;
+          (λ batch. subst (λ (o : Option (List ℕ)). KeepsBox o k.now.outside.server.boxes m.outside.server.boxes)
+          (sym (h.at ∙ h.follows.selects)) (fair_books mail played (Firm (Some b)) k.now m h.follows.books fair batch).1) so h.may;
+      at = h.at;
+      follows = others_at_most so chosen h.follows;
     }
 
     still_on : Does k.now.outside m.outside → Still k → Still (tick k m) ⊎ Ended (tick k m)
-    still_on (nothing same told) h = inl (still (inl same) h h.asked (told ∙ h.as_told) h.all_go)
-    still_on (changes batch told) h = inl (still (inr batch) h h.asked (told ∙ h.as_told) h.all_go)
-    still_on (goes same told) h =
-        inl (still (inl same) h (h.asked ++ responses.Go ∷ [])
+    still_on (nothing same told chosen) h = inl (still (inl same) chosen h h.asked (told ∙ h.as_told) h.all_go)
+    still_on (changes batch told chosen) h = inl (still (inr batch) chosen h h.asked (told ∙ h.as_told) h.all_go)
+    still_on (goes same told chosen) h =
+        inl (still (inl same) chosen h (h.asked ++ responses.Go ∷ [])
         (told_more k.now.outside.talk.told h.asked m.outside.talk.told (responses.Go ∷ []) h.as_told told) (go_more h.asked h.all_go))
     still_on (replies tag r told quiet) h =
         inr (replied k m h.asked (told_in tag r) h.as_told told (λ all. not_told tag r (go_back h.asked (told_in tag r) all)))
@@ -159,7 +163,7 @@ module _ (p : Player) (b : Meaning) (made old : Clock) (w : Waiting) (selected :
     behind_on : Behind Told k.now.outside × FollowsNow k → Behind Told m.outside × FollowsNow (tick k m)
     behind_on h =
         let so = asking_behind Told w.tag w.command k.now.outside m.outside step.outside h.0 in
-        (so.0, others_at_most so.1 h.1)
+        (so.0, others_at_most so.1 so.2 h.1)
 
   abbrev Links : Moment → Moment → Type 0
   Links m n = LinkStep Steps m n × IsFair mail played m n
@@ -185,6 +189,14 @@ module _ (p : Player) (b : Meaning) (made old : Clock) (w : Waiting) (selected :
       (walked Links (λ k. Behind Told k.now.outside × FollowsNow k) at (λ k m more s h. behind_on k m s.0 s.1 h) (behind, h) new
       (linked_fair at new linked fair)).1
 
+  -- and what is selected stays
+  pub selects_behind : (at : Clock) (new : Clock) → Linked Steps at new → AllFair mail played at new → Behind Told at.now.outside →
+      new.now.outside.talk.selected ≡ at.now.outside.talk.selected
+  selects_behind at new linked fair behind =
+      (walked Links (λ k. Behind Told k.now.outside × (k.now.outside.talk.selected ≡ at.now.outside.talk.selected)) at
+      (λ k m more s h. let so = asking_behind Told w.tag w.command k.now.outside m.outside s.0.outside h.0 in (so.0, so.2 ∙ h.1))
+      (behind, refl) new (linked_fair at new linked fair)).1
+
 -- the replies were told at a step, behind which nothing waits or arrives
 module _ (told : List Response) (w : Waiting) (asked : List Response) (r : Replies) (after : Option (List ℕ)) (m n : Moment)
     (tells : Tells w (told ++ asked) r after m.outside n.outside) (one : One m.outside) where
@@ -195,9 +207,9 @@ module _ (told : List Response) (w : Waiting) (asked : List Response) (r : Repli
       not_told w.tag r (subst AllGo (append_cancel_left (told ++ asked) more (told_in w.tag r) same) all)
 
   quiet_then : Does m.outside n.outside → Quiet n.outside
-  quiet_then (nothing same is) = absurd (no_more [] (is ∙ sym (append-nil m.outside.talk.told)) tt)
-  quiet_then (changes batch is) = absurd (no_more [] (is ∙ sym (append-nil m.outside.talk.told)) tt)
-  quiet_then (goes same is) = absurd (no_more (responses.Go ∷ []) is (refl, tt))
+  quiet_then (nothing same is chosen) = absurd (no_more [] (is ∙ sym (append-nil m.outside.talk.told)) tt)
+  quiet_then (changes batch is chosen) = absurd (no_more [] (is ∙ sym (append-nil m.outside.talk.told)) tt)
+  quiet_then (goes same is chosen) = absurd (no_more (responses.Go ∷ []) is (refl, tt))
   quiet_then (replies tag reply is quiet) = quiet one
 
   longer : length told < length n.outside.talk.told
@@ -219,7 +231,8 @@ module _ (told : List Response) (w : Waiting) (asked : List Response) (r : Repli
 module _ (p : Player) (b : Meaning) (made old new : Clock) (w : Waiting) (r : Replies) (selected : Option Selected) (owed : Option Waiting)
     (rest : List Said) (c : Option Connection) (feed : Stream) (answered : Answered w r old new c feed) (fair : AllFair mail played old new)
     (quiet : old.now.outside.waiting ≡ None) (may : MayAsk mail played b old.now.outside.server w)
-    (h : Follows p b made selected owed rest old)
+    (h : Follows p b made selected owed rest old) (at_box : w.selected ≡ name_of selected)
+    (named : name_of (selected_after w.command r selected) ≡ answered.after)
     (later : Option Waiting)
     (takes : (course : Course) (t : Server) (after : Option (List ℕ)) → course.said ≡ rest → CarriesOut w course.now r t after →
     KeptBook b course.now None → KeptBook b course.now (Some w) → KeptBook b t None → Knows p b (world_of course selected owed) →
@@ -246,10 +259,23 @@ module _ (p : Player) (b : Meaning) (made old new : Clock) (w : Waiting) (r : Re
   there =
       until p b made old w selected owed rest At answered.asked answered.became.is.before answered.all_go answered.became.before
       (since_first Any (IsFair mail played) old At new to_at (grows_then At (tick At To) new (grows_tick At To) to_end) fair)
-      (record { asked = []; as_told = sym (append-nil Before); all_go = tt; one = inl quiet; may = may; follows = h })
+      (record { asked = []; as_told = sym (append-nil Before); all_go = tt; one = inl quiet; may = may; at = at_box; follows = h })
 
   abbrev entry : Said
   entry = record { command = w; before = there.follows.course.now; behind = To.outside.server; reply = r }
+
+  fair_behind : AllFair mail played (tick At To) new
+  fair_behind =
+      since_second Any (IsFair mail played) old (tick At To) new (grows_then old At (tick At To) to_at (grows_tick At To)) to_end fair
+
+  quiet_behind : Behind Before To.outside
+  quiet_behind = behind_then Before w answered.asked r answered.after At.now To answered.became.is there.one answered.became.step.outside
+
+  -- what is selected then is so at the server
+  chosen_then : name_of (selected_after w.command r selected) ≡ To.outside.talk.selected
+  chosen_then =
+      named ∙ sym answered.stands.selects
+      ∙ selects_behind p b made old w selected owed rest (tick At To) new answered.became.after fair_behind quiet_behind
 
   follows_then : Follows p b made (selected_after w.command r selected) later (entry ∷ rest) (tick At To)
   follows_then =
@@ -260,7 +286,7 @@ module _ (p : Player) (b : Meaning) (made old new : Clock) (w : Waiting) (r : Re
       let may_now : MayAsk mail played b f.course.now w = subst (λ (s : Server). MayAsk mail played b s w) (sym f.server) there.may in
       let kept : KeptBook b t None = kept_carried b f.course.now t w r answered.after out may_now f.kept in
       carried_follows p b made selected owed rest At To w r later (Before ++ answered.asked) answered.after answered.became.is
-      (books_there Answer At.now To answered.became.step mail (Firm (Some b)) f.books) f kept
+      (books_there Answer At.now To answered.became.step mail (Firm (Some b)) f.books) chosen_then f kept
       (takes f.course t answered.after f.is_said out f.kept (kept_asked b f.course.now w may_now f.kept) kept f.knows)
 
   pub follows_answered : AnsweredFollows w r p b made (selected_after w.command r selected) later rest new
@@ -269,15 +295,13 @@ module _ (p : Player) (b : Meaning) (made old new : Clock) (w : Waiting) (r : Re
     command = refl;
     reply = refl;
     follows =
-        from_then p b made old w (selected_after w.command r selected) later (entry ∷ rest) (tick At To) new answered.became.after
-        (since_second Any (IsFair mail played) old (tick At To) new (grows_then old At (tick At To) to_at (grows_tick At To)) to_end fair)
-        (behind_then Before w answered.asked r answered.after At.now To answered.became.is there.one answered.became.step.outside)
+        from_then p b made old w (selected_after w.command r selected) later (entry ∷ rest) (tick At To) new answered.became.after fair_behind quiet_behind
         follows_then;
   }
 
 -- at first
 pub follows_first : (p : Player) (b : Meaning) (permits : Option Permits) (made old : Clock) → StandsKept b old →
-    (known : KnownAt made old permits p b) →
+    (known : KnownAt made old permits None p b) →
     Follows p b made known.world.selected None known.world.course.said old
 follows_first p b permits made old stands known =
     let w : World = known.world in
@@ -290,6 +314,7 @@ follows_first p b permits made old stands known =
       books = stands.books;
       first = known.tells.first;
       server = known.tells.server;
+      selects = known.tells.selects;
       each = known.tells.each;
       is_said = refl;
       answered = known.tells.answered;

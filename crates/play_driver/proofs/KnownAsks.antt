@@ -81,7 +81,7 @@ says_carried p b w r selected course t after needed out kept waits later k =
     carried_knows p b (says w v) w r t after refl out waits later (says_know p b v w kept refl needed k)
 
 module _ (p : Player) (b : Meaning) (w : Waiting) (r : Replies) (permits : Option Permits) (made old new : Clock) (c : Option Connection)
-    (feed : Stream) (stands : StandsKept b old) (known : KnownAt made old permits p b) (at_selected : w.selected ≡ old.now.outside.talk.selected)
+    (feed : Stream) (stands : StandsKept b old) (known : KnownAt made old permits None p b) (at_selected : w.selected ≡ old.now.outside.talk.selected)
     (needed : IsNeeded (need_of p b) w p.selected b)
     (no_select : (name : List ℕ) (since : Option Mark) → w.command ≢ commands.Select name since)
     (may : MayAsk mail played b old.now.outside.server w) (fair : AllFair mail played old new) (answered : Answered w r old new c feed)
@@ -89,18 +89,18 @@ module _ (p : Player) (b : Meaning) (w : Waiting) (r : Replies) (permits : Optio
   abbrev Selects : Option Selected
   Selects = known.world.selected
 
-  there : AnsweredFollows w r p b made (selected_after w.command r Selects) (Some w) known.world.course.said new
-  there =
-      follows_answered p b made old new w r Selects None known.world.course.said c feed answered fair stands.none_waits may
-      (follows_first p b permits made old stands known) (Some w)
-      (λ course t after is_said out kept waits later k. says_carried p b w r Selects course t after needed out kept waits later k)
-
   keeps : KeepsSelection w.command
   keeps = keeps_selection w.command no_select
 
   selects : name_of (selected_after w.command r Selects) ≡ answered.after
   selects =
       ap name_of (selected_still w.command r Selects keeps) ∙ known.tells.selects ∙ sym at_selected ∙ sym (answered.keeps keeps)
+
+  there : AnsweredFollows w r p b made (selected_after w.command r Selects) (Some w) known.world.course.said new
+  there =
+      follows_answered p b made old new w r Selects None known.world.course.said c feed answered fair stands.none_waits may
+      (follows_first p b permits made old stands known) (at_selected ∙ sym known.tells.selects) selects (Some w)
+      (λ course t after is_said out kept waits later k. says_carried p b w r Selects course t after needed out kept waits later k)
 
   abbrev World_then : World
   World_then = world_of there.follows.course (selected_after w.command r Selects) (Some w)

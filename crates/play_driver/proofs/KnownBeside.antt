@@ -13,11 +13,10 @@ use Rattle.imap_session.specs.Knowing.{AllGo, Tells}
 use Rattle.mail_base.specs.declared.tag.Tag.{Tag}
 use Rattle.play_driver.proofs.KnownWalk.{AreAnswered, AreServers, answered_later, grows_tick, servers_grow, servers_later, servers_time}
 use Rattle.play_driver.proofs.Parts.{grows_start}
-use Rattle.play_driver.proofs.PlayedKept.{keeps_box}
 use Rattle.play_driver.proofs.Questions.{awaits_quiet}
 use Rattle.play_driver.specs.Joining.{Grows}
 use Rattle.play_driver.specs.KnownAt.{WasAnswered}
-use Rattle.play_driver.specs.Played.{SameValidities}
+use Rattle.play_driver.specs.Played.{SparesFrom}
 use Rattle.play_driver.specs.SentOnce.{Behind}
 use Rattle.playback.proofs.Foreign.{others_keep}
 use Rattle.playback.proofs.Moments.{grows_carried, grows_moved}
@@ -25,7 +24,7 @@ use Rattle.playback.proofs.Onward.{others_know}
 use Rattle.playback.specs.Course.{Course, IsOneOf, Said}
 use Rattle.playback.specs.Kept.{KeptBook}
 use Rattle.playback.specs.Knows.{Knows}
-use Rattle.playback.specs.Polite.{Spares}
+use Rattle.playback.specs.Polite.{KeepsBox, Spares}
 use Rattle.playback.specs.Worlds.{World, answered_course, carried, moved, name_of, selected_after}
 use Rattle.playback.specs.declared.finding.Selected.{Selected}
 use Rattle.playback.specs.declared.player.Player.{Player}
@@ -52,6 +51,7 @@ pub record Follows (p : Player) (b : Meaning) (made : Clock) (selected : Option 
   pub books : HasBooks mail (Firm (Some b)) k.now
   pub first : course.first ≡ made.now.outside.server
   pub server : course.now ≡ k.now.outside.server
+  pub selects : name_of selected ≡ k.now.outside.talk.selected
   pub each : AreServers (world_of course selected owed) made k
   pub is_said : course.said ≡ said
   pub answered : AreAnswered said made k
@@ -63,13 +63,14 @@ module _ (p : Player) (b : Meaning) (made : Clock) (selected : Option Selected) 
   Now k = Follows p b made selected owed said k
 
   -- the same server
-  pub same_follows : (k : Clock) (m : Moment) → HasBooks mail (Firm (Some b)) m → m.outside.server ≡ k.now.outside.server → Now k →
-      Now (tick k m)
-  same_follows k m has same h = record {
+  pub same_follows : (k : Clock) (m : Moment) → HasBooks mail (Firm (Some b)) m → m.outside.server ≡ k.now.outside.server →
+      m.outside.talk.selected ≡ k.now.outside.talk.selected → Now k → Now (tick k m)
+  same_follows k m has same chosen h = record {
     course = h.course;
     books = has;
     first = h.first;
     server = h.server ∙ sym same;
+    selects = h.selects ∙ sym chosen;
     each = servers_later (world_of h.course selected owed) made k (tick k m) (grows_tick k m) h.each;
     is_said = h.is_said;
     answered = answered_later said made k (tick k m) (grows_tick k m) h.answered;
@@ -80,24 +81,26 @@ module _ (p : Player) (b : Meaning) (made : Clock) (selected : Option Selected) 
   -- others change something
   pub others_follow : (k : Clock) (m : Moment) → HasBooks mail (Firm (Some b)) m →
       Batch k.now.outside.server.boxes k.now.outside.server m.outside.server →
-      Spares b k.now.outside.server.boxes m.outside.server.boxes × SameValidities k.now.outside.server.boxes m.outside.server.boxes →
-      Now k → Now (tick k m)
-  others_follow k m has batch spares h =
+      SparesFrom (Some b) k.now.outside m.outside.server → m.outside.talk.selected ≡ k.now.outside.talk.selected → Now k → Now (tick k m)
+  others_follow k m has batch spares chosen h =
       let t : Server = m.outside.server in
       let w : World = world_of h.course selected owed in
       let foreign : Batch h.course.now.boxes h.course.now t = subst (λ (s : Server). Batch s.boxes s t) (sym h.server) batch in
       let spared : Spares b h.course.now.boxes t.boxes = subst (λ (s : Server). Spares b s.boxes t.boxes) (sym h.server) spares.0 in
-      let same : SameValidities h.course.now.boxes t.boxes = subst (λ (s : Server). SameValidities s.boxes t.boxes) (sym h.server) spares.1 in
+      let keeps : KeepsBox (name_of selected) h.course.now.boxes t.boxes =
+      subst (λ (s : Server). KeepsBox (name_of selected) s.boxes t.boxes) (sym h.server)
+      (subst (λ (o : Option (List ℕ)). KeepsBox o k.now.outside.server.boxes t.boxes) (sym h.selects) spares.1) in
       record {
         course = record h.course { now = t; past = h.course.now ∷ h.course.past };
         books = has;
         first = h.first;
         server = refl;
+        selects = h.selects ∙ sym chosen;
         each = servers_grow w (moved t w) made k m (grows_moved t w) refl h.each;
         is_said = h.is_said;
         answered = answered_later said made k (tick k m) (grows_tick k m) h.answered;
         kept = others_keep b h.course.now t None h.kept foreign spared tt;
-        knows = others_know p b w t h.kept foreign spared (keeps_box h.course.now.boxes t.boxes same (name_of selected)) tt h.knows;
+        knows = others_know p b w t h.kept foreign spared keeps tt h.knows;
       }
 
   -- what was said last was answered at this moment
@@ -124,12 +127,12 @@ module _ (p : Player) (b : Meaning) (made : Clock) (selected : Option Selected) 
   -- a command is carried out
   pub carried_follows : (k : Clock) (m : Moment) (w : Waiting) (r : Replies) (later : Option Waiting) (told : List Response)
       (after : Option (List ℕ)) → Tells w told r after k.now.outside m.outside → HasBooks mail (Firm (Some b)) m →
-      (h : Now k) →
+      name_of (selected_after w.command r selected) ≡ m.outside.talk.selected → (h : Now k) →
       KeptBook b m.outside.server None →
       Knows p b (world_of (answered_course w r m.outside.server h.course) (selected_after w.command r selected) later) →
       Follows p b made (selected_after w.command r selected) later
       (record { command = w; before = h.course.now; behind = m.outside.server; reply = r } ∷ said) (tick k m)
-  carried_follows k m w r later told after tells has h kept knows =
+  carried_follows k m w r later told after tells has chosen h kept knows =
       let t : Server = m.outside.server in
       let old : World = world_of h.course selected owed in
       record {
@@ -137,6 +140,7 @@ module _ (p : Player) (b : Meaning) (made : Clock) (selected : Option Selected) 
         books = has;
         first = h.first;
         server = refl;
+        selects = chosen;
         each = servers_grow old (carried w r t old) made k m (grows_carried w r t old) refl h.each;
         is_said = ap (λ (l : List Said). record { command = w; before = h.course.now; behind = t; reply = r } ∷ l) h.is_said;
         answered = answered_now k m (record { command = w; before = h.course.now; behind = t; reply = r }) told after
@@ -174,12 +178,12 @@ pub record Quiet (p : Peer) : Type 0 where
 abbrev pub One : Peer → Type 0
 One p = (p.waiting ≡ None) ⊎ (p.talk.arriving ≡ None)
 
--- What a step of a server does: nothing that is told; others change something; a part is asked for; a reply is told, and behind it nothing
+-- What a step of a server does, of which what is selected stays but for the last: nothing that is told; others change something; a part is asked for; a reply is told, and behind it nothing
 -- waits or arrives.
 pub data Does (p : Peer) : Peer → Type 0 where
-  nothing : {q : Peer} → q.server ≡ p.server → q.talk.told ≡ p.talk.told → Does p q
-  changes : {q : Peer} → Batch p.server.boxes p.server q.server → q.talk.told ≡ p.talk.told → Does p q
-  goes : {q : Peer} → q.server ≡ p.server → q.talk.told ≡ p.talk.told ++ responses.Go ∷ [] → Does p q
+  nothing : {q : Peer} → q.server ≡ p.server → q.talk.told ≡ p.talk.told → q.talk.selected ≡ p.talk.selected → Does p q
+  changes : {q : Peer} → Batch p.server.boxes p.server q.server → q.talk.told ≡ p.talk.told → q.talk.selected ≡ p.talk.selected → Does p q
+  goes : {q : Peer} → q.server ≡ p.server → q.talk.told ≡ p.talk.told ++ responses.Go ∷ [] → q.talk.selected ≡ p.talk.selected → Does p q
   replies : {q : Peer} (tag : Tag) (r : Replies) → q.talk.told ≡ p.talk.told ++ told_in tag r → (One p → Quiet q) → Does p q
 
 no_waiting : (a : Arriving) (p : Peer) → p.talk.arriving ≡ Some a → One p → p.waiting ≡ None
@@ -192,9 +196,9 @@ no_arriving w p is (inr none) = none
 
 module _ (told : List Response) (tag : Tag) (command : Command) where
   answering_does : (p q : Peer) → Answering p q → Does p q
-  answering_does p q stays = nothing refl refl
-  answering_does p q (others t batch) = changes batch refl
-  answering_does p q (goes_on a is unasked) = goes refl refl
+  answering_does p q stays = nothing refl refl refl
+  answering_does p q (others t batch) = changes batch refl refl
+  answering_does p q (goes_on a is unasked) = goes refl refl refl
   answering_does p q (refuses a r is unasked refusal) = replies a.tag r refl
       (λ one. record { nothing = no_waiting a p is one; no_text = refl })
   answering_does p q (carries w r t after is out) = replies w.tag r refl
@@ -202,8 +206,8 @@ module _ (told : List Response) (tag : Tag) (command : Command) where
 
   pub asking_does : (p q : Peer) → Asking told tag command p q → Does p q
   asking_does p q (answers step) = answering_does p q step
-  asking_does p q (arrives before part [] is awaits front) = nothing refl refl
-  asking_does p q (arrives before part (next ∷ behind) is awaits front) = nothing refl refl
+  asking_does p q (arrives before part [] is awaits front) = nothing refl refl refl
+  asking_does p q (arrives before part (next ∷ behind) is awaits front) = nothing refl refl refl
 
   answering_one : (p q : Peer) → Answering p q → One p → One q
   answering_one p q stays one = one
@@ -221,9 +225,10 @@ module _ (told : List Response) (tag : Tag) (command : Command) where
   abbrev Replied : Peer → Type 0
   Replied p = Behind told p
 
-  answering_behind : (p q : Peer) → Answering p q → Replied p → Replied q × ((q.server ≡ p.server) ⊎ Batch p.server.boxes p.server q.server)
-  answering_behind p q stays h = (h, inl refl)
-  answering_behind p q (others t batch) h = (record { quiet = h.quiet; no_text = h.no_text; more = h.more }, inr batch)
+  answering_behind : (p q : Peer) → Answering p q → Replied p →
+      Replied q × ((q.server ≡ p.server) ⊎ Batch p.server.boxes p.server q.server) × (q.talk.selected ≡ p.talk.selected)
+  answering_behind p q stays h = (h, inl refl, refl)
+  answering_behind p q (others t batch) h = (record { quiet = h.quiet; no_text = h.no_text; more = h.more }, inr batch, refl)
   answering_behind p q (goes_on a is unasked) h = absurd (none-some a (sym h.no_text ∙ is))
   answering_behind p q (refuses a r is unasked refusal) h = absurd (none-some a (sym h.no_text ∙ is))
   answering_behind p q (carries w r t after is out) h = absurd (none-some w (sym h.quiet ∙ is))
@@ -233,6 +238,6 @@ module _ (told : List Response) (tag : Tag) (command : Command) where
   closed (x ∷ xs) p a front h = none-some (record { tag = tag; parts = x ∷ xs; asked = true }) (sym h.no_text ∙ a.1)
 
   pub asking_behind : (p q : Peer) → Asking told tag command p q → Replied p →
-      Replied q × ((q.server ≡ p.server) ⊎ Batch p.server.boxes p.server q.server)
+      Replied q × ((q.server ≡ p.server) ⊎ Batch p.server.boxes p.server q.server) × (q.talk.selected ≡ p.talk.selected)
   asking_behind p q (answers step) h = answering_behind p q step h
   asking_behind p q (arrives before part behind is awaits front) h = absurd (closed before p awaits front h)

@@ -1,10 +1,12 @@
 -- What the player knows as its run begins: behind the moments of a login, in which the server stayed or others changed something.
-use Rattle.std.proofs.Common.{None, Option, Some, [], ap, refl, subst, sym, ⊎_elim, ◌∙◌, ◌∷◌, ◌≡◌}
+use Rattle.std.proofs.Common.{List, None, Option, Some, [], ap, refl, subst, sym, ℕ, ⊎_elim, ◌∙◌, ◌∷◌, ◌≡◌}
 use Rattle.action_queue.specs.Book.{Meaning}
+use Rattle.imap_model.specs.Carrying.{Waiting}
 use Rattle.imap_model.specs.Changes.{Batch}
 use Rattle.imap_model.specs.Talking.{Peer, Answering, Connecting}
 use Rattle.imap_model.specs.Talking.Answering.{stays, others, goes_on, refuses, carries}
 use Rattle.imap_model.specs.Talking.Connecting.{as_before, begins, ends}
+use Rattle.imap_model.specs.declared.server.Mailbox.{Mailbox}
 use Rattle.imap_model.specs.declared.server.Server.{Server}
 use Rattle.imap_session.specs.Enquiring.{Enquiring, connecting, asking}
 use Rattle.imap_session.specs.declared.permits.Permits.{Permits}
@@ -13,11 +15,11 @@ use Rattle.play_driver.proofs.KnownWalk.{AreServers, Beside, GoesTo, Reaches, be
 use Rattle.play_driver.proofs.KnownWalk.{was_now, world_walked}
 use Rattle.play_driver.proofs.KnownPermits.{unselected_permits}
 use Rattle.play_driver.proofs.Parts.{grows, grows_start}
-use Rattle.play_driver.proofs.PlayedKept.{keeps_box, keeps_waiting, withstood}
+use Rattle.play_driver.proofs.PlayedKept.{withstood}
 use Rattle.play_driver.proofs.QuestionsStay.{question_stays}
 use Rattle.play_driver.specs.Joining.{AllFair}
 use Rattle.play_driver.specs.KnownAt.{KnownAt, StandsKept, WasServer}
-use Rattle.play_driver.specs.Played.{SameValidities, played}
+use Rattle.play_driver.specs.Played.{played}
 use Rattle.play_driver.specs.Calm.{NoChangeWaits}
 use Rattle.playback.proofs.Carrying.{nothing_waits}
 use Rattle.playback.proofs.Keeping.{quiet_keeps}
@@ -29,7 +31,7 @@ use Rattle.playback.specs.Course.{IsOneOf}
 use Rattle.playback.specs.Kept.{Kept, KeptBook}
 use Rattle.playback.specs.Of.{MutatingWaits}
 use Rattle.playback.specs.Knows.{Knows}
-use Rattle.playback.specs.Polite.{Spares}
+use Rattle.playback.specs.Polite.{KeepsBox, KeepsWaiting, Spares}
 use Rattle.playback.specs.Worlds.{World, moved, name_of}
 use Rattle.playback.specs.Worlds.{begins as begins_at}
 use Rattle.playback.specs.declared.player.Player.{Player}
@@ -51,12 +53,19 @@ pub record IsFirst (p : Player) (b : Meaning) (w : World) (q : Peer) : Type 0 wh
   pub unsaid : w.course.said ≡ []
   pub knows : Knows p b w
 
+-- to it nothing is selected, and nothing waits
+none_kept : (selected : Option (List ℕ)) (old new : List Mailbox) → selected ≡ None → KeepsBox selected old new
+none_kept selected old new is = subst (λ (o : Option (List ℕ)). KeepsBox o old new) (sym is) tt
+
+none_waits : (waiting : Option Waiting) (old new : List Mailbox) → waiting ≡ None → KeepsWaiting waiting old new
+none_waits waiting old new is = subst (λ (o : Option Waiting). KeepsWaiting o old new) (sym is) tt
+
 module _ (p : Player) (b : Meaning) where
   abbrev At : World → Peer → Type 0
   At = IsFirst p b
 
   abbrev Spared : Peer → Peer → Type 0
-  Spared q r = Batch q.server.boxes q.server r.server → Spares b q.server.boxes r.server.boxes × SameValidities q.server.boxes r.server.boxes
+  Spared q r = Batch q.server.boxes q.server r.server → Spares b q.server.boxes r.server.boxes
 
   -- the server stays
   same_server : (q r : Peer) (w : World) → r.server ≡ q.server → NoChangeWaits r.waiting → At w q → GoesTo At w r
@@ -76,15 +85,14 @@ module _ (p : Player) (b : Meaning) where
 
   -- others change something
   others_first : (q : Peer) (t : Server) (w : World) → Batch q.server.boxes q.server t →
-      Spares b q.server.boxes t.boxes × SameValidities q.server.boxes t.boxes →
+      Spares b q.server.boxes t.boxes →
       KeptBook b q.server q.waiting → At w q → GoesTo At w (record q { server = t })
   others_first q t w batch spares kept h =
       let quiet : KeptBook b q.server w.waiting =
       quiet_keeps (Some b) q.server q.waiting w.waiting (λ m. nothing_waits (subst MutatingWaits h.waiting m)) kept in
       let here : KeptBook b w.course.now w.waiting = subst (λ (s : Server). KeptBook b s w.waiting) (sym h.server) quiet in
       let batched : Batch w.course.now.boxes w.course.now t = subst (λ (s : Server). Batch s.boxes s t) (sym h.server) batch in
-      let spared : Spares b w.course.now.boxes t.boxes = subst (λ (s : Server). Spares b s.boxes t.boxes) (sym h.server) spares.0 in
-      let same : SameValidities w.course.now.boxes t.boxes = subst (λ (s : Server). SameValidities s.boxes t.boxes) (sym h.server) spares.1 in
+      let spared : Spares b w.course.now.boxes t.boxes = subst (λ (s : Server). Spares b s.boxes t.boxes) (sym h.server) spares in
       record {
         world = moved t w;
         grown = grows_moved t w;
@@ -95,8 +103,8 @@ module _ (p : Player) (b : Meaning) where
           owed = h.owed;
           no_change = h.no_change;
           unsaid = h.unsaid;
-          knows = others_know p b w t here batched spared (keeps_box w.course.now.boxes t.boxes same (name_of w.selected))
-              (keeps_waiting w.course.now.boxes t.boxes same w.waiting) h.knows;
+          knows = others_know p b w t here batched spared (none_kept (name_of w.selected) w.course.now.boxes t.boxes (ap name_of h.selected))
+              (none_waits w.waiting w.course.now.boxes t.boxes h.waiting) h.knows;
         };
       }
 
@@ -122,7 +130,7 @@ module _ (p : Player) (b : Meaning) where
       same_server q r w refl h.no_change h
 
   pub first_on : (q r : Peer) (w : World) → Beside Enquiring b q r → At w q → GoesTo At w r
-  first_on q r w s h = enquiring_first q r w s.step s.kept s.spares h
+  first_on q r w s h = enquiring_first q r w s.step s.kept (λ batch. (s.spares batch).0) h
 
 module _ (alloc : Global) (b : Meaning) (made now : Clock) (stands : StandsKept b made) (linked : Linked Enquiring made now)
     (fair : AllFair mail played made now) where
@@ -164,7 +172,7 @@ module _ (alloc : Global) (b : Meaning) (made now : Clock) (stands : StandsKept 
   reached_first =
       world_walked (Beside Enquiring b) (IsFirst P b) (λ w q h. h.server) (first_on P b) W made made now servers_first at_first beside_first
 
-  pub known_first : now.now.outside.waiting ≡ None → now.now.outside.talk.selected ≡ None → (permits : Option Permits) → KnownAt made now permits P b
+  pub known_first : now.now.outside.waiting ≡ None → now.now.outside.talk.selected ≡ None → (permits : Option Permits) → KnownAt made now permits None P b
   known_first waiting selected permits =
       let h : IsFirst P b reached_first.world now.now.outside = reached_first.there in
       record {

@@ -22,10 +22,12 @@ use Rattle.play_driver.proofs.KnownPermits.{permitted_on, told_permits}
 use Rattle.play_driver.proofs.KnownWalk.{grows_tick}
 use Rattle.play_driver.proofs.Parts.{grows, grows_then, since_first, since_second}
 use Rattle.play_driver.specs.Exchanges.{AnsweredAll, Exchange, IsAnswered}
+use Rattle.play_driver.specs.Holds.{IsHeldReply}
 use Rattle.play_driver.specs.Joining.{AllFair, Grows, IsFair}
 use Rattle.play_driver.specs.KnownAt.{GatheredAt, IsPermitted, KnownAt, StandsKept}
 use Rattle.play_driver.specs.Played.{played}
 use Rattle.play_driver.specs.Resynchronising.{Resyncs, exchanged, fetches, mark_kept, select_of}
+use Rattle.play_driver.specs.declared.session.Held.{Held}
 use Rattle.playback.proofs.Onward.{asks_know, carried_knows}
 use Rattle.playback.specs.Allowed.{is_due}
 use Rattle.playback.specs.Course.{Course, Said}
@@ -38,14 +40,13 @@ use Rattle.playback.specs.declared.need.Need.{Need}
 use Rattle.playback.specs.declared.player.Player.{Player}
 use Rattle.qresync_core.proofs.Replying.{codes_true, select_box, selecting}
 use Rattle.qresync_core.specs.Laws.{codes_of_box}
-use Rattle.qresync_core.specs.Marking.{mark_of}
 use Rattle.qresync_core.specs.Resync.{TellsDelta}
 use Rattle.qresync_core.specs.ToldCodes.{told_codes}
 use Rattle.qresync_core.specs.declared.codes.Codes.{Codes}
 use Rattle.qresync_core.specs.declared.fault.CodeFault.{CodeFault}
 use Rattle.std.proofs.Common.{List, None, Ok, Option, Result, Some, ap, false, inl, refl, subst, sym, true, ℕ, ◌+◌, ◌∙◌, ◌∷◌, ◌≡◌}
 use Rattle.std.proofs.lemmas.Option.{none-some, same_Some}
-use Rattle.std.specs.Option.{is_some, option_map}
+use Rattle.std.specs.Option.{is_some}
 use Rattle.store_core.specs.Mail.{mail}
 use Rattle.world_traits.specs.Asking.{Asking}
 use Rattle.world_traits.specs.Links.{Any, LinkStep}
@@ -53,11 +54,6 @@ use Rattle.world_traits.specs.Moments.{Clock, Moment, tick}
 use Rattle.imap_model.specs.declared.command.Command.TheVariants as commands
 use Rattle.imap_model.specs.declared.ending.Ending.TheVariants as endings
 use Rattle.playback.specs.declared.need.Need.TheVariants as needs
-
--- the mark of what is kept
-mark_same : (kept : Option Cache) → mark_kept kept ≡ option_map mark_of kept
-mark_same None = refl
-mark_same (Some cache) = refl
 
 -- the rows are fetched where they are due
 due_same : (kept : Option Cache) (selected : Replies) → fetches kept selected ≡ is_due kept selected
@@ -90,7 +86,7 @@ module _ (name : List ℕ) (since : Option Mark) (selected : Option (List ℕ)) 
       ∙ sym is_after
 
 -- behind it the rows are asked for, and that is carried out
-rows_carried : (p : Player) (b : Meaning) (c : Waiting) (r : Replies) (selected : Option Selected) (owed : Waiting) (course : Course)
+pub rows_carried : (p : Player) (b : Meaning) (c : Waiting) (r : Replies) (selected : Option Selected) (owed : Waiting) (course : Course)
     (t : Server)
     (after : Option (List ℕ)) → MayAskRows c p b (world_of course selected (Some owed)) → CarriesOut c course.now r t after →
     KeptBook b course.now (Some c) → KeptBook b t None → Knows p b (world_of course selected (Some owed)) →
@@ -109,8 +105,8 @@ answered_grows selected tag x old new a =
     (grows_then became.at (tick became.at became.to) new (grows_tick became.at became.to)
     (grows Any step (tick became.at became.to) new became.after))
 
-module _ (p : Player) (b : Meaning) (name : List ℕ) (delta : Delta) (permits told : Option Permits) (made old : Clock) (stands : StandsKept b old)
-    (known : KnownAt made old permits p b)
+module _ (p : Player) (b : Meaning) (name : List ℕ) (permits told : Option Permits) (made old : Clock) (stands : StandsKept b old)
+    (known : KnownAt made old permits None p b)
     (needed : need_of p b ≡ needs.Select name) (count : ℕ) (r : Replies) where
   abbrev Cached : Option Cache
   Cached = cache_at name b.boxes
@@ -131,26 +127,26 @@ module _ (p : Player) (b : Meaning) (name : List ℕ) (delta : Delta) (permits t
   Rest = known.world.course.said
 
   selects_box : SelectsBox name b Select
-  selects_box = record { is = ap (λ (mark : Option Mark). commands.Select name mark) (mark_same Cached) }
+  selects_box = record { since = mark_kept Cached; is = refl; knows = λ cache e. ap mark_kept e }
 
   select_needed : IsNeeded (need_of p b) Select p.selected b
   select_needed = subst (λ (need : Need). IsNeeded need Select p.selected b) (sym needed) selects_box
 
   module _ (mid : Clock) (a : IsAnswered Before (next_tag count) First old mid) (fair : AllFair mail played old mid) where
-    there : AnsweredFollows Select r p b made Selection (Some Select) Rest mid
-    there =
-        follows_answered p b made old mid Select r known.world.selected None Rest a.connection a.feed a.answered fair stands.none_waits
-        (inl refl)
-        (follows_first p b permits made old stands known) (Some Select)
-        (λ course t after is_said out kept waits later k.
-        says_carried p b Select r known.world.selected course t after select_needed out kept waits later k)
-
     selects : name_of Selection ≡ a.answered.after
     selects =
         let became = a.answered.became in
         selected_named name (mark_kept Cached) Before
         (next_tag count) became.at.now.outside.server became.to.outside.server r a.answered.after
         a.accepted became.is.is
+
+    there : AnsweredFollows Select r p b made Selection (Some Select) Rest mid
+    there =
+        follows_answered p b made old mid Select r known.world.selected None Rest a.connection a.feed a.answered fair stands.none_waits
+        (inl refl)
+        (follows_first p b permits made old stands known) (sym known.tells.selects) selects (Some Select)
+        (λ course t after is_said out kept waits later k.
+        says_carried p b Select r known.world.selected course t after select_needed out kept waits later k)
 
     accepted : there.said.reply.ending ≡ endings.Ok
     accepted = ap (λ (x : Replies). x.ending) there.reply ∙ a.accepted
@@ -167,9 +163,30 @@ module _ (p : Player) (b : Meaning) (name : List ℕ) (delta : Delta) (permits t
         told_permits told name (mark_kept Cached) (world_of there.follows.course Selection (Some Select)) there.said Rest there.follows.is_said
         (ap (λ (x : Waiting). x.command) there.command) (is ∙ ap (permitted None) (sym there.reply)) (selects ∙ after_named)
 
+    -- where the reply is held
+    pub known_holds : (h : Held) → told ≡ permitted None r → IsHeldReply h r → KnownAt made mid told (Some h) p b
+    known_holds h is here = record {
+      world = world_of there.follows.course Selection (Some Select);
+      tells = tells_then p b made mid Selection (Some Select)
+          (there.said ∷ Rest) a.answered.after a.connection a.feed a.answered.stands selects
+          there.follows;
+      permitted = permitted_then is;
+      owed = record {
+        select = Select;
+        owed = refl;
+        none_waits = refl;
+        said = there.said;
+        rest = Rest;
+        last = there.follows.is_said;
+        answers = there.command;
+        is = subst (IsHeldReply h) (sym there.reply) here;
+      };
+      knows = there.follows.knows;
+    }
+
     -- where no rows were due
-    pub known_selected : told ≡ permitted None r → false ≡ fetches Cached r → TellsDelta Cached r None delta → GatheredAt delta made mid told p b
-    known_selected is due tells = record {
+    pub known_selected : (delta : Delta) → told ≡ permitted None r → false ≡ fetches Cached r → TellsDelta Cached r None delta → GatheredAt delta made mid told p b
+    known_selected delta is due tells = record {
       world = world_of there.follows.course Selection (Some Select);
       tells = tells_then p b made mid Selection (Some Select)
           (there.said ∷ Rest) a.answered.after a.connection a.feed a.answered.stands selects
@@ -224,13 +241,13 @@ module _ (p : Player) (b : Meaning) (name : List ℕ) (delta : Delta) (permits t
         then =
             follows_answered p b made mid new Fetch all Selection (Some Select)
             (there.said ∷ Rest) f.connection f.feed f.answered later_fair
-            a.answered.stands.nothing (inl refl) there.follows (Some Select)
+            a.answered.stands.nothing (inl refl) there.follows (sym selects) (selects ∙ sym (f.answered.keeps tt)) (Some Select)
             (λ course t after is_said out kept waits later k.
             rows_carried p b Fetch all Selection Select course t after (may_rows course is_said) out waits later k)
 
-        pub known_fetched : told ≡ permitted None r → true ≡ fetches Cached r → TellsDelta Cached r (Some all) delta →
+        pub known_fetched : (delta : Delta) → told ≡ permitted None r → true ≡ fetches Cached r → TellsDelta Cached r (Some all) delta →
             GatheredAt delta made new told p b
-        known_fetched is due tells = record {
+        known_fetched delta is due tells = record {
           world = world_of then.follows.course Selection (Some Select);
           tells = tells_then p b made new Selection (Some Select)
               (then.said ∷ there.said ∷ Rest) f.answered.after f.connection f.feed f.answered.stands
@@ -264,7 +281,7 @@ module _ (p : Player) (b : Meaning) (name : List ℕ) (delta : Delta) (permits t
 
 -- so it is behind both
 module _ (p : Player) (b : Meaning) (name : List ℕ) (delta : Delta) (permits told : Option Permits) (made old new : Clock)
-    (stands : StandsKept b old) (known : KnownAt made old permits p b)
+    (stands : StandsKept b old) (known : KnownAt made old permits None p b)
     (needed : need_of p b ≡ needs.Select name) (fair : AllFair mail played old new) (count : ℕ) where
   abbrev Kept : Option Cache
   Kept = cache_at name b.boxes
@@ -276,8 +293,8 @@ module _ (p : Player) (b : Meaning) (name : List ℕ) (delta : Delta) (permits t
       AnsweredAll (exchanged name Kept (record { selected = r; all = all })) Front count old new → GatheredAt delta made new told p b
   by_exchanges r None is due tells a =
       let x : Exchange = record { asked = select_of name Kept; replies = r } in
-      known_selected p b name delta permits told made old stands known needed count r new
-      (subst (λ (k : Clock). IsAnswered Front (next_tag count) x old k) (sym a.2) a.1) fair is due tells
+      known_selected p b name permits told made old stands known needed count r new
+      (subst (λ (k : Clock). IsAnswered Front (next_tag count) x old k) (sym a.2) a.1) fair delta is due tells
   by_exchanges r (Some all) is due tells a =
       let x : Exchange = record { asked = select_of name Kept; replies = r } in
       let y : Exchange = record { asked = commands.FetchAll; replies = all } in
@@ -286,9 +303,9 @@ module _ (p : Player) (b : Meaning) (name : List ℕ) (delta : Delta) (permits t
       subst (λ (k : Clock). IsAnswered a.1.answered.after (next_tag (count + 1)) y mid k) (sym a.2.2) a.2.1 in
       let first : Grows old mid = answered_grows Front (next_tag count) x old mid a.1 in
       let second : Grows mid new = answered_grows a.1.answered.after (next_tag (count + 1)) y mid new f in
-      known_fetched p b name delta permits told made old stands known needed count r mid a.1
+      known_fetched p b name permits told made old stands known needed count r mid a.1
       (since_first Any (IsFair mail played) old mid new first second fair) all new f
-      (since_second Any (IsFair mail played) old mid new first second fair) is due tells
+      (since_second Any (IsFair mail played) old mid new first second fair) delta is due tells
 
   pub known_gathered : (after : ℕ) → Resyncs Front count after name Kept (Ok delta) told old new → GatheredAt delta made new told p b
   known_gathered after r = by_exchanges r.gathered.selected r.gathered.all r.permitted r.makes.fetched r.makes.value r.answered

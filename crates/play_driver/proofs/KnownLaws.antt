@@ -1,10 +1,13 @@
 -- The laws of what a run knows, and of what it makes of a cache.
 use Rattle.play_driver.proofs.KnownAsks.{known_asked}
 use Rattle.play_driver.proofs.KnownFirst.{known_first}
-use Rattle.play_driver.proofs.KnownGathers.{known_gathered}
+use Rattle.play_driver.proofs.KnownGathers.{known_gathered, known_holds}
+use Rattle.play_driver.proofs.KnownHeld.{known_fetched, known_reset}
 use Rattle.play_driver.proofs.KnownRecords.{known_recorded}
 use Rattle.play_driver.proofs.Learned.{learns_level}
 use Rattle.play_driver.specs.KnownAt.{KnownGoesOn}
+use Rattle.imap_session.specs.Permanent.{permitted}
+use Rattle.std.proofs.Common.{None, refl}
 use Rattle.play_driver.specs.Levelling.{ResyncsLevel}
 
 -- what the player knows goes on
@@ -17,6 +20,12 @@ known_law = record {
       known_gathered p b name delta permits told made old new stands known needed fair count after resyncs;
   records = λ p b event version permits made old new stands known records may takes.
       known_recorded p b event version permits made old new stands known records may takes;
+  holds = λ p b h r count permits made old new stands known needed fair answered is.
+      known_holds p b h.chosen.name permits (permitted None r) made old stands known needed count r new answered fair h refl is;
+  resets = λ p b h event version permits made old new stands known fits reset may takes.
+      known_reset p b h permits made old stands known fits event reset new takes;
+  fetches = λ p b h delta count after permits made old new stands known fits away fair fetched.
+      known_fetched p b h permits made old stands known fits away delta new fair count after fetched;
 }
 
 -- a resynchronisation makes a cache that is the server's

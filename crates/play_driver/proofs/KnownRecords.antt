@@ -1,5 +1,5 @@
 -- What the player knows behind a record of what it needs: nothing changed at the server meanwhile.
-use Rattle.std.proofs.Common.{Option, Some, refl, subst, sym, ◌∙◌, ◌≡◌}
+use Rattle.std.proofs.Common.{None, Option, Some, refl, subst, sym, ◌∙◌, ◌≡◌}
 use Rattle.action_queue.specs.Book.{Meaning, after}
 use Rattle.action_queue.specs.declared.event.Event.{Event}
 use Rattle.imap_model.specs.Talking.{Peer}
@@ -38,7 +38,7 @@ permitted_by p b w event (needs.Send n command) ok is = absurd is
 permitted_by p b w event needs.Finished ok is = absurd is
 
 module _ (p : Player) (b : Meaning) (event : Event) (version : Version) (permits : Option Flags) (made old new : Clock)
-    (stands : StandsKept b old) (known : KnownAt made old permits p b) (records : Records (need_of p b) event) (may : MayCome version (Some b) event)
+    (stands : StandsKept b old) (known : KnownAt made old permits None p b) (records : Records (need_of p b) event) (may : MayCome version (Some b) event)
     (takes : Takes mail (Some b) event old new) where
   abbrev W : World
   W = known.world
@@ -66,7 +66,7 @@ module _ (p : Player) (b : Meaning) (event : Event) (version : Version) (permits
   time : Grows old new
   time = grows (IsTaking mail (Some b) event) Goes old new takes
 
-  pub known_recorded : KnownAt made new permits (committed p (after b event)) (after b event)
+  pub known_recorded : KnownAt made new permits None (committed p (after b event)) (after b event)
   known_recorded = record {
     world = W;
     tells = record {

@@ -12,10 +12,9 @@ use Rattle.play_driver.proofs.PlayedKept.{withstood}
 use Rattle.play_driver.proofs.Steps.{joined_keeps}
 use Rattle.play_driver.specs.Joining.{AllFair, AnyTwo, Grows, IsFair, IsKept, Joined}
 use Rattle.play_driver.specs.KnownAt.{TellsOf, WasAnswered, WasServer}
-use Rattle.play_driver.specs.Played.{SameValidities, played}
+use Rattle.play_driver.specs.Played.{SparesFrom, played}
 use Rattle.playback.specs.Course.{IsOneOf, Said}
 use Rattle.playback.specs.Kept.{Kept, KeptBook}
-use Rattle.playback.specs.Polite.{Spares}
 use Rattle.playback.specs.Worlds.{Among, World, name_of}
 use Rattle.playback.specs.Worlds.{Grows as Grown}
 use Rattle.store_core.proofs.MailBook.{one_mail_event}
@@ -51,12 +50,12 @@ pub kept_here : (b : Meaning) (m : Moment) → IsKept mail Kept m → HasBooks m
 kept_here b m kept has = kept_books mail Kept one_mail_event (Firm (Some b)) m kept has
 
 -- A step of the server with its connection, and the book is kept before and behind it. Where it is one of others, they spare the book, and
--- renew no mailbox.
+-- renew no mailbox that is selected, or in which a command waits.
 pub record Beside (S : Peer → Peer → Type 0) (b : Meaning) (p q : Peer) : Type 0 where
   pub step : S p q
   pub kept : KeptBook b p.server p.waiting
   pub later : KeptBook b q.server q.waiting
-  pub spares : Batch p.server.boxes p.server q.server → Spares b p.server.boxes q.server.boxes × SameValidities p.server.boxes q.server.boxes
+  pub spares : Batch p.server.boxes p.server q.server → SparesFrom (Some b) p q.server
 
 module _ (S : Peer → Peer → Type 0) (b : Meaning) where
   -- the book is this one, and kept

@@ -12,6 +12,8 @@ pub mod QuestionsStay
 pub mod Once
 pub mod BooksOn
 pub mod Gathers
+pub mod Concluding
+pub mod Fetched
 pub mod Calm
 pub mod NotRead
 pub mod Answering
@@ -29,6 +31,7 @@ pub mod KnownBeside
 pub mod KnownAnswer
 pub mod KnownAsks
 pub mod KnownGathers
+pub mod KnownHeld
 pub mod Folds
 pub mod Counts
 pub mod KnownPermits
@@ -36,6 +39,7 @@ pub mod KnownLaws
 pub mod Opened
 pub mod GatheredTaken
 pub mod GatheredKnown
+pub mod HeldLevel
 pub mod Permitting
 pub mod Asked
 pub mod AskedJoins
@@ -45,6 +49,11 @@ pub mod Reasons
 pub mod BookAtRest
 pub mod SyncedOn
 pub mod OneTurn
+pub mod HeldTurn
+pub mod ResetTurn
+pub mod ResetHeld
+pub mod HeldSelect
+pub mod TurnsFall
 pub mod Shortness
 pub mod ManyTurns
 pub mod WholeRun
@@ -58,11 +67,6 @@ pub mod MayServe
 pub mod Longer
 pub mod Fitness
 pub mod EntersServed
-pub mod Unrenewed
-pub mod Renewing
-pub mod ToHave
-pub mod ValidFaults
-pub mod RenewedEntered
 pub mod CompleteRun
 pub mod Surely
 pub mod Recorded

@@ -12,7 +12,7 @@ use Rattle.play_driver.specs.Played.{played}
 use Rattle.play_driver.specs.Progress.{box_names}
 use Rattle.play_driver.specs.Questioning.{TalkStep}
 use Rattle.play_driver.specs.Rests.{Rests}
-use Rattle.play_driver.specs.Sessions.{permits_in}
+use Rattle.play_driver.specs.Sessions.{held_in, permits_in}
 use Rattle.play_driver.specs.TrueRecords.{IsTrueSince}
 use Rattle.play_driver.specs.TrueRecords.IsTrueSince.{rests as still_true}
 use Rattle.play_driver.specs.declared.fault.PlayFault.{PlayFault}
@@ -34,10 +34,10 @@ module _ {Self : Type 0} (W : Ghosts Self) (old new : Self) (session : Session) 
   stands_over t kept = stands_kept s _ _ _ _ _ (left (W.server_with_files t)) (rests.stands t) kept
 
   pub goes_over : (q : Player) (r : Result Session PlayFault) →
-      (W.tells_server → (made : Clock) → StandsKept s.book (W.clock old) → KnownAt made (W.clock old) (permits_in session) p s.book →
+      (W.tells_server → (made : Clock) → StandsKept s.book (W.clock old) → KnownAt made (W.clock old) (permits_in session) (held_in session) p s.book →
       StaysJoined mail Kept played (W.clock old) (W.clock new)) →
-      (W.tells_server → (made : Clock) → StandsKept s.book (W.clock old) → KnownAt made (W.clock old) (permits_in session) p s.book →
-      AllFair mail played (W.clock old) (W.clock new) → IfOk r (λ next. KnownAt made (W.clock new) (permits_in next) q s.book)) →
+      (W.tells_server → (made : Clock) → StandsKept s.book (W.clock old) → KnownAt made (W.clock old) (permits_in session) (held_in session) p s.book →
+      AllFair mail played (W.clock old) (W.clock new) → IfOk r (λ next. KnownAt made (W.clock new) (permits_in next) (held_in next) q s.book)) →
       (W.tells_server → Since Any TalkStep (W.clock old) (W.clock new)) →
       (W.tells_server → Since Any (GroundStep (box_names s.book)) (W.clock old) (W.clock new)) →
       (W.tells_files → (W.link new).earlier ≡ (W.link old).earlier) → GoesOn W old new session p q s.book s.book r

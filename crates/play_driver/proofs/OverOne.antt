@@ -68,6 +68,9 @@ both_over name since count tag old mid new first second =
     since_then Any (LinkStep Questioning) old mid new (select_over name since count old mid first)
     (asks_over mid.now.outside.talk.told tag commands.FetchAll refl (λ e. cc) mid new second)
 
+pub fetch_over : (tag : Tag) (old new : Clock) → Linked (Asking old.now.outside.talk.told tag commands.FetchAll) old new → Linked Questioning old new
+fetch_over tag old new linked = asks_over old.now.outside.talk.told tag commands.FetchAll refl (λ e. cc) old new linked
+
 -- a connection is made, and what comes behind it
 pub connects_first : (S : Moment → Moment → Type 0) (old at : Clock) → Linked Connecting old at → ConnectsFirst S old at
 connects_first S old at linked = record { at = at; connects = linked; behind = since_start Any S at }

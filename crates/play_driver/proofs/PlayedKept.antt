@@ -1,11 +1,11 @@
 -- The relation withstands every step of the driver's machine.
-use Rattle.std.proofs.Common.{◌≡◌, ℕ, List, Option, Some, None, refl, ap}
+use Rattle.std.proofs.Common.{◌≡◌, ◌⊎◌, inl, inr, ℕ, List, Option, Some, None, refl, subst}
 use Rattle.journal_core.specs.declared.version.Version.{Version}
-use Rattle.std.proofs.lemmas.Option.{same_Some}
 use Rattle.imap_model.proofs.Effect.{carried_effect}
 use Rattle.imap_model.specs.Carrying.{Waiting}
-use Rattle.imap_model.specs.Lookups.{box_at, validity_of}
+use Rattle.imap_model.specs.Talking.{Peer}
 use Rattle.imap_model.specs.declared.server.Mailbox.{Mailbox}
+use Rattle.imap_model.specs.declared.server.Server.{Server}
 use Rattle.action_queue.specs.Book.{Meaning}
 use Rattle.action_queue.specs.declared.event.Event.{Event}
 use Rattle.store_core.specs.Mail.{mail, MayCome, rules_of}
@@ -16,32 +16,27 @@ use Rattle.playback.proofs.Carrying.{nothing_waits, carries_book}
 use Rattle.playback.proofs.Entering.{book_keeps}
 use Rattle.playback.proofs.Foreign.{others_book, of_after, spared_same}
 use Rattle.playback.proofs.Keeping.{sent, quiet_keeps, asked_quiet}
-use Rattle.playback.specs.Polite.{KeepsBox, KeepsWaiting, has_validity}
-use Rattle.play_driver.specs.Played.{SameValidities, played}
+use Rattle.playback.specs.Polite.{KeepsBox, KeepsWaiting}
+use Rattle.play_driver.specs.Played.{played}
 
 pub follows : (version : Version) (b : Option Meaning) (e : Event) → MayCome version b e → MayFollow b e
 follows version None e m = m
 follows version (Some b) e m = record { version = rules_of version; unbroken = m }
 
--- where no mailbox is renewed, none is that is selected, nor one in which a command waits
-pub keeps_box : (old new : List Mailbox) → SameValidities old new → (selected : Option (List ℕ)) → KeepsBox selected old new
-keeps_box old new same None = tt
-keeps_box old new same (Some name) = same name
+-- the mailbox in which a command may be sent, or waits, keeps its UIDVALIDITY
+pub keeps_command : (p : Peer) (t : Server) (w : Waiting) → (p.talk.selected ≡ w.selected) ⊎ (p.waiting ≡ Some w) →
+    KeepsBox p.talk.selected p.server.boxes t.boxes → KeepsWaiting p.waiting p.server.boxes t.boxes → KeepsBox w.selected p.server.boxes t.boxes
+keeps_command p t w (inl selects) selected waits = subst (λ (o : Option (List ℕ)). KeepsBox o p.server.boxes t.boxes) selects selected
+keeps_command p t w (inr here) selected waits = subst (λ (o : Option Waiting). KeepsWaiting o p.server.boxes t.boxes) here waits
 
-pub keeps_waiting : (old new : List Mailbox) → SameValidities old new → (waiting : Option Waiting) → KeepsWaiting waiting old new
-keeps_waiting old new same None = tt
-keeps_waiting old new same (Some w) = keeps_box old new same w.selected
+-- nothing is renewed where nothing changes
+same_box : (selected : Option (List ℕ)) (boxes : List Mailbox) → KeepsBox selected boxes boxes
+same_box None boxes = tt
+same_box (Some name) boxes = refl
 
-validity_in : (x y : Option Mailbox) → has_validity x ≡ has_validity y → validity_of x ≡ validity_of y
-validity_in None None same = refl
-validity_in None (Some y) same = absurd cc
-validity_in (Some x) None same = absurd cc
-validity_in (Some x) (Some y) same = same_Some x.validity y.validity same
-
--- so each has the same UIDVALIDITY
-pub validity_same : (old new : List Mailbox) → SameValidities old new → (name : List ℕ) →
-    validity_of (box_at name new) ≡ validity_of (box_at name old)
-validity_same old new same name = validity_in (box_at name new) (box_at name old) (same name)
+same_waiting : (waiting : Option Waiting) (boxes : List Mailbox) → KeepsWaiting waiting boxes boxes
+same_waiting None boxes = tt
+same_waiting (Some w) boxes = same_box w.selected boxes
 
 pub withstood : Withstands mail played Kept
 withstood = record {
@@ -50,7 +45,7 @@ withstood = record {
   asked = λ b s w harmless kept. quiet_keeps b s None (Some w) (asked_quiet w harmless) kept;
   carried = λ b w s r t after c kept. carries_book b s t w kept (carried_effect w s r t after c);
   dropped = λ b s w kept. quiet_keeps b s w None nothing_waits kept;
-  others = λ b p t batch spares kept. others_book b p.server t p.waiting batch spares.0 (keeps_waiting p.server.boxes t.boxes spares.1 p.waiting) kept;
-  sendable = λ b p t w selects batch spares of. of_after b p.server t w batch (keeps_box p.server.boxes t.boxes spares.1 w.selected) of;
-  spared = λ b p. (spared_same b p.server, λ name. refl);
+  others = λ b p t batch spares kept. others_book b p.server t p.waiting batch spares.0 spares.2 kept;
+  sendable = λ b p t w selects batch spares of. of_after b p.server t w batch (keeps_command p t w selects spares.1 spares.2) of;
+  spared = λ b p. (spared_same b p.server, same_box p.talk.selected p.server.boxes, same_waiting p.waiting p.server.boxes);
 }

@@ -98,7 +98,8 @@ later_event b (events.Settle id outcome) of_play =
 later_event b (events.Learn name delta) of_play =
     record { names = names_put name (Some (learned (cache_at name b.boxes) delta)) b.boxes; actions = refl; outcomes = λ i q there has. there }
 later_event b (events.Old id action outcome) of_play = absurd of_play
-later_event b (events.Reset name kept told) of_play = absurd of_play
+later_event b (events.Reset name kept told) of_play =
+    record { names = names_put name None b.boxes; actions = refl; outcomes = λ i q there has. there }
 later_event b (events.Withdraw id tries) of_play = absurd of_play
 
 -- a call of no moment

@@ -11,13 +11,13 @@ use Rattle.qresync_core.specs.declared.fault.ResyncFault.{ResyncFault}
 use Rattle.world_traits.specs.Asking.{Asking}
 use Rattle.world_traits.specs.Links.{Any, LinkStep}
 use Rattle.world_traits.specs.Moments.{Clock, Since}
-use Rattle.world_traits.proofs.Passing.{since_then}
+use Rattle.world_traits.proofs.Passing.{since_start, since_then}
 use Rattle.imap_session.specs.Dialogue.{next_tag}
 use Rattle.imap_session.specs.Session.{waiting_of}
 use Rattle.imap_session.specs.declared.permits.Permits.{Permits}
 use Rattle.imap_session.proofs.Talks.{became_since}
 use Rattle.play_driver.specs.Exchanges.{AnsweredAll, Exchange, IsAnswered}
-use Rattle.play_driver.specs.Resynchronising.{Resyncs, exchanged, mark_kept, select_of}
+use Rattle.play_driver.specs.Resynchronising.{Resyncs, exchanged, mark_kept, select_of, then_all}
 use Rattle.play_driver.specs.Synced.{AsksRows, IsNotRead}
 use Rattle.play_driver.proofs.Learned.{select_after}
 use Rattle.play_driver.proofs.NotRead.{asked_not_read}
@@ -44,7 +44,7 @@ module _ (name other : List ℕ) (apart : name ≢ other) where
       asked_not_read other tag x.asked old new none nothing asks
       (became_since Any (LinkStep (Asking old.now.outside.talk.told tag x.asked)) _ old new a.answered.became)
 
-  exchanges_other : (kept : Option Cache) (r : Replies) (all : Option Replies) (selected : Option (List ℕ)) (count : ℕ) (old new : Clock) →
+  pub exchanges_other : (kept : Option Cache) (r : Replies) (all : Option Replies) (selected : Option (List ℕ)) (count : ℕ) (old new : Clock) →
       old.now.outside.waiting ≡ None → old.now.outside.talk.arriving ≡ None →
       AnsweredAll (exchanged name kept (record { selected = r; all = all })) selected count old new → Since Any (IsNotRead other) old new
   exchanges_other kept r None selected count old new none nothing a =
@@ -66,6 +66,17 @@ module _ (name other : List ℕ) (apart : name ≢ other) where
       (since_then Any (IsNotRead other) old a.0 a.2.0
       (exchange_other selected (next_tag count) x old a.0 none nothing a.1
       (select_other old.now.outside.talk.selected (next_tag count) (mark_kept kept))) second)
+
+  -- the FETCH of all rows alone, where it was asked
+  pub rows_other : (all : Option Replies) (selected : Option (List ℕ)) (count : ℕ) (old new : Clock) → old.now.outside.waiting ≡ None →
+      old.now.outside.talk.arriving ≡ None → old.now.outside.talk.selected ≡ Some name → AnsweredAll (then_all all) selected count old new →
+      Since Any (IsNotRead other) old new
+  rows_other None selected count old new none nothing here a =
+      subst (λ (k : Clock). Since Any (IsNotRead other) old k) (sym a) (since_start Any (IsNotRead other) old)
+  rows_other (Some all) selected count old new none nothing here a =
+      let y : Exchange = record { asked = commands.FetchAll; replies = all } in
+      subst (λ (k : Clock). Since Any (IsNotRead other) old k) (sym a.2)
+      (exchange_other selected (next_tag count) y old a.0 none nothing a.1 (fetch_other old.now.outside.talk.selected (next_tag count) here))
 
   pub resynced_other : (kept : Option Cache) (delta : Result Delta ResyncFault) (selected : Option (List ℕ)) (count after : ℕ)
       (permits : Option Permits) (old new : Clock) → old.now.outside.waiting ≡ None → old.now.outside.talk.arriving ≡ None →

@@ -47,14 +47,14 @@ use Rattle.action_queue.specs.declared.event.Event.TheVariants as events
 use Rattle.playback.specs.declared.need.Need.TheVariants as needs
 
 -- what isn't an outcome has its reason whatever was pending as the run began
-why_commit : (entry b : Meaning) (c : Course) (event : Event) → WhyCommit event b c → WhyEvent event entry b c
+pub why_commit : (entry b : Meaning) (c : Course) (event : Event) → WhyCommit event b c → WhyEvent event entry b c
 why_commit entry b c (events.Begin names) why = absurd why
 why_commit entry b c (events.Accept id action) why = absurd why
 why_commit entry b c (events.Intend id intent) why = why
 why_commit entry b c (events.Settle id outcome) why = absurd why
 why_commit entry b c (events.Learn name delta) why = tt
 why_commit entry b c (events.Old id action outcome) why = absurd why
-why_commit entry b c (events.Reset name before told) why = absurd why
+why_commit entry b c (events.Reset name before told) why = why
 why_commit entry b c (events.Withdraw id tries) why = absurd why
 
 reason_by : (entry : Meaning) (p : Player) (b : Meaning) (w : World) (event : Event) (need : Need) → p.resumed ≡ is_open entry b →
@@ -79,7 +79,7 @@ of_playback p b event is = by (recorded p b event is)
 
 -- Beside a kept book, while the player knows the connection.
 module _ (p : Player) (b : Meaning) (event : Event) (made old : Clock) (permits : Option Permits)
-    (stands : StandsKept b old) (known : KnownAt made old permits p b) (needed : Records (need_of p b) event) where
+    (stands : StandsKept b old) (known : KnownAt made old permits None p b) (needed : Records (need_of p b) event) where
   abbrev W : World
   W = known.world
 
@@ -137,7 +137,7 @@ test_less : (x y : Bool) (r : Rule) → cond (x || y) (Some r) None ≡ None →
 test_less true y r is = absurd cc
 test_less false y r is = refl
 
-by_first : (v : Rules) (b : Meaning) (event : Event) → IsPlayEvent event → first_broken v b event ≡ None → first_broken rules.First b event ≡ None
+pub by_first : (v : Rules) (b : Meaning) (event : Event) → IsPlayEvent event → first_broken v b event ≡ None → first_broken rules.First b event ≡ None
 by_first rules.First b event of_play unbroken = unbroken
 by_first rules.Second b (events.Begin names) of_play unbroken = absurd of_play
 by_first rules.Second b (events.Accept id action) of_play unbroken = absurd of_play
@@ -151,19 +151,22 @@ by_first rules.Second b (events.Settle id outcome) of_play unbroken =
     (test_less (is_misfit b (due_action b.queue) outcome) (is_early rules.Second (due_action b.queue) outcome) _))))) unbroken
 by_first rules.Second b (events.Learn name delta) of_play unbroken = unbroken
 by_first rules.Second b (events.Old id action outcome) of_play unbroken = absurd of_play
-by_first rules.Second b (events.Reset name before told) of_play unbroken = absurd of_play
+by_first rules.Second b (events.Reset name before told) of_play unbroken = unbroken
 by_first rules.Second b (events.Withdraw id tries) of_play unbroken = absurd of_play
 
--- what the player needs may come in a journal of the version that is written
+-- what playback records may come in a journal of the version that is written
+pub may_come_ready : (version : Version) → version ≡ version_written → (b : Meaning) (event : Event) → IsPlayEvent event → IsReadyEvent b event →
+    MayCome version (Some b) event
+may_come_ready version written b event of_play comes =
+    subst (λ (v : Version). MayCome v (Some b) event) (sym written) (by_first comes.lawful.version b event of_play comes.lawful.unbroken)
+
 pub may_come : (version : Version) → version ≡ version_written → (p : Player) (b : Meaning) (event : Event) → IsFold b → IsBeside p b →
     Records (need_of p b) event → MayCome version (Some b) event
 may_come version written p b event fold beside is =
-    let lawful = (ready p b event fold beside is).lawful in
-    subst (λ (v : Version). MayCome v (Some b) event) (sym written)
-    (by_first lawful.version b event (of_playback p b event is) lawful.unbroken)
+    may_come_ready version written b event (of_playback p b event is) (ready p b event fold beside is)
 
 -- and it is none that is told anew
-play_new : (event : Event) → IsPlayEvent event → IsOld event → ⊥
+pub play_new : (event : Event) → IsPlayEvent event → IsOld event → ⊥
 play_new (events.Begin names) of_play old = old
 play_new (events.Accept id action) of_play old = old
 play_new (events.Intend id intent) of_play old = old
@@ -178,7 +181,7 @@ never_old p b event is = play_new event (of_playback p b event is)
 
 -- what the player knows behind the record, of the store's book and the player as they are
 pub known_then : (p q : Player) (b c : Meaning) (event : Event) → c ≡ after b event → q ≡ committed p c → (made new : Clock)
-    (permits : Option Permits) → KnownAt made new permits (committed p (after b event)) (after b event) → KnownAt made new permits q c
+    (permits : Option Permits) → KnownAt made new permits None (committed p (after b event)) (after b event) → KnownAt made new permits None q c
 known_then p q b c event is goes made new permits known =
-    subst (λ (x : Player). KnownAt made new permits x c) (sym goes)
-    (subst (λ (m : Meaning). KnownAt made new permits (committed p m) m) (sym is) known)
+    subst (λ (x : Player). KnownAt made new permits None x c) (sym goes)
+    (subst (λ (m : Meaning). KnownAt made new permits None (committed p m) m) (sym is) known)

@@ -15,9 +15,11 @@ use Rattle.play_driver.specs.Joining.{IsKept}
 use Rattle.play_driver.specs.KnownAt.{KnownAt, StandsKept}
 use Rattle.play_driver.specs.Progress.{box_names}
 use Rattle.play_driver.specs.Rests.{Rests}
-use Rattle.play_driver.specs.Sessions.{permits_in}
+use Rattle.play_driver.specs.Sessions.{held_in, permits_in}
+use Rattle.play_driver.specs.Settled.{IsSyncedSoFar}
 use Rattle.play_driver.specs.TrueRecords.{TrueEvent}
 use Rattle.play_driver.specs.declared.fault.PlayFault.{PlayFault}
+use Rattle.play_driver.specs.declared.session.Held.{Held}
 use Rattle.play_driver.specs.declared.session.Session.{Session}
 use Rattle.playback.specs.Allowed.{Records}
 use Rattle.playback.specs.Choosing.{IsEntered, committed}
@@ -53,7 +55,7 @@ stands_still selected k m c d feed same link stands =
     })
 
 module _ {Self : Type 0} (W : Ghosts Self) (old new : Self) (session : Session) (p : Player) (s : Holding mail) (event : Event) (seen : Files)
-    (fold : IsFold s.book) (version : s.journal.version ≡ version_written) (rests : Rests W old p s.book session) (needed : Records (need_of p s.book) event)
+    (fold : IsFold s.book) (version : s.journal.version ≡ version_written) (rests : Rests W old p s.book session) (resting : held_in session ≡ None) (needed : Records (need_of p s.book) event)
     (left : W.tells_files → IsAsLeft mail s (W.clock old).now seen)
     (takes : W.tells_files → Takes mail (Some s.book) event (W.clock old) (W.clock new)) where
   pub may : MayCome s.journal.version (Some s.book) event
@@ -62,14 +64,30 @@ module _ {Self : Type 0} (W : Ghosts Self) (old new : Self) (session : Session) 
   pub stands : W.tells_server → IsKept mail Kept (W.clock old).now → StandsKept s.book (W.clock old)
   stands t kept = stands_kept s _ _ _ _ _ (left (W.server_with_files t)) (rests.stands t) kept
 
+  -- no reply is held
+  pub rested : (made : Clock) → KnownAt made (W.clock old) (permits_in session) (held_in session) p s.book →
+      KnownAt made (W.clock old) (permits_in session) None p s.book
+  rested made known = subst (λ (h : Option Held). KnownAt made (W.clock old) (permits_in session) h p s.book) resting known
+
+  pub then_rested : (made : Clock) (q : Player) (c : Meaning) → KnownAt made (W.clock new) (permits_in session) None q c →
+      KnownAt made (W.clock new) (permits_in session) (held_in session) q c
+  then_rested made q c known = subst (λ (h : Option Held). KnownAt made (W.clock new) (permits_in session) h q c) (sym resting) known
+
+  pub synced_rested : (start : Clock) (q : Player) (c : Meaning) →
+      (IsSyncedSoFar start (W.clock old) None p s.book → IsSyncedSoFar start (W.clock new) None q c) →
+      IsSyncedSoFar start (W.clock old) (held_in session) p s.book → IsSyncedSoFar start (W.clock new) (held_in session) q c
+  synced_rested start q c then so_far =
+      subst (λ (h : Option Held). IsSyncedSoFar start (W.clock new) h q c) (sym resting)
+      (then (subst (λ (h : Option Held). IsSyncedSoFar start (W.clock old) h p s.book) resting so_far))
+
   pub goes_recorded : (q : Player) (c : Meaning) (r : Result Session PlayFault) →
-      (W.tells_server → (made : Clock) → StandsKept s.book (W.clock old) → KnownAt made (W.clock old) (permits_in session) p s.book →
-      IfOk r (λ next. KnownAt made (W.clock new) (permits_in next) q c)) →
+      (W.tells_server → (made : Clock) → StandsKept s.book (W.clock old) → KnownAt made (W.clock old) (permits_in session) (held_in session) p s.book →
+      IfOk r (λ next. KnownAt made (W.clock new) (permits_in next) (held_in next) q c)) →
       (W.tells_files → EachOneSide (W.clock old) (W.clock new)) → W.link new ≡ W.link old → GoesOn W old new session p q s.book c r
   goes_recorded q c r knows sides link = record {
     progress = λ t. takes_progress s.book s.journal.version event (of_playback p s.book event needed) may (W.clock old) (W.clock new) (takes t);
     joined = λ t made kept known.
-        takes_joined p s.book event made (W.clock old) (permits_in session) (stands t kept) known needed s.journal.version (W.clock new) may
+        takes_joined p s.book event made (W.clock old) (permits_in session) (stands t kept) (rested made known) needed s.journal.version (W.clock new) may
         (takes (W.server_with_files t));
     known = λ t made kept known fair. knows t made (stands t kept) known;
     each_one_side = sides;
@@ -79,9 +97,9 @@ module _ {Self : Type 0} (W : Ghosts Self) (old new : Self) (session : Session) 
   }
 
   pub truly_recorded : W.tells_server → (made : Clock) (entry : Meaning) → IsKept mail Kept (W.clock old).now →
-      KnownAt made (W.clock old) (permits_in session) p s.book → IsEntered entry p s.book → TrueEvent event entry s.book made (W.clock old)
+      KnownAt made (W.clock old) (permits_in session) (held_in session) p s.book → IsEntered entry p s.book → TrueEvent event entry s.book made (W.clock old)
   truly_recorded t made entry kept known entered =
-      true_event p s.book event made (W.clock old) (permits_in session) (stands t kept) known needed entry entered
+      true_event p s.book event made (W.clock old) (permits_in session) (stands t kept) (rested made known) needed entry entered
       (ready p s.book event fold rests.beside needed).lawful
 
 -- a delta is recorded as it was moved out of the player, by a book that is this one

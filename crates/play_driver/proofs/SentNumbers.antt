@@ -1,11 +1,11 @@
 -- The actions whose commands a run sends have rising numbers: what is left falls with each turn.
-use Rattle.std.proofs.Common.{◌≡◌, ◌⊎◌, inl, inr, ℕ, zero, suc, ◌+◌, ◌-◌, ◌*◌, ◌<◌, ◌≤◌, List, [], ◌∷◌, ◌++◌, length, Option, Some, None}
+use Rattle.std.proofs.Common.{◌≡◌, ◌⊎◌, ⊎_elim, inl, inr, ℕ, zero, suc, ◌+◌, ◌-◌, ◌*◌, ◌<◌, ◌≤◌, List, [], ◌∷◌, ◌++◌, length, Option, Some, None}
 use Rattle.std.proofs.Common.{refl, sym, ◌∙◌, ap, subst, arith, rules}
-use Rattle.std.specs.Prelude.{IsSome, if◌then◌else◌, nat_lt, slice_get}
+use Rattle.std.specs.Prelude.{IsSome}
 use Rattle.std.specs.List.{AllByRecursion}
 use Rattle.std.specs.Option.{option_to_list}
 use Rattle.std.proofs.lemmas.List.{append-nil, length-map}
-use Rattle.action_queue.specs.Book.{Meaning, after}
+use Rattle.action_queue.specs.Book.{Meaning, after, cache_at}
 use Rattle.action_queue.specs.Queues.{AllSettled, change_first, change_queued, due, due_action, settled}
 use Rattle.action_queue.specs.declared.action.Action.{Action}
 use Rattle.action_queue.specs.declared.action.Action.TheVariants as actions
@@ -16,16 +16,15 @@ use Rattle.action_queue.specs.declared.intent.Intent.{Intent}
 use Rattle.action_queue.specs.declared.intent.Intent.TheVariants as intents
 use Rattle.action_queue.specs.declared.outcome.Outcome.{Outcome}
 use Rattle.action_queue.specs.declared.queued.Queued.{Queued}
-use Rattle.action_queue.proofs.Queueing.{all_settled, due_within, none_due, settled_all}
+use Rattle.action_queue.proofs.Queueing.{all_settled, none_due}
 use Rattle.mail_base.specs.Tags.{action_of}
 use Rattle.mail_base.specs.declared.tag.Tag.{Tag}
 use Rattle.imap_model.specs.declared.command.Command.{Command}
-use Rattle.imap_session.specs.Dialogue.{next_tag}
 use Rattle.playback.specs.Allowed.{Records}
-use Rattle.playback.specs.Choosing.{IsChosen, Wanted, chosen, chosen_in, committed, counted, wanted}
+use Rattle.playback.specs.Choosing.{Wanted, chosen_in, committed, counted, wanted}
 use Rattle.playback.specs.Left.{left, rank, rank_of}
 use Rattle.playback.specs.Needs.{due_id, need_for, need_ids, need_learn, need_of, need_search, need_send, search_of, send_meant, send_of}
-use Rattle.playback.specs.Steps.{step_due, step_learn, step_of}
+use Rattle.playback.specs.Steps.{step_learn, step_of}
 use Rattle.playback.specs.declared.finding.Finding.{Finding}
 use Rattle.playback.specs.declared.finding.Finding.TheVariants as findings
 use Rattle.playback.specs.declared.finding.Resynced.{Resynced}
@@ -40,8 +39,11 @@ use Rattle.store_core.specs.Mail.{mail}
 use Rattle.play_driver.specs.Progress.{IsLater, IsPlayEvent}
 use Rattle.play_driver.specs.Recording.{recorded}
 use Rattle.play_driver.specs.SendsOnce.{NumbersRise}
-use Rattle.play_driver.specs.Turning.{IsAskedFor, Standing, Turns, need_at}
-use Rattle.play_driver.specs.Turning.Turns.{asks, records, selects}
+use Rattle.play_driver.specs.Turning.{IsAskedFor, Standing, Turns, need_at, reset_at}
+use Rattle.play_driver.specs.Turning.Turns.{asks, fetches, holds, records, resets, selects}
+use Rattle.play_driver.specs.declared.session.Held.{Held}
+use Rattle.playback.proofs.Recording.{put_length}
+use Rattle.playback.proofs.Resetting.{reset_told}
 use Rattle.play_driver.proofs.Progressing.{later_event}
 use Rattle.play_driver.proofs.Reasons.{of_playback}
 use Rattle.play_driver.proofs.Shortness.{place_before}
@@ -192,7 +194,7 @@ event_still b (events.Intend id intent) of_play all = all
 event_still b (events.Settle id outcome) of_play all = settled_still (settled outcome) b.queue all
 event_still b (events.Learn name delta) of_play all = all
 event_still b (events.Old id action outcome) of_play all = absurd of_play
-event_still b (events.Reset name kept told) of_play all = absurd of_play
+event_still b (events.Reset name kept told) of_play all = all
 event_still b (events.Withdraw id tries) of_play all = absurd of_play
 
 counted_last : (learns : Option Resynced) (queue : List Queued) (o : Option Queued) → due_action queue ≡ o → (boxes count : ℕ) →
@@ -233,16 +235,33 @@ module _ (n m : ℕ) (q r : Standing) (stands : StandsIn n m q) where
             q.player.resynced (λ before. event_still b event of_play (stands.last before)) more;
       }
 
+-- a cache is taken away
+behind_reset : (n m : ℕ) (q : Standing) → StandsIn n m q → (h : Held) (event : Event) → reset_at h q ≡ Some event →
+    StandsIn n m (record q { store = recorded q.store event })
+behind_reset n m q stands h event reset =
+    let r = reset_told h.chosen.name (cache_at h.chosen.name q.store.book.boxes) h.told event reset in
+    subst (λ (e : Event). StandsIn n m (record q { store = recorded q.store e })) (sym r.is) (record {
+      queued = stands.queued;
+      known = put_length h.chosen.name None q.store.book.boxes ∙ stands.known;
+      last = stands.last;
+    })
+
 chosen_count : (p : Player) (b : Meaning) (delta : Delta) (o : Option Wanted) → (chosen_in p b delta o).resynced ≡ p.resynced
 chosen_count p b delta None = refl
 chosen_count p b delta (Some box) = refl
 
 pub stands_then : (n m : ℕ) (q r : Standing) → StandsIn n m q → Turns q r → StandsIn n m r
-stands_then n m q r stands (records event needed is) = subst (StandsIn n m) (sym is) (behind_record n m q r stands event needed)
-stands_then n m q r stands (selects name delta needed came taken selected same) =
+stands_then n m q r stands (records event resting needed is) = subst (StandsIn n m) (sym is) (behind_record n m q r stands event needed)
+stands_then n m q r stands (selects name delta resting needed came taken selected unheld same) =
     alike n m q r stands same
     (ap (λ (x : Player). x.resynced) taken.1 ∙ chosen_count q.player q.store.book delta (wanted q.player q.store.book))
-stands_then n m q r stands (asks tag command replies asked came heard selected permits same) =
+stands_then n m q r stands (holds h reply event resting needed came is tells reset permits selected here same player) =
+    alike n m q r stands same (ap (λ (x : Player). x.resynced) player)
+stands_then n m q r stands (resets h event here needed reset is) = subst (StandsIn n m) (sym is) (behind_reset n m q stands h event reset)
+stands_then n m q r stands (fetches h delta here needed away came taken selected permits unheld same) =
+    alike n m q r stands same
+    (ap (λ (x : Player). x.resynced) taken.1 ∙ chosen_count q.player q.store.book delta (wanted q.player q.store.book))
+stands_then n m q r stands (asks tag command replies resting asked came heard selected permits unheld same) =
     alike n m q r stands same (ap (λ (x : Player). x.resynced) heard.is)
 
 -- ---- what is left, and the numbers
@@ -250,6 +269,9 @@ stands_then n m q r stands (asks tag command replies asked came heard selected p
 zero_of : (k : ℕ) → (0 < k → ⊥) → k ≡ 0
 zero_of zero none = refl
 zero_of (suc k) none = absurd (none (omega arith))
+
+some_sent : (k : ℕ) → k ∷ [] ≡ [] → ⊥
+some_sent k e = absurd cc
 
 -- so much is left for each number that was sent, in a run of so many actions and mailboxes
 abbrev pub Below : ℕ → ℕ → Standing → List ℕ → Type 0
@@ -280,13 +302,14 @@ module _ (n m : ℕ) (q : Standing) (stands : StandsIn n m q) where
         (λ k less. omega (arith, less, now)) ns below) rising)
 
   -- and behind the turn less is left for all of them
-  pub below_next : (r : Standing) (ns : List ℕ) → left r.player r.store.book < left q.player q.store.book → Below n m q ns →
+  pub below_next : (r : Standing) (ns : List ℕ) → left r.player r.store.book ≤ left q.player q.store.book →
+      (sends_for (need_at q) ≡ []) ⊎ (left r.player r.store.book < left q.player q.store.book) → Below n m q ns →
       Below n m r (ns ++ sends_for (need_at q))
-  below_next r ns falls below = by (need_sends q.player q.store.book) where
+  below_next r ns no_more less below = by (need_sends q.player q.store.book) where
     later : Below n m r ns
     later =
         all_weaker (λ (k : ℕ). left q.player q.store.book + 8 * k < 10 + 8 * (n + m)) (λ (k : ℕ). left r.player r.store.book + 8 * k < 10 + 8 * (n + m))
-        (λ k less. omega (arith, less, falls)) ns below
+        (λ k under. omega (arith, under, no_more)) ns below
 
     by : SendsDue q.player q.store.book (need_at q) (rank_of q.player q.store.book q.player.learns) → Below n m r (ns ++ sends_for (need_at q))
     by (inl none) =
@@ -294,4 +317,6 @@ module _ (n m : ℕ) (q : Standing) (stands : StandsIn n m q) where
     by (inr (one, ranked, there)) =
         let now = left_now ranked there in
         subst (λ (ms : List ℕ). Below n m r (ns ++ ms)) (sym one)
-        (all_and (λ (k : ℕ). left r.player r.store.book + 8 * k < 10 + 8 * (n + m)) ns (due_id q.store.book) later (omega (arith, now, falls)))
+        (all_and (λ (k : ℕ). left r.player r.store.book + 8 * k < 10 + 8 * (n + m)) ns (due_id q.store.book) later
+        (⊎_elim (λ (none : sends_for (need_at q) ≡ []). absurd (some_sent (due_id q.store.book) (sym one ∙ none)))
+        (λ (falls : left r.player r.store.book < left q.player q.store.book). omega (arith, now, falls)) less))

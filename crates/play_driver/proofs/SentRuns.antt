@@ -1,5 +1,5 @@
 -- A whole run sends each command of an action once at most.
-use Rattle.std.proofs.Common.{◌≡◌, ◌⊎◌, inl, inr, ℕ, Bool, true, List, [], ◌∷◌, ◌++◌, length, refl, sym, ap, subst, arith}
+use Rattle.std.proofs.Common.{◌≡◌, ◌⊎◌, inl, inr, ℕ, Bool, true, List, [], ◌∷◌, ◌++◌, ◌<◌, length, refl, sym, ◌∙◌, ap, subst, arith}
 use Rattle.std.proofs.lemmas.List.{append-nil}
 use Rattle.std.specs.Option.{option_to_list}
 use Rattle.std.specs.declared.alloc.Global.{Global}
@@ -7,12 +7,13 @@ use Rattle.action_queue.specs.Book.{cache_at}
 use Rattle.mail_base.specs.Account.{Credentials}
 use Rattle.mail_base.specs.Tags.{action_of}
 use Rattle.imap_model.specs.declared.command.Command.TheVariants as commands
-use Rattle.imap_session.specs.Dialogue.{Dialogue}
-use Rattle.imap_session.specs.Dialogue.Dialogue.{Ends}
+use Rattle.imap_session.specs.Dialogue.{Dialogue, next_tag}
+use Rattle.imap_session.specs.Dialogue.Dialogue.{Asks, Ends}
 use Rattle.imap_session.specs.LogIn.{enabling, entering}
 use Rattle.imap_session.specs.declared.fault.SessionFault.{SessionFault}
 use Rattle.imap_session.specs.declared.ready.Ready.{Ready}
 use Rattle.playback.specs.Choosing.{begun_with}
+use Rattle.playback.specs.Left.{left}
 use Rattle.playback.specs.declared.player.Player.{Player}
 use Rattle.store_core.specs.Holding.{Holding}
 use Rattle.store_core.specs.Mail.{mail}
@@ -20,14 +21,15 @@ use Rattle.world_traits.specs.LinkState.{LinkState}
 use Rattle.play_driver.specs.Entering.{HasEntered, HasGreeted, HasLoggedIn, NotEntered}
 use Rattle.play_driver.specs.Entering.NotEntered.{not_enabled, not_logged_in, unconnected, ungreeted}
 use Rattle.play_driver.specs.Playing.{HasLeft, NotLeft}
-use Rattle.play_driver.specs.Resynchronising.{exchanged, resync}
-use Rattle.play_driver.specs.Running.{RunsBetween, RunsTo, StopsBehind}
+use Rattle.play_driver.proofs.TurnsFall.{left_less, left_no_more}
+use Rattle.play_driver.specs.Resynchronising.{exchanged, resync, select_of, then_all}
+use Rattle.play_driver.specs.Running.{RunsBetween, RunsTo, StopsBehind, turns_left_at}
 use Rattle.play_driver.specs.Running.RunsTo.{rests, turns}
 use Rattle.play_driver.specs.SendsOnce.{NumbersRise, SendsOnce}
 use Rattle.play_driver.specs.Stages.{Broke, CameBetween, Stage, stage_of}
 use Rattle.play_driver.specs.Turning.{Standing, TurnFails, Turns, need_at, standing_of}
-use Rattle.play_driver.specs.Turning.TurnFails.{not_answered, not_chosen, not_heard, not_recorded, not_told, wanting}
-use Rattle.play_driver.specs.Turning.Turns.{asks, records, selects}
+use Rattle.play_driver.specs.Turning.TurnFails.{not_answered, not_chosen, not_fetched, not_heard, not_recorded, not_reset, not_taken, not_told, wanting}
+use Rattle.play_driver.specs.Turning.Turns.{asks, fetches, holds, records, resets, selects}
 use Rattle.play_driver.specs.declared.fault.PlayFault.{PlayFault}
 use Rattle.play_driver.specs.declared.session.Session.TheVariants as sessions
 use Rattle.play_driver.proofs.SentNumbers.{Below, StandsIn, asked_numbers, below_next, recorded_numbers, rises_next, sends_for, stands_then}
@@ -36,13 +38,23 @@ use Rattle.play_driver.proofs.SentTexts.{more_then, question_front, question_who
 
 -- what a turn sends
 turn_sends : (p q : Standing) → Turns p q → SentMore (sends_for (need_at p)) p.stage.link.sent q.stage.link.sent
-turn_sends p q (records event needed is) =
+turn_sends p q (records event resting needed is) =
     more_as [] (sends_for (need_at p)) _ _ (recorded_numbers (need_at p) event needed)
     (more_none p.stage.link.sent q.stage.link.sent (ap (λ (s : Standing). s.stage.link.sent) is))
-turn_sends p q (selects name delta needed came taken selected same) =
+turn_sends p q (selects name delta resting needed came taken selected unheld same) =
     more_as [] (sends_for (need_at p)) _ _ (sym (ap sends_for needed))
     (exchanges_more (exchanged name (cache_at name p.store.book.boxes) came.came.gathered) p.stage.count p.stage.link.sent came.hears.connection.received came.heard q.stage.link q.stage.feed came.came.came)
-turn_sends p q (asks tag command r asked came heard selected permits same) =
+turn_sends p q (holds h r event resting needed came is tells reset permits selected here same player) =
+    more_as [] (sends_for (need_at p)) _ _ (sym (ap sends_for needed))
+    (more_parts (next_tag p.stage.count) (select_of h.chosen.name (cache_at h.chosen.name p.store.book.boxes)) _ p.stage.link.sent q.stage.link.sent
+    came.came.sent)
+turn_sends p q (resets h event here needed reset is) =
+    more_as [] (sends_for (need_at p)) _ _ (sym (ap sends_for needed))
+    (more_none p.stage.link.sent q.stage.link.sent (ap (λ (s : Standing). s.stage.link.sent) is))
+turn_sends p q (fetches h delta here needed away came taken selected permits unheld same) =
+    more_as [] (sends_for (need_at p)) _ _ (sym (ap sends_for needed))
+    (exchanges_more (then_all came.came.all) p.stage.count p.stage.link.sent came.hears.connection.received came.heard q.stage.link q.stage.feed came.came.came)
+turn_sends p q (asks tag command r resting asked came heard selected permits unheld same) =
     more_as _ (sends_for (need_at p)) _ _ (asked_numbers (need_at p) p.stage.count tag command asked)
     (more_parts tag command _ p.stage.link.sent q.stage.link.sent came.came.sent)
 
@@ -57,13 +69,20 @@ failed_sends : (p : Standing) (link : LinkState) (fault : PlayFault) → TurnFai
     SendsAtMost (sends_for (need_at p)) p.stage.link.sent link.sent
 failed_sends p link fault (wanting takes same is) = none_sent _ _ _ (ap (λ (l : LinkState). l.sent) same)
 failed_sends p link fault (not_recorded event needed same why) = none_sent _ _ _ (ap (λ (l : LinkState). l.sent) same)
-failed_sends p link fault (not_told name f needed is broke) =
+failed_sends p link fault (not_told name f resting needed is broke) =
     inl (dialogue_some (resync name (cache_at name p.store.book.boxes) (Ends true)) p.stage.count p.stage.link.sent broke.hears.connection.received broke.heard link f broke.broke)
-failed_sends p link fault (not_chosen name told permits unheard needed came why more is) =
+failed_sends p link fault (not_chosen name told permits unheard resting needed came why more is) =
     inl (whole_some [] p.stage.link.sent link.sent
     (subst (λ (l : LinkState). SentMore [] p.stage.link.sent l.sent) came.here
     (exchanges_more (exchanged name (cache_at name p.store.book.boxes) came.came.came.gathered) p.stage.count p.stage.link.sent came.came.hears.connection.received came.came.heard came.last.link came.last.feed
     came.came.came.came)))
+failed_sends p link fault (not_reset h event here needed reset same why) = none_sent _ _ _ (ap (λ (l : LinkState). l.sent) same)
+failed_sends p link fault (not_fetched h f here needed is broke) =
+    inl (dialogue_some (Asks commands.FetchAll (λ all. Ends true)) p.stage.count p.stage.link.sent broke.hears.connection.received broke.heard link f broke.broke)
+failed_sends p link fault (not_taken h told q unheard here needed came there why more is) =
+    inl (whole_some [] p.stage.link.sent link.sent
+    (subst (λ (l : LinkState). SentMore [] p.stage.link.sent l.sent) there
+    (exchanges_more (then_all came.came.all) p.stage.count p.stage.link.sent came.hears.connection.received came.heard q.link q.feed came.came.came)))
 failed_sends p link fault (not_answered tag command f asked is unanswered) =
     inr (some_as _ (sends_for (need_at p)) _ _ (asked_numbers (need_at p) p.stage.count tag command asked)
     (some_front tag command p.stage.link.sent link.sent unanswered.sent))
@@ -74,6 +93,16 @@ failed_sends p link fault (not_heard tag command r q unheard name selected asked
     (more_parts tag command _ p.stage.link.sent q.link.sent came.came.sent))))
 
 -- ---- turns one behind the other
+
+-- less is left behind a turn that sends an action's command
+sends_less : (p q : Standing) → Turns p q → turns_left_at q < turns_left_at p →
+    (sends_for (need_at p) ≡ []) ⊎ (left q.player q.store.book < left p.player p.store.book)
+sends_less p q (records event resting needed is) falls = inr (left_less p q (ap (λ (s : Standing). s.held) is ∙ resting) falls)
+sends_less p q (selects name delta resting needed came taken selected unheld same) falls = inr (left_less p q unheld falls)
+sends_less p q (holds h r event resting needed came is tells reset permits selected here same player) falls = inl (ap sends_for needed)
+sends_less p q (resets h event here needed reset is) falls = inl (ap sends_for needed)
+sends_less p q (fetches h delta here needed away came taken selected permits unheld same) falls = inr (left_less p q unheld falls)
+sends_less p q (asks tag command r resting asked came heard selected permits unheld same) falls = inr (left_less p q unheld falls)
 
 -- what was sent in the turns from one standing to another, in a run of so many actions and mailboxes
 record SentSoFar (n m : ℕ) (p q : Standing) : Type 0 where
@@ -97,7 +126,7 @@ sent_so_far n m p first q chose learnt (turns at last some_chose some_learnt run
       numbers = x.numbers ++ sends_for (need_at at);
       sent = more_then x.numbers (sends_for (need_at at)) p.stage.link.sent at.stage.link.sent last.stage.link.sent x.sent (turn_sends at last turn);
       rising = rises_next n m at x.stands x.numbers x.rising x.below;
-      below = below_next n m at x.stands last x.numbers falls x.below;
+      below = below_next n m at x.stands last x.numbers (left_no_more at last falls) (sends_less at last turn falls) x.below;
       stands = stands_then n m at last x.stands turn;
     }
 

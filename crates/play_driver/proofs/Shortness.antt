@@ -9,10 +9,15 @@ use Rattle.imap_model.specs.declared.command.Command.{Command}
 use Rattle.mail_base.specs.declared.tag.Tag.{Tag}
 use Rattle.playback.specs.declared.step.Step.{Step}
 use Rattle.play_driver.specs.Running.RunsTo.{rests, turns}
-use Rattle.play_driver.specs.Turning.Turns.{records, selects, asks}
+use Rattle.play_driver.specs.Turning.Turns.{asks, fetches, holds, records, resets, selects}
 use Rattle.std.proofs.Common.{arith, inl, inr}
 use Rattle.playback.proofs.Falling.{left_at_first}
-use Rattle.play_driver.specs.Running.{IsShort, RunsBetween, StaysShort, learns_for, pending_in, selects_for}
+use Rattle.play_driver.proofs.GatheredTaken.{selects_none}
+use Rattle.play_driver.proofs.TurnsFall.{left_less, left_no_more}
+use Rattle.play_driver.specs.Running.{IsShort, RunsBetween, StaysShort, held_of, learns_for, pending_in, selects_at, selects_by, selects_for, turns_left_at}
+use Rattle.play_driver.specs.declared.session.Held.{Held}
+use Rattle.store_core.specs.Holding.{Holding}
+use Rattle.store_core.specs.Mail.{mail}
 use Rattle.play_driver.specs.Turning.{IsAskedFor, Standing, Turns, need_at}
 use Rattle.playback.specs.Choosing.{begun_with}
 use Rattle.playback.specs.Left.{left, rank, rank_of, unsettled}
@@ -162,30 +167,61 @@ module _ (p : Player) (b : Meaning) where
   selects_one = selects_by_told p.learns refl
 
 -- With what is needed next it is no less short.
-module _ (most chose learnt : ℕ) (p : Player) (b : Meaning) (short : StaysShort most chose learnt p b) where
-  pub few_next : chose + selects_for (need_of p b) ≤ most
-  few_next = by (selects_one p b) where
+module _ (most chose learnt : ℕ) (p : Player) (b : Meaning) where
+  few_free : StaysShort most chose learnt None p b → chose + selects_for (need_of p b) ≤ most
+  few_free short = by (selects_one p b) where
     by : SelectsOne p b (rank_of p b p.learns) (need_of p b) → chose + selects_for (need_of p b) ≤ most
     by (inl none) = omega (arith, short.few, none)
     by (inr one) = omega (arith, short.room, one.0, one.1, one.2)
 
-  pub once_next : learnt + learns_for (need_of p b) ≤ chose
-  once_next = omega (arith, short.once, learns_few p b)
+  few_by : (held : Option Held) → StaysShort most chose learnt held p b → chose + selects_by held (need_of p b) ≤ most
+  few_by None short = few_free short
+  few_by (Some h) short = omega (arith, short.few)
+
+  module _ (held : Option Held) (short : StaysShort most chose learnt held p b) where
+    pub few_next : chose + selects_by held (need_of p b) ≤ most
+    few_next = few_by held short
+
+    pub once_next : learnt + learns_for (need_of p b) ≤ chose
+    once_next = omega (arith, short.once, learns_few p b)
+
+-- a mailbox is needed where a SELECT is
+select_ranked : (p : Player) (b : Meaning) (name : List ℕ) → need_of p b ≡ needs.Select name → rank_of p b p.learns ≡ 7
+select_ranked p b name needed = by (selects_one p b) where
+  by : SelectsOne p b (rank_of p b p.learns) (need_of p b) → rank_of p b p.learns ≡ 7
+  by (inl none) = absurd (let one : selects_for (need_of p b) ≡ 1 = ap selects_for needed in omega (arith, none, one))
+  by (inr one) = one.0
 
 -- one turn more
-module _ (p q : Standing) (most chose learnt : ℕ) (turn : Turns p q) (falls : left q.player q.store.book < left p.player p.store.book)
-    (short : StaysShort most chose learnt p.player p.store.book) where
+module _ (p q : Standing) (most chose learnt : ℕ) (falls : turns_left_at q < turns_left_at p)
+    (short : StaysShort most chose learnt p.held p.player p.store.book) where
   abbrev Few : Type 0
-  Few = StaysShort most (chose + selects_for (need_at p)) (learnt + learns_for (need_at p)) q.player q.store.book
+  Few = StaysShort most (chose + selects_at p) (learnt + learns_for (need_at p)) q.held q.player q.store.book
 
-  by_once : learnt + learns_for (need_at p) + pending_in q.player.learns ≤ chose + selects_for (need_at p) → Few
-  by_once once = by_selects (selects_one p.player p.store.book) where
-    few : chose + selects_for (need_at p) ≤ most
-    few = few_next most chose learnt p.player p.store.book short
+  few : chose + selects_at p ≤ most
+  few = few_next most chose learnt p.player p.store.book p.held short
 
-    by_selects : SelectsOne p.player p.store.book (rank_of p.player p.store.book p.player.learns) (need_at p) → Few
-    by_selects (inl none) = record { room = omega (arith, short.room, falls, none); few = few; once = once }
-    by_selects (inr one) = record { room = omega (arith, short.room, falls, one.0, one.1); few = few; once = once }
+  -- where no reply is held before and behind it
+  module _ (before : p.held ≡ None) (behind : q.held ≡ None) where
+    less : left q.player q.store.book < left p.player p.store.book
+    less = left_less p q behind falls
+
+    free : StaysShort most chose learnt None p.player p.store.book
+    free = subst (λ (o : Option Held). StaysShort most chose learnt o p.player p.store.book) before short
+
+    counts : selects_at p ≡ selects_for (need_at p)
+    counts = ap (λ (o : Option Held). selects_by o (need_at p)) before
+
+    by_once : learnt + learns_for (need_at p) + pending_in q.player.learns ≤ chose + selects_for (need_at p) → Few
+    by_once once = by_selects (selects_one p.player p.store.book) where
+      none_held : held_of q.held ≡ 0
+      none_held = ap held_of behind
+
+      by_selects : SelectsOne p.player p.store.book (rank_of p.player p.store.book p.player.learns) (need_at p) → Few
+      by_selects (inl none) =
+          record { room = omega (arith, free.room, less, none, counts, none_held); few = few; once = omega (arith, once, counts, none_held) }
+      by_selects (inr one) =
+          record { room = omega (arith, free.room, less, one.0, one.1, counts, none_held); few = few; once = omega (arith, once, counts, none_held) }
 
   asked_learns : (need : Need) (count : ℕ) (tag : Tag) (command : Command) → IsAskedFor need count tag command → learns_for need ≡ 0
   asked_learns (needs.Select name) count tag command asked = absurd asked
@@ -195,40 +231,76 @@ module _ (p q : Standing) (most chose learnt : ℕ) (turn : Turns p q) (falls : 
   asked_learns (needs.Send n sent) count tag command asked = refl
   asked_learns needs.Finished count tag command asked = absurd asked
 
-  pub stays_short : Few
-  stays_short = by_once (once_by turn) where
-    once_by : Turns p q → learnt + learns_for (need_at p) + pending_in q.player.learns ≤ chose + selects_for (need_at p)
-    once_by (records event needed is) =
-        let none : pending_in q.player.learns ≡ 0 = ap (λ (s : Standing). pending_in s.player.learns) is in
-        omega (arith, short.once, learns_few p.player p.store.book, none)
-    once_by (selects name delta needed came chosen selected same) =
-        let one : selects_for (need_at p) ≡ 1 = ap selects_for needed in
-        let no : learns_for (need_at p) ≡ 0 = ap learns_for needed in
-        omega (arith, short.once, pending_most q.player.learns, one, no)
-    once_by (asks tag command r needed asked heard selected permits same) =
-        let no = asked_learns (need_at p) p.stage.count tag command needed in
-        let still : pending_in q.player.learns ≡ pending_in p.player.learns = ap (λ (x : Player). pending_in x.learns) heard.is in
-        omega (arith, short.once, no, still)
+  pub stays_short : Turns p q → Few
+  stays_short (records event resting needed is) =
+      let none : pending_in q.player.learns ≡ 0 = ap (λ (s : Standing). pending_in s.player.learns) is in
+      by_once resting (ap (λ (s : Standing). s.held) is ∙ resting)
+      (omega (arith, short.once, learns_few p.player p.store.book, none))
+  stays_short (selects name delta resting needed came chosen selected unheld same) =
+      let one : selects_for (need_at p) ≡ 1 = ap selects_for needed in
+      let no : learns_for (need_at p) ≡ 0 = ap learns_for needed in
+      by_once resting unheld (omega (arith, short.once, pending_most q.player.learns, one, no))
+  stays_short (holds h r event resting needed came is tells reset permits selected here same player) =
+      let one : selects_at p ≡ 1 = ap (λ (o : Option Held). selects_by o (need_at p)) resting ∙ ap selects_for needed in
+      let no : learns_for (need_at p) ≡ 0 = ap learns_for needed in
+      let none : held_of p.held ≡ 0 = ap held_of resting in
+      let now : held_of q.held ≡ 1 = ap held_of here in
+      let left_same : left q.player q.store.book ≡ left p.player p.store.book =
+      ap (λ (x : Player). left x q.store.book) player ∙ ap (λ (s : Holding mail). left p.player s.book) same in
+      let still : pending_in q.player.learns ≡ pending_in p.player.learns = ap (λ (x : Player). pending_in x.learns) player in
+      record {
+        room = omega (arith, short.room, one, none, now, left_same);
+        few = few;
+        once = omega (arith, short.once, one, no, still, none, now);
+      }
+  stays_short (resets h event here needed reset is) =
+      let none : selects_at p ≡ 0 = ap (λ (o : Option Held). selects_by o (need_at p)) here in
+      let no : learns_for (need_at p) ≡ 0 = ap learns_for needed in
+      let same : held_of q.held ≡ held_of p.held = ap (λ (s : Standing). held_of s.held) is in
+      let still : pending_in q.player.learns ≡ pending_in p.player.learns = ap (λ (s : Standing). pending_in s.player.learns) is in
+      let no_more : left q.player q.store.book ≤ left p.player p.store.book = left_no_more p q falls in
+      record {
+        room = omega (arith, short.room, none, same, no_more);
+        few = few;
+        once = omega (arith, short.once, none, no, still, same);
+      }
+  stays_short (fetches h delta here needed away came chosen selected permits unheld same) =
+      let none : selects_at p ≡ 0 = ap (λ (o : Option Held). selects_by o (need_at p)) here in
+      let no : learns_for (need_at p) ≡ 0 = ap learns_for needed in
+      let one : held_of p.held ≡ 1 = ap held_of here in
+      let gone : held_of q.held ≡ 0 = ap held_of unheld in
+      let ranked : rank_of p.player p.store.book p.player.learns ≡ 7 = select_ranked p.player p.store.book h.chosen.name needed in
+      let before : pending_in p.player.learns ≡ 0 = ap pending_in (selects_none p.player p.store.book h.chosen.name needed) in
+      let less : left q.player q.store.book < left p.player p.store.book = left_less p q unheld falls in
+      record {
+        room = omega (arith, short.room, none, one, gone, ranked, less);
+        few = few;
+        once = omega (arith, short.once, none, no, before, one, gone, pending_most q.player.learns);
+      }
+  stays_short (asks tag command r resting needed asked heard selected permits unheld same) =
+      let no = asked_learns (need_at p) p.stage.count tag command needed in
+      let still : pending_in q.player.learns ≡ pending_in p.player.learns = ap (λ (x : Player). pending_in x.learns) heard.is in
+      by_once resting unheld (omega (arith, short.once, no, still))
 
 -- a run's turns, and one more
 pub runs_start : (p : Standing) → RunsBetween p p
 runs_start p = record { selects = 0; learns = 0; runs = rests; short = λ most h. h }
 
-pub runs_on : (p q r : Standing) → RunsBetween p q → Turns q r → left r.player r.store.book < left q.player q.store.book → RunsBetween p r
+pub runs_on : (p q r : Standing) → RunsBetween p q → Turns q r → turns_left_at r < turns_left_at q → RunsBetween p r
 runs_on p q r x turn falls = record {
-  selects = x.selects + selects_for (need_at q);
+  selects = x.selects + selects_at q;
   learns = x.learns + learns_for (need_at q);
   runs = turns q r x.selects x.learns x.runs turn falls;
-  short = λ most h. stays_short q r most x.selects x.learns turn falls (x.short most h);
+  short = λ most h. stays_short q r most x.selects x.learns falls (x.short most h) turn;
 }
 
 -- a run as it begins
-pub short_first : (alloc : Global) (b : Meaning) → StaysShort (unsettled b.queue + length b.boxes) 0 0 (begun_with alloc b) b
+pub short_first : (alloc : Global) (b : Meaning) → StaysShort (unsettled b.queue + length b.boxes) 0 0 None (begun_with alloc b) b
 short_first alloc b = record { room = omega (arith, left_at_first alloc b); few = omega arith; once = omega arith }
 
 -- and as it ends
-pub short_last : (chose learnt : ℕ) (p : Player) (b c : Meaning) → StaysShort (unsettled b.queue + length b.boxes) chose learnt p c →
-    IsShort b chose learnt (need_of p c)
-short_last chose learnt p b c x =
+pub short_last : (chose learnt : ℕ) (p : Standing) (b : Meaning) → StaysShort (unsettled b.queue + length b.boxes) chose learnt p.held p.player p.store.book →
+    IsShort b chose learnt p
+short_last chose learnt p b x =
     let most = unsettled b.queue + length b.boxes in
-    record { few = few_next most chose learnt p c x; once = once_next most chose learnt p c x }
+    record { few = few_next most chose learnt p.player p.store.book p.held x; once = once_next most chose learnt p.player p.store.book p.held x }

@@ -58,8 +58,8 @@ open_then (kinds.StoreUnsure m f) resumed b c unsure why = why.0.open_then
 open_then kinds.SourceGone resumed b c unsure why = why.0.open_then
 open_then kinds.GoneAfterLoss resumed b c unsure why = why.0.open_then
 open_then (kinds.Ambiguous u v) resumed b c unsure why = why.0.open_then
-open_then (kinds.ValidityChanged o n) resumed b c unsure why = absurd why
-open_then (kinds.ResetAfterLoss o n) resumed b c unsure why = absurd why
+open_then (kinds.ValidityChanged o n) resumed b c unsure why = absurd cc
+open_then (kinds.ResetAfterLoss o n) resumed b c unsure why = why.0.open_then
 
 was_due : (entry b : Meaning) → is_open entry b ≡ true → (due b.queue ≡ due entry.queue) × (is_some entry.pending ≡ true)
 was_due entry b opens =
@@ -89,7 +89,7 @@ event_surely entry b c (events.Settle id outcome) sure of_play why = λ i q kind
     settled_surely entry b c id outcome sure why i q kind is unsure (changed_at (settled outcome) b.queue i q there)
 event_surely entry b c (events.Learn name delta) sure of_play why = sure
 event_surely entry b c (events.Old id action outcome) sure of_play why = absurd of_play
-event_surely entry b c (events.Reset name kept told) sure of_play why = absurd of_play
+event_surely entry b c (events.Reset name kept told) sure of_play why = sure
 event_surely entry b c (events.Withdraw id tries) sure of_play why = absurd of_play
 
 pub true_surely : (entry : Meaning) (made now : Clock) (b : Meaning) → IsTrueSince entry made now b → EndSurely entry b
@@ -107,7 +107,6 @@ by_disk (Err faults.Link) P failed other = other (λ is. absurd cc)
 by_disk (Err (faults.Refused line)) P failed other = other (λ is. absurd cc)
 by_disk (Err (faults.BadReply why)) P failed other = other (λ is. absurd cc)
 by_disk (Err (faults.Lacking item)) P failed other = other (λ is. absurd cc)
-by_disk (Err (faults.Validity name before then)) P failed other = other (λ is. absurd cc)
 by_disk (Err (faults.Limit which number)) P failed other = other (λ is. absurd cc)
 
 pub run_surely : {T : Type 0} (r : Result T PlayFault) (b c : Meaning) (old new : Clock) → (IsErrOf r faults.Disk → StopsTruly b c old new) →

@@ -28,6 +28,7 @@ use Rattle.std.proofs.Common.{ℕ, ◌+◌, ◌<◌, ◌∙◌, ◌∷◌, ◌�
 use Rattle.std.proofs.lemmas.Bool.{cond_both, ltb-false, ltb-true}
 use Rattle.std.proofs.lemmas.Option.{none-some, same_Some, slice_get-map, slice_get_past}
 use Rattle.std.proofs.lemmas.Slice.Eq.{bytes_eq-Decides}
+use Rattle.play_driver.specs.declared.session.Held.{Held}
 use Rattle.std.specs.Option.{option_map}
 use Rattle.std.specs.Prelude.{bytes_eq, is_none, is_some, map, nat_lt, slice_get}
 use Rattle.store_core.specs.Mail.{mail}
@@ -164,19 +165,20 @@ module _ (start old new : Clock) (p : Player) (b : Meaning) (beside : IsBeside p
     counted_before i below =
         omega (arith, below, counted_none p.learns (due_action (after b event).queue) (length (after b event).boxes) p.resynced none)
 
-    pub synced_anew : IsSettledAt new → SyncedSince start new (committed p (after b event)) (after b event)
+    pub synced_anew : IsSettledAt new → SyncedSince start new None (committed p (after b event)) (after b event)
     synced_anew at_new = record {
       from = new;
       later = grows_then start old new first more;
       before = grows_start new;
       settled = at_new;
-      counted = λ i known at below other. let less = counted_before i below in absurd (none_counted (omega (arith, less)));
+      counted = λ i known at below other held. let less = counted_before i below in absurd (none_counted (omega (arith, less)));
       pending = λ told is. absurd cc;
+      unread = λ h is. absurd (none-some h is);
     }
 
   -- What was told of the next mailbox is recorded.
   module _ (told : Resynced) (is : p.learns ≡ Some told) (known : is_some (known_at told.name b.boxes) ≡ true) (settled : AllSettled b.queue)
-      (s : SyncedSince start old p b) (unread : (other : List ℕ) → Since Any (IsNotRead other) old new) where
+      (s : SyncedSince start old None p b) (unread : (other : List ℕ) → Since Any (IsNotRead other) old new) where
     abbrev Told : Event
     Told = events.Learn told.name told.delta
 
@@ -206,7 +208,8 @@ module _ (start old new : Clock) (p : Player) (b : Meaning) (beside : IsBeside p
         by true less =
             subst (λ (n : List ℕ). IsSynced n b s.from old) at.named
             (s.counted i at.known at.there (ltb-true i p.resynced less)
-            (λ pending. is_other pending.told at.known.name (pending.learns) (pending.named) (ap (bytes_eq told.name) at.named ∙ apart)))
+            (λ pending. is_other pending.told at.known.name (pending.learns) (pending.named) (ap (bytes_eq told.name) at.named ∙ apart))
+            (λ held. absurd held))
         by false not =
             let same : told.name ≡ name = last_named i name at (ltb-false i p.resynced not) below in
             absurd (let equal : bytes_eq told.name name ≡ true = (bytes_eq-Decides told.name name).1 same in cc)
@@ -218,18 +221,19 @@ module _ (start old new : Clock) (p : Player) (b : Meaning) (beside : IsBeside p
         (names_put told.name (Some (learned (cache_at told.name b.boxes) told.delta)) b.boxes))
         ∙ name_at (after b Told).boxes i box at)
 
-    pub synced_more : SyncedSince start new (committed p (after b Told)) (after b Told)
+    pub synced_more : SyncedSince start new None (committed p (after b Told)) (after b Told)
     synced_more = record {
       from = s.from;
       later = s.later;
       before = grows_then s.from old new s.before more;
       settled = s.settled;
-      counted = λ i box at below other.
+      counted = λ i box at below other held.
           let less : i < p.resynced + 1 =
           omega (arith, below, counted_by_one p.learns (due_action b.queue) (length (after b Told).boxes) p.resynced) in
           learned_synced b told.name told.delta known s.from old new unread box.name (s.pending told is)
           (λ apart. counted_one i box.name (stands i box at) less apart);
       pending = λ other none. absurd cc;
+      unread = λ h none. absurd (none-some h none);
     }
 
 -- no intent is needed where all is settled
@@ -244,27 +248,75 @@ intends_open p b intent none step settled =
 
 -- So it goes on with the event that the player needs.
 pub synced_on : (start old new : Clock) (p : Player) (b : Meaning) (event : Event) → IsBeside p b → Records (need_of p b) event → IsLawful b event →
-    Grows start old → Takes mail (Some b) event old new → HasBooks mail (Firm (Some (after b event))) new.now → IsSyncedSoFar start old p b →
-    IsSyncedSoFar start new (committed p (after b event)) (after b event)
+    Grows start old → Takes mail (Some b) event old new → HasBooks mail (Firm (Some (after b event))) new.now → IsSyncedSoFar start old None p b →
+    IsSyncedSoFar start new None (committed p (after b event)) (after b event)
 synced_on start old new p b event beside needed lawful first takes books so_far = by (recorded p b event needed)
   where
     more : Grows old new
     more = takes_grows b event old new takes
 
-    by : IsRecorded p b event → IsSyncedSoFar start new (committed p (after b event)) (after b event)
+    by : IsRecorded p b event → IsSyncedSoFar start new None (committed p (after b event)) (after b event)
     by (inl x) = λ settled.
         absurd (intends_open p b x.intent x.none x.step (subst (λ (e : Event). AllSettled (after b e).queue) x.is settled))
     by (inr (inl x)) = λ settled.
         synced_anew start old new p b beside first more event x.none x.queued x.there
         (record { book = after b event; books = books; settled = settled })
     by (inr (inr x)) =
-        subst (λ (e : Event). IsSyncedSoFar start new (committed p (after b e)) (after b e)) (sym x.is)
+        subst (λ (e : Event). IsSyncedSoFar start new None (committed p (after b e)) (after b e)) (sym x.is)
         (λ settled. synced_more start old new p b beside first more x.told x.learns
         (learns_known b x.told.name x.told.delta (subst (IsLawful b) x.is lawful)) settled (so_far settled)
         (λ other. takes_not_read other b event old new takes))
 
 pub synced_then : (p q : Player) (b c : Meaning) (event : Event) → c ≡ after b event → q ≡ committed p c → (start new : Clock) →
-    IsSyncedSoFar start new (committed p (after b event)) (after b event) → IsSyncedSoFar start new q c
+    IsSyncedSoFar start new None (committed p (after b event)) (after b event) → IsSyncedSoFar start new None q c
 synced_then p q b c event is goes start new so_far =
-    subst (λ (x : Player). IsSyncedSoFar start new x c) (sym goes)
-    (subst (λ (m : Meaning). IsSyncedSoFar start new (committed p m) m) (sym is) so_far)
+    subst (λ (x : Player). IsSyncedSoFar start new None x c) (sym goes)
+    (subst (λ (m : Meaning). IsSyncedSoFar start new None (committed p m) m) (sym is) so_far)
+
+-- A cache is taken away while the reply to its mailbox's SELECT is held.
+pub synced_reset : (start old new : Clock) (p : Player) (b : Meaning) (h : Held) (kept : ℕ) (event : Event) →
+    event ≡ events.Reset h.chosen.name kept h.told → p.learns ≡ None → Takes mail (Some b) event old new →
+    IsSyncedSoFar start old (Some h) p b → IsSyncedSoFar start new (Some h) p (after b event)
+synced_reset start old new p b h kept event is none takes so_far =
+    subst (λ (e : Event). IsSyncedSoFar start new (Some h) p (after b e)) (sym is)
+    (λ settled.
+    let s = so_far settled in
+    record {
+      from = s.from;
+      later = s.later;
+      before = grows_then s.from old new s.before (takes_grows b event old new takes);
+      settled = s.settled;
+      counted = λ i known at below other held.
+          let apart : bytes_eq h.chosen.name known.name ≡ false = apart_names h.chosen.name known.name held in
+          let was : IsNamedAt known.name b.boxes i = stood i known at in
+          let then : IsSynced was.known.name b s.from old =
+          s.counted i was.known was.there below (λ pending. absurd (none-some pending.told (sym none ∙ pending.learns)))
+          (λ same. held (same ∙ was.named)) in
+          let here : IsSynced known.name b s.from old = subst (λ (n : List ℕ). IsSynced n b s.from old) was.named then in
+          record {
+            cache = here.cache;
+            there = cache_kept h.chosen.name known.name None b.boxes apart ∙ here.there;
+            level = last_later known.name here.cache s.from old new here.level (takes_not_read known.name b event old new takes);
+          };
+      pending = λ told learns. absurd (none-some told (sym none ∙ learns));
+      unread = λ g same. record {
+        reply = (s.unread g same).reply;
+        is = (s.unread g same).is;
+        reads = λ empty delta tells.
+            last_later g.chosen.name (learned None delta) s.from old new ((s.unread g same).reads empty delta tells)
+            (takes_not_read g.chosen.name b event old new takes);
+      };
+    })
+  where
+    stood : (i : ℕ) (known : Known) → slice_get (put_cache h.chosen.name None b.boxes) i ≡ Some known → IsNamedAt known.name b.boxes i
+    stood i known at =
+        named_at known.name b.boxes i
+        (sym (ap (λ (names : List (List ℕ)). slice_get names i) (names_put h.chosen.name None b.boxes))
+        ∙ name_at (put_cache h.chosen.name None b.boxes) i known at)
+
+    apart_names : (name other : List ℕ) → (name ≡ other → ⊥) → bytes_eq name other ≡ false
+    apart_names name other apart = by (bytes_eq name other) refl
+      where
+        by : (test : Bool) → bytes_eq name other ≡ test → bytes_eq name other ≡ false
+        by true e = absurd (apart ((bytes_eq-Decides name other).0 e))
+        by false e = e

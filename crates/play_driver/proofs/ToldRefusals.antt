@@ -11,6 +11,7 @@ use Rattle.literal_feed.specs.Stream.{Stream}
 use Rattle.imap_model.proofs.SameResponses.{goes_on_behind}
 use Rattle.imap_model.specs.Lines.{Received}
 use Rattle.imap_model.specs.declared.command.Command.{Command}
+use Rattle.imap_model.specs.declared.command.Command.TheVariants as commands
 use Rattle.imap_model.specs.declared.response.Response.{Response}
 use Rattle.imap_model.specs.declared.response.Response.TheVariants as responses
 use Rattle.imap_response.proofs.Heard.{front}
@@ -38,7 +39,7 @@ use Rattle.play_driver.specs.Refusals.{DeniesQuestion, NeverTold, RefusesRun}
 use Rattle.play_driver.specs.Resynchronising.{resync}
 use Rattle.play_driver.specs.Stages.{Broke, Stage}
 use Rattle.play_driver.specs.Turning.{Standing, TurnFails}
-use Rattle.play_driver.specs.Turning.TurnFails.{wanting, not_recorded, not_told, not_chosen, not_answered, not_heard}
+use Rattle.play_driver.specs.Turning.TurnFails.{wanting, not_recorded, not_told, not_chosen, not_reset, not_fetched, not_taken, not_answered, not_heard}
 use Rattle.play_driver.specs.declared.fault.PlayFault.TheVariants as faults
 
 -- such a response was told
@@ -175,11 +176,19 @@ turn_told p link line told (wanting dear same is) honest = absurd cc
 turn_told p link line told (not_recorded event records same (record_wanting takes is)) honest = absurd cc
 turn_told p link line told (not_recorded event records same (disk is)) honest = absurd cc
 turn_told p link line told (not_recorded event records same (full over is)) honest = absurd cc
-turn_told p link line told (not_told name f need is b) honest =
+turn_told p link line told (not_told name f resting need is b) honest =
     let d = resync name (cache_at name p.store.book.boxes) (Ends true) in
     broke_told d p.stage link line told (subst (λ (x : SessionFault). Broke d p.stage link x) (refused_as line f is) b) honest
-turn_told p link line told (not_chosen name delta permits unheard need came fault why is) honest =
+turn_told p link line told (not_chosen name delta permits unheard resting need came fault why is) honest =
     absurd (unheard_no_refusal line name unheard is)
+turn_told p link line told (not_reset h event here need reset same (record_wanting takes is)) honest = absurd cc
+turn_told p link line told (not_reset h event here need reset same (disk is)) honest = absurd cc
+turn_told p link line told (not_reset h event here need reset same (full over is)) honest = absurd cc
+turn_told p link line told (not_fetched h f here need is b) honest =
+    let d = Asks commands.FetchAll (λ all. Ends true) in
+    broke_told d p.stage link line told (subst (λ (x : SessionFault). Broke d p.stage link x) (refused_as line f is) b) honest
+turn_told p link line told (not_taken h delta q unheard here need came there fault why is) honest =
+    absurd (unheard_no_refusal line h.chosen.name unheard is)
 turn_told p link line told (not_answered tag command f asked is n) honest =
     answer_told n.heard tag command n.hears.connection.received link.connection line told
     (subst (λ (x : SessionFault). FailsBehind n.heard tag command n.hears.connection.received link.connection x) (refused_as line f is) n.failing)

@@ -35,7 +35,8 @@ use Rattle.play_driver.specs.Playing.EndsEarly.{turn_failed, not_left}
 use Rattle.play_driver.specs.Questioning.{ConnectsFirst, Questioning, RunStep, TalkStep}
 use Rattle.play_driver.specs.TrueRecords.IsTrueSince.{enters, rests}
 use Rattle.play_driver.specs.Progress.{IsLater, Progresses, has_name}
-use Rattle.play_driver.specs.Running.{RunsBetween, StopsBehind, first_standing}
+use Rattle.play_driver.specs.Running.{RunsBetween, StopsBehind, first_standing, turns_left}
+use Rattle.play_driver.specs.declared.session.Held.{Held}
 use Rattle.play_driver.specs.Settled.{AreSyncedBehind, IsSyncedSoFar}
 use Rattle.play_driver.specs.Stages.{Stage, stage_of}
 use Rattle.play_driver.specs.Synced.{AsksRows, IsNotRead, IsSynced}
@@ -170,41 +171,42 @@ module _ (b : Meaning) (p : Player) (old k : Clock) (r : HasBegun b p old k) whe
       none_arrives = ap (λ (t : Talk). t.arriving) r.opened.greeted.talk;
     }
 
-    known_entered : AllFair mail played old k → KnownAt r.opened.made k None p b
+    known_entered : AllFair mail played old k → KnownAt r.opened.made k None None p b
     known_entered fair =
-        subst (λ (x : Player). KnownAt r.opened.made k None x b) (sym r.begun)
+        subst (λ (x : Player). KnownAt r.opened.made k None None x b) (sym r.begun)
         (known_law.begins r.alloc b r.opened.made k (stands_made (since_first Any (IsFair mail played) old r.opened.made k made_first made_then fair))
         (opens_enquiring r.opened.made k r.opened.asks)
         (since_second Any (IsFair mail played) old r.opened.made k made_first made_then fair) r.waits r.selects None)
 
-    gone_entered : GoneOn r.opened.made old k None p b
+    gone_entered : GoneOn r.opened.made old k None None p b
     gone_entered = record { joined = questions_stay b old k r.firm r.asked kept; known = known_entered }
 
     -- so far every action was settled, and no mailbox resynchronised
-    synced_entered : IsSyncedSoFar old k p b
+    synced_entered : IsSyncedSoFar old k None p b
     synced_entered =
-        subst (λ (x : Player). IsSyncedSoFar old k x b) (sym r.begun) (λ settled. record {
+        subst (λ (x : Player). IsSyncedSoFar old k None x b) (sym r.begun) (λ settled. record {
           from = k;
           later = first_part;
           before = grows_start k;
           settled = record { book = b; books = firm_there Enquiring b old k r.firm r.asked; settled = settled };
-          counted = λ i known there below other. absurd (omega (arith, below));
+          counted = λ i known there below other none. absurd (omega (arith, below));
           pending = λ told is. absurd cc;
+          unread = λ h is. absurd (none-some h is);
         })
 
     -- the turns
     module _ (l : Clock) (more : Grows k l) where
-      pub run_two : (IsKept mail Kept k.now → KnownAt r.opened.made k None p b → StaysJoined mail Kept played k l) → StaysJoined mail Kept played
+      pub run_two : (IsKept mail Kept k.now → KnownAt r.opened.made k None None p b → StaysJoined mail Kept played k l) → StaysJoined mail Kept played
           old l
-      run_two turns = joined_on r.opened.made old k None p b kept first_part gone_entered l more turns
+      run_two turns = joined_on r.opened.made old k None None p b kept first_part gone_entered l more turns
 
-      run_so : (R : Type 0) → AllFair mail played old l → (IsKept mail Kept k.now → KnownAt r.opened.made k None p b → AllFair mail played k l → R)
+      run_so : (R : Type 0) → AllFair mail played old l → (IsKept mail Kept k.now → KnownAt r.opened.made k None None p b → AllFair mail played k l → R)
           → R
       run_so R fair turns =
-          so_on r.opened.made old k None p b kept first_part gone_entered l more R fair (λ first here knows second. turns here knows second)
+          so_on r.opened.made old k None None p b kept first_part gone_entered l more R fair (λ first here knows second. turns here knows second)
 
       pub true_two : (c : Meaning) → AllFair mail played old l → Since Any TalkStep k l →
-          (IsKept mail Kept k.now → KnownAt r.opened.made k None p b → AllFair mail played k l →
+          (IsKept mail Kept k.now → KnownAt r.opened.made k None None p b → AllFair mail played k l →
           IsEntered b p b → IsTrueSince b r.opened.made k b → IsTrueSince b r.opened.made l c) → RecordsTruly b c old l
       true_two c fair talks turns =
           run_so (RecordsTruly b c old l) fair (λ here knows second. record {
@@ -215,7 +217,7 @@ module _ (b : Meaning) (p : Player) (old k : Clock) (r : HasBegun b p old k) whe
           })
 
       pub stopped_two : (c : Meaning) (event : Event) → AllFair mail played old l → Since Any TalkStep k l →
-          (IsKept mail Kept k.now → KnownAt r.opened.made k None p b → AllFair mail played k l → IsEntered b p b → IsTrueSince b r.opened.made k b →
+          (IsKept mail Kept k.now → KnownAt r.opened.made k None None p b → AllFair mail played k l → IsEntered b p b → IsTrueSince b r.opened.made k b →
           IsTrueBefore event b c r.opened.made l) → StopsTruly b c old l
       stopped_two c event fair talks turns =
           run_so (StopsTruly b c old l) fair (λ here knows second. record {
@@ -228,14 +230,14 @@ module _ (b : Meaning) (p : Player) (old k : Clock) (r : HasBegun b p old k) whe
 
       -- what the server told wasn't at fault
       pub faultless_two : AllFair mail played old l →
-          (IsKept mail Kept k.now → KnownAt r.opened.made k None p b → AllFair mail played k l → ⊥) → ⊥
+          (IsKept mail Kept k.now → KnownAt r.opened.made k None None p b → AllFair mail played k l → ⊥) → ⊥
       faultless_two fair turns = run_so ⊥ fair turns
 
-      pub synced_two : (q : Player) (c : Meaning) → AllFair mail played old l →
-          (Grows old k → IsKept mail Kept k.now → KnownAt r.opened.made k None p b → AllFair mail played k l → IsSyncedSoFar old k p b →
-          IsSyncedSoFar old l q c) → IsSyncedSoFar old l q c
-      synced_two q c fair turns =
-          run_so (IsSyncedSoFar old l q c) fair (λ here knows second. turns first_part here knows second synced_entered)
+      pub synced_two : (held : Option Held) (q : Player) (c : Meaning) → AllFair mail played old l →
+          (Grows old k → IsKept mail Kept k.now → KnownAt r.opened.made k None None p b → AllFair mail played k l → IsSyncedSoFar old k None p b →
+          IsSyncedSoFar old l held q c) → IsSyncedSoFar old l held q c
+      synced_two held q c fair turns =
+          run_so (IsSyncedSoFar old l held q c) fair (λ here knows second. turns first_part here knows second synced_entered)
 
 -- and left
 pub leaves_grow : (l m : Clock) → Linked Enquiring l m → Grows l m
@@ -298,7 +300,7 @@ placed name [] is = absurd cc
 placed name (k ∷ ks) is = placed_by name k ks (placed name ks) (bytes_eq k.name name) refl is
 
 -- so each mailbox is synced where the run is finished
-pub all_synced : (old l m : Clock) (q : Player) (c : Meaning) → IsFinished q c → IsSyncedSoFar old l q c → Grows l m →
+pub all_synced : (old l m : Clock) (q : Player) (c : Meaning) → IsFinished q c → IsSyncedSoFar old l None q c → Grows l m →
     ((name : List ℕ) → Since Any (IsNotRead name) l m) → AreSyncedBehind old m c
 all_synced old l m q c finished so more unread =
     let s = so finished.settled in
@@ -312,7 +314,7 @@ all_synced old l m q c finished so more unread =
           let within = place_before c.boxes x.place x.known x.there in
           let t =
           s.counted x.place x.known x.there (omega (arith, within, finished.resynced))
-          (λ pending. none-some pending.told (sym finished.recorded ∙ pending.learns)) in
+          (λ pending. none-some pending.told (sym finished.recorded ∙ pending.learns)) (λ held. absurd held) in
           subst (λ (n : List ℕ). IsSynced n c s.from m) x.named (synced_later x.known.name c s.from l m t (unread x.known.name));
     }
 
@@ -332,7 +334,7 @@ module _ (account : Credentials) (alloc : Global) (s : Holding mail) (p : Player
         selects = r.selects;
         learns = r.learns;
         runs = r.runs;
-        short = short_last r.selects r.learns q.player s.book q.store.book
+        short = short_last r.selects r.learns q s.book
             (r.short (unsettled s.book.queue + length s.book.boxes) (short_first alloc s.book));
       }
 
@@ -352,7 +354,7 @@ module _ (account : Credentials) (alloc : Global) (s : Holding mail) (p : Player
 
 -- the room for a run's questions
 pub has_room : (alloc : Global) (b : Meaning) (p : Player) → p ≡ begun_with alloc b → IsFold b → (count : ℕ) → count ≤ 4 →
-    count + 2 * left p b + 3 < 4294967295
+    count + 2 * turns_left None p b + 3 < 4294967295
 has_room alloc b p begun fold count few =
     let same : left p b ≡ left (begun_with alloc b) b = ap (λ (x : Player). left x b) begun in
     omega (arith, few, same, left_at_first alloc b, fold_few b fold, fold_actions b fold)

@@ -29,7 +29,7 @@ of_resync name resyncs.Memory = faults.Memory
 of_resync name resyncs.NoModSeq = faults.Lacking items.ModSeqs
 of_resync name resyncs.NotSticky = faults.Lacking items.Sticky
 of_resync name (resyncs.NoCode which) = faults.BadReply (whys.Lacks which)
-of_resync name (resyncs.Validity kept told) = faults.Validity name kept told
+of_resync name (resyncs.Validity kept told) = faults.BadReply (whys.Older name kept told)
 of_resync name (resyncs.Unfit kept told) = faults.BadReply (whys.Lower kept told)
 of_resync name (resyncs.BareRow index) = faults.BadReply (whys.Lacks items.Row)
 
@@ -37,7 +37,7 @@ of_resync name (resyncs.BareRow index) = faults.BadReply (whys.Lacks items.Row)
 abbrev pub of_unheard : List ℕ → Unheard → PlayFault
 of_unheard name unheards.Memory = faults.Memory
 of_unheard name (unheards.Resync fault) = of_resync name fault
-of_unheard name (unheards.Target kept told) = faults.Validity name kept told
+of_unheard name (unheards.Target kept told) = faults.BadReply (whys.Older name kept told)
 of_unheard name (unheards.Lacks item) = faults.BadReply (whys.Lacks item)
 of_unheard name (unheards.Rows count) = faults.Limit limits.Rows count
 
@@ -55,7 +55,6 @@ IsReplyFault faults.Link = ⊥
 IsReplyFault (faults.Refused line) = ⊥
 IsReplyFault (faults.BadReply why) = Unit {0}
 IsReplyFault (faults.Lacking what) = Unit {0}
-IsReplyFault (faults.Validity name kept told) = ⊥
 IsReplyFault (faults.Limit which number) = ⊥
 
 -- what may end a run whose server serves it: want of memory, the disk, the link, or a limit that is passed
@@ -66,5 +65,4 @@ ComesAnyway faults.Link = Unit {0}
 ComesAnyway (faults.Refused line) = ⊥
 ComesAnyway (faults.BadReply why) = ⊥
 ComesAnyway (faults.Lacking what) = ⊥
-ComesAnyway (faults.Validity name kept told) = ⊥
 ComesAnyway (faults.Limit which number) = Unit {0}

@@ -1,5 +1,5 @@
 -- How a run goes on over one turn or several.
-use Rattle.std.specs.Prelude.{◌≡◌, Result, IfOk, OnOk}
+use Rattle.std.specs.Prelude.{◌≡◌, Result, IfOk}
 use Rattle.action_queue.specs.Book.{Meaning}
 use Rattle.journal_core.specs.OneSide.{EachOneSide}
 use Rattle.playback.specs.Kept.{Kept}
@@ -16,7 +16,7 @@ use Rattle.play_driver.specs.Played.{played}
 use Rattle.play_driver.specs.Progress.{Progresses, box_names}
 use Rattle.play_driver.specs.Questioning.{ConnectsFirst, RunStep, TalkStep}
 use Rattle.play_driver.specs.SendsOnce.{SendsOnce}
-use Rattle.play_driver.specs.Sessions.{permits_in}
+use Rattle.play_driver.specs.Sessions.{held_in, permits_in}
 use Rattle.play_driver.specs.Settled.{IsSyncedSoFar}
 use Rattle.play_driver.specs.declared.fault.PlayFault.{PlayFault}
 use Rattle.play_driver.specs.declared.session.Session.{Session}
@@ -28,20 +28,22 @@ use Rattle.play_driver.specs.declared.session.Session.{Session}
 pub record GoesOn {Self : Type 0} (W : Ghosts Self) (old new : Self) (session : Session) (p q : Player) (b c : Meaning)
     (result : Result Session PlayFault) : Type 0 where
   pub progress : W.tells_files → Progresses b (W.clock old) (W.clock new)
-  pub joined : W.tells_server → (made : Clock) → IsKept mail Kept (W.clock old).now → KnownAt made (W.clock old) (permits_in session) p b
+  pub joined : W.tells_server → (made : Clock) → IsKept mail Kept (W.clock old).now → KnownAt made (W.clock old) (permits_in session) (held_in session) p b
       → StaysJoined mail Kept played (W.clock old) (W.clock new)
-  pub known : W.tells_server → (made : Clock) → IsKept mail Kept (W.clock old).now → KnownAt made (W.clock old) (permits_in session) p b
-      → AllFair mail played (W.clock old) (W.clock new) → IfOk result (λ next. KnownAt made (W.clock new) (permits_in next) q c)
+  pub known : W.tells_server → (made : Clock) → IsKept mail Kept (W.clock old).now → KnownAt made (W.clock old) (permits_in session) (held_in session) p b
+      → AllFair mail played (W.clock old) (W.clock new) → IfOk result (λ next. KnownAt made (W.clock new) (permits_in next) (held_in next) q c)
   pub each_one_side : W.tells_files → EachOneSide (W.clock old) (W.clock new)
   pub talks : W.tells_server → Since Any TalkStep (W.clock old) (W.clock new)
   pub grounds : W.tells_server → Since Any (GroundStep (box_names b)) (W.clock old) (W.clock new)
   pub earlier : W.tells_files → (W.link new).earlier ≡ (W.link old).earlier
 
--- each mailbox that the player counts stays the server's
-abbrev pub SyncsOn : {Self T : Type 0} → Ghosts Self → Self → Self → Player → Player → Meaning → Meaning → Result T PlayFault → Type 0
-SyncsOn W old new p q b c result =
-    W.tells_server → (start : Clock) → Grows start (W.clock old) → IsKept mail Kept (W.clock old).now
-    → AllFair mail played (W.clock old) (W.clock new) → IsSyncedSoFar start (W.clock old) p b → OnOk result (IsSyncedSoFar start (W.clock new) q c)
+-- each mailbox that the player counts stays the server's, where the player knows the connection
+abbrev pub SyncsOn : {Self : Type 0} → Ghosts Self → Self → Self → Session → Player → Player → Meaning → Meaning → Result Session PlayFault → Type 0
+SyncsOn W old new session p q b c result =
+    W.tells_server → (made start : Clock) → Grows start (W.clock old) → IsKept mail Kept (W.clock old).now
+    → KnownAt made (W.clock old) (permits_in session) (held_in session) p b
+    → AllFair mail played (W.clock old) (W.clock new) → IsSyncedSoFar start (W.clock old) (held_in session) p b
+    → IfOk result (λ next. IsSyncedSoFar start (W.clock new) (held_in next) q c)
 
 -- The same of a whole run, which makes at most one connection, and none behind its first question. Whatever the link gives, it sends at
 -- most one command of each action.

@@ -7,6 +7,7 @@ use Rattle.imap_model.specs.declared.mark.Mark.{Mark}
 use Rattle.imap_model.specs.declared.replies.Replies.{Replies}
 use Rattle.imap_model.specs.declared.response.Response.{Response}
 use Rattle.imap_model.specs.declared.server.Server.{Server}
+use Rattle.imap_session.specs.Dialogue.{next_tag}
 use Rattle.imap_session.specs.Enquiring.{Enquiring}
 use Rattle.imap_session.specs.Knowing.{Tells}
 use Rattle.imap_session.specs.Permanent.{permitted}
@@ -18,10 +19,13 @@ use Rattle.mailbox_cache.specs.declared.delta.Delta.{Delta}
 use Rattle.play_driver.specs.Joining.{AllFair, AnyTwo, Grows, IsKept}
 use Rattle.play_driver.specs.Played.{played}
 use Rattle.play_driver.specs.Questioning.{Questioning}
-use Rattle.play_driver.specs.Resynchronising.{Resyncs}
+use Rattle.play_driver.specs.Exchanges.{IsAnswered}
+use Rattle.play_driver.specs.Holds.{IsHeldFor, IsHeldReply, Owes}
+use Rattle.play_driver.specs.Resynchronising.{Resyncs, RowsFetched, select_of}
+use Rattle.play_driver.specs.declared.session.Held.{Held}
 use Rattle.play_driver.specs.SentOnce.{MayAsk}
 use Rattle.playback.specs.Allowed.{IsGathered, IsReply, Records}
-use Rattle.playback.specs.Choosing.{begun_with, committed}
+use Rattle.playback.specs.Choosing.{begun_with, committed, reset_of}
 use Rattle.playback.specs.Course.{IsOneOf, Said}
 use Rattle.playback.specs.Kept.{Kept, KeptBook}
 use Rattle.playback.specs.Knows.{IsNeeded, Knows}
@@ -71,12 +75,13 @@ pub record TellsOf (w : World) (made now : Clock) : Type 0 where
 abbrev pub IsPermitted : Option Permits → World → Type 0
 IsPermitted permits w = (name : List ℕ) → name_of w.selected ≡ Some name → WasSelected name (λ r. permits ≡ permitted None r) w.course
 
--- no reply is owed to the player, it knows the connection, and these flags can be changed for good in the mailbox that is selected
-pub record KnownAt (made now : Clock) (permits : Option Permits) (p : Player) (b : Meaning) : Type 0 where
+-- No reply is owed to the player, or the one that is held; it knows the connection; and these flags can be changed for good in the mailbox
+-- that is selected.
+pub record KnownAt (made now : Clock) (permits : Option Permits) (held : Option Held) (p : Player) (b : Meaning) : Type 0 where
   pub world : World
   pub tells : TellsOf world made now
   pub permitted : IsPermitted permits world
-  pub owed : world.owed ≡ None
+  pub owed : Owes held world
   pub knows : Knows p b world
 
 -- this reply is owed to it
@@ -105,20 +110,33 @@ pub record StandsKept (b : Meaning) (k : Clock) : Type 0 where
   pub none_arrives : k.now.outside.talk.arriving ≡ None
 
 -- What the player knows goes on with the run: as it begins behind the login, as a question or a command is asked that it needs, as a
--- mailbox is resynchronised that it needs, and as an event is recorded that it needs. Others are fair all the time.
+-- mailbox is resynchronised that it needs, and as an event is recorded that it needs; and as the reply to a SELECT is held, the cache is
+-- taken away, and the rows are fetched behind that. Others are fair all the time.
 pub record KnownGoesOn : Type 0 where
   pub begins : (alloc : Global) (b : Meaning) (made now : Clock) → StandsKept b made → Linked Enquiring made now → AllFair mail played made now →
-      now.now.outside.waiting ≡ None → now.now.outside.talk.selected ≡ None → (permits : Option Permits) → KnownAt made now permits (begun_with alloc b) b
+      now.now.outside.waiting ≡ None → now.now.outside.talk.selected ≡ None → (permits : Option Permits) → KnownAt made now permits None (begun_with alloc b) b
   pub asks : (p : Player) (b : Meaning) (w : Waiting) (r : Replies) (permits : Option Permits) (made old new : Clock) (c : Option Connection)
-      (feed : Stream) → StandsKept b old → KnownAt made old permits p b → w.selected ≡ old.now.outside.talk.selected → IsNeeded (need_of p b) w p.selected b →
+      (feed : Stream) → StandsKept b old → KnownAt made old permits None p b → w.selected ≡ old.now.outside.talk.selected → IsNeeded (need_of p b) w p.selected b →
       ((name : List ℕ) (since : Option Mark) → w.command ≢ commands.Select name since) → MayAsk mail played b old.now.outside.server w →
       Linked (Asking old.now.outside.talk.told w.tag w.command) old new → AllFair mail played old new → Answered w r old new c feed →
       (is_mutating w.command ≡ false → r.ending ≡ endings.Ok) → HeardAt r made new permits p b
   pub gathers : (p : Player) (b : Meaning) (name : List ℕ) (delta : Delta) (count after : ℕ) (permits then : Option Permits)
-      (made old new : Clock) → StandsKept b old → KnownAt made old permits p b → need_of p b ≡ needs.Select name →
+      (made old new : Clock) → StandsKept b old → KnownAt made old permits None p b → need_of p b ≡ needs.Select name →
       Linked Questioning old new → AllFair mail played old new →
       Resyncs old.now.outside.talk.selected count after name (cache_at name b.boxes) (Ok delta) then old new → GatheredAt delta made new then p b
   pub records : (p : Player) (b : Meaning) (event : Event) (version : Version) (permits : Option Permits) (made old new : Clock) →
-      StandsKept b old → KnownAt made old permits p b →
+      StandsKept b old → KnownAt made old permits None p b →
       Records (need_of p b) event → MayCome version (Some b) event → Takes mail (Some b) event old new →
-      KnownAt made new permits (committed p (after b event)) (after b event)
+      KnownAt made new permits None (committed p (after b event)) (after b event)
+  pub holds : (p : Player) (b : Meaning) (h : Held) (r : Replies) (count : ℕ) (permits : Option Permits) (made old new : Clock) →
+      StandsKept b old → KnownAt made old permits None p b → need_of p b ≡ needs.Select h.chosen.name → AllFair mail played old new →
+      IsAnswered old.now.outside.talk.selected (next_tag count)
+      (record { asked = select_of h.chosen.name (cache_at h.chosen.name b.boxes); replies = r }) old new →
+      IsHeldReply h r → KnownAt made new (permitted None r) (Some h) p b
+  pub resets : (p : Player) (b : Meaning) (h : Held) (event : Event) (version : Version) (permits : Option Permits) (made old new : Clock) →
+      StandsKept b old → KnownAt made old permits (Some h) p b → IsHeldFor h p b →
+      reset_of h.chosen.name (cache_at h.chosen.name b.boxes) h.told ≡ Some event →
+      MayCome version (Some b) event → Takes mail (Some b) event old new → KnownAt made new permits (Some h) p (after b event)
+  pub fetches : (p : Player) (b : Meaning) (h : Held) (delta : Delta) (count after : ℕ) (permits : Option Permits) (made old new : Clock) →
+      StandsKept b old → KnownAt made old permits (Some h) p b → IsHeldFor h p b → cache_at h.chosen.name b.boxes ≡ None →
+      AllFair mail played old new → RowsFetched h old.now.outside.talk.selected count after (Ok delta) old new → GatheredAt delta made new permits p b

@@ -1,5 +1,5 @@
 -- What a resynchronisation makes of a cache, as long as no command that changes a mailbox waits (RFC 7162, section 3.2.5).
-use Rattle.std.specs.Prelude.{◌≡◌, ◌<◌, ◌⊎◌, ℕ, List, Option, Some, None, Ok, Err, ⊤}
+use Rattle.std.specs.Prelude.{◌≡◌, ℕ, List, Option, Some, None, Ok, Err, ⊤}
 use Rattle.imap_model.specs.Changes.{Batch}
 use Rattle.imap_model.specs.Lookups.{box_at, validity_of}
 use Rattle.imap_model.specs.declared.server.Server.{Server}
@@ -18,6 +18,8 @@ use Rattle.play_driver.specs.KnownAt.{StandsKept}
 use Rattle.play_driver.specs.Played.{played}
 use Rattle.imap_session.specs.declared.permits.Permits.{Permits}
 use Rattle.play_driver.specs.Calm.{IsCalm, IsFreshAt}
+use Rattle.playback.specs.Fresh.{IsFreshFor}
+use Rattle.playback.specs.Polite.{KeepsBox}
 
 -- the mailbox of this name has one UIDVALIDITY in both servers
 abbrev pub SameValidity : List ℕ → Server → Server → Type 0
@@ -30,10 +32,18 @@ pub record LeavesValidity (name : List ℕ) (m n : Moment) : Type 0 where
 abbrev pub ValidityStays : List ℕ → Clock → Clock → Type 0
 ValidityStays name old new = Since Any (LeavesValidity name) old new
 
--- what is kept of a mailbox, if anything is, is fresh
+-- the same of the mailbox that is selected then
+pub record LeavesSelected (m n : Moment) : Type 0 where
+  pub same : Batch m.outside.server.boxes m.outside.server n.outside.server
+      → KeepsBox m.outside.talk.selected m.outside.server.boxes n.outside.server.boxes
+
+abbrev pub SelectedStays : Clock → Clock → Type 0
+SelectedStays old new = Since Any LeavesSelected old new
+
+-- what is kept of a mailbox, if anything is, is so while it has the cache's UIDVALIDITY, and it has no lower one
 abbrev pub IsKeptFresh : Server → List ℕ → Option Cache → Type 0
 IsKeptFresh s name None = ⊤
-IsKeptFresh s name (Some cache) = IsFreshAt s name cache
+IsKeptFresh s name (Some cache) = IsFreshFor name cache s.boxes
 
 -- The cache is the server's as it answered for its rows at a moment of this time, and fresh at its end. Where nothing waited or arrived at
 -- first, that is the last such moment.
@@ -42,30 +52,24 @@ pub record IsLevelled (name : List ℕ) (cache : Cache) (old new : Clock) : Type
   pub last : old.now.outside.waiting ≡ None → old.now.outside.talk.arriving ≡ None → IsLastRead name cache old new
   pub fresh : IsFreshAt new.now.outside.server name cache
 
--- So it is with the cache that a delta makes which a resynchronisation told. At first the server is calm, and what is kept of
--- the mailbox is fresh; and others leave its UIDVALIDITY.
+-- So it is with the cache that a delta makes which a resynchronisation told. At first the server is calm, nothing waits or arrives, and what is
+-- kept of the mailbox is so; and others leave the UIDVALIDITY of what is selected.
 abbrev pub LinkLevels : Type 0
 LinkLevels = (name : List ℕ) (kept : Option Cache) (delta : Delta) (selected : Option (List ℕ)) (count after : ℕ)
     (permits : Option Permits) (old new : Clock)
-    → IsCalm old.now.outside → IsKeptFresh old.now.outside.server name kept → ValidityStays name old new
+    → IsCalm old.now.outside → old.now.outside.waiting ≡ None → old.now.outside.talk.arriving ≡ None
+    → IsKeptFresh old.now.outside.server name kept → SelectedStays old new
     → Resyncs selected count after name kept (Ok delta) permits old new → IsLevelled name (learned kept delta) old new
 
 -- Then the replies have no fault: a resynchronisation tells no delta for want of memory alone.
 abbrev pub LinkFaultless : Type 0
 LinkFaultless = (name : List ℕ) (kept : Option Cache) (fault : ResyncFault) (selected : Option (List ℕ)) (count after : ℕ)
     (permits : Option Permits) (old new : Clock)
-    → IsCalm old.now.outside → IsKeptFresh old.now.outside.server name kept → ValidityStays name old new
+    → IsCalm old.now.outside → old.now.outside.waiting ≡ None → old.now.outside.talk.arriving ≡ None
+    → IsKeptFresh old.now.outside.server name kept → SelectedStays old new
     → Resyncs selected count after name kept (Err fault) permits old new → fault ≡ resyncs.Memory
 
--- the mailbox was made anew since it was last resynchronised, and the fault says so: by the UIDVALIDITY of the cache, and by its own,
--- which is higher
-abbrev pub IsOutdated : Server → List ℕ → Option Cache → ResyncFault → Type 0
-IsOutdated s name None fault = ⊥
-IsOutdated s name (Some cache) fault = (cache.validity < validity_of (box_at name s.boxes))
-    × (fault ≡ resyncs.Validity cache.validity (validity_of (box_at name s.boxes)))
-
--- The same beside a book: at first a stop leaves this book, which is kept, and nothing waits; and others are fair. Each cache is fresh
--- then, or its mailbox was made anew: of that a resynchronisation tells no delta.
+-- The same beside a book: at first a stop leaves this book, which is kept, and nothing waits; and others are fair.
 abbrev pub ResyncsLevel : Type 0
 ResyncsLevel = (b : Meaning) (name : List ℕ) (kept : Option Cache) (delta : Delta) (selected : Option (List ℕ)) (count after : ℕ)
     (permits : Option Permits) (old new : Clock) → cache_at name b.boxes ≡ kept → StandsKept b old → AllFair mail played old new
@@ -74,5 +78,4 @@ ResyncsLevel = (b : Meaning) (name : List ℕ) (kept : Option Cache) (delta : De
 abbrev pub ResyncsFaultless : Type 0
 ResyncsFaultless = (b : Meaning) (name : List ℕ) (kept : Option Cache) (fault : ResyncFault) (selected : Option (List ℕ)) (count after : ℕ)
     (permits : Option Permits) (old new : Clock) → cache_at name b.boxes ≡ kept → StandsKept b old → AllFair mail played old new
-    → Resyncs selected count after name kept (Err fault) permits old new
-    → (fault ≡ resyncs.Memory) ⊎ IsOutdated old.now.outside.server name kept fault
+    → Resyncs selected count after name kept (Err fault) permits old new → fault ≡ resyncs.Memory

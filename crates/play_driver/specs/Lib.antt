@@ -7,6 +7,8 @@ pub mod Laws
 pub mod SendsOnce
 pub mod SentOnce
 pub mod Sessions
+pub mod Holds
+pub mod Renewing
 pub mod Exchanges
 pub mod Resynchronising
 pub mod Synced
@@ -25,7 +27,6 @@ pub mod Granting
 pub mod Grounds
 pub mod Serving
 pub mod MayServe
-pub mod Renewed
 pub mod Counted
 pub mod Settled
 pub mod Played
@@ -38,4 +39,5 @@ pub mod Surely
 pub mod Rests
 pub mod TakesTurn
 pub mod Gathering
+pub mod Fetching
 pub mod Enters

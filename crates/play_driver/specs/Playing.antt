@@ -18,7 +18,7 @@ use Rattle.play_driver.specs.Entering.{HasEntered, NotEntered}
 use Rattle.play_driver.specs.Faults.{of_session}
 use Rattle.play_driver.specs.Running.{IsShort, RunsTo, first_standing}
 use Rattle.play_driver.specs.Stages.{Stage}
-use Rattle.play_driver.specs.Turning.{Standing, TurnFails, need_at}
+use Rattle.play_driver.specs.Turning.{Standing, TurnFails}
 use Rattle.play_driver.specs.declared.fault.PlayFault.{PlayFault}
 use Rattle.play_driver.specs.declared.fault.PlayFault.TheVariants as faults
 
@@ -42,7 +42,7 @@ pub record CameTo (entered : Stage) (s : Holding mail) (p : Standing) : Type 0 w
   pub selects : ℕ
   pub learns : ℕ
   pub runs : RunsTo (first_standing alloc entered s) p selects learns
-  pub short : IsShort s.book selects learns (need_at p)
+  pub short : IsShort s.book selects learns p
 
 -- The run entered, and took its turns until each action was settled and each mailbox resynchronised since; so one store became the other;
 -- and the run left.

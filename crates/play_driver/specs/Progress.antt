@@ -27,7 +27,7 @@ has_name name (n ∷ names) = cond (bytes_eq n name) true (has_name name names)
 abbrev pub actions_of : Meaning → List Action
 actions_of b = map (λ (q : Queued). q.action) b.queue
 
--- what playback records: an intent, an outcome, or what was told of a mailbox
+-- what playback records: an intent, an outcome, what was told of a mailbox, or that a mailbox's cache is taken away
 abbrev pub IsPlayEvent : Event → Type 0
 IsPlayEvent (events.Begin names) = ⊥
 IsPlayEvent (events.Accept id action) = ⊥
@@ -35,7 +35,7 @@ IsPlayEvent (events.Intend id intent) = Unit {0}
 IsPlayEvent (events.Settle id outcome) = Unit {0}
 IsPlayEvent (events.Learn name delta) = Unit {0}
 IsPlayEvent (events.Old id action outcome) = ⊥
-IsPlayEvent (events.Reset name kept told) = ⊥
+IsPlayEvent (events.Reset name kept told) = Unit {0}
 IsPlayEvent (events.Withdraw id tries) = ⊥
 
 -- One book is the other, further on: it has the same mailboxes and the same actions, and each outcome that was there stands.

@@ -13,7 +13,7 @@ use Rattle.play_driver.specs.Joining.{AllFair, IsKept}
 use Rattle.play_driver.specs.KnownAt.{KnownAt}
 use Rattle.play_driver.specs.Played.{played}
 use Rattle.play_driver.specs.Progress.{IsPlayEvent}
-use Rattle.play_driver.specs.Sessions.{permits_in}
+use Rattle.play_driver.specs.Sessions.{held_in, permits_in}
 use Rattle.play_driver.specs.TrueRecords.{IsTrueBefore, IsTrueSince, RecordsTruly, StopsTruly}
 use Rattle.play_driver.specs.declared.fault.PlayFault.{PlayFault}
 use Rattle.play_driver.specs.declared.fault.PlayFault.TheVariants as faults
@@ -24,12 +24,12 @@ use Rattle.play_driver.specs.declared.session.Session.{Session}
 pub record Reasons {Self : Type 0} (W : Ghosts Self) (others : Type 0) (old new : Self) (session : Session) (p : Player) (b c : Meaning)
     (result : Result Session PlayFault) : Type 0 where
   pub truly : W.tells_server → (made : Clock) (entry : Meaning) → IsKept mail Kept (W.clock old).now
-      → KnownAt made (W.clock old) (permits_in session) p b → others → IsEntered entry p b
+      → KnownAt made (W.clock old) (permits_in session) (held_in session) p b → others → IsEntered entry p b
       → IsTrueSince entry made (W.clock old) b → (IsErrOf result faults.Disk → ⊥) → IsTrueSince entry made (W.clock new) c
   pub stopped : W.tells_files → IsErrOf result faults.Disk → (event : Event) × IsPlayEvent event
       × IsTaking mail (Some c) event (W.clock new).now
       × (W.tells_server → (made : Clock) (entry : Meaning) → IsKept mail Kept (W.clock old).now
-      → KnownAt made (W.clock old) (permits_in session) p b → others → IsEntered entry p b
+      → KnownAt made (W.clock old) (permits_in session) (held_in session) p b → others → IsEntered entry p b
       → IsTrueSince entry made (W.clock old) b → IsTrueBefore event entry c made (W.clock new))
 
 -- So it is of a run, where others are fair.

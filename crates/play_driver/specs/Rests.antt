@@ -1,5 +1,5 @@
 -- How a run stands between two turns.
-use Rattle.std.specs.Prelude.{◌≡◌, false, Result, IsErrOf}
+use Rattle.std.specs.Prelude.{◌≡◌, false, None, Result, IsErrOf}
 use Rattle.action_queue.specs.Book.{Meaning}
 use Rattle.imap_session.specs.Session.{Follows, Stands}
 use Rattle.playback.specs.Needs.{IsBeside}
@@ -11,17 +11,20 @@ use Rattle.store_core.specs.Mail.{mail}
 use Rattle.world_traits.specs.Files.{Files}
 use Rattle.world_traits.specs.declared.clocked.Clocked.{Ghosts}
 use Rattle.play_driver.specs.Progress.{IsLater}
-use Rattle.play_driver.specs.Sessions.{feed_of, selected_in}
+use Rattle.play_driver.specs.Holds.{HeldFits}
+use Rattle.play_driver.specs.Sessions.{feed_of, held_in, selected_in}
 use Rattle.play_driver.specs.declared.fault.PlayFault.{PlayFault}
 use Rattle.play_driver.specs.declared.fault.PlayFault.TheVariants as faults
 use Rattle.play_driver.specs.declared.session.Session.{Session}
 
--- The player is beside its book, what it has selected is selected in the session, and the connection is as the session has it.
+-- The player is beside its book, what it has selected is selected in the session, unless a reply is held, and the connection is as the session
+-- has it.
 pub record Rests {Self : Type 0} (W : Ghosts Self) (at : Self) (player : Player) (book : Meaning) (session : Session) : Type 0 where
   pub beside : IsBeside player book
-  pub selected : name_of player.selected ≡ selected_in session
+  pub selected : held_in session ≡ None → name_of player.selected ≡ selected_in session
   pub stands : W.tells_server → Stands (selected_in session) (W.clock at) (W.link at).connection (feed_of session)
   pub still : W.tells_files → Follows (W.link at).connection (feed_of session)
+  pub held : HeldFits (held_in session) player book
 
 -- The store has this book, or one further on. Where the disk didn't fail it is as it was left.
 pub record Stored {Self T : Type 0} (W : Ghosts Self) (at : Self) (seen : Files) (b : Meaning) (store : Holding mail) (result : Result T PlayFault)

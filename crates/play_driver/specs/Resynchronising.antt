@@ -21,6 +21,9 @@ use Rattle.imap_session.specs.Dialogue.Dialogue.{Asks}
 use Rattle.imap_session.specs.Permanent.{permitted}
 use Rattle.imap_session.specs.declared.permits.Permits.{Permits}
 use Rattle.play_driver.specs.Exchanges.{Exchange, AnsweredAll, CameAll}
+use Rattle.play_driver.specs.Holds.{IsHeldReply}
+use Rattle.play_driver.specs.Renewing.{renewed_to}
+use Rattle.play_driver.specs.declared.session.Held.{Held}
 
 -- what a server told of a mailbox: its reply to SELECT, and that to the FETCH of all rows, where it was asked for them
 pub record Gathered : Type 0 where
@@ -69,6 +72,7 @@ pub record Resyncs (selected : Option (List ℕ)) (count after : ℕ) (name : Li
   pub asked : after ≡ count + length (exchanged name kept gathered)
   pub answered : AnsweredAll (exchanged name kept gathered) selected count old new
   pub makes : MakesDelta kept gathered delta
+  pub current : renewed_to kept gathered.selected ≡ None
 
 -- It is that of replies that came, which are all that came behind what had been received and heard.
 pub record DeltaCame (count after : ℕ) (name : List ℕ) (kept : Option Cache) (delta : Result Delta ResyncFault) (permits : Option Permits)
@@ -78,8 +82,25 @@ pub record DeltaCame (count after : ℕ) (name : List ℕ) (kept : Option Cache)
   pub asked : after ≡ count + length (exchanged name kept gathered)
   pub came : CameAll (exchanged name kept gathered) count sent had heard link feed
   pub makes : MakesDelta kept gathered delta
+  pub current : renewed_to kept gathered.selected ≡ None
 
 -- The delta goes on from the cache, and its flags can be recorded.
 pub record IsLearnable (kept : Option Cache) (delta : Delta) : Type 0 where
   pub fits : Fits kept delta
   pub few : HaveFewFlags delta.rows
+
+-- Behind a reply to SELECT that is held, the rows of all messages are asked for, unless it told that there are none; what is asked for is of
+-- no cache. The delta is that of replies that the server gave at one moment each: of this one, and of that to the FETCH.
+pub record RowsFetched (h : Held) (selected : Option (List ℕ)) (count after : ℕ) (delta : Result Delta ResyncFault) (old new : Clock) : Type 0 where
+  pub all : Option Replies
+  pub asked : after ≡ count + length (then_all all)
+  pub answered : AnsweredAll (then_all all) selected count old new
+  pub makes : (r : Replies) → IsHeldReply h r → MakesDelta None (record { selected = r; all = all }) delta
+
+-- It is that of replies that came, which are all that came behind what had been received and heard.
+pub record RowsCame (h : Held) (count after : ℕ) (delta : Result Delta ResyncFault) (sent had : List ℕ) (heard : List Response) (link : LinkState)
+    (feed : Stream) : Type 0 where
+  pub all : Option Replies
+  pub asked : after ≡ count + length (then_all all)
+  pub came : CameAll (then_all all) count sent had heard link feed
+  pub makes : (r : Replies) → IsHeldReply h r → MakesDelta None (record { selected = r; all = all }) delta

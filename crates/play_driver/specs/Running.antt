@@ -1,9 +1,10 @@
 -- A run's turns, one behind the other, and how many mailboxes it selects (this client's profile of RFC 4549, section 4.2).
 use Rattle.std.specs.Prelude.{◌≡◌, ◌≤◌, ◌<◌, ℕ, ◌+◌, ◌*◌, Option, Some, None, length}
 use Rattle.std.specs.declared.alloc.Global.{Global}
-use Rattle.action_queue.specs.Book.{Meaning}
+use Rattle.action_queue.specs.Book.{Meaning, cache_at}
 use Rattle.action_queue.specs.declared.event.Event.{Event}
 use Rattle.action_queue.specs.declared.event.Event.TheVariants as events
+use Rattle.mailbox_cache.specs.declared.cache.Cache.{Cache}
 use Rattle.playback.specs.Choosing.{begun_with}
 use Rattle.playback.specs.Left.{left, unsettled}
 use Rattle.playback.specs.declared.finding.Resynced.{Resynced}
@@ -15,6 +16,7 @@ use Rattle.store_core.specs.Mail.{mail}
 use Rattle.play_driver.specs.Stages.{Stage}
 use Rattle.play_driver.specs.Turning.{Standing, TurnFails, Turns, need_at}
 use Rattle.play_driver.specs.declared.fault.PlayFault.{PlayFault}
+use Rattle.play_driver.specs.declared.session.Held.{Held}
 use Rattle.play_driver.specs.declared.fault.PlayFault.TheVariants as faults
 use Rattle.world_traits.specs.LinkState.{LinkState}
 
@@ -26,6 +28,14 @@ selects_for (needs.Commit event) = 0
 selects_for (needs.Settle n outcome) = 0
 selects_for (needs.Send n command) = 0
 selects_for needs.Finished = 0
+
+-- with a turn: none where the reply to a SELECT is held
+abbrev pub selects_by : Option Held → Need → ℕ
+selects_by None need = selects_for need
+selects_by (Some h) need = 0
+
+abbrev pub selects_at : Standing → ℕ
+selects_at p = selects_by p.held (need_at p)
 
 -- how many deltas of mailboxes are recorded with an event
 abbrev pub learns_by : Event → ℕ
@@ -47,12 +57,25 @@ learns_for (needs.Settle n outcome) = 0
 learns_for (needs.Send n command) = 0
 learns_for needs.Finished = 0
 
+-- How many turns are left at most: three for each reply and record that is left, of which two are behind a SELECT whose reply is held while its
+-- cache is there, and one where it isn't.
+abbrev pub resets_left : Option Cache → ℕ
+resets_left None = 0
+resets_left (Some cache) = 1
+
+abbrev pub turns_left : Option Held → Player → Meaning → ℕ
+turns_left None p b = 3 * left p b + 2
+turns_left (Some h) p b = 3 * left p b + resets_left (cache_at h.chosen.name b.boxes)
+
+abbrev pub turns_left_at : Standing → ℕ
+turns_left_at p = turns_left p.held p.player p.store.book
+
 -- The turns from one standing to another, in which so many mailboxes were selected and so many deltas recorded. What is left falls with
 -- each of them.
 pub data RunsTo (p : Standing) : Standing → ℕ → ℕ → Type 0 where
   rests : RunsTo p p 0 0
   turns : (q r : Standing) (selects learns : ℕ) → RunsTo p q selects learns → Turns q r →
-      left r.player r.store.book < left q.player q.store.book → RunsTo p r (selects + selects_for (need_at q)) (learns + learns_for (need_at q))
+      turns_left_at r < turns_left_at q → RunsTo p r (selects + selects_at q) (learns + learns_for (need_at q))
 
 -- the standing in which a run's turns begin: it has entered, and nothing is selected
 abbrev pub first_standing : Global → Stage → Holding mail → Standing
@@ -60,34 +83,40 @@ first_standing alloc stage store = record {
   stage = stage;
   selected = None;
   permits = None;
+  held = None;
   store = store;
   player = begun_with alloc store.book;
 }
 
 -- With what is needed next, a run selects at most as many mailboxes as there are unsettled actions and mailboxes in the book with which it
 -- began, and records at most one delta for each.
-pub record IsShort (b : Meaning) (selects learns : ℕ) (need : Need) : Type 0 where
-  pub few : selects + selects_for need ≤ unsettled b.queue + length b.boxes
-  pub once : learns + learns_for need ≤ selects
+pub record IsShort (b : Meaning) (selects learns : ℕ) (p : Standing) : Type 0 where
+  pub few : selects + selects_at p ≤ unsettled b.queue + length b.boxes
+  pub once : learns + learns_for (need_at p) ≤ selects
 
 -- a delta is still to be recorded
 abbrev pub pending_in : Option Resynced → ℕ
 pending_in None = 0
 pending_in (Some told) = 1
 
+-- a delta is still to be told by a reply that is held
+abbrev pub held_of : Option Held → ℕ
+held_of None = 0
+held_of (Some h) = 1
+
 -- So it stays from turn to turn, where at first there were so many actions and mailboxes: with each SELECT eight less are left of the
--- replies and records that a run may have.
-pub record StaysShort (most selects learns : ℕ) (p : Player) (b : Meaning) : Type 0 where
-  pub room : 8 * selects + left p b ≤ 8 * most + 14
+-- replies and records that a run may have, of which those behind a reply that is held aren't taken yet.
+pub record StaysShort (most selects learns : ℕ) (held : Option Held) (p : Player) (b : Meaning) : Type 0 where
+  pub room : 8 * selects + left p b ≤ 8 * most + 14 + 8 * held_of held
   pub few : selects ≤ most
-  pub once : learns + pending_in p.learns ≤ selects
+  pub once : learns + pending_in p.learns + held_of held ≤ selects
 
 -- The turns from one standing to another, and how few they are.
 pub record RunsBetween (p q : Standing) : Type 0 where
   pub selects : ℕ
   pub learns : ℕ
   pub runs : RunsTo p q selects learns
-  pub short : (most : ℕ) → StaysShort most 0 0 p.player p.store.book → StaysShort most selects learns q.player q.store.book
+  pub short : (most : ℕ) → StaysShort most 0 0 p.held p.player p.store.book → StaysShort most selects learns q.held q.player q.store.book
 
 -- Behind some turns one failed. The store is the one that they made; where the disk failed it has that one's book.
 pub record StopsBehind (p : Standing) (store : Holding mail) (link : LinkState) (fault : PlayFault) : Type 0 where

@@ -9,15 +9,16 @@ use Rattle.action_queue.specs.declared.event.Event.{Event}
 use Rattle.action_queue.specs.declared.queued.Queued.{Queued}
 use Rattle.imap_model.specs.Mutating.{is_mutating}
 use Rattle.imap_model.specs.declared.command.Command.{Command}
+use Rattle.imap_model.specs.declared.command.Command.TheVariants as commands
 use Rattle.imap_model.specs.declared.replies.Replies.{Replies}
 use Rattle.imap_model.specs.declared.response.Response.{Response}
 use Rattle.imap_model.specs.CommandText.{parts_of}
 use Rattle.imap_session.specs.Causes.{FailsBehind}
 use Rattle.imap_session.specs.Counting.{count_after}
 use Rattle.imap_session.specs.Dialogue.{next_tag}
-use Rattle.imap_session.specs.Dialogue.Dialogue.{Ends}
+use Rattle.imap_session.specs.Dialogue.Dialogue.{Asks, Ends}
 use Rattle.imap_session.specs.Hearing.{Hears}
-use Rattle.imap_session.specs.Permanent.{keeps}
+use Rattle.imap_session.specs.Permanent.{keeps, permitted}
 use Rattle.imap_session.specs.Replying.{Came}
 use Rattle.imap_session.specs.Sent.{SentFront, joined}
 use Rattle.imap_session.specs.declared.fault.SessionFault.{SessionFault}
@@ -26,9 +27,10 @@ use Rattle.mail_base.specs.declared.tag.Tag.{Tag}
 use Rattle.mail_base.specs.declared.tag.Tag.TheVariants as tags
 use Rattle.mailbox_cache.specs.declared.delta.Delta.{Delta}
 use Rattle.playback.specs.Allowed.{Records, WhyNotChosen}
-use Rattle.playback.specs.Choosing.{IsChosen, IsChosenFault, committed}
+use Rattle.playback.specs.Choosing.{IsChosen, IsChosenFault, committed, reset_of}
 use Rattle.playback.specs.Needs.{NeedsNoMemory, need_of}
 use Rattle.playback.specs.Replying.{IsHeard, IsHeardFault}
+use Rattle.playback.specs.Why.{TellsValidity}
 use Rattle.playback.specs.declared.need.Need.{Need}
 use Rattle.playback.specs.declared.need.Need.TheVariants as needs
 use Rattle.playback.specs.declared.need.Unheard.{Unheard}
@@ -39,18 +41,22 @@ use Rattle.store_core.specs.Mail.{mail}
 use Rattle.world_traits.specs.LinkState.{LinkState}
 use Rattle.play_driver.specs.Faults.{of_session, of_unheard}
 use Rattle.play_driver.specs.Recording.{NotRecorded, recorded}
-use Rattle.play_driver.specs.Resynchronising.{resync}
-use Rattle.play_driver.specs.Sessions.{permits_in, selected_in}
+use Rattle.play_driver.specs.Holds.{IsHeldReply}
+use Rattle.play_driver.specs.Resynchronising.{RowsCame, resync, select_of}
+use Rattle.play_driver.specs.Sessions.{held_in, permits_in, selected_in}
 use Rattle.play_driver.specs.Stages.{Broke, DeltaCameOf, DeltaCameTo, Stage, stage_of}
 use Rattle.play_driver.specs.declared.fault.PlayFault.{PlayFault}
 use Rattle.play_driver.specs.declared.fault.PlayFault.TheVariants as faults
+use Rattle.play_driver.specs.declared.session.Held.{Held}
 use Rattle.play_driver.specs.declared.session.Session.{Session}
 
--- How far a run is: its session, with what is selected and the flags that can be changed for good there; its store; and its player.
+-- How far a run is: its session, with what is selected and the flags that can be changed for good there, and the reply to SELECT that is held,
+-- if one is; its store; and its player.
 pub record Standing : Type 0 where
   pub stage : Stage
   pub selected : Option (List ℕ)
   pub permits : Option Permits
+  pub held : Option Held
   pub store : Holding mail
   pub player : Player
 
@@ -59,6 +65,7 @@ standing_of link session store player = record {
   stage = stage_of link session;
   selected = selected_in session;
   permits = permits_in session;
+  held = held_in session;
   store = store;
   player = player;
 }
@@ -107,31 +114,58 @@ abbrev pub permits_due : Option Permits → Option Queued → Bool
 permits_due permits None = true
 permits_due permits (Some q) = permits_action permits q.action
 
+-- the event that takes away the cache of the mailbox whose SELECT's reply is held
+abbrev pub reset_at : Held → Standing → Option Event
+reset_at h p = reset_of h.chosen.name (cache_at h.chosen.name p.store.book.boxes) h.told
+
+-- from one stage to another the rows of a mailbox were asked for behind a reply to SELECT that is held, and this came of it
+pub record RowsCameOf (h : Held) (delta : Result Delta ResyncFault) (p q : Stage) : Type 0 where
+  pub heard : List Response
+  pub hears : Hears heard p.link.connection p.feed
+  pub came : RowsCame h p.count q.count delta p.link.sent hears.connection.received heard q.link q.feed
+
 -- A turn: the event that is needed is recorded; or the mailbox that is needed is resynchronised, and its delta is taken; or the question
--- or the command that is needed is asked, and its reply is taken.
+-- or the command that is needed is asked, and its reply is taken. Where the SELECT that is needed told a UIDVALIDITY above that of the cache, its
+-- reply is held; then the cache is taken away; and then the rows are asked for, and the delta is taken.
 pub data Turns (p q : Standing) : Type 0 where
-  records : (event : Event) → Records (need_at p) event →
+  records : (event : Event) → p.held ≡ None → Records (need_at p) event →
       q ≡ record p { store = recorded p.store event; player = committed p.player (after p.store.book event) } → Turns p q
-  selects : (name : List ℕ) (delta : Delta) → need_at p ≡ needs.Select name →
+  selects : (name : List ℕ) (delta : Delta) → p.held ≡ None → need_at p ≡ needs.Select name →
       DeltaCameOf name (cache_at name p.store.book.boxes) (Ok delta) q.permits p.stage q.stage →
-      IsChosen p.player p.store.book (Ok delta) q.player → q.selected ≡ Some name → q.store ≡ p.store → Turns p q
-  asks : (tag : Tag) (command : Command) (r : Replies) → IsAskedFor (need_at p) p.stage.count tag command →
+      IsChosen p.player p.store.book (Ok delta) q.player → q.selected ≡ Some name → q.held ≡ None → q.store ≡ p.store → Turns p q
+  holds : (h : Held) (r : Replies) (event : Event) → p.held ≡ None → need_at p ≡ needs.Select h.chosen.name →
+      AskedBetween (next_tag p.stage.count) (select_of h.chosen.name (cache_at h.chosen.name p.store.book.boxes)) r p.stage q.stage →
+      IsHeldReply h r → TellsValidity h.told r → reset_at h p ≡ Some event → q.permits ≡ permitted None r → q.selected ≡ Some h.chosen.name → q.held ≡ Some h →
+      q.store ≡ p.store → q.player ≡ p.player → Turns p q
+  resets : (h : Held) (event : Event) → p.held ≡ Some h → need_at p ≡ needs.Select h.chosen.name → reset_at h p ≡ Some event → q ≡ record p { store = recorded p.store event } → Turns p q
+  fetches : (h : Held) (delta : Delta) → p.held ≡ Some h → need_at p ≡ needs.Select h.chosen.name → cache_at h.chosen.name p.store.book.boxes ≡ None →
+      RowsCameOf h (Ok delta) p.stage q.stage → IsChosen p.player p.store.book (Ok delta) q.player →
+      q.selected ≡ p.selected → q.permits ≡ p.permits → q.held ≡ None → q.store ≡ p.store → Turns p q
+  asks : (tag : Tag) (command : Command) (r : Replies) → p.held ≡ None → IsAskedFor (need_at p) p.stage.count tag command →
       AskedBetween tag command r p.stage q.stage →
       IsHeard p.player p.store.book (permits_due p.permits (due_action p.store.book.queue)) r q.player →
-      q.selected ≡ p.selected → q.permits ≡ p.permits → q.store ≡ p.store → Turns p q
+      q.selected ≡ p.selected → q.permits ≡ p.permits → q.held ≡ None → q.store ≡ p.store → Turns p q
 
 -- Why a turn fails, on the bytes received; and what was sent. Memory is wanting to say what is needed; or the event isn't recorded; or the
 -- mailbox's questions aren't answered, or what they tell isn't taken; or the question or the command isn't answered, or its reply isn't
--- taken.
+-- taken. The same of a reply that is held.
 pub data TurnFails (p : Standing) (link : LinkState) (fault : PlayFault) : Type 0 where
   wanting : (NeedsNoMemory (need_at p) → ⊥) → link ≡ p.stage.link → fault ≡ faults.Memory → TurnFails p link fault
   not_recorded : (event : Event) → Records (need_at p) event → link ≡ p.stage.link → NotRecorded event p.store fault → TurnFails p link fault
-  not_told : (name : List ℕ) (f : SessionFault) → need_at p ≡ needs.Select name → fault ≡ of_session f →
+  not_told : (name : List ℕ) (f : SessionFault) → p.held ≡ None → need_at p ≡ needs.Select name → fault ≡ of_session f →
       Broke (resync name (cache_at name p.store.book.boxes) (Ends true)) p.stage link f → TurnFails p link fault
-  not_chosen : (name : List ℕ) (told : Result Delta ResyncFault) (permits : Option Permits) (unheard : Unheard) →
+  not_chosen : (name : List ℕ) (told : Result Delta ResyncFault) (permits : Option Permits) (unheard : Unheard) → p.held ≡ None →
       need_at p ≡ needs.Select name → DeltaCameTo name (cache_at name p.store.book.boxes) told permits p.stage link →
       IsChosenFault p.player p.store.book told unheard → WhyNotChosen unheard told p.player p.store.book →
       fault ≡ of_unheard name unheard → TurnFails p link fault
+  not_reset : (h : Held) (event : Event) → p.held ≡ Some h → need_at p ≡ needs.Select h.chosen.name → reset_at h p ≡ Some event → link ≡ p.stage.link → NotRecorded event p.store fault →
+      TurnFails p link fault
+  not_fetched : (h : Held) (f : SessionFault) → p.held ≡ Some h → need_at p ≡ needs.Select h.chosen.name → fault ≡ of_session f → Broke (Asks commands.FetchAll (λ all. Ends true)) p.stage link f →
+      TurnFails p link fault
+  not_taken : (h : Held) (told : Result Delta ResyncFault) (q : Stage) (unheard : Unheard) → p.held ≡ Some h →
+      need_at p ≡ needs.Select h.chosen.name → RowsCameOf h told p.stage q →
+      q.link ≡ link → IsChosenFault p.player p.store.book told unheard → WhyNotChosen unheard told p.player p.store.book →
+      fault ≡ of_unheard h.chosen.name unheard → TurnFails p link fault
   not_answered : (tag : Tag) (command : Command) (f : SessionFault) → IsAskedFor (need_at p) p.stage.count tag command →
       fault ≡ of_session f → NotAnswered tag command p.stage link f → TurnFails p link fault
   not_heard : (tag : Tag) (command : Command) (r : Replies) (q : Stage) (unheard : Unheard) (name : List ℕ) →

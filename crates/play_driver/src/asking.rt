@@ -1,6 +1,6 @@
 //! A question, or the command of an action, is asked, and the player takes its reply.
 
-ghost use Rattle.std.specs.Prelude.{is_some, true, ◌≡◌, ◌<◌, ◌+◌, Some, IfOk};
+ghost use Rattle.std.specs.Prelude.{is_some, true, ◌≡◌, ◌<◌, ◌+◌, None, Some, IfOk};
 ghost use Rattle.action_queue.specs.Queues.{due_action};
 ghost use Rattle.playback.specs.Left.{left};
 ghost use Rattle.playback.specs.Needs.{need_of};
@@ -14,7 +14,7 @@ ghost use Rattle.play_driver.specs.Rests.{Rests};
 ghost use Rattle.store_core.specs.Holding.{IsAsLeft};
 ghost use Rattle.play_driver.specs.GoesOn.{GoesOn, SyncsOn};
 ghost use Rattle.play_driver.specs.Reasons.{Reasons};
-ghost use Rattle.play_driver.specs.Sessions.{count_of, selected_in};
+ghost use Rattle.play_driver.specs.Sessions.{count_of, held_in, selected_in};
 ghost use Rattle.play_driver.specs.TakesTurn.{Excuses, TakesTurn};
 
 use crate::fault::unheard_of;
@@ -42,6 +42,7 @@ pub(crate) fn ask<W: World>(
 ) -> Result<Session, PlayFault>
     requires needed { IsAskedFor (need_of player.old store.now.book) (count_of session)
         tag command.now }
+    requires resting { held_in session ≡ None }
     requires fold { IsFold store.now.book }
     requires rests { Rests W.Clocked world.old player.old store.now.book session }
     requires room { count_of session + 2 < 4294967295 }
@@ -49,7 +50,7 @@ pub(crate) fn ask<W: World>(
         → IsAsLeft mail store.now (W.clock world.old).now (W.seen world.old) }
     ensures goes_on { GoesOn W.Clocked world.old world.new session player.old player.new
         store.now.book store.now.book result }
-    ensures synced { SyncsOn W.Clocked world.old world.new player.old player.new
+    ensures synced { SyncsOn W.Clocked world.old world.new session player.old player.new
         store.now.book store.now.book result }
     ensures reasons { Reasons W.Clocked (Unit {0}) world.old world.new session player.old
         store.now.book store.now.book result }
@@ -75,12 +76,14 @@ pub(crate) fn ask<W: World>(
 
 // The session in which a mailbox is selected.
 fn chosen_in(session: Session) -> Chosen
-    requires { is_some (selected_in session) ≡ true }
+    requires resting { held_in session ≡ None }
+    requires there { is_some (selected_in session) ≡ true }
     ensures { session ≡ sessions.Chosen result }
 {
     match session {
         Session::Ready(_) => unreachable!(),
         Session::Chosen(chosen) => chosen,
+        Session::Held(_) => unreachable!(),
     }
 }
 

@@ -2,6 +2,8 @@
 
 ghost use Rattle.std.specs.Prelude.{◌≡◌};
 ghost use Rattle.play_driver.specs.Faults.{of_resync, of_unheard};
+ghost use Rattle.play_driver.specs.declared.fault.PlayFault.TheVariants as faults;
+ghost use Rattle.play_driver.specs.declared.fault.Why.TheVariants as whys;
 
 use imap_model::{Item, Limit};
 use imap_session::SessionFault;
@@ -21,40 +23,34 @@ pub enum PlayFault {
     /// The link failed.
     Link,
     /// The server said BYE, or NO or BAD to a question: its line.
-    Refused {
-        line: Bytes,
-    },
+    Refused { line: Bytes },
     /// What came is no reply, or lacks what the server owes.
-    BadReply {
-        why: Why,
-    },
+    BadReply { why: Why },
     /// The server lacks a thing that this client needs.
-    Lacking {
-        what: Item,
-    },
-    /// The mailbox of this name has another UIDVALIDITY than its cache, or than an action's message or intent (RFC 9051,
-    /// section 2.3.1.1).
-    Validity {
-        name: BoxName,
-        kept: Validity,
-        told: Validity,
-    },
+    Lacking { what: Item },
     /// A limit is passed by this number.
-    Limit {
-        which: Limit,
-        number: u64,
-    },
+    Limit { which: Limit, number: u64 },
 }
 
 /// What is wrong with a reply.
-#[derive(Clone, Copy, Debug, PartialEq, Eq)]
+#[derive(Debug, Drop)]
 pub enum Why {
     /// The bytes that came in the connection don't go on as a reply at this place, counted from 0.
     At(u64),
     /// The reply lacks this.
     Lacks(Item),
     /// HIGHESTMODSEQ is below that of the cache (RFC 7162, section 3.1.2.1).
-    Lower { kept: ModSeq, told: ModSeq },
+    Lower {
+        kept: ModSeq,
+        told: ModSeq,
+    },
+    /// The mailbox of this name has a UIDVALIDITY below that of its cache, or of an action's message or intent (RFC 9051, section
+    /// 2.3.1.1).
+    Older {
+        name: BoxName,
+        kept: Validity,
+        told: Validity,
+    },
 }
 
 impl From<AllocError> for PlayFault {
@@ -96,11 +92,7 @@ pub(crate) fn unheard_of(name: &BoxName, unheard: Unheard) -> PlayFault
     match unheard {
         Unheard::Memory => PlayFault::Memory,
         Unheard::Resync(fault) => resync_of(name, fault),
-        Unheard::Target { kept, told } => PlayFault::Validity {
-            name: name.copy(),
-            kept,
-            told,
-        },
+        Unheard::Target { kept, told } => older(name, kept, told),
         Unheard::Lacks { item } => PlayFault::BadReply {
             why: Why::Lacks(item),
         },
@@ -124,16 +116,25 @@ fn resync_of(name: &BoxName, fault: ResyncFault) -> PlayFault
         ResyncFault::NoCode { which } => PlayFault::BadReply {
             why: Why::Lacks(which),
         },
-        ResyncFault::Validity { kept, told } => PlayFault::Validity {
-            name: name.copy(),
-            kept,
-            told,
-        },
+        ResyncFault::Validity { kept, told } => older(name, kept, told),
         ResyncFault::Unfit { kept, told } => PlayFault::BadReply {
             why: Why::Lower { kept, told },
         },
         ResyncFault::BareRow { .. } => PlayFault::BadReply {
             why: Why::Lacks(Item::Row),
+        },
+    }
+}
+
+// The mailbox has a lower UIDVALIDITY than this one.
+fn older(name: &BoxName, kept: Validity, told: Validity) -> PlayFault
+    ensures { result ≡ faults.BadReply (whys.Older name.now kept told) }
+{
+    PlayFault::BadReply {
+        why: Why::Older {
+            name: name.copy(),
+            kept,
+            told,
         },
     }
 }

@@ -1,13 +1,13 @@
 //! The replies to a resynchronisation: those to SELECT, and to the FETCH of all rows where nothing was kept of the mailbox
 //! (RFC 7162, section 3.2.5; RFC 9051, sections 6.3.2 and 6.4.5).
 
-ghost use Rattle.std.specs.Prelude.{◌≡◌, ◌<◌, ◌+◌, [], Some, IfOk};
+ghost use Rattle.std.specs.Prelude.{◌≡◌, ◌<◌, ◌+◌, [], None, Some, IfOk};
 ghost use Rattle.std.specs.Option.{option_copied};
 ghost use Rattle.imap_session.specs.Session.{Follows, Stands};
 ghost use Rattle.imap_session.specs.declared.fault.SessionFault.{SessionFault};
 ghost use Rattle.qresync_core.specs.Making.{StandsFor};
 ghost use Rattle.play_driver.specs.Resynchronising.{mark_kept};
-ghost use Rattle.play_driver.specs.Sessions.{selected_in, count_of, feed_of};
+ghost use Rattle.play_driver.specs.Sessions.{selected_in, count_of, feed_of, held_in};
 ghost use Rattle.play_driver.specs.Gathering.{Gathers, HasHeard};
 
 use crate::Session;
@@ -30,6 +30,7 @@ pub(crate) fn gather<L: Link>(
     selected: &mut DeltaMaker,
     all: &mut DeltaMaker,
 ) -> Result<(Chosen, Last), SessionFault>
+    requires resting { held_in session ≡ None }
     requires room { count_of session + 2 < 4294967295 }
     requires follows { L.tells_files → Follows (L.link link.old).connection (feed_of session) }
     requires stands { L.tells_server → Stands (selected_in session)

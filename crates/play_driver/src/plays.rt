@@ -3,7 +3,7 @@
 ghost use Rattle.std.specs.Prelude.{◌≡◌, ◌↔◌, ◌<◌, ◌+◌, ◌*◌, IfOk, IsErrOf, IsTrue, OnOk, Some};
 ghost use Rattle.action_queue.specs.Queues.{AllSettled};
 ghost use Rattle.playback.specs.Kept.{Kept};
-ghost use Rattle.playback.specs.Left.{left};
+ghost use Rattle.play_driver.specs.Running.{turns_left};
 ghost use Rattle.playback.specs.declared.need.Need.TheVariants as needs;
 ghost use Rattle.store_core.specs.Fold.{IsFold};
 ghost use Rattle.store_core.specs.Holding.{IsAsLeft};
@@ -17,9 +17,8 @@ ghost use Rattle.play_driver.specs.KnownAt.{KnownAt};
 ghost use Rattle.play_driver.specs.Played.{played};
 ghost use Rattle.play_driver.specs.Playing.{EndsEarly, Plays};
 ghost use Rattle.play_driver.specs.Progress.{box_names};
-ghost use Rattle.play_driver.specs.Renewed.{NoneRenewed};
 ghost use Rattle.play_driver.specs.Serving.{AllServing};
-ghost use Rattle.play_driver.specs.Sessions.{count_of, permits_in};
+ghost use Rattle.play_driver.specs.Sessions.{count_of, held_in, permits_in};
 ghost use Rattle.play_driver.specs.Settled.{AreSyncedBehind};
 ghost use Rattle.play_driver.specs.declared.fault.PlayFault.{PlayFault};
 ghost use Rattle.play_driver.specs.declared.fault.PlayFault.TheVariants as faults;
@@ -47,10 +46,10 @@ use world_traits::{Clocked, Disk, Link, World};
 /// world closes it. Answers how many actions it settled, and how many of them as conflicts.
 ///
 /// `Link` where the link failed; `Refused` where the server said BYE, or NO or BAD to a question: its line; `BadReply` where what
-/// came is no reply, lacks what the server owes, or tells a lower HIGHESTMODSEQ than the cache has; `Lacking` where the server
-/// lacks a thing that this client needs; `Validity` where a mailbox has another UIDVALIDITY than its cache, or than an action's
-/// message or intent (RFC 9051, section 2.3.1.1); `Limit` where a limit is passed; `Disk` where the disk failed: then what was to be
-/// recorded last is there or not, and the store isn't used again; `Memory`. To record an outcome takes no memory.
+/// came is no reply, lacks what the server owes, or tells a lower HIGHESTMODSEQ than the cache has, or a lower UIDVALIDITY than the
+/// cache, or an action's message or intent (RFC 9051, section 2.3.1.1); `Lacking` where the server lacks a thing that this client
+/// needs; `Limit` where a limit is passed; `Disk` where the disk failed: then what was to be recorded last is there or not, and the
+/// store isn't used again; `Memory`. To record an outcome takes no memory.
 pub fn play<W: World>(
     alloc: Global,
     store: &mut Store,
@@ -93,12 +92,11 @@ pub fn play<W: World>(
         → AllFair mail played (W.clock world.old) (W.clock world.new)
         → (why : Why) → IsErrOf result (faults.BadReply why) → ⊥ }
 
-    // A server that serves it, has each mailbox of the book, and made none anew of which the book knows something, ends no run: what else
-    // ends one is want of memory, the disk, the link, or a limit.
+    // A server that serves it, and has each mailbox of the book, ends no run: what else ends one is want of memory, the disk, the link, or a
+    // limit.
     ensures complete { W.tells_server → IsKept mail Kept (W.clock world.old).now
         → AllFair mail played (W.clock world.old) (W.clock world.new)
         → AllServing (W.clock world.old) (W.clock world.new)
-        → NoneRenewed store.old.book (W.clock world.old).now.outside.server
         → AreBoxes (box_names store.old.book) (W.clock world.old).now.outside.server
         → (fault : PlayFault) → IsErrOf result fault → ComesAnyway fault }
 {
@@ -120,15 +118,14 @@ fn play_on<W: World>(
 ) -> Result<Session, PlayFault>
     requires fold { IsFold store.old.book }
     requires rests { Rests W.Clocked world.old player.old store.old.book session }
-    requires room { count_of session + 2 * left player.old store.old.book + 3 < 4294967295 }
+    requires room { count_of session
+        + 2 * turns_left (held_in session) player.old store.old.book + 3 < 4294967295 }
     requires sound { IsTrue store.old.journal.failed → ⊥ }
     requires left { W.tells_files
         → IsAsLeft mail store.old (W.clock world.old).now (W.seen world.old) }
     ensures goes_on { GoesOn W.Clocked world.old world.new session player.old player.new
         store.old.book store.new.book result }
-    ensures synced { (made : Clock)
-        → KnownAt made (W.clock world.old) (permits_in session) player.old store.old.book
-        → SyncsOn W.Clocked world.old world.new player.old player.new
+    ensures synced { SyncsOn W.Clocked world.old world.new session player.old player.new
         store.old.book store.new.book result }
     ensures reasons { Reasons W.Clocked
         (AllFair mail played (W.clock world.old) (W.clock world.new))

@@ -1,6 +1,6 @@
 //! An event that playback needs is recorded.
 
-ghost use Rattle.std.specs.Prelude.{IfOk, ◌+◌, ◌≡◌, ◌<◌, Some, Ok, IsErr, IsErrOf, IsTrue, OnOk, false, is_some, true};
+ghost use Rattle.std.specs.Prelude.{IfOk, ◌+◌, ◌≡◌, ◌<◌, Some, Ok, IsErr, IsErrOf, IsTrue, None, OnOk, false, is_some, true};
 ghost use Rattle.action_queue.specs.Writable.{IsWritable};
 ghost use Rattle.journal_core.specs.OneSide.{EachOneSide};
 ghost use Rattle.playback.specs.Allowed.{Records};
@@ -19,7 +19,7 @@ ghost use Rattle.play_driver.specs.Accuses.{Accuses, AccusesDisk};
 ghost use Rattle.play_driver.specs.GoesOn.{GoesOn, SyncsOn};
 ghost use Rattle.play_driver.specs.Reasons.{Reasons};
 ghost use Rattle.play_driver.specs.Rests.{Rests, Stored};
-ghost use Rattle.play_driver.specs.Sessions.{count_of};
+ghost use Rattle.play_driver.specs.Sessions.{count_of, held_in};
 ghost use Rattle.play_driver.specs.TakesTurn.{Excuses, TakesTurn};
 
 use crate::{PlayFault, Session};
@@ -43,6 +43,7 @@ pub(crate) fn record<W: World>(
     event: Event,
 ) -> Result<Session, PlayFault>
     requires needed { Records (need_of player.old store.old.book) event }
+    requires resting { held_in session ≡ None }
     requires fold { IsFold store.old.book }
     requires rests { Rests W.Clocked world.old player.old store.old.book session }
     requires room { count_of session + 2 < 4294967295 }
@@ -51,7 +52,7 @@ pub(crate) fn record<W: World>(
         → IsAsLeft mail store.old (W.clock world.old).now (W.seen world.old) }
     ensures goes_on { GoesOn W.Clocked world.old world.new session player.old player.new
         store.old.book store.new.book result }
-    ensures synced { SyncsOn W.Clocked world.old world.new player.old player.new
+    ensures synced { SyncsOn W.Clocked world.old world.new session player.old player.new
         store.old.book store.new.book result }
     ensures reasons { Reasons W.Clocked (Unit {0}) world.old world.new session player.old
         store.old.book store.new.book result }
@@ -80,6 +81,7 @@ pub(crate) fn learn<W: World>(
     world: &mut W,
 ) -> Result<Session, PlayFault>
     requires waits { is_some player.old.learns ≡ true }
+    requires resting { held_in session ≡ None }
     requires fold { IsFold store.old.book }
     requires rests { Rests W.Clocked world.old player.old store.old.book session }
     requires room { count_of session + 2 < 4294967295 }
@@ -88,7 +90,7 @@ pub(crate) fn learn<W: World>(
         → IsAsLeft mail store.old (W.clock world.old).now (W.seen world.old) }
     ensures goes_on { GoesOn W.Clocked world.old world.new session player.old player.new
         store.old.book store.new.book result }
-    ensures synced { SyncsOn W.Clocked world.old world.new player.old player.new
+    ensures synced { SyncsOn W.Clocked world.old world.new session player.old player.new
         store.old.book store.new.book result }
     ensures reasons { Reasons W.Clocked (Unit {0}) world.old world.new session player.old
         store.old.book store.new.book result }
@@ -107,8 +109,8 @@ pub(crate) fn learn<W: World>(
     Ok(session)
 }
 
-// Records an event, and enters it into the book. Its clauses are those of `Store::commit`.
-fn enter_event<D: Disk>(
+/// Records an event, and enters it into the book. Its clauses are those of `Store::commit`.
+pub(crate) fn enter_event<D: Disk>(
     alloc: Global,
     store: &mut Store,
     disk: &mut D,

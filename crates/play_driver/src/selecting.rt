@@ -1,6 +1,6 @@
 //! A mailbox is resynchronised that playback needs, and the player takes what was told.
 
-ghost use Rattle.std.specs.Prelude.{◌≡◌, ◌<◌, ◌+◌, Ok, IfOk};
+ghost use Rattle.std.specs.Prelude.{◌≡◌, ◌<◌, ◌+◌, None, Ok, IfOk};
 ghost use Rattle.std.specs.Option.{option_copied};
 ghost use Rattle.action_queue.specs.Book.{cache_at};
 ghost use Rattle.playback.specs.Left.{left};
@@ -8,7 +8,7 @@ ghost use Rattle.playback.specs.Needs.{need_of};
 ghost use Rattle.playback.specs.declared.need.Need.TheVariants as needs;
 ghost use Rattle.store_core.specs.Fold.{IsFold};
 ghost use Rattle.store_core.specs.Mail.{mail};
-ghost use Rattle.play_driver.specs.Sessions.{count_of};
+ghost use Rattle.play_driver.specs.Sessions.{count_of, held_in};
 ghost use Rattle.play_driver.specs.declared.fault.PlayFault.{PlayFault};
 ghost use Rattle.play_driver.specs.Accuses.{AccusesLink};
 ghost use Rattle.play_driver.specs.Rests.{Rests};
@@ -18,7 +18,7 @@ ghost use Rattle.play_driver.specs.Reasons.{Reasons};
 ghost use Rattle.play_driver.specs.TakesTurn.{Excuses, TakesTurn};
 
 use crate::fault::unheard_of;
-use crate::{PlayFault, Session, resynchronise};
+use crate::{Heard, PlayFault, Session, resynchronise};
 use action_queue::Book;
 use mail_base::BoxName;
 use mailbox_cache::Cache;
@@ -27,9 +27,10 @@ use std::alloc::Global;
 use store_core::Store;
 use world_traits::{Clocked, Disk, Link, World};
 
-/// Resynchronises the mailbox that the player needs, and hands what was told to the player. Its clauses are those of `turn`.
+/// Resynchronises the mailbox that the player needs, and hands what was told to the player; or holds the reply to SELECT, where it told a
+/// UIDVALIDITY above that of the cache. Its clauses are those of `turn`.
 ///
-/// The faults are those of `resynchronise`; and `Lacking`, `BadReply`, `Validity` and `Limit` where the player doesn't take what was
+/// The faults are those of `resynchronise`; and `Lacking`, `BadReply` and `Limit` where the player doesn't take what was
 /// told. After one the player is as before, and the connection isn't used again.
 pub(crate) fn select<W: World>(
     alloc: Global,
@@ -40,6 +41,7 @@ pub(crate) fn select<W: World>(
     name: &BoxName,
 ) -> Result<Session, PlayFault>
     requires needed { need_of player.old store.now.book ≡ needs.Select name.now }
+    requires resting { held_in session ≡ None }
     requires fold { IsFold store.now.book }
     requires rests { Rests W.Clocked world.old player.old store.now.book session }
     requires room { count_of session + 2 < 4294967295 }
@@ -47,7 +49,7 @@ pub(crate) fn select<W: World>(
         → IsAsLeft mail store.now (W.clock world.old).now (W.seen world.old) }
     ensures goes_on { GoesOn W.Clocked world.old world.new session player.old player.new
         store.now.book store.now.book result }
-    ensures synced { SyncsOn W.Clocked world.old world.new player.old player.new
+    ensures synced { SyncsOn W.Clocked world.old world.new session player.old player.new
         store.now.book store.now.book result }
     ensures reasons { Reasons W.Clocked (Unit {0}) world.old world.new session player.old
         store.now.book store.now.book result }
@@ -63,10 +65,12 @@ pub(crate) fn select<W: World>(
     let book = store.book();
     let kept = cache_in(book, name);
     let answer = resynchronise(alloc, session, world, name, kept)?;
-    let (chosen, told) = answer;
-    match player.chosen(book, told) {
-        Ok(()) => Ok(Session::Chosen(chosen)),
-        Err(unheard) => Err(unheard_of(name, unheard)),
+    match answer {
+        Heard::Renewed(held) => Ok(Session::Held(held)),
+        Heard::Told(chosen, told) => match player.chosen(book, told) {
+            Ok(()) => Ok(Session::Chosen(chosen)),
+            Err(unheard) => Err(unheard_of(name, unheard)),
+        },
     }
 }
 

@@ -10,24 +10,36 @@ ghost use Rattle.imap_session.specs.Session.{Follows, Stands};
 ghost use Rattle.imap_session.specs.Taken.{TookSome};
 ghost use Rattle.imap_session.specs.declared.fault.SessionFault.{SessionFault};
 ghost use Rattle.play_driver.specs.Playing.{HasLeft, NotLeft};
-ghost use Rattle.play_driver.specs.Sessions.{selected_in, count_of, feed_of};
+ghost use Rattle.play_driver.specs.Sessions.{selected_in, count_of, feed_of, held_in};
 ghost use Rattle.play_driver.specs.Stages.{stage_of};
 ghost use Rattle.imap_session.specs.Exchange.{FailsFor, IsHeard, Talks};
 
 use imap_model::{Last, Listen, Mark};
 use imap_session::{Chosen, Ready, SessionFault};
-use mail_base::BoxName;
+use mail_base::{BoxName, Validity};
+use qresync_core::DeltaMaker;
 use world_traits::{Clocked, Link};
 
-/// A session in which a mailbox can be selected: none is yet, or one is.
+/// A session in which a mailbox can be selected: none is yet, or one is; or the reply to its SELECT is held.
 #[derive(Drop)]
 pub enum Session {
     Ready(Ready),
     Chosen(Chosen),
+    Held(Held),
+}
+
+/// A mailbox is selected that was renewed since it was cached. What was made of the reply to SELECT is held, with how that ended and the
+/// UIDVALIDITY that it told, until the cache is taken away.
+#[derive(Drop)]
+pub struct Held {
+    pub chosen: Chosen,
+    pub maker: DeltaMaker,
+    pub last: Last,
+    pub told: Validity,
 }
 
 impl Session {
-    /// Selects a mailbox, as `Ready::select_into` and `Chosen::select_into` do.
+    /// Selects a mailbox, as `Ready::select_into` and `Chosen::select_into` do, while no reply is held.
     pub fn select_into<L: Link, H: Listen>(
         self,
         link: &mut L,
@@ -35,6 +47,7 @@ impl Session {
         since: Option<Mark>,
         listener: &mut H,
     ) -> Result<(Chosen, Last), SessionFault>
+        requires resting { held_in self ≡ None }
         requires room { count_of self + 1 < 4294967295 }
         requires follows { L.tells_files → Follows (L.link link.old).connection (feed_of self) }
         requires stands { L.tells_server → Stands (selected_in self)
@@ -59,11 +72,13 @@ impl Session {
         match self {
             Session::Ready(ready) => ready.select_into(link, name, since, listener),
             Session::Chosen(chosen) => chosen.select_into(link, name, since, listener),
+            Session::Held(_) => unreachable!(),
         }
     }
 
-    /// Ends the session, as `Ready::leave` and `Chosen::leave` do: LOGOUT is sent, and a BYE or its completion is read.
+    /// Ends the session, as `Ready::leave` and `Chosen::leave` do, while no reply is held: LOGOUT is sent, and a BYE or its completion is read.
     pub fn leave<L: Link>(self, link: &mut L) -> Result<(), SessionFault>
+        requires resting { held_in self ≡ None }
         requires room { count_of self + 1 < 4294967295 }
         requires follows { L.tells_files → Follows (L.link link.old).connection (feed_of self) }
         requires stands { L.tells_server → Stands (selected_in self)
@@ -78,6 +93,7 @@ impl Session {
         match self {
             Session::Ready(ready) => ready.leave(link),
             Session::Chosen(chosen) => chosen.leave(link),
+            Session::Held(_) => unreachable!(),
         }
     }
 }

@@ -10,7 +10,7 @@ ghost use Rattle.playback.specs.declared.need.Need.TheVariants as needs;
 ghost use Rattle.store_core.specs.Fold.{IsFold};
 ghost use Rattle.store_core.specs.Holding.{IsAsLeft};
 ghost use Rattle.store_core.specs.Mail.{mail};
-ghost use Rattle.play_driver.specs.Sessions.{count_of, selected_in};
+ghost use Rattle.play_driver.specs.Sessions.{count_of, held_in, selected_in};
 ghost use Rattle.play_driver.specs.declared.fault.PlayFault.{PlayFault};
 ghost use Rattle.play_driver.specs.Accuses.{Accuses};
 ghost use Rattle.play_driver.specs.GoesOn.{GoesOn, SyncsOn};
@@ -20,6 +20,7 @@ ghost use Rattle.play_driver.specs.TakesTurn.{Excuses, TakesTurn};
 ghost use Rattle.play_driver.specs.Turning.{IsNext};
 
 use crate::asking::ask;
+use crate::holding::resume;
 use crate::recording::{learn, record};
 use crate::selecting::select;
 use crate::{PlayFault, Session};
@@ -47,7 +48,7 @@ pub(crate) fn next_need(player: &Player, book: &Book) -> Result<Option<Need>, Al
     Ok(Some(need))
 }
 
-/// Does what the player needs next, and hands what came of it to the player.
+/// Does what the player needs next, and hands what came of it to the player; or, where the reply to a SELECT is held, goes on with that.
 ///
 /// The faults are those of `record`, `select` and `ask`. After `Disk` what was to be recorded is on the disk or not, and the store isn't
 /// used again; after any other fault the store is as before. After any fault the player is as before, but for a delta that was to be
@@ -73,7 +74,7 @@ pub(crate) fn turn<W: World>(
     // recorded has its reason.
     ensures goes_on { GoesOn W.Clocked world.old world.new session player.old player.new
         store.old.book store.new.book result }
-    ensures synced { SyncsOn W.Clocked world.old world.new player.old player.new
+    ensures synced { SyncsOn W.Clocked world.old world.new session player.old player.new
         store.old.book store.new.book result }
     ensures reasons { Reasons W.Clocked (Unit {0}) world.old world.new session player.old
         store.old.book store.new.book result }
@@ -86,6 +87,50 @@ pub(crate) fn turn<W: World>(
     ensures accuses { Accuses W.Clocked world.old world.new result }
 
     // How store and connection stand then.
+    ensures rests { IfOk result (Rests W.Clocked world.new player.new store.new.book) }
+    ensures stored { Stored W.Clocked world.new (W.seen world.new) store.old.book store.new result }
+{
+    match session {
+        Session::Held(held) => {
+            drop(next);
+            resume(alloc, held, store, player, world)
+        }
+        Session::Ready(ready) => { act(alloc, Session::Ready(ready), store, player, world, next) }
+        Session::Chosen(chosen) => {
+            act(alloc, Session::Chosen(chosen), store, player, world, next)
+        }
+    }
+}
+
+// The same, where no reply is held.
+fn act<W: World>(
+    alloc: Global,
+    session: Session,
+    store: &mut Store,
+    player: &mut Player,
+    world: &mut W,
+    next: Option<Need>,
+) -> Result<Session, PlayFault>
+    requires resting { held_in session ≡ None }
+    requires needed { IsNext next player.old store.old.book }
+    requires unfinished { next ≢ Some needs.Finished }
+    requires fold { IsFold store.old.book }
+    requires rests { Rests W.Clocked world.old player.old store.old.book session }
+    requires room { count_of session + 2 < 4294967295 }
+    requires sound { IsTrue store.old.journal.failed → ⊥ }
+    requires left { W.tells_files
+        → IsAsLeft mail store.old (W.clock world.old).now (W.seen world.old) }
+    ensures goes_on { GoesOn W.Clocked world.old world.new session player.old player.new
+        store.old.book store.new.book result }
+    ensures synced { SyncsOn W.Clocked world.old world.new session player.old player.new
+        store.old.book store.new.book result }
+    ensures reasons { Reasons W.Clocked (Unit {0}) world.old world.new session player.old
+        store.old.book store.new.book result }
+    ensures takes { TakesTurn W.Clocked world.old world.new session player.old player.new
+        store.old store.new result }
+    ensures excuses { Excuses W.Clocked world.old world.new session player.old
+        store.old.book result }
+    ensures accuses { Accuses W.Clocked world.old world.new result }
     ensures rests { IfOk result (Rests W.Clocked world.new player.new store.new.book) }
     ensures stored { Stored W.Clocked world.new (W.seen world.new) store.old.book store.new result }
 {
@@ -104,6 +149,7 @@ fn meet<W: World>(
     world: &mut W,
     need: Need,
 ) -> Result<Session, PlayFault>
+    requires resting { held_in session ≡ None }
     requires needed { need ≡ need_of player.old store.old.book }
     requires unfinished { need ≢ needs.Finished }
     requires fold { IsFold store.old.book }
@@ -114,7 +160,7 @@ fn meet<W: World>(
         → IsAsLeft mail store.old (W.clock world.old).now (W.seen world.old) }
     ensures goes_on { GoesOn W.Clocked world.old world.new session player.old player.new
         store.old.book store.new.book result }
-    ensures synced { SyncsOn W.Clocked world.old world.new player.old player.new
+    ensures synced { SyncsOn W.Clocked world.old world.new session player.old player.new
         store.old.book store.new.book result }
     ensures reasons { Reasons W.Clocked (Unit {0}) world.old world.new session player.old
         store.old.book store.new.book result }
@@ -157,5 +203,6 @@ fn next_tag_in(session: &Session) -> Tag
     match session {
         Session::Ready(_) => unreachable!(),
         Session::Chosen(chosen) => chosen.next_tag(),
+        Session::Held(held) => held.chosen.next_tag(),
     }
 }

@@ -1,4 +1,4 @@
-use Rattle.std.proofs.Common.{Bool, Err, Option, Some, ap, refl, rules, subst, sym, ◌<◌, ◌≡◌, ◌∙◌}
+use Rattle.std.proofs.Common.{Bool, Err, None, Option, Some, ap, refl, rules, subst, sym, ◌<◌, ◌≡◌, ◌∙◌}
 use Rattle.action_queue.specs.Book.{Meaning}
 use Rattle.action_queue.specs.Queues.{due_action}
 use Rattle.imap_session.specs.declared.permits.Permits.{Permits}
@@ -16,9 +16,10 @@ use Rattle.play_driver.specs.Faults.{of_session}
 use Rattle.play_driver.specs.KnownAt.{KnownAt}
 use Rattle.play_driver.specs.Progress.{box_names}
 use Rattle.play_driver.specs.Rests.{Rests}
-use Rattle.play_driver.specs.Sessions.{count_of}
-use Rattle.play_driver.specs.Turning.{IsAskedFor, permits_due, standing_of}
-use Rattle.play_driver.specs.declared.fault.PlayFault.TheVariants as faults
+use Rattle.play_driver.specs.Sessions.{count_of, held_in}
+use Rattle.play_driver.specs.Settled.{IsSyncedSoFar}
+use Rattle.play_driver.specs.Turning.{IsAskedFor, permits_due}
+use Rattle.play_driver.specs.declared.session.Held.{Held}
 use Rattle.play_driver.specs.declared.session.Session.{Session}
 use Rattle.play_driver.proofs.Asked.{askable, asked_awaits, asked_reads_none, asked_remains, lawful_fold, not_answered_so, not_heard_so, only_told, unheard_told}
 use Rattle.play_driver.proofs.AskedJoins.{asked_heard, asked_stays, heard_known}
@@ -30,14 +31,14 @@ use Rattle.play_driver.proofs.OneTurn.{asked_fails, asked_selected, asks_turn, k
 use Rattle.play_driver.proofs.OverLink.{goes_over, left_over, stands_over, true_over}
 use Rattle.play_driver.proofs.OverOne.{asked_talks}
 use Rattle.play_driver.proofs.Parts.{grows}
-use Rattle.play_driver.proofs.ValidFaults.{asked_other, turn_valid}
+use Rattle.play_driver.proofs.TurnsFall.{falls_free}
 use Rattle.world_traits.specs.Links.{Any, AnyStep, LinkStep}
 use Rattle.play_driver.proofs.asking.ask.Goals as goal
 
-pub chosen_in-chosen-requires : goal.chosen_in-chosen-requires
-chosen_in-chosen-requires g c =
+pub chosen_in-chosen-requires-clause-there : goal.chosen_in-chosen-requires-clause-there
+chosen_in-chosen-requires-clause-there g c =
     asked_selected c.args.player.now c.args.store.now.book c.args.session c.args.tag c.args.command.now c.requires.fold c.requires.rests.beside
-    c.requires.rests.selected c.requires.needed
+    (c.requires.rests.selected c.requires.resting) c.requires.needed
 
 pub ask-requires-clause-asked : goal.ask-requires-clause-asked
 ask-requires-clause-asked g c =
@@ -79,7 +80,7 @@ returns-in_err-answer-clause-goes_on g c =
     (λ t made stands known.
     asked_stays c.args.player.now b c.chosen_in-chosen.result.permits made _ c.chosen_in-chosen.result.conversation.count c.args.tag
     c.args.command.now c.chosen_in-chosen.result.name stands (known_in c.args.session c.chosen_in-chosen.result is made _ _ _ known)
-    rests.selected (rests.stands t).selects needed lawful _ (c.ask.ensures.talks.told t))
+    (rests.selected refl) (rests.stands t).selects needed lawful _ (c.ask.ensures.talks.told t))
     (λ t made stands known fair. search rules)
     (λ t. asked_talks _ c.args.tag c.args.command.now
     (asked_remains c.args.player.now b _ c.args.tag c.args.command.now c.requires.fold c.requires.rests.beside c.requires.needed) _ _
@@ -143,11 +144,6 @@ returns-in_err-answer-clause-excuses g c =
           (asked_whole follows.0 c.args.tag c.args.command.now follows.1.connection.received _ f
           (c.ask.ensures.fails.why files follows.0 follows.1 f c.in_err-answer.was))
           (told_as of_session c.from_residual.result f c.from_residual.ensures.1 fault is);
-      valid = λ t made kept known fair none box was now is.
-          turn_valid (standing_of (g.W.Clocked.link c.args.world.now) c.args.session c.args.store.now c.args.player.now) _
-          (faults.Validity box was now)
-          ((returns-in_err-answer-clause-takes g c).why (g.W.Clocked.server_with_files t) (faults.Validity box was now) is)
-          (asked_other _ _ _ _ c.requires.needed) box was now refl;
     }
 
 -- the player takes the reply
@@ -170,14 +166,14 @@ returns-in-Ok-clause-goes_on g c =
     (λ t made stands known.
     asked_stays c.args.player.now b c.chosen_in-chosen.result.permits made _ c.chosen_in-chosen.result.conversation.count c.args.tag
     c.args.command.now c.chosen_in-chosen.result.name stands (known_in c.args.session c.chosen_in-chosen.result is made _ _ _ known)
-    rests.selected (rests.stands t).selects needed lawful _ (c.ask.ensures.talks.told t))
+    (rests.selected refl) (rests.stands t).selects needed lawful _ (c.ask.ensures.talks.told t))
     (λ t made stands known fair.
-    subst (λ (o : Option Permits). KnownAt made (g.W.Clocked.clock c.ask.new.link) o c.heard.new.self b) (sym c.in_ok-answer.ensures.permits)
+    subst (λ (o : Option Permits). KnownAt made (g.W.Clocked.clock c.ask.new.link) o None c.heard.new.self b) (sym c.in_ok-answer.ensures.permits)
     (heard_known c.args.player.now c.heard.new.self b c.chosen_in-chosen.result.permits made _ c.in_ok-answer.answer.1
     c.chosen_in-chosen.result.name ((c.in_ok-answer.ensures.stands t).selects ∙ ap Some c.in_ok-answer.ensures.name)
     (asked_heard c.args.player.now b c.chosen_in-chosen.result.permits made _ c.chosen_in-chosen.result.conversation.count c.args.tag
     c.args.command.now c.chosen_in-chosen.result.name stands (known_in c.args.session c.chosen_in-chosen.result is made _ _ _ known)
-    rests.selected (rests.stands t).selects needed lawful _ (c.ask.ensures.talks.told t) fair c.in_ok-answer.answer.1 _ _
+    (rests.selected refl) (rests.stands t).selects needed lawful _ (c.ask.ensures.talks.told t) fair c.in_ok-answer.answer.1 _ _
     (c.in_ok-answer.ensures.replied.answered t _ (rests.stands t)) c.in_ok-answer.ensures.replied.accepted)
     (λ w kept reply polite here. knows w kept reply (subst (λ (x : Bool). IsFair x b w) (sym permits) polite) here)))
     (λ t. asked_talks _ c.args.tag c.args.command.now
@@ -202,7 +198,7 @@ returns-in-Ok-clause-left g c = λ t.
     (g.W.Disk.seen c.ask.new.link) t (g.met.W.Disk.seen_is c.ask.new.link t)
 
 pub returns-in-Ok-clause-synced : goal.returns-in-Ok-clause-synced
-returns-in-Ok-clause-synced g c = λ t start first kept fair so_far.
+returns-in-Ok-clause-synced g c = λ t made start first kept known fair so_far.
     let b = c.args.store.now.book in
     let value : IsHeard c.args.player.now b c.permits_due-permits.result c.in_ok-answer.answer.1 c.heard.new.self =
     subst (λ (x : Meaning). IsSound x → IsHeard c.args.player.now x c.permits_due-permits.result c.in_ok-answer.answer.1 c.heard.new.self)
@@ -212,7 +208,8 @@ returns-in-Ok-clause-synced g c = λ t start first kept fair so_far.
     (ap (λ (p : Player). p.resynced) only) (ap (λ (p : Player). p.learns) only)
     (let stands = c.requires.rests.stands t in
     asked_reads_none c.args.player.now b _ c.args.tag c.args.command.now _ _ c.requires.fold c.requires.rests.beside c.requires.needed stands.nothing
-    stands.no_part (c.ask.ensures.talks.told t)) so_far
+    stands.no_part (c.ask.ensures.talks.told t))
+    (subst (λ (h : Option Held). IsSyncedSoFar start (g.W.Clocked.clock c.args.world.now) h c.args.player.now b) c.requires.resting so_far)
 
 pub returns-in-Ok-clause-takes : goal.returns-in-Ok-clause-takes
 returns-in-Ok-clause-takes g c =
@@ -248,9 +245,10 @@ returns-in-Ok-clause-takes g c =
       stays = search rules;
       kept = search rules;
       entered = λ entry e. record { same = ap (λ (p : Player). p.resumed) only ∙ e.same; further = e.further; pending = e.pending };
-      falls = subst (λ (x : Meaning). IsSound x → Awaits (need_of c.args.player.now x) → left c.heard.new.self x < left c.args.player.now x)
+      falls = falls_free (held_in c.args.session) c.requires.resting c.args.player.now c.heard.new.self b b
+          (subst (λ (x : Meaning). IsSound x → Awaits (need_of c.args.player.now x) → left c.heard.new.self x < left c.args.player.now x)
           c.book-book.ensures c.in-Ok.ensures.falls (fold_sound b c.requires.fold)
-          (asked_awaits (need_of c.args.player.now b) _ c.args.tag c.args.command.now c.requires.needed);
+          (asked_awaits (need_of c.args.player.now b) _ c.args.tag c.args.command.now c.requires.needed));
       counted = search rules;
     }
 
@@ -265,9 +263,10 @@ returns-in-Ok-clause-rests g c =
     record {
       beside = subst (λ (x : Meaning). IsSound x → IsBeside c.args.player.now x → IsBeside c.heard.new.self x) c.book-book.ensures
           c.in-Ok.ensures.beside (fold_sound b c.requires.fold) c.requires.rests.beside;
-      selected = ap (λ (p : Player). name_of p.selected) only ∙ rests.selected ∙ ap Some (sym c.in_ok-answer.ensures.name);
+      selected = λ none. ap (λ (p : Player). name_of p.selected) only ∙ rests.selected refl ∙ ap Some (sym c.in_ok-answer.ensures.name);
       stands = c.in_ok-answer.ensures.stands;
       still = c.in_ok-answer.ensures.still;
+      held = tt;
     }
 
 -- the player doesn't take it
@@ -283,7 +282,7 @@ returns-in-Err-clause-goes_on g c =
     (λ t made stands known.
     asked_stays c.args.player.now b c.chosen_in-chosen.result.permits made _ c.chosen_in-chosen.result.conversation.count c.args.tag
     c.args.command.now c.chosen_in-chosen.result.name stands (known_in c.args.session c.chosen_in-chosen.result is made _ _ _ known)
-    rests.selected (rests.stands t).selects needed lawful _ (c.ask.ensures.talks.told t))
+    (rests.selected refl) (rests.stands t).selects needed lawful _ (c.ask.ensures.talks.told t))
     (λ t made stands known fair. search rules)
     (λ t. asked_talks _ c.args.tag c.args.command.now
     (asked_remains c.args.player.now b _ c.args.tag c.args.command.now c.requires.fold c.requires.rests.beside c.requires.needed) _ _
@@ -356,7 +355,7 @@ returns-in-Err-clause-excuses g c =
           c.requires.rests c.requires.left c.ask.ensures.talks.files t here in
           let heard = asked_heard c.args.player.now b c.chosen_in-chosen.result.permits made _ c.chosen_in-chosen.result.conversation.count c.args.tag
           c.args.command.now c.chosen_in-chosen.result.name stands (known_in c.args.session c.chosen_in-chosen.result is made _ _ _ known)
-          rests.selected (rests.stands t).selects needed lawful _ (c.ask.ensures.talks.told t) fair c.in_ok-answer.answer.1 _ _
+          (rests.selected refl) (rests.stands t).selects needed lawful _ (c.ask.ensures.talks.told t) fair c.in_ok-answer.answer.1 _ _
           (c.in_ok-answer.ensures.replied.answered t _ (rests.stands t)) c.in_ok-answer.ensures.replied.accepted in
           heard_faultless c.args.player.now b c.chosen_in-chosen.result.permits c.permits_due-permits.result made _ c.in_ok-answer.answer.1
           c.chosen_in-chosen.result.name heard c.in-Err.unheard fault
@@ -367,9 +366,4 @@ returns-in-Err-clause-excuses g c =
           (subst (λ (x : Meaning). Knows c.args.player.now x w) (sym c.book-book.ensures) knows) (ap (λ (u : Unheard). Err u) lacks))
           (unheard_told {T = Session} c.unheard_of.result fault c.name.result.now c.chosen_in-chosen.result.name c.in-Err.unheard is_err
           c.unheard_of.ensures (c.name.ensures ∙ c.in_ok-answer.ensures.name));
-      valid = λ t made kept known fair none box was now is_err.
-          turn_valid (standing_of (g.W.Clocked.link c.args.world.now) c.args.session c.args.store.now c.args.player.now) _
-          (faults.Validity box was now)
-          ((returns-in-Err-clause-takes g c).why (g.W.Clocked.server_with_files t) (faults.Validity box was now) is_err)
-          (asked_other _ _ _ _ c.requires.needed) box was now refl;
     }

@@ -58,6 +58,7 @@ returns-then-not-is_fetch_due-clause-heard g c = record {
         (c.in_ok-answer.ensures.heard.1.reply.came t heard h) (c.in_ok-answer.ensures.heard.1.reply.within t heard h);
     small = (c.in_ok-answer.ensures.heard.1.reply.small, tt);
   };
+  accepted = c.in_ok-answer.ensures.heard.1.reply.accepted tt;
   permitted = c.in_ok-answer.ensures.heard.2;
   asked = omega (arith, c.in_ok-answer.ensures.counted);
 }
@@ -131,6 +132,7 @@ returns-clause-heard g c = record {
         (c.in_ok-fetched.ensures.heard.1.reply.came t _ q.hears) (c.in_ok-fetched.ensures.heard.1.reply.within t _ q.hears);
     small = (c.in_ok-answer.ensures.heard.1.reply.small, c.in_ok-fetched.ensures.heard.1.reply.small);
   };
+  accepted = c.in_ok-answer.ensures.heard.1.reply.accepted tt;
   permitted = c.in_ok-fetched.ensures.permits ∙ c.in_ok-answer.ensures.heard.2;
   asked = omega (arith, c.in_ok-answer.ensures.counted, c.in_ok-fetched.ensures.counted);
 }

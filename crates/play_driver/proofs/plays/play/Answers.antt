@@ -4,7 +4,6 @@ use Rattle.play_driver.proofs.GroundChains.{grounds_then, leave_grounded}
 use Rattle.play_driver.proofs.Links.{left_there}
 use Rattle.play_driver.proofs.SentRuns.{left_once, stayed_once, stopped_once}
 use Rattle.play_driver.proofs.Surely.{run_surely}
-use Rattle.play_driver.proofs.RenewedEntered.{renewed_entered}
 use Rattle.play_driver.proofs.Faulting.{ok_no_err, told_as}
 use Rattle.play_driver.proofs.OverOne.{enters_run, goes_behind, leave_run, once_then, talks_run}
 use Rattle.play_driver.proofs.Progressing.{firm_left, linked_progress, linked_sides, progress_grows, rests_left, sides_then}
@@ -16,10 +15,12 @@ use Rattle.play_driver.specs.Faults.{of_session}
 use Rattle.play_driver.specs.Playing.EndsEarly.{not_entered}
 use Rattle.play_driver.specs.Progress.{box_names}
 use Rattle.play_driver.specs.Questioning.{RunStep, TalkStep}
+use Rattle.play_driver.specs.Sessions.{held_in}
+use Rattle.play_driver.specs.Settled.{IsSyncedSoFar}
 use Rattle.play_driver.specs.Turning.{standing_of}
-use Rattle.std.proofs.Common.{Err, ap, refl, ◌≡◌, ◌∙◌}
+use Rattle.play_driver.specs.declared.session.Held.{Held}
+use Rattle.std.proofs.Common.{Err, Option, ap, refl, subst, ◌≡◌, ◌∙◌}
 use Rattle.imap_session.specs.declared.fault.SessionFault.{SessionFault}
-use Rattle.play_driver.specs.declared.fault.PlayFault.{PlayFault}
 use Rattle.play_driver.specs.declared.fault.PlayFault.TheVariants as faults
 use Rattle.store_core.specs.Mail.{mail}
 use Rattle.world_traits.specs.Links.{AnyStep}
@@ -79,7 +80,7 @@ returns-in_err-ready-clause-why g c = λ t fault is.
     not_entered x (told_as of_session c.from_residual.result x c.from_residual.ensures.1 fault is) (c.enter.ensures.enters.why t x c.in_err-ready.was) refl
 
 pub returns-in_err-ready-clause-complete : goal.returns-in_err-ready-clause-complete
-returns-in_err-ready-clause-complete g c = λ t kept fair serving renewed boxes fault is.
+returns-in_err-ready-clause-complete g c = λ t kept fair serving boxes fault is.
     let x = c.in_err-ready.field-0.0 in
     let serves = c.enter.ensures.serves t serving in
     comes_session x (λ line e. serves.0 line (c.in_err-ready.was ∙ ap (λ (f : SessionFault). Err f) e))
@@ -180,7 +181,7 @@ returns-in_err-last-clause-why g c = λ t fault is.
     (c.in_ok-ready.ensures.entered t) c.play_on.new.store _ _ fault (c.play_on.ensures.runs.why t fault (search rules))
 
 pub returns-in_err-last-clause-complete : goal.returns-in_err-last-clause-complete
-returns-in_err-last-clause-complete g c = λ t kept fair serving renewed boxes fault is.
+returns-in_err-last-clause-complete g c = λ t kept fair serving boxes fault is.
     let f = g.W.Clocked.server_with_files t in
     let r : HasBegun c.args.store.now.book c.begin-player.result (g.W.Clocked.clock c.args.world.now) (g.W.Clocked.clock c.enter.new.link) =
     has_begun c.args.alloc _ _ _ c.begin-player.ensures.value c.begin-player.ensures.entered c.book-2.ensures _ _
@@ -196,10 +197,6 @@ returns-in_err-last-clause-complete g c = λ t kept fair serving renewed boxes f
     (c.play_on.ensures.runs.why f fault is_on) (g.met.W.Link.honest c.play_on.new.world t))
     (λ reply. faultless_two _ _ _ _ r kept _ more fair
     (λ here knows second. c.play_on.ensures.excuses.faultless t r.opened.made here knows second fault is_on reply))
-    (λ name before told e. faultless_two _ _ _ _ r kept _ more fair
-    (λ here knows second. c.play_on.ensures.excuses.valid t r.opened.made here knows second
-    (renewed_entered c.args.store.now.book _ _ _ (firm_left c.args.store.now (g.W.Clocked.clock c.args.world.now) _ (c.requires.left f)) kept
-    (c.enter.ensures.enters.told t) more fair renewed) name before told (is_on ∙ ap (λ (x : PlayFault). Err x) e)))
 
 -- it didn't leave
 pub returns-in_err-leave-clause-goes_on : goal.returns-in_err-leave-clause-goes_on
@@ -303,7 +300,7 @@ returns-in_err-leave-clause-stored g c = record {
 }
 
 pub returns-in_err-leave-clause-complete : goal.returns-in_err-leave-clause-complete
-returns-in_err-leave-clause-complete g c = λ t kept fair serving renewed boxes fault is.
+returns-in_err-leave-clause-complete g c = λ t kept fair serving boxes fault is.
     let f = g.W.Clocked.server_with_files t in
     let x = c.in_err-leave.field-0.0 in
     let why = c.leave.ensures.why f x c.in_err-leave.was in
@@ -402,10 +399,12 @@ returns-clause-synced g c = λ t kept fair.
     let q = leaves_asking _ _ _ _ (c.leave.ensures.talks.told t) in
     all_synced _ _ _ c.play_on.new.player c.play_on.new.store.book
     c.in_ok-last.ensures.runs.finished
-    (synced_two _ _ _ _ r kept _ more c.play_on.new.player c.play_on.new.store.book
+    (subst (λ (h : Option Held). IsSyncedSoFar (g.W.Clocked.clock c.args.world.now) (g.W.Clocked.clock c.play_on.new.world) h c.play_on.new.player
+    c.play_on.new.store.book) c.in_ok-last.ensures.runs.unheld
+    (synced_two _ _ _ _ r kept _ more (held_in c.in_ok-last.last) c.play_on.new.player c.play_on.new.store.book
     (fair_run _ _ _ before c.play_on.new.store.book
     (firm_left c.play_on.new.store (g.W.Clocked.clock c.play_on.new.world) _ later) q fair)
-    (λ grows here knows. c.in_ok-last.ensures.synced r.opened.made knows t (g.W.Clocked.clock c.args.world.now) grows here)) (leaves_grow _ _ q)
+    (λ grows here knows. c.in_ok-last.ensures.synced t r.opened.made (g.W.Clocked.clock c.args.world.now) grows here knows))) (leaves_grow _ _ q)
     (let stands = c.in_ok-last.ensures.rests.stands t in leaves_unread _ _ _ stands.nothing stands.no_part (c.leave.ensures.talks.told t))
 
 pub returns-clause-plays : goal.returns-clause-plays

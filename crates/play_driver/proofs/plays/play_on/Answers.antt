@@ -1,21 +1,19 @@
 use Rattle.action_queue.specs.Book.{Meaning}
 use Rattle.play_driver.proofs.Faulting.{ok_no_err, told_as}
 use Rattle.play_driver.proofs.GroundChains.{grounds_later, grounds_start}
-use Rattle.play_driver.proofs.ManyTurns.{gone_on, gone_start, is_sound, joined_on, so_on, stops_behind, stops_wanting, talks_start}
+use Rattle.play_driver.proofs.ManyTurns.{gone_on, gone_start, is_sound, joined_on, memory_no_disk, so_on, stops_behind, stops_wanting, talks_start, unheld_finished}
 use Rattle.play_driver.proofs.OverOne.{talks_then}
-use Rattle.play_driver.proofs.Parts.{grows_start, grows_then}
-use Rattle.play_driver.proofs.Progressing.{firm_left, later_start, later_then, progress_grows, progress_start, progress_then, sides_start, sides_then}
-use Rattle.play_driver.proofs.Renewing.{renewed_on}
+use Rattle.play_driver.proofs.Parts.{grows_then}
+use Rattle.play_driver.proofs.Progressing.{later_start, later_then, progress_grows, progress_start, progress_then, sides_start, sides_then}
 use Rattle.play_driver.proofs.Shortness.{runs_on, runs_start}
-use Rattle.play_driver.proofs.ValidFaults.{memory_no_disk, memory_valid}
 use Rattle.play_driver.specs.Faults.{IsReplyFault}
 use Rattle.play_driver.specs.Progress.{box_names}
-use Rattle.play_driver.specs.Sessions.{permits_in}
+use Rattle.play_driver.specs.Sessions.{held_in, permits_in}
 use Rattle.play_driver.specs.Settled.{IsSyncedSoFar}
 use Rattle.play_driver.specs.TrueRecords.{IsTrueBefore, IsTrueSince}
-use Rattle.play_driver.specs.Turning.{standing_of}
+use Rattle.play_driver.specs.Turning.{IsNext, standing_of}
 use Rattle.playback.specs.Needs.{NeedsNoMemory, need_of}
-use Rattle.std.proofs.Common.{refl, subst, ◌≡◌, ◌∙◌}
+use Rattle.std.proofs.Common.{refl, subst, ◌∙◌}
 use Rattle.play_driver.specs.declared.fault.PlayFault.TheVariants as faults
 use Rattle.std.proofs.Common.{rules, arith}
 use Rattle.std.specs.declared.alloc.AllocError.{AllocError}
@@ -30,7 +28,7 @@ loop-at-init g c = record {
   left = c.requires.left;
   progress = λ t. progress_start c.args.store.now.book (g.W.Clocked.clock c.args.world.now);
   later = later_start c.args.store.now.book;
-  gone = λ t made kept known. gone_start made _ _ _ _ known;
+  gone = λ t made kept known. gone_start made _ _ _ _ _ known;
   entered = λ entry e. e;
   truly = λ t made entry kept known fair e truly. truly;
   synced = λ t made start grows kept known fair so. so;
@@ -80,6 +78,7 @@ pub returns-in_err-need-clause-runs : goal.returns-in_err-need-clause-runs
 returns-in_err-need-clause-runs g c = record {
   runs = search rules;
   finished = search rules;
+  unheld = search rules;
   counted = search rules;
   why = λ t fault is.
       stops_wanting _ (standing_of (g.W.Clocked.link c.loop-at.world) c.loop-at.at c.loop-at.store c.loop-at.player) fault
@@ -93,10 +92,6 @@ returns-in_err-need-clause-excuses g c = record {
   faultless = λ t made kept known fair fault is at_reply.
       subst IsReplyFault
       (told_as (λ (e : AllocError). faults.Memory) c.from_residual.result c.in_err-need.field-0.0 c.from_residual.ensures.1 fault is) at_reply;
-  valid = λ t made kept known fair none box was now is.
-      memory_valid box was now
-      (told_as (λ (e : AllocError). faults.Memory) c.from_residual.result c.in_err-need.field-0.0 c.from_residual.ensures.1
-      (faults.Validity box was now) is);
 }
 
 -- nothing is needed
@@ -112,7 +107,7 @@ returns-then-is_finished-clause-goes_on g c = record {
 }
 
 pub returns-then-is_finished-clause-synced : goal.returns-then-is_finished-clause-synced
-returns-then-is_finished-clause-synced g c = λ made known t start grows kept. c.loop-at.invariant.synced t made start grows kept known
+returns-then-is_finished-clause-synced g c = λ t made start grows kept known. c.loop-at.invariant.synced t made start grows kept known
 
 pub returns-then-is_finished-clause-stored : goal.returns-then-is_finished-clause-stored
 returns-then-is_finished-clause-stored g c = record {
@@ -132,6 +127,8 @@ pub returns-then-is_finished-clause-runs : goal.returns-then-is_finished-clause-
 returns-then-is_finished-clause-runs g c = record {
   runs = c.loop-at.invariant.runs;
   finished = search rules;
+  unheld = unheld_finished (held_in c.loop-at.at) c.loop-at.player c.loop-at.store.book c.in_ok-need.need c.loop-at.invariant.rests.held (search rules)
+      (subst (λ (b : Meaning). IsNext c.in_ok-need.need c.loop-at.player b) c.book.ensures c.in_ok-need.ensures.value);
   counted = omega (arith, c.loop-at.invariant.room);
   why = λ t fault is. absurd cc;
 }
@@ -155,7 +152,7 @@ returns-in_err-at-clause-goes_on g c = record {
       (c.turn.ensures.goes_on.progress t);
   joined = λ t made kept known.
       let f = g.W.Clocked.server_with_files t in
-      joined_on made (g.W.Clocked.clock c.args.world.now) (g.W.Clocked.clock c.loop-at.world) (permits_in c.loop-at.at) c.loop-at.player
+      joined_on made (g.W.Clocked.clock c.args.world.now) (g.W.Clocked.clock c.loop-at.world) (permits_in c.loop-at.at) (held_in c.loop-at.at) c.loop-at.player
       c.loop-at.store.book
       kept (progress_grows _ _ _ (c.loop-at.invariant.progress f)) (c.loop-at.invariant.gone t made kept known) (g.W.Clocked.clock c.turn.new.world)
       (progress_grows _ _ _ (c.turn.ensures.goes_on.progress f)) (c.turn.ensures.goes_on.joined t made);
@@ -191,7 +188,7 @@ pub returns-in_err-at-clause-reasons : goal.returns-in_err-at-clause-reasons
 returns-in_err-at-clause-reasons g c = record {
   truly = λ t made entry kept known fair e truly no_disk.
       let f = g.W.Clocked.server_with_files t in
-      so_on made (g.W.Clocked.clock c.args.world.now) (g.W.Clocked.clock c.loop-at.world) (permits_in c.loop-at.at) c.loop-at.player
+      so_on made (g.W.Clocked.clock c.args.world.now) (g.W.Clocked.clock c.loop-at.world) (permits_in c.loop-at.at) (held_in c.loop-at.at) c.loop-at.player
       c.loop-at.store.book
       kept (progress_grows _ _ _ (c.loop-at.invariant.progress f)) (c.loop-at.invariant.gone t made kept known) (g.W.Clocked.clock c.turn.new.world)
       (progress_grows _ _ _ (c.turn.ensures.goes_on.progress f)) (IsTrueSince entry made (g.W.Clocked.clock c.turn.new.world) c.turn.new.store.book) fair
@@ -205,7 +202,7 @@ returns-in_err-at-clause-reasons g c = record {
         λ u made entry kept known fair e truly.
             let grows = progress_grows c.loop-at.store.book (g.W.Clocked.clock c.loop-at.world) (g.W.Clocked.clock c.turn.new.world)
             (c.turn.ensures.goes_on.progress t) in
-            so_on made (g.W.Clocked.clock c.args.world.now) (g.W.Clocked.clock c.loop-at.world) (permits_in c.loop-at.at) c.loop-at.player
+            so_on made (g.W.Clocked.clock c.args.world.now) (g.W.Clocked.clock c.loop-at.world) (permits_in c.loop-at.at) (held_in c.loop-at.at) c.loop-at.player
             c.loop-at.store.book kept (progress_grows _ _ _ (c.loop-at.invariant.progress t)) (c.loop-at.invariant.gone u made kept known)
             (g.W.Clocked.clock c.turn.new.world) grows (IsTrueBefore s.0 entry c.turn.new.store.book made (g.W.Clocked.clock c.turn.new.world)) fair
             (λ first here knows second. s.3 u made entry here knows tt (c.loop-at.invariant.entered entry e)
@@ -217,30 +214,18 @@ pub returns-in_err-at-clause-excuses : goal.returns-in_err-at-clause-excuses
 returns-in_err-at-clause-excuses g c = record {
   faultless = λ t made kept known fair fault is at_reply.
       let f = g.W.Clocked.server_with_files t in
-      so_on made (g.W.Clocked.clock c.args.world.now) (g.W.Clocked.clock c.loop-at.world) (permits_in c.loop-at.at) c.loop-at.player
+      so_on made (g.W.Clocked.clock c.args.world.now) (g.W.Clocked.clock c.loop-at.world) (permits_in c.loop-at.at) (held_in c.loop-at.at) c.loop-at.player
       c.loop-at.store.book
       kept (progress_grows _ _ _ (c.loop-at.invariant.progress f)) (c.loop-at.invariant.gone t made kept known) (g.W.Clocked.clock c.turn.new.world)
       (progress_grows _ _ _ (c.turn.ensures.goes_on.progress f)) ⊥ fair
       (λ first here knows second. c.turn.ensures.excuses.faultless t made here knows second fault (search rules) at_reply);
-  valid = λ t made kept known fair none box was now is.
-      let f = g.W.Clocked.server_with_files t in
-      so_on made (g.W.Clocked.clock c.args.world.now) (g.W.Clocked.clock c.loop-at.world) (permits_in c.loop-at.at) c.loop-at.player
-      c.loop-at.store.book
-      kept (progress_grows _ _ _ (c.loop-at.invariant.progress f)) (c.loop-at.invariant.gone t made kept known) (g.W.Clocked.clock c.turn.new.world)
-      (progress_grows _ _ _ (c.turn.ensures.goes_on.progress f)) ⊥ fair
-      (λ first here knows second. c.turn.ensures.excuses.valid t made here knows second
-      (renewed_on c.args.store.now.book c.loop-at.store.book (g.W.Clocked.clock c.args.world.now) (g.W.Clocked.clock c.loop-at.world)
-      (firm_left c.args.store.now (g.W.Clocked.clock c.args.world.now) _ (c.requires.left f))
-      (firm_left c.loop-at.store (g.W.Clocked.clock c.loop-at.world) _ (c.loop-at.invariant.left f))
-      ((c.loop-at.invariant.gone t made kept known).joined (g.W.Clocked.clock c.loop-at.world) (progress_grows _ _ _ (c.loop-at.invariant.progress f))
-      (grows_start (g.W.Clocked.clock c.loop-at.world)) first) c.loop-at.invariant.later none)
-      box was now (search rules));
 }
 
 pub returns-in_err-at-clause-runs : goal.returns-in_err-at-clause-runs
 returns-in_err-at-clause-runs g c = record {
   runs = search rules;
   finished = search rules;
+  unheld = search rules;
   counted = search rules;
   why = λ t fault is.
       stops_behind _ (standing_of (g.W.Clocked.link c.loop-at.world) c.loop-at.at c.loop-at.store c.loop-at.player) c.turn.new.store _ c.turn.result
@@ -263,15 +248,15 @@ loop-at-preserved g c = record {
   later = later_then c.args.store.now.book c.loop-at.store.book c.turn.new.store.book c.loop-at.invariant.later c.turn.ensures.stored.later;
   gone = λ t made kept known.
       let f = g.W.Clocked.server_with_files t in
-      gone_on made (g.W.Clocked.clock c.args.world.now) (g.W.Clocked.clock c.loop-at.world) (permits_in c.loop-at.at) c.loop-at.player
+      gone_on made (g.W.Clocked.clock c.args.world.now) (g.W.Clocked.clock c.loop-at.world) (permits_in c.loop-at.at) (held_in c.loop-at.at) c.loop-at.player
       c.loop-at.store.book
       kept (progress_grows _ _ _ (c.loop-at.invariant.progress f)) (c.loop-at.invariant.gone t made kept known) (g.W.Clocked.clock c.turn.new.world)
-      (progress_grows _ _ _ (c.turn.ensures.goes_on.progress f)) _ c.turn.new.player c.turn.new.store.book (c.turn.ensures.goes_on.joined t made)
+      (progress_grows _ _ _ (c.turn.ensures.goes_on.progress f)) _ _ c.turn.new.player c.turn.new.store.book (c.turn.ensures.goes_on.joined t made)
       (c.in_ok-at.ensures.goes_on.known t made);
   entered = λ entry e. c.in_ok-at.ensures.takes.entered entry (c.loop-at.invariant.entered entry e);
   truly = λ t made entry kept known fair e truly.
       let f = g.W.Clocked.server_with_files t in
-      so_on made (g.W.Clocked.clock c.args.world.now) (g.W.Clocked.clock c.loop-at.world) (permits_in c.loop-at.at) c.loop-at.player
+      so_on made (g.W.Clocked.clock c.args.world.now) (g.W.Clocked.clock c.loop-at.world) (permits_in c.loop-at.at) (held_in c.loop-at.at) c.loop-at.player
       c.loop-at.store.book
       kept (progress_grows _ _ _ (c.loop-at.invariant.progress f)) (c.loop-at.invariant.gone t made kept known) (g.W.Clocked.clock c.turn.new.world)
       (progress_grows _ _ _ (c.turn.ensures.goes_on.progress f)) (IsTrueSince entry made (g.W.Clocked.clock c.turn.new.world) c.turn.new.store.book) fair
@@ -279,13 +264,13 @@ loop-at-preserved g c = record {
       (c.loop-at.invariant.truly t made entry kept known first e truly) (λ disk. ok_no_err c.turn.result c.in_ok-at.at _ c.in_ok-at.was disk));
   synced = λ t made start grows kept known fair so.
       let f = g.W.Clocked.server_with_files t in
-      so_on made (g.W.Clocked.clock c.args.world.now) (g.W.Clocked.clock c.loop-at.world) (permits_in c.loop-at.at) c.loop-at.player
+      so_on made (g.W.Clocked.clock c.args.world.now) (g.W.Clocked.clock c.loop-at.world) (permits_in c.loop-at.at) (held_in c.loop-at.at) c.loop-at.player
       c.loop-at.store.book
       kept (progress_grows _ _ _ (c.loop-at.invariant.progress f)) (c.loop-at.invariant.gone t made kept known) (g.W.Clocked.clock c.turn.new.world)
       (progress_grows _ _ _ (c.turn.ensures.goes_on.progress f))
-      (IsSyncedSoFar start (g.W.Clocked.clock c.turn.new.world) c.turn.new.player c.turn.new.store.book) fair
-      (λ first here knows second. c.in_ok-at.ensures.synced t start (grows_then _ _ _ grows (progress_grows _ _ _ (c.loop-at.invariant.progress f)))
-      here second
+      (IsSyncedSoFar start (g.W.Clocked.clock c.turn.new.world) _ c.turn.new.player c.turn.new.store.book) fair
+      (λ first here knows second. c.in_ok-at.ensures.synced t made start (grows_then _ _ _ grows (progress_grows _ _ _ (c.loop-at.invariant.progress f)))
+      here knows second
       (c.loop-at.invariant.synced t made start grows kept known first so));
   runs = λ t. runs_on _ _ _ (c.loop-at.invariant.runs t) (c.in_ok-at.ensures.takes.turns t) c.in_ok-at.ensures.takes.falls;
   each_one_side = λ t. sides_then _ _ _ (c.loop-at.invariant.each_one_side t) (c.turn.ensures.goes_on.each_one_side t);

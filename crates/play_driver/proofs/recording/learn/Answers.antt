@@ -1,5 +1,5 @@
-use Rattle.std.proofs.Common.{rules, Some, ap, refl, subst, sym, ◌<◌, ◌≡◌, ◌∙◌}
-use Rattle.action_queue.specs.Book.{Meaning, after, meaning}
+use Rattle.std.proofs.Common.{rules, Option, Some, ap, subst, sym, ◌<◌, ◌≡◌, ◌∙◌}
+use Rattle.action_queue.specs.Book.{Meaning, after}
 use Rattle.playback.specs.Choosing.{IsEntered, committed}
 use Rattle.playback.specs.Needs.{IsBeside}
 use Rattle.playback.specs.Sound.{IsSound}
@@ -17,17 +17,18 @@ use Rattle.play_driver.proofs.OneTurn.{left_kept, no_reply_fault, records_turn, 
 use Rattle.play_driver.proofs.Progressing.{firm_left, later_event, outside_taken, there_or_not}
 use Rattle.play_driver.proofs.Reasons.{known_then, may_come, never_old, of_playback, ready}
 use Rattle.play_driver.proofs.Faulting.{told_as}
-use Rattle.play_driver.proofs.Recorded.{goes_recorded, learned_goes, learns_event, stands_still, truly_recorded, waits_some}
+use Rattle.play_driver.proofs.Recorded.{goes_recorded, learned_goes, learns_event, rested, stands_still, synced_rested, then_rested, truly_recorded, waits_some}
 use Rattle.play_driver.proofs.SyncedOn.{synced_on, synced_then}
-use Rattle.play_driver.proofs.ValidFaults.{records_other, turn_valid}
+use Rattle.play_driver.proofs.TurnsFall.{falls_rested}
+use Rattle.play_driver.specs.Holds.{HeldFits}
 use Rattle.play_driver.specs.Progress.{IsLater}
+use Rattle.play_driver.specs.Sessions.{held_in}
+use Rattle.play_driver.specs.declared.session.Held.{Held}
 use Rattle.play_driver.specs.Faults.{of_commit}
 use Rattle.play_driver.specs.Recording.{NotRecorded}
 use Rattle.world_traits.specs.LinkState.{LinkState}
 use Rattle.play_driver.specs.TrueRecords.{IsTrueBefore}
 use Rattle.play_driver.specs.Turning.TurnFails.{not_recorded}
-use Rattle.play_driver.specs.Turning.{standing_of}
-use Rattle.play_driver.specs.declared.fault.PlayFault.TheVariants as faults
 use Rattle.play_driver.proofs.recording.learn.Goals as goal
 
 pub enter_event-requires-clause-lawful : goal.enter_event-requires-clause-lawful
@@ -46,7 +47,7 @@ enter_event-requires-clause-fresh g c = never_old c.args.player.now c.args.store
 pub returns-in_err-enter_event-clause-goes_on : goal.returns-in_err-enter_event-clause-goes_on
 returns-in_err-enter_event-clause-goes_on g c =
     goes_recorded g.W.Clocked c.args.world.now c.enter_event.new.disk c.args.session c.args.player.now c.args.store.now c.learn-told.result _
-    c.requires.fold c.version-version.ensures.written c.requires.rests (learns_event c.args.player.now c.args.store.now.book _ c.learn-told.result c.book.ensures c.learn-told.ensures.value) c.requires.left c.enter_event.ensures.takes _ _ _ (search rules)
+    c.requires.fold c.version-version.ensures.written c.requires.rests c.requires.resting (learns_event c.args.player.now c.args.store.now.book _ c.learn-told.result c.book.ensures c.learn-told.ensures.value) c.requires.left c.enter_event.ensures.takes _ _ _ (search rules)
     c.enter_event.ensures.each_one_side c.enter_event.ensures.accuses.link
 
 pub returns-in_err-enter_event-clause-reasons : goal.returns-in_err-enter_event-clause-reasons
@@ -67,7 +68,7 @@ returns-in_err-enter_event-clause-reasons g c = record {
           at = g.W.Clocked.clock c.args.world.now;
           so_far = truly;
           truly = truly_recorded g.W.Clocked c.args.world.now c.enter_event.new.disk c.args.session c.args.player.now c.args.store.now c.learn-told.result _
-              c.requires.fold c.version-version.ensures.written c.requires.rests (learns_event c.args.player.now c.args.store.now.book _ c.learn-told.result c.book.ensures c.learn-told.ensures.value) c.requires.left c.enter_event.ensures.takes t made entry kept known entered;
+              c.requires.fold c.version-version.ensures.written c.requires.rests c.requires.resting (learns_event c.args.player.now c.args.store.now.book _ c.learn-told.result c.book.ensures c.learn-told.ensures.value) c.requires.left c.enter_event.ensures.takes t made entry kept known entered;
           takes = c.enter_event.ensures.takes (g.W.Clocked.server_with_files t);
         }),
   );
@@ -107,10 +108,6 @@ returns-in_err-enter_event-clause-excuses g c = record {
       no_reply_fault c.learn-told.result c.args.store.now fault
       (subst (NotRecorded c.learn-told.result c.args.store.now) (sym (told_as of_commit c.from_residual.result f c.from_residual.ensures.1 fault is))
       (c.enter_event.ensures.why f c.in_err-enter_event.was));
-  valid = λ t made kept known fair none box was now is.
-      turn_valid (standing_of (g.W.Clocked.link c.args.world.now) c.args.session c.args.store.now c.args.player.now) _ (faults.Validity box was now)
-      ((returns-in_err-enter_event-clause-takes g c).why (g.W.Clocked.server_with_files t) (faults.Validity box was now) is)
-      (records_other _ _ (learns_event c.args.player.now c.args.store.now.book _ c.learn-told.result c.book.ensures c.learn-told.ensures.value)) box was now refl;
 }
 
 -- it is recorded
@@ -122,15 +119,17 @@ returns-clause-goes_on g c =
     let is : c.enter_event.new.store.book ≡ after s.book event = ap (λ (t : Holding mail). t.book) c.in_ok-enter_event.ensures.value in
     let goes = learned_goes p c.learn-told.new.self s.book _ event c.book.ensures c.learn-told.ensures.goes in
     goes_recorded g.W.Clocked c.args.world.now c.enter_event.new.disk c.args.session p s event _
-    c.requires.fold c.version-version.ensures.written c.requires.rests (learns_event c.args.player.now c.args.store.now.book _ c.learn-told.result c.book.ensures c.learn-told.ensures.value) c.requires.left c.enter_event.ensures.takes c.learn-told.new.self c.enter_event.new.store.book _
-    (λ t made stands known. known_then p c.learn-told.new.self s.book c.enter_event.new.store.book event is (goes ∙ ap (committed p) (sym is))
-    made _ _ (known_law.records p s.book event s.journal.version _ made _ _ stands known (learns_event c.args.player.now c.args.store.now.book _ c.learn-told.result c.book.ensures c.learn-told.ensures.value)
+    c.requires.fold c.version-version.ensures.written c.requires.rests c.requires.resting (learns_event c.args.player.now c.args.store.now.book _ c.learn-told.result c.book.ensures c.learn-told.ensures.value) c.requires.left c.enter_event.ensures.takes c.learn-told.new.self c.enter_event.new.store.book _
+    (λ t made stands known. then_rested g.W.Clocked c.args.world.now c.enter_event.new.disk c.args.session p s event _ c.requires.fold c.version-version.ensures.written c.requires.rests c.requires.resting (learns_event c.args.player.now c.args.store.now.book _ c.learn-told.result c.book.ensures c.learn-told.ensures.value) c.requires.left c.enter_event.ensures.takes made c.learn-told.new.self c.enter_event.new.store.book
+    (known_then p c.learn-told.new.self s.book c.enter_event.new.store.book event is (goes ∙ ap (committed p) (sym is))
+    made _ _ (known_law.records p s.book event s.journal.version _ made _ _ stands
+    (rested g.W.Clocked c.args.world.now c.enter_event.new.disk c.args.session p s event _ c.requires.fold c.version-version.ensures.written c.requires.rests c.requires.resting (learns_event c.args.player.now c.args.store.now.book _ c.learn-told.result c.book.ensures c.learn-told.ensures.value) c.requires.left c.enter_event.ensures.takes made known) (learns_event c.args.player.now c.args.store.now.book _ c.learn-told.result c.book.ensures c.learn-told.ensures.value)
     (may_come s.journal.version c.version-version.ensures.written p s.book event c.requires.fold c.requires.rests.beside (learns_event c.args.player.now c.args.store.now.book _ c.learn-told.result c.book.ensures c.learn-told.ensures.value))
-    (c.enter_event.ensures.takes (g.W.Clocked.server_with_files t))))
+    (c.enter_event.ensures.takes (g.W.Clocked.server_with_files t)))))
     c.enter_event.ensures.each_one_side c.enter_event.ensures.accuses.link
 
 pub returns-clause-synced : goal.returns-clause-synced
-returns-clause-synced g c = λ t start first kept fair so_far.
+returns-clause-synced g c = λ t made start first kept known fair so_far.
     let files = g.W.Clocked.server_with_files t in
     let p = c.args.player.now in
     let s = c.args.store.now in
@@ -143,15 +142,16 @@ returns-clause-synced g c = λ t start first kept fair so_far.
     let books =
     subst (λ (b : Meaning). HasBooks mail (Firm (Some b)) new.now) is
     (firm_left c.enter_event.new.store new _ (c.in_ok-enter_event.ensures.left files)) in
-    synced_then p c.learn-told.new.self s.book c.enter_event.new.store.book event is (goes ∙ ap (committed p) (sym is)) start new
-    (synced_on start old new p s.book event c.requires.rests.beside (learns_event c.args.player.now c.args.store.now.book _ c.learn-told.result c.book.ensures c.learn-told.ensures.value) lawful first (c.enter_event.ensures.takes files) books so_far)
+    synced_rested g.W.Clocked c.args.world.now c.enter_event.new.disk c.args.session p s event _ c.requires.fold c.version-version.ensures.written c.requires.rests c.requires.resting (learns_event c.args.player.now c.args.store.now.book _ c.learn-told.result c.book.ensures c.learn-told.ensures.value) c.requires.left c.enter_event.ensures.takes start c.learn-told.new.self c.enter_event.new.store.book
+    (λ so_free. synced_then p c.learn-told.new.self s.book c.enter_event.new.store.book event is (goes ∙ ap (committed p) (sym is)) start new
+    (synced_on start old new p s.book event c.requires.rests.beside (learns_event c.args.player.now c.args.store.now.book _ c.learn-told.result c.book.ensures c.learn-told.ensures.value) lawful first (c.enter_event.ensures.takes files) books so_free)) so_far
 
 pub returns-clause-reasons : goal.returns-clause-reasons
 returns-clause-reasons g c = record {
   truly = λ t made entry kept known others entered truly not.
       true_more c.args.store.now c.enter_event.new.store c.learn-told.result c.in_ok-enter_event.ensures.value entry made _ _ truly
       (truly_recorded g.W.Clocked c.args.world.now c.enter_event.new.disk c.args.session c.args.player.now c.args.store.now c.learn-told.result _
-      c.requires.fold c.version-version.ensures.written c.requires.rests (learns_event c.args.player.now c.args.store.now.book _ c.learn-told.result c.book.ensures c.learn-told.ensures.value) c.requires.left c.enter_event.ensures.takes t made entry kept known entered)
+      c.requires.fold c.version-version.ensures.written c.requires.rests c.requires.resting (learns_event c.args.player.now c.args.store.now.book _ c.learn-told.result c.book.ensures c.learn-told.ensures.value) c.requires.left c.enter_event.ensures.takes t made entry kept known entered)
       (c.enter_event.ensures.takes (g.W.Clocked.server_with_files t));
   stopped = search rules;
 }
@@ -166,7 +166,7 @@ returns-clause-takes g c =
     record {
       turns = λ t.
           records_turn s c.enter_event.new.store event c.in_ok-enter_event.ensures.value (g.W.Clocked.link c.args.world.now)
-          (g.W.Clocked.link c.enter_event.new.disk) c.args.session p c.learn-told.new.self c.enter_event.ensures.accuses.link
+          (g.W.Clocked.link c.enter_event.new.disk) c.args.session p c.learn-told.new.self c.requires.resting c.enter_event.ensures.accuses.link
           (goes ∙ ap (committed p) (sym is)) (learns_event c.args.player.now c.args.store.now.book _ c.learn-told.result c.book.ensures c.learn-told.ensures.value);
       why = search rules;
       same = search rules;
@@ -176,9 +176,10 @@ returns-clause-takes g c =
           subst (λ (b : Meaning). IsEntered entry c.learn-told.new.self b) (sym is)
           (subst (λ (b : Meaning). IsSound b → IsEntered entry p b → IsEntered entry c.learn-told.new.self (after b event)) c.book.ensures
           (c.learn-told.ensures.entered entry) (fold_sound s.book c.requires.fold) entered);
-      falls = subst (λ (b : Meaning). left c.learn-told.new.self b < left p s.book) (sym is)
+      falls = falls_rested (held_in c.args.session) c.requires.resting p c.learn-told.new.self s.book c.enter_event.new.store.book
+          (subst (λ (b : Meaning). left c.learn-told.new.self b < left p s.book) (sym is)
           (subst (λ (b : Meaning). IsSound b → IsBeside p b → left c.learn-told.new.self (after b event) < left p b) c.book.ensures
-          c.learn-told.ensures.falls (fold_sound s.book c.requires.fold) c.requires.rests.beside);
+          c.learn-told.ensures.falls (fold_sound s.book c.requires.fold) c.requires.rests.beside));
       counted = search rules;
     }
 
@@ -193,11 +194,12 @@ returns-clause-rests g c =
       beside = subst (IsBeside c.learn-told.new.self) (sym is)
           (subst (λ (b : Meaning). IsBeside p b → IsBeside c.learn-told.new.self (after b event)) c.book.ensures
           c.learn-told.ensures.beside c.requires.rests.beside);
-      selected = ap (λ (x : Player). name_of x.selected) goes ∙ c.requires.rests.selected;
+      selected = λ none. ap (λ (x : Player). name_of x.selected) goes ∙ c.requires.rests.selected none;
       stands = λ t. stands_still _ _ _ _ _ _
           (outside_taken s.book event _ _ (c.enter_event.ensures.takes (g.W.Clocked.server_with_files t)))
           (ap (λ (l : LinkState). l.connection) c.enter_event.ensures.accuses.link) (c.requires.rests.stands t);
       still = search rules;
+      held = subst (λ (h : Option Held). HeldFits h c.learn-told.new.self c.enter_event.new.store.book) (sym c.requires.resting) tt;
     }
 
 pub returns-clause-stored : goal.returns-clause-stored
