@@ -191,7 +191,6 @@ meaning() {
         5) echo 'the server refused, as its line says. What was accepted is kept: a password, or a mailbox that is not there?' ;;
         6) echo "the server's answer was not as IMAP has it. What was accepted is kept: see TROUBLESHOOTING by the printed line" ;;
         7) echo 'the server or the mailbox lacks what is needed. What was accepted is kept: see SERVERS' ;;
-        8) echo 'the mailbox was recreated on the server. What was accepted is kept, but cannot be played there: see TROUBLESHOOTING' ;;
         9) echo 'there is no journal here, or it cannot be used. Nothing was written: mowerbean init makes one, or see TROUBLESHOOTING' ;;
         10) echo 'refused, for the printed reason. Nothing was written, and what was accepted before is kept' ;;
         11) echo 'out of memory. What was accepted before is kept: try again' ;;

@@ -57,13 +57,13 @@ error_reply_lacks item = codes "error reply lacks " ++ item_name item ++ 10 ∷ 
 abbrev pub error_reply_modseq : ℕ → ℕ → List ℕ
 error_reply_modseq kept told = codes "error reply modseq " ++ decimal kept ++ 32 ∷ decimal told ++ 10 ∷ []
 
+-- the UIDVALIDITY that was told of the mailbox is below that of its cache, or of an action's message or intent
+abbrev pub error_reply_validity : List ℕ → ℕ → ℕ → List ℕ
+error_reply_validity name kept told = codes "error reply validity " ++ name ++ 32 ∷ decimal kept ++ 32 ∷ decimal told ++ 10 ∷ []
+
 -- the server lacks a thing that this client needs
 abbrev pub error_lacking : Item → List ℕ
 error_lacking item = codes "error lacking " ++ item_name item ++ 10 ∷ []
-
--- the mailbox has another UIDVALIDITY than its cache, or than an action's target
-abbrev pub error_validity : List ℕ → ℕ → ℕ → List ℕ
-error_validity name kept told = codes "error validity " ++ name ++ 32 ∷ decimal kept ++ 32 ∷ decimal told ++ 10 ∷ []
 
 -- a limit's name
 abbrev pub limit_name : Limit → List ℕ

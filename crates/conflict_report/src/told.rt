@@ -2,7 +2,7 @@
 
 ghost use Rattle.std.specs.Prelude.{◌≡◌, ◌++◌, ◌≤◌, ◌<◌, ◌+◌, ◌∷◌, [], ℕ, length, decimal};
 ghost use Rattle.conflict_report.specs.StatusLines.{played, shown_byte, error_refused, item_name, error_reply_at, error_reply_lacks, error_reply_modseq};
-ghost use Rattle.conflict_report.specs.StatusLines.{error_lacking, error_validity, limit_name, error_limit};
+ghost use Rattle.conflict_report.specs.StatusLines.{error_lacking, error_reply_validity, limit_name, error_limit};
 ghost use Rattle.imap_model.specs.declared.limit.Limit.TheVariants as limits;
 ghost use Rattle.mail_base.specs.Lines.{limit_journal, numbered};
 
@@ -90,24 +90,24 @@ impl Told {
         line
     }
 
-    /// `error lacking NAME`: the server lacks a thing that this client needs.
-    pub fn error_lacking(item: Item) -> Told
-        ensures { result ≡ error_lacking item }
+    /// `error reply validity BOX KEPT TOLD`: the UIDVALIDITY that was told of the mailbox is below that of its cache, or of an
+    /// action's message or intent.
+    pub fn error_reply_validity(name: &BoxName, kept: Validity, told: Validity) -> Told
+        ensures { result ≡ error_reply_validity name.now kept told }
     {
-        Told::named(b"error lacking ", item_name(item))
-    }
-
-    /// `error validity BOX KEPT TOLD`: the mailbox has another UIDVALIDITY than its cache, or than an
-    /// action's target.
-    pub fn error_validity(name: &BoxName, kept: Validity, told: Validity) -> Told
-        ensures { result ≡ error_validity name.now kept told }
-    {
-        let mut line = Told::begun(b"error validity ");
+        let mut line = Told::begun(b"error reply validity ");
         line.put(name.as_bytes());
         line.put_spaced(u64::from(kept.number()));
         line.put_spaced(u64::from(told.number()));
         line.end();
         line
+    }
+
+    /// `error lacking NAME`: the server lacks a thing that this client needs.
+    pub fn error_lacking(item: Item) -> Told
+        ensures { result ≡ error_lacking item }
+    {
+        Told::named(b"error lacking ", item_name(item))
     }
 
     /// `error limit NAME NUMBER`: a limit is passed by this number.

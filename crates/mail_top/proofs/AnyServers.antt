@@ -19,7 +19,6 @@ use Rattle.play_driver.specs.SendsOnce.{SendsOnce}
 use Rattle.mail_top.specs.Actions.{accepts}
 use Rattle.mail_top.specs.AnyServer.{HoldsOn, IsWhole, StandsAny, StaysWhole}
 use Rattle.mail_top.specs.Leaving.{IsAdding, IsPlayingRead, KeepsStep, LosesNone, MayBeLeft}
-use Rattle.mail_top.specs.Runs.{AreBook}
 use Rattle.mail_top.specs.Showing.{OnlyReads}
 use Rattle.mail_top.specs.Words.{Wanted, Act, Play}
 use Rattle.mail_top.proofs.Repeated.{held_self, held_then}

@@ -27,6 +27,7 @@ use Rattle.playback.specs.Sound.{HasIntent}
 use Rattle.playback.proofs.Deeds.{batch_none, batch_ours, batch_owned}
 use Rattle.playback.proofs.Facts.{fresh_evolves}
 use Rattle.playback.proofs.Foreign.{of_after, others_keep, spared_same}
+use Rattle.playback.proofs.Reaching.{others_reached}
 use Rattle.store_core.specs.Mail.{mail}
 use Rattle.play_driver.specs.Machine.{Withstands}
 use Rattle.play_driver.proofs.PlayedKept.{withstood}
@@ -51,6 +52,7 @@ module _ (b : Meaning) (s t : Server) (waiting : Option Waiting) (kept : KeptBoo
         };
         open_intent = λ intent p q e. absurd (let clash : None ≡ Some intent = sym none ∙ p in cc);
         fresh = fresh_evolves b s.boxes t.boxes all.1 kept.fresh;
+        reached = others_reached b s t foreign all.1 kept.reached;
         waits = λ m. of_after b s t m.command foreign (subst (λ (o : Option Waiting). KeepsWaiting o s.boxes t.boxes) m.waits keeps) (kept.waits m);
       }
 
@@ -101,7 +103,7 @@ same_waiting : (waiting : Option Waiting) (boxes : List Mailbox) → KeepsWaitin
 same_waiting None boxes = tt
 same_waiting (Some w) boxes = same_box w.selected boxes
 
-spared_between : (b : Option Meaning) (p : Peer) → SparesBetween b p p.server
+pub spared_between : (b : Option Meaning) (p : Peer) → SparesBetween b p p.server
 spared_between None p = tt
 spared_between (Some b) p = record {
   append = λ to validity uidnext pending. spared_same (Some b) p.server;

@@ -262,7 +262,7 @@ module _ (account : Credentials) (k : Course) (b : Meaning) (holds : HasBook mai
   play_done status.Refused text ends no_disk no_output no_link no_limit serves = absurd (serves tt)
   play_done status.Reply text ends no_disk no_output no_link no_limit serves = absurd (serves tt)
   play_done status.Lacking text ends no_disk no_output no_link no_limit serves = absurd (serves tt)
-  play_done status.Validity text ends no_disk no_output no_link no_limit serves = absurd (serves tt)
+  play_done status.Validity text ends no_disk no_output no_link no_limit serves = absurd ends
   play_done status.Input text ends no_disk no_output no_link no_limit serves = absurd ends
   play_done status.Shelf text ends no_disk no_output no_link no_limit serves = absurd ends
 

@@ -1,5 +1,6 @@
 -- A command that works with the files alone is joined: each moment is kept, by a step of the book beside the server.
 use Rattle.std.proofs.Common.{◌≡◌, ◌⊎◌, inl, inr, ℕ, List, Bool, Option, Some, None, refl, sym, subst}
+use Rattle.std.proofs.lemmas.Option.{same_Some}
 use Rattle.imap_model.specs.Carrying.{Waiting}
 use Rattle.imap_model.specs.Talking.{Peer}
 use Rattle.imap_model.specs.declared.server.Server.{Server}
@@ -7,12 +8,19 @@ use Rattle.world_traits.specs.Links.{Any}
 use Rattle.world_traits.specs.Moments.{Moment, Clock, Since}
 use Rattle.world_traits.proofs.Passing.{since_weaker}
 use Rattle.world_traits.proofs.Traces.{since_carry}
-use Rattle.action_queue.specs.Book.{Meaning}
+use Rattle.action_queue.specs.Book.{Meaning, cache_at}
 use Rattle.action_queue.specs.Writable.{IsWritable}
 use Rattle.action_queue.specs.declared.action.Action.{Action}
 use Rattle.action_queue.specs.declared.event.Event.{Event}
+use Rattle.action_queue.specs.declared.target.Target.{Target}
+use Rattle.action_queue.specs.declared.target.Target.TheVariants as targets
+use Rattle.local_view.specs.declared.seen.Ident.{Ident}
+use Rattle.local_view.specs.declared.seen.Ident.TheVariants as ident
+use Rattle.mailbox_cache.specs.declared.cache.Cache.{Cache}
+use Rattle.playback.specs.Fresh.{Fresh}
 use Rattle.playback.specs.Kept.{Kept}
 use Rattle.playback.specs.Permitted.{Permits}
+use Rattle.playback.specs.Reached.{ActionReached, TargetReached}
 use Rattle.store_core.specs.Mail.{mail}
 use Rattle.store_core.specs.Steps.{Books, MakesFirm, Chooses, EachBook}
 use Rattle.store_core.proofs.MailBook.{one_mail_event}
@@ -25,11 +33,11 @@ use Rattle.play_driver.proofs.Kept.{kept_books}
 use Rattle.play_driver.proofs.Steps.{joined_keeps}
 use Rattle.play_driver.proofs.Parts.{since_first}
 use Rattle.play_driver.proofs.PlayedKept.{withstood}
-use Rattle.mail_top.specs.Actions.{next_id, accepts}
+use Rattle.mail_top.specs.Actions.{Becomes, next_id, accepts, target_in}
 use Rattle.mail_top.specs.KeptNow.{IsKeptNow, StaysKept}
 use Rattle.mail_top.specs.Leaving.{IsDue, BeginsDue, RequestStep}
 use Rattle.mail_top.specs.Weighing.{Admits}
-use Rattle.mail_top.specs.Words.{Wanted, Request, Init, Act, Rows, Queue, Report, Play, HasFewFlags}
+use Rattle.mail_top.specs.Words.{Wanted, Request, Init, Act, Rows, Queue, Report, Play, HasFewFlags, Flag, Move, Append}
 use Rattle.mail_top.proofs.Repeated.{outside_same}
 use Rattle.mail_top.proofs.Admitting.{admitted_writable}
 
@@ -48,6 +56,25 @@ pub action_records : (wanted : Wanted) → HasFewFlags wanted → HasRecords (Ac
 action_records wanted few other b action is admits =
     let same : wanted ≡ other = cc in admitted_writable other b (next_id b) action (subst HasFewFlags same few) admits
 
+-- the target of a message names what its mailbox has reached
+target_reached : (b : Meaning) (s : Server) → Fresh b s.boxes → (name : List ℕ) (id : Ident) (target : Target) (o : Option Cache) →
+    cache_at name b.boxes ≡ o → target_in name o id ≡ Some target → TargetReached s.boxes target
+target_reached b s fresh name (ident.Real uid) target None is of = absurd (cc)
+target_reached b s fresh name (ident.Real uid) target (Some cache) is of =
+    let f = fresh name cache is in
+    subst (TargetReached s.boxes) (same_Some (targets.Real name cache.validity uid) target of)
+    (record { box = f.box; there = f.there; not_below = f.not_below; facts = λ _. tt })
+target_reached b s fresh name (ident.Dummy n) target None is of = subst (TargetReached s.boxes) (same_Some (targets.Dummy n) target of) tt
+target_reached b s fresh name (ident.Dummy n) target (Some cache) is of = subst (TargetReached s.boxes) (same_Some (targets.Dummy n) target of) tt
+
+becomes_reached : (wanted : Wanted) (b : Meaning) (s : Server) (action : Action) → Fresh b s.boxes → Becomes wanted b action →
+    ActionReached s.boxes action
+becomes_reached (Flag change) b s action fresh x =
+    subst (ActionReached s.boxes) (sym x.is) (target_reached b s fresh change.name change.id x.target (cache_at change.name b.boxes) refl x.of)
+becomes_reached (Move transfer) b s action fresh x =
+    subst (ActionReached s.boxes) (sym x.is) (target_reached b s fresh transfer.name transfer.id x.target (cache_at transfer.name b.boxes) refl x.of)
+becomes_reached (Append addition input) b s action fresh x = subst (ActionReached s.boxes) (sym x.is) tt
+
 -- an event that is due is permitted
 permitted : (request : Request) → (request ≡ Play → ⊥) → HasRecords request → (b : Option Meaning) (e : Event) (s : Server) (w : Option Waiting) →
     IsDue request b e → Kept b s w → Permits b e s w
@@ -57,7 +84,8 @@ permitted (Init names) never writable b e s w due u =
     (subst (λ (y : Event). Permits None y s w) (sym due.1) (none.none, none.quiet))
 permitted (Act wanted) never writable None e s w due u = absurd due
 permitted (Act wanted) never writable (Some b) e s w due u =
-    subst (λ (y : Event). Permits (Some b) y s w) (sym due.2) (writable wanted b due.0 refl due.1)
+    subst (λ (y : Event). Permits (Some b) y s w) (sym due.2)
+    (writable wanted b due.0 refl due.1, becomes_reached wanted b s due.0 u.fresh due.1.is)
 permitted (Rows name) never writable b e s w due u = absurd due
 permitted Queue never writable b e s w due u = absurd due
 permitted Report never writable b e s w due u = absurd due

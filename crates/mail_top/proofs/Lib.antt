@@ -18,6 +18,7 @@ pub mod Openings
 pub mod PlaySteps
 pub mod MadeReady
 pub mod Recording
+pub mod Renewals
 pub mod Repeated
 pub mod Sayings
 pub mod Showings

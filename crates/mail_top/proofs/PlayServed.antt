@@ -20,14 +20,13 @@ use Rattle.play_driver.specs.Faults.{ComesAnyway}
 use Rattle.play_driver.specs.Grounds.{AreBoxes}
 use Rattle.play_driver.specs.Joining.{Grows}
 use Rattle.play_driver.specs.Progress.{IsPlaying, PlayStep, Progresses, box_names}
-use Rattle.play_driver.specs.Renewed.{NoneRenewed}
 use Rattle.play_driver.specs.Serving.{AllServing, IsServing}
 use Rattle.play_driver.specs.declared.fault.PlayFault.{PlayFault}
 use Rattle.play_driver.specs.declared.fault.PlayFault.TheVariants as faults
 use Rattle.play_driver.specs.declared.played.Played.{Played}
 use Rattle.play_driver.proofs.Longer.{in_order}
 use Rattle.play_driver.proofs.Parts.{grows, grows_start, since_second}
-use Rattle.mail_top.specs.CompletePlay.{IsTheServers, WaitsForNone}
+use Rattle.mail_top.specs.CompletePlay.{HasEachBox, IsTheServers}
 use Rattle.mail_top.specs.Faults.{of_store}
 use Rattle.mail_top.specs.Telling.{status_of_conflicts, status_of_fault, status_of_play, status_of_refusal}
 use Rattle.mail_top.specs.declared.unfinished.Unfinished.{Unfinished}
@@ -55,15 +54,11 @@ serving_behind P b k l n readies goes a =
     (λ (g : Grows l a.made). record { made = a.made; before = g; fresh = a.fresh; hello = a.hello; later = a.later })
     (in_order k a.made l n a.before rest first more)
 
--- Nor was a mailbox made anew, and each is there still.
+-- and each mailbox is there still
 module _ (files : Files) (b : Meaning) (m n : Moment) (holds : HasBook mail b files) (same : n.outside ≡ m.outside)
-    (w : WaitsForNone files m.outside.server) where
+    (w : HasEachBox files m.outside.server) where
   one_book : w.book ≡ b
   one_book = one_held mail one_mail_event files w.book b w.holds holds
-
-  pub none_behind : NoneRenewed b n.outside.server
-  none_behind =
-      subst (λ (p : Peer). NoneRenewed b p.server) (sym same) (subst (λ (x : Meaning). NoneRenewed x m.outside.server) one_book w.none)
 
   pub boxes_behind : AreBoxes (box_names b) n.outside.server
   boxes_behind =
@@ -78,7 +73,6 @@ fault_serves faults.Link comes bad = bad
 fault_serves (faults.Refused line) comes bad = comes
 fault_serves (faults.BadReply why) comes bad = comes
 fault_serves (faults.Lacking what) comes bad = comes
-fault_serves (faults.Validity name kept told) comes bad = comes
 fault_serves (faults.Limit which number) comes bad = bad
 
 store_serves : (x : StoreFault) → IsTheServers (status_of_refusal (of_store x)) → ⊥

@@ -178,7 +178,6 @@ module _ {S : Type 0} (o : Result S PlayFault) (seen : Files) (k l n : Clock) (b
   truly_stopped (faults.Refused line) was = undamaged (λ is. cc (was, is))
   truly_stopped (faults.BadReply why) was = undamaged (λ is. cc (was, is))
   truly_stopped (faults.Lacking what) was = undamaged (λ is. cc (was, is))
-  truly_stopped (faults.Validity name kept told) was = undamaged (λ is. cc (was, is))
   truly_stopped (faults.Limit which number) was = undamaged (λ is. cc (was, is))
 
 -- a side is at rest at the end

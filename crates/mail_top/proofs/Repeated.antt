@@ -319,7 +319,7 @@ play_names names b (events.Intend id intent) of_play has = has
 play_names names b (events.Settle id outcome) of_play has = has
 play_names names b (events.Learn name delta) of_play has = put_names name (Some (learned (cache_at name b.boxes) delta)) b.boxes ∙ has
 play_names names b (events.Old id action outcome) of_play has = absurd of_play
-play_names names b (events.Reset name kept told) of_play has = absurd of_play
+play_names names b (events.Reset name kept told) of_play has = put_names name None b.boxes ∙ has
 play_names names b (events.Withdraw id tries) of_play has = absurd of_play
 
 -- an event that may be begun behind a book leaves its mailboxes

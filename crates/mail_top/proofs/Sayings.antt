@@ -108,7 +108,6 @@ module _ (account : Credentials) (k : Course) where
   by_fault (faults.Refused line) s = s
   by_fault (faults.BadReply why) s = s
   by_fault (faults.Lacking what) s = s
-  by_fault (faults.Validity name kept told) s = s
   by_fault (faults.Limit which number) s = s
 
   pub stopped_play : {T : Type 0} (opened store : Holding mail) (o : Result T PlayFault) (r : Result Played Unfinished) (x : PlayFault) → o ≡ Err x →
@@ -163,7 +162,6 @@ disk_fault faults.Link is = absurd cc
 disk_fault (faults.Refused line) is = absurd cc
 disk_fault (faults.BadReply why) is = absurd cc
 disk_fault (faults.Lacking what) is = absurd cc
-disk_fault (faults.Validity name kept told) is = absurd cc
 disk_fault (faults.Limit which number) is = absurd cc
 
 link_fault : (x : PlayFault) → status_of_fault x ≡ status.Link → x ≡ faults.Link
@@ -173,7 +171,6 @@ link_fault faults.Link is = refl
 link_fault (faults.Refused line) is = absurd cc
 link_fault (faults.BadReply why) is = absurd cc
 link_fault (faults.Lacking what) is = absurd cc
-link_fault (faults.Validity name kept told) is = absurd cc
 link_fault (faults.Limit which number) is = absurd cc
 
 reply_fault : (x : PlayFault) → ((why : Why) → x ≡ faults.BadReply why → ⊥) → status_of_fault x ≡ status.Reply → ⊥
@@ -183,7 +180,6 @@ reply_fault faults.Link never is = absurd cc
 reply_fault (faults.Refused line) never is = absurd cc
 reply_fault (faults.BadReply why) never is = never why refl
 reply_fault (faults.Lacking what) never is = absurd cc
-reply_fault (faults.Validity name kept told) never is = absurd cc
 reply_fault (faults.Limit which number) never is = absurd cc
 
 module _ {S : Type 0} (o : Result S StoreFault) (r : Result Played Unfinished) (x : StoreFault) (was : o ≡ Err x)
@@ -241,7 +237,6 @@ why_told faults.Link honest is = absurd cc
 why_told (faults.Refused line) honest is = absurd cc
 why_told (faults.BadReply why) honest is = record { why = why; text_is = refl; no_place = λ at same. honest at (ap faults.BadReply same) }
 why_told (faults.Lacking what) honest is = absurd cc
-why_told (faults.Validity name kept told) honest is = absurd cc
 why_told (faults.Limit which number) honest is = absurd cc
 
 -- a run that came to its end has one of two statuses
@@ -324,7 +319,7 @@ played_reply p is = other_done p.conflicts status.Reply is (λ e. cc e) (λ e. c
 -- what holds of each status that comes of `play` holds of its ending's
 module _ (P : Status → Type 0) (done : P status.Done) (conflicts : P status.Conflicts) (memory : P status.Memory) (disk : P status.Disk)
     (journal : P status.Journal) (limit : P status.Limit) (link : P status.Link) (refused : P status.Refused) (reply : P status.Reply)
-    (lacking : P status.Lacking) (validity : P status.Validity) where
+    (lacking : P status.Lacking) where
   at_store : (x : StoreFault) → P (status_of_refusal (of_store x))
   at_store stores.Memory = memory
   at_store stores.Disk = disk
@@ -339,7 +334,6 @@ module _ (P : Status → Type 0) (done : P status.Done) (conflicts : P status.Co
   at_fault (faults.Refused line) = refused
   at_fault (faults.BadReply why) = reply
   at_fault (faults.Lacking what) = lacking
-  at_fault (faults.Validity name kept told) = validity
   at_fault (faults.Limit which number) = limit
 
   at_conflicts : (n : ℕ) → P (status_of_conflicts n)
@@ -357,17 +351,17 @@ module _ (P : Status → Type 0) (done : P status.Done) (conflicts : P status.Co
 pub play_prints : (r : Result Played Unfinished) (s : Status) → s ≡ status_of_play r → s ≡ status.Output → ⊥
 play_prints r s = of_play (λ (t : Status). t ≡ status.Output → ⊥)
     (λ e. cc e) (λ e. cc e) (λ e. cc e) (λ e. cc e) (λ e. cc e) (λ e. cc e)
-    (λ e. cc e) (λ e. cc e) (λ e. cc e) (λ e. cc e) (λ e. cc e) r s
+    (λ e. cc e) (λ e. cc e) (λ e. cc e) (λ e. cc e) r s
 
 pub play_asked : (r : Result Played Unfinished) (s : Status) → s ≡ status_of_play r → s ≡ status.Words → ⊥
 play_asked r s = of_play (λ (t : Status). t ≡ status.Words → ⊥)
     (λ e. cc e) (λ e. cc e) (λ e. cc e) (λ e. cc e) (λ e. cc e) (λ e. cc e)
-    (λ e. cc e) (λ e. cc e) (λ e. cc e) (λ e. cc e) (λ e. cc e) r s
+    (λ e. cc e) (λ e. cc e) (λ e. cc e) (λ e. cc e) r s
 
 pub play_reads : (r : Result Played Unfinished) (s : Status) → s ≡ status_of_play r → s ≡ status.Input → ⊥
 play_reads r s = of_play (λ (t : Status). t ≡ status.Input → ⊥)
     (λ e. cc e) (λ e. cc e) (λ e. cc e) (λ e. cc e) (λ e. cc e) (λ e. cc e)
-    (λ e. cc e) (λ e. cc e) (λ e. cc e) (λ e. cc e) (λ e. cc e) r s
+    (λ e. cc e) (λ e. cc e) (λ e. cc e) (λ e. cc e) r s
 
 -- a run whose status says so came to its end
 through_store : (x : StoreFault) → CameThrough (status_of_refusal (of_store x)) → ⊥
@@ -384,7 +378,6 @@ through_fault faults.Link is = is
 through_fault (faults.Refused line) is = is
 through_fault (faults.BadReply why) is = is
 through_fault (faults.Lacking what) is = is
-through_fault (faults.Validity name kept told) is = is
 through_fault (faults.Limit which number) is = is
 
 through_ok : (r : Result Played Unfinished) (P : Type 0) → CameThrough (status_of_play r) → OnOk r P → P

@@ -90,7 +90,8 @@ module _ (place : ℕ) (outcome : Outcome) where
   event_ends entry b made now (events.Learn name delta) so_far of_play truly new before ended =
       inl (record { queued = ended.queued; there = ended.there; ended = ended.ended })
   event_ends entry b made now (events.Old id action other) so_far of_play truly new before ended = absurd of_play
-  event_ends entry b made now (events.Reset name kept told) so_far of_play truly new before ended = absurd of_play
+  event_ends entry b made now (events.Reset name kept told) so_far of_play truly new before ended =
+      inl (record { queued = ended.queued; there = ended.there; ended = ended.ended })
   event_ends entry b made now (events.Withdraw id tries) so_far of_play truly new before ended = absurd of_play
 
   longer : (entry : Meaning) (made now new : Clock) → Grows now new → EndsSince place outcome entry made now → EndsSince place outcome entry made new

@@ -12,7 +12,7 @@ use Rattle.play_driver.specs.Joining.{AllFair, Grows}
 use Rattle.play_driver.specs.Played.{played}
 use Rattle.play_driver.specs.Serving.{AllServing}
 use Rattle.mail_top.specs.AnyServer.{StandsAny}
-use Rattle.mail_top.specs.CompletePlay.{IsTheServers, WaitsForNone}
+use Rattle.mail_top.specs.CompletePlay.{HasEachBox, IsTheServers}
 use Rattle.mail_top.specs.Connecting.{Connects}
 use Rattle.mail_top.specs.Headline.{StaysOnce}
 use Rattle.mail_top.specs.KeptNow.{IsKeptNow, StaysKept}
@@ -54,7 +54,7 @@ pub record BesideServer {Self : Type 0} (W : Ghosts Self) (seen : Self → Files
   pub truly : IsPlay → Fairly W old new → PlaysTruly (seen old) (W.clock old) (W.clock new)
   pub surely : IsPlay → (s ≡ status.Disk → ⊥) → Fairly W old new → EndsSurely (seen old) (seen new)
   pub synced : IsPlay → CameThrough s → Fairly W old new → AreSynced (seen new) (W.clock old) (W.clock new)
-  pub serves : IsPlay → Fairly W old new → AllServing (W.clock old) (W.clock new) → WaitsForNone (seen old) (W.clock old).now.outside.server →
+  pub serves : IsPlay → Fairly W old new → AllServing (W.clock old) (W.clock new) → HasEachBox (seen old) (W.clock old).now.outside.server →
       IsTheServers s → ⊥
   pub faultless : Fairly W old new → s ≡ status.Reply → ⊥
   pub honest : W.tells_server → s ≡ status.Reply → TellsNoPlace text

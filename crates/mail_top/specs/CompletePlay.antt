@@ -9,16 +9,14 @@ use Rattle.store_core.specs.Mail.{mail}
 use Rattle.store_core.specs.Books.{HasBook}
 use Rattle.play_driver.specs.Grounds.{AreBoxes}
 use Rattle.play_driver.specs.Progress.{box_names}
-use Rattle.play_driver.specs.Renewed.{NoneRenewed}
 
--- the files hold a book, each of its mailboxes is there, and none was made anew of which it knows something
-pub record WaitsForNone (files : Files) (s : Server) : Type 0 where
+-- the files hold a book, and the server has each of its mailboxes
+pub record HasEachBox (files : Files) (s : Server) : Type 0 where
   pub book : Meaning
   pub holds : HasBook mail book files
   pub boxes : AreBoxes (box_names book) s
-  pub none : NoneRenewed book s
 
--- the server refused; or what it told is at fault, tells that a thing is lacking, or names another UIDVALIDITY
+-- the server refused; or what it told is at fault, or tells that a thing is lacking
 abbrev pub IsTheServers : Status → Type 0
 IsTheServers status.Done = ⊥
 IsTheServers status.Conflicts = ⊥

@@ -21,6 +21,7 @@ pub mod Reading
 pub mod Readying
 pub mod ReadsInput
 pub mod Reasons
+pub mod Renewals
 pub mod Resting
 pub mod Runs
 pub mod Saying

@@ -13,7 +13,7 @@ use Rattle.play_driver.specs.declared.fault.Why.TheVariants as whys
 use Rattle.play_driver.specs.declared.played.Played.{Played}
 use Rattle.mail_top.specs.Faults.{of_store}
 use Rattle.conflict_report.specs.StatusLines.{limit_actions, played, error_input, error_link, error_refused, error_reply_at, error_reply_lacks}
-use Rattle.conflict_report.specs.StatusLines.{error_reply_modseq, error_lacking, error_validity, error_limit}
+use Rattle.conflict_report.specs.StatusLines.{error_reply_modseq, error_reply_validity, error_lacking, error_limit}
 use Rattle.mail_top.specs.Texts.{refused}
 use Rattle.mail_top.specs.declared.printed.Printed.{Printed}
 use Rattle.mail_top.specs.declared.printed.Printed.TheVariants as prints
@@ -74,13 +74,13 @@ status_of_fault faults.Link = status.Link
 status_of_fault (faults.Refused line) = status.Refused
 status_of_fault (faults.BadReply why) = status.Reply
 status_of_fault (faults.Lacking what) = status.Lacking
-status_of_fault (faults.Validity name kept told) = status.Validity
 status_of_fault (faults.Limit which number) = status.Limit
 
 -- and its text
 abbrev pub text_of_why : Why → List ℕ
 text_of_why (whys.At at) = error_reply_at at
 text_of_why (whys.Lacks item) = error_reply_lacks item
+text_of_why (whys.Older name kept told) = error_reply_validity name kept told
 text_of_why (whys.Lower kept told) = error_reply_modseq kept told
 
 abbrev pub text_of_fault : PlayFault → List ℕ
@@ -90,7 +90,6 @@ text_of_fault faults.Link = error_link
 text_of_fault (faults.Refused line) = error_refused line
 text_of_fault (faults.BadReply why) = text_of_why why
 text_of_fault (faults.Lacking what) = error_lacking what
-text_of_fault (faults.Validity name kept told) = error_validity name kept told
 text_of_fault (faults.Limit which number) = error_limit which number
 
 -- the status of a run that came to its end, with so many conflicts

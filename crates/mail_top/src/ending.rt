@@ -171,7 +171,6 @@ fn status_of_fault(fault: &PlayFault) -> Status
         PlayFault::Refused { .. } => Status::Refused,
         PlayFault::BadReply { .. } => Status::Reply,
         PlayFault::Lacking { .. } => Status::Lacking,
-        PlayFault::Validity { .. } => Status::Validity,
         PlayFault::Limit { .. } => Status::Limit,
     }
 }
@@ -187,9 +186,6 @@ fn text_of_fault(fault: &PlayFault) -> Printed
         PlayFault::Refused { line } => Printed::Told(Told::error_refused(line.as_slice())),
         PlayFault::BadReply { why } => Printed::Told(told_why(why)),
         PlayFault::Lacking { what } => Printed::Told(Told::error_lacking(*what)),
-        PlayFault::Validity { name, kept, told } => Printed::Told(Told::error_validity(
-            name, *kept, *told,
-        )),
         PlayFault::Limit { which, number } => Printed::Told(Told::error_limit(*which, *number)),
     }
 }
@@ -201,6 +197,7 @@ fn told_why(why: &Why) -> Told
     match why {
         Why::At(at) => Told::error_reply_at(*at),
         Why::Lacks(item) => Told::error_reply_lacks(*item),
+        Why::Older { name, kept, told } => Told::error_reply_validity(name, *kept, *told),
         Why::Lower { kept, told } => Told::error_reply_modseq(*kept, *told),
     }
 }

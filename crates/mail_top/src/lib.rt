@@ -32,7 +32,7 @@ pub use refusal::Refusal;
 pub use request::{Asked, AskedAction, AskedAppend, AskedFlags, AskedMove};
 pub use running::run;
 pub use runs::{
-    admitted_actions_have_records, from_nothing, one_action_is_asked_for,
+    admitted_actions_have_records, from_nothing, mailboxes_may_be_renewed, one_action_is_asked_for,
     outcomes_have_their_reasons, reports_tell_the_effect, runs_one_behind_another,
     words_ask_one_thing,
 };

@@ -6,7 +6,7 @@ ghost use Rattle.play_driver.specs.Serving.{AllServing};
 ghost use Rattle.mail_top.specs.AnyServer.{StandsAny};
 ghost use Rattle.mail_top.specs.BesideServer.{BesideServer, EntersKept, FairUpTo, Fairly};
 ghost use Rattle.mail_top.specs.Causing.{HasCauses, HasOutputCause, NoDiskFault, NoInputFault, NoLinkFault, NoOutputFault};
-ghost use Rattle.mail_top.specs.CompletePlay.{IsPlayed, WaitsForNone};
+ghost use Rattle.mail_top.specs.CompletePlay.{HasEachBox, IsPlayed};
 ghost use Rattle.mail_top.specs.Completing.{Completes};
 ghost use Rattle.mail_top.specs.Connecting.{Connects, SparesServer};
 ghost use Rattle.mail_top.specs.Course.{course_of};
@@ -139,14 +139,14 @@ pub fn run<W: World, I: Source, S: Sink>(
         (AwaitsInput (map string_bytes words.now) (W.seen world.old)) input.old input.new result }
 
     // What no reason, fault or limit prevents is done, or memory is wanting; `play` at a server that serves it, with each mailbox of
-    // the book there and none of them made anew.
+    // the book there.
     ensures completes { W.tells_files → NoDiskFault W.Clocked world.old world.new
         → NoOutputFault S.Sink out.old out.new
         → Completes (map string_bytes words.now) (I.rest input.old) I.tells
         (NoInputFault I.Source input.old input.new) (W.seen world.old) result }
     ensures complete_play { WritesPlay (map string_bytes words.now) → Fairly W.Clocked world.old world.new
         → AllServing (W.clock world.old) (W.clock world.new)
-        → WaitsForNone (W.seen world.old) (W.clock world.old).now.outside.server
+        → HasEachBox (W.seen world.old) (W.clock world.old).now.outside.server
         → NoDiskFault W.Clocked world.old world.new → NoLinkFault W.Clocked world.old world.new
         → NoOutputFault S.Sink out.old out.new → (result ≡ Status.Limit → ⊥) → IsPlayed result }
 

@@ -4,7 +4,7 @@ ghost use Rattle.std.specs.Prelude.{◌≡◌, ◌⊎◌, ◌<◌, ◌≤◌, �
 ghost use Rattle.mail_base.specs.Account.{Credentials};
 ghost use Rattle.mail_base.specs.declared.status.Status.{Status};
 ghost use Rattle.imap_model.specs.Ours.{ours};
-ghost use Rattle.world_traits.specs.Files.{Files};
+ghost use Rattle.world_traits.specs.Files.{Files, Stored};
 ghost use Rattle.world_traits.specs.Moments.{Moment, MayLeave, Clock, Images, OneSideAtRest, restarted};
 ghost use Rattle.journal_core.specs.OneSide.{EachOneSide};
 ghost use Rattle.store_core.specs.HeldActions.{IsHeld};
@@ -24,6 +24,7 @@ ghost use Rattle.mail_top.specs.Going.{Goes};
 ghost use Rattle.mail_top.specs.Headline.{IsOwnedNow};
 ghost use Rattle.mail_top.specs.KeptNow.{IsKeptNow};
 ghost use Rattle.mail_top.specs.Leaving.{LosesNone};
+ghost use Rattle.mail_top.specs.Renewals.{MayBeRenewed, RenewsSelected};
 ghost use Rattle.mail_top.specs.Runs.{CutOff, Follows, BeginsWith, AcceptsAt, AreUnbegunOrBook, IsReady, HasNames, AnyBook};
 ghost use Rattle.mail_top.specs.Saying.{SaysAccepted};
 ghost use Rattle.mail_top.specs.TruePlay.{PlaysTruly};
@@ -92,6 +93,13 @@ pub fn outcomes_have_their_reasons()
         PlaysTruly seen old at }
     ensures truly { (place : ℕ) (outcome : Outcome) (first last : Moment) (runs : FollowsFairly first last) → AllTrue first last runs →
         MayHaveEnded place outcome last → MayHaveEnded place outcome first ⊎ EndsInOne place outcome first last runs }
+{}
+
+/// Between two runs a mailbox may be renewed in which no command waits, also the one that was selected last: its connection comes to its
+/// end first.
+pub fn mailboxes_may_be_renewed()
+    ensures any { MayBeRenewed }
+    ensures selected { (left right : Stored) → RenewsSelected left right }
 {}
 
 /// Words and an input ask for one thing at most.

@@ -12,7 +12,7 @@ use Rattle.mail_top.proofs.Headlines.{kept_last, play_once, still_once}
 use Rattle.mail_top.proofs.PlaySteps.{ready_keeps, opening_joined, play_steps, play_keeps, playing_now, playing_start, play_joined, play_fair}
 use Rattle.mail_top.proofs.PlaySteps.{play_synced, surely_played, surely_unopened, only_readies, readies_book, truly_stopped, one_last}
 use Rattle.mail_top.proofs.Moving.{chooses_steps}
-use Rattle.mail_top.proofs.PlayServed.{boxes_behind, none_behind, opening_serves, played_serves, run_serves, same_peer, serving_behind}
+use Rattle.mail_top.proofs.PlayServed.{boxes_behind, opening_serves, played_serves, run_serves, same_peer, serving_behind}
 use Rattle.mail_top.proofs.Openings.{never_err, opened_book, rose_later}
 use Rattle.mail_top.proofs.Sayings.{unready_play, unready_reads, played_play, played_disk, played_link, stopped_play}
 use Rattle.mail_top.proofs.Sayings.{no_place_told, opening_disk, opening_failed, opening_link, opening_reply, run_disk, run_failed, run_honest, run_link}
@@ -135,9 +135,8 @@ returns-in_err-played-clause-server g c = record {
       let here = moments.kept f.kept in
       let spared = play_fair _ _ _ _ _ _ moments.keeps (c.play.ensures.goes_on.progress files) f.fair in
       let served = serving_behind _ _ _ _ _ moments.keeps (c.play.ensures.goes_on.progress files) serving in
-      let waits = none_behind _ _ (g.W.Clocked.clock c.args.world.now).now (g.W.Clocked.clock c.made_ready.new.disk).now opened.holds (same_peer _ _ _ moments.keeps) none in
       let there = boxes_behind _ _ (g.W.Clocked.clock c.args.world.now).now (g.W.Clocked.clock c.made_ready.new.disk).now opened.holds (same_peer _ _ _ moments.keeps) none in
-      run_serves _ _ c.from_residual-in_err-played.ensures.1 (c.play.ensures.complete f.tells here spared served waits there _ c.in_err-played.was) bad;
+      run_serves _ _ c.from_residual-in_err-played.ensures.1 (c.play.ensures.complete f.tells here spared served there _ c.in_err-played.was) bad;
   faultless = λ f is.
       let files = g.W.Clocked.server_with_files f.tells in
       let moments = c.made_ready.ensures.moments files in
