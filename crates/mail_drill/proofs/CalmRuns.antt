@@ -1,5 +1,5 @@
 -- A `play` in a drill's world in which nothing fails comes to its end, unless memory is wanting or a limit is passed.
-use Rattle.std.proofs.Common.{◌≡◌, ◌⊎◌, inl, inr, ⊎_elim, ℕ, List, [], None, refl, sym, ◌∙◌, ap, subst, arith}
+use Rattle.std.proofs.Common.{◌≡◌, inl, inr, ⊎_elim, ℕ, List, [], None, refl, sym, ◌∙◌, ap, subst, arith}
 use Rattle.std.proofs.Math.Logic.{∥∥₁_elim}
 use Rattle.std.proofs.lemmas.Option.{none-some}
 use Rattle.mail_base.specs.Account.{Credentials}
@@ -15,7 +15,7 @@ use Rattle.play_driver.specs.Serving.{AllServing}
 use Rattle.play_driver.specs.declared.fault.PlayFault.{PlayFault}
 use Rattle.play_driver.specs.declared.fault.PlayFault.TheVariants as faults
 use Rattle.play_driver.proofs.Parts.{grows, grows_start}
-use Rattle.mail_top.specs.CompletePlay.{IsPlayed, IsTheServers, WaitsForNone}
+use Rattle.mail_top.specs.CompletePlay.{HasEachBox, IsPlayed, IsTheServers}
 use Rattle.mail_top.specs.Connecting.{ConnectsAtFirst}
 use Rattle.mail_top.specs.Course.{Course}
 use Rattle.mail_top.specs.Ending.{EndsPlay}
@@ -43,7 +43,6 @@ not_servers faults.Link comes bad = bad
 not_servers (faults.Refused line) comes bad = comes
 not_servers (faults.BadReply why) comes bad = comes
 not_servers (faults.Lacking what) comes bad = comes
-not_servers (faults.Validity name kept told) comes bad = comes
 not_servers (faults.Limit which number) comes bad = bad
 
 -- Where no connection was made, no server is to blame.
@@ -64,7 +63,7 @@ module _ (account : Credentials) (k : Course) (untold : k.new.now.outside.talk.t
   ends_none status.Refused text faultless says bad = stopped_none status.Refused text faultless says bad
   ends_none status.Reply text faultless says bad = faultless refl
   ends_none status.Lacking text faultless says bad = stopped_none status.Lacking text faultless says bad
-  ends_none status.Validity text faultless says bad = stopped_none status.Validity text faultless says bad
+  ends_none status.Validity text faultless says bad = says
   ends_none status.Journal text faultless says bad = bad
   ends_none status.Memory text faultless says bad = bad
   ends_none status.Limit text faultless says bad = bad
@@ -110,7 +109,7 @@ module _ (account : Credentials) (words : List (List ℕ)) (input : List ℕ) (o
         (disk_cause : s ≡ status.Disk → Rose (disk_faults_of old.world) (disk_faults_of new.world))
         (link_cause : s ≡ status.Link → Rose (link_faults_of old.world) (link_faults_of new.world)) (no_output : s ≡ status.Output → ⊥)
         (no_limit : s ≡ status.Limit → ⊥) (faultless : AllFair mail played (clock_of old) (clock_of new) → s ≡ status.Reply → ⊥)
-        (waits : WaitsForNone (seen_of old) (now_of old).outside.server)
+        (waits : HasEachBox (seen_of old) (now_of old).outside.server)
         (complete : AllFair mail played (clock_of old) (clock_of new) → AllServing (clock_of old) (clock_of new) →
         (Rose (disk_faults_of old.world) (disk_faults_of new.world) → ⊥) → (Rose (link_faults_of old.world) (link_faults_of new.world) → ⊥) → IsPlayed s)
       where

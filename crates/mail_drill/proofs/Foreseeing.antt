@@ -32,7 +32,7 @@ use Rattle.mail_drill.specs.Texts.{input_of, words_of}
 use Rattle.mail_drill.specs.declared.orders.Order.{Order}
 use Rattle.mail_drill.specs.declared.quiet_world.QuietWorld.{QuietWorld}
 use Rattle.mail_drill.proofs.FirstWorld.{begun_one, still_untold, writes_init, writes_play}
-use Rattle.mail_drill.proofs.Mailboxes.{waits_for_none}
+use Rattle.mail_drill.proofs.Mailboxes.{has_each_box}
 use Rattle.mail_drill.proofs.OrderAnswers.{asked_ends}
 use Rattle.mail_drill.proofs.PlayingOn.{plays_on}
 
@@ -108,7 +108,7 @@ pub play_ends : (account : Credentials) (size : ℕ) (old mid new : QuietWorld) 
     NothingAgainst account play_words mid new
 play_ends account size old mid new fresh first s calm =
     let one : HasOne (begun both_names) mid = begun_one account size old mid fresh first in
-    let waits = waits_for_none (begun both_names) [] refl mid (plays_on (begun both_names) mid one) in
+    let waits = has_each_box (begun both_names) mid (plays_on (begun both_names) mid one) in
     let untouched = untouched_yet mid first.sufficed (still_untold account size old mid fresh first) in
     ⊎_elim (λ (done : s ≡ status.Done). done)
     (λ (conflicts : s ≡ status.Conflicts).

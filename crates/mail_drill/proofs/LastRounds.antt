@@ -12,7 +12,7 @@ use Rattle.world_mem.specs.Running.{Run}
 use Rattle.world_mem.specs.Worlds.{run_in}
 use Rattle.world_mem.specs.declared.mem_world.MemWorld.{MemWorld}
 use Rattle.world_mem.specs.declared.plan.Plan.{Plan}
-use Rattle.mail_top.specs.CompletePlay.{WaitsForNone}
+use Rattle.mail_top.specs.CompletePlay.{HasEachBox}
 use Rattle.mail_top.specs.KeptNow.{IsKeptNow}
 use Rattle.mail_drill.specs.Came.{Begins, Runs}
 use Rattle.mail_drill.specs.Connected.{Untouched}
@@ -20,15 +20,14 @@ use Rattle.mail_drill.specs.Held.{CameToItsEnd, EndsPlaying, Plays, again, none,
 use Rattle.mail_drill.specs.Misfortunes.{misfortune_at, nothing_fails, pick_of, plan_of}
 use Rattle.mail_drill.specs.Ran.{Ran}
 use Rattle.mail_drill.specs.Rounds.{EndsIn, IsLastRound, IsOver, RoundsEnd, RunsLast, RunsTo}
-use Rattle.mail_drill.specs.Standing.{HasAsked, PlaysOn, clock_of, now_of, seen_of}
+use Rattle.mail_drill.specs.Standing.{PlaysOn, clock_of, now_of, seen_of}
 use Rattle.mail_drill.specs.declared.misfortune.Misfortune.{Misfortune}
 use Rattle.mail_drill.specs.declared.misfortune.Misfortune.TheVariants as misfortunes
-use Rattle.mail_drill.specs.declared.orders.Order.{Order}
 use Rattle.mail_drill.specs.declared.quiet_world.QuietWorld.{QuietWorld}
 use Rattle.mail_drill.specs.declared.rounds.Ended.{Ended}
 use Rattle.mail_drill.specs.declared.rounds.Ended.TheVariants as ended
 use Rattle.mail_drill.specs.declared.rounds.Turn.TheVariants as turns
-use Rattle.mail_drill.proofs.Mailboxes.{waits_for_none}
+use Rattle.mail_drill.proofs.Mailboxes.{has_each_box}
 use Rattle.mail_drill.proofs.ServedCalls.{start_untouched}
 use Rattle.mail_drill.proofs.RoundSteps.{ended_or_not, runs_out, runs_play, turns_out}
 
@@ -115,13 +114,13 @@ module _ (e : Ended) (lent begun new left : QuietWorld) (same : lent ≡ begun) 
         (subst (λ (w : QuietWorld). RunsLast e w.world new.world) same runs);
   }
 
--- where the book's actions are those of a drill, it is over
-pub over_lent : (e : Ended) (lent begun : QuietWorld) → lent ≡ begun → (b : Meaning) (os : List Order) → HasAsked os b → PlaysOn b begun →
-    (files : Files) (r : Run) → run_in begun.world ≡ goes_on_from files r →
-    (IsKeptNow (now_of lent) → Untouched (clock_of lent) → WaitsForNone (seen_of lent) (now_of lent).outside.server → IsOver e) → IsOver e
-over_lent e lent begun same b os asked before files r goes over =
+-- from a book that may be played on it is over
+pub over_lent : (e : Ended) (lent begun : QuietWorld) → lent ≡ begun → (b : Meaning) → PlaysOn b begun → (files : Files) (r : Run) →
+    run_in begun.world ≡ goes_on_from files r →
+    (IsKeptNow (now_of lent) → Untouched (clock_of lent) → HasEachBox (seen_of lent) (now_of lent).outside.server → IsOver e) → IsOver e
+over_lent e lent begun same b before files r goes over =
     let on : PlaysOn b lent = subst (λ (w : QuietWorld). PlaysOn b w) (sym same) before in
     over on.kept
     (subst (λ (w : QuietWorld). Untouched (clock_of w)) (sym same)
     (subst (λ (x : Run). Untouched x.clock) (sym goes) (start_untouched files (left_of r.held r.state) r.held)))
-    (waits_for_none b os asked.asked lent on)
+    (has_each_box b lent on)

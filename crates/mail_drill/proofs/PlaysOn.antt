@@ -78,7 +78,7 @@ module _ (b : Meaning) (account : Credentials) (k : Course) (playing : IsPlaying
   play_leaves status.Refused text says = on_stopped status.Refused text says
   play_leaves status.Reply text says = on_stopped status.Reply text says
   play_leaves status.Lacking text says = on_stopped status.Lacking text says
-  play_leaves status.Validity text says = on_stopped status.Validity text says
+  play_leaves status.Validity text says = absurd says
   play_leaves status.Journal text says = fewer says.says.keeps.leaves
   play_leaves status.Memory text (inl wants) = fewer wants.says.keeps.leaves
   play_leaves status.Memory text (inr stopped) = on_stopped status.Memory text stopped

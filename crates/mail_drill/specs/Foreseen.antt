@@ -3,7 +3,7 @@ use Rattle.std.specs.Prelude.{◌≡◌, ℕ, List, [], ⊤}
 use Rattle.mail_base.specs.Account.{Credentials}
 use Rattle.mail_base.specs.declared.status.Status.{Status}
 use Rattle.mail_base.specs.declared.status.Status.TheVariants as status
-use Rattle.mail_top.specs.CompletePlay.{WaitsForNone}
+use Rattle.mail_top.specs.CompletePlay.{HasEachBox}
 use Rattle.mail_top.specs.KeptNow.{IsKeptNow}
 use Rattle.mail_top.specs.Words.{WritesPlay}
 use Rattle.mail_drill.specs.Connected.{Untouched}
@@ -16,7 +16,7 @@ use Rattle.mail_drill.specs.declared.quiet_world.QuietWorld.{QuietWorld}
 
 -- What is known of a command that was carried out in a world in which nothing fails. Neither the disk nor the input nor the output is to
 -- blame, memory sufficed, and no limit was passed. And a `play` came to its end, where none was connected before it and the server has each
--- mailbox of the book as the book knows it.
+-- mailbox of the book.
 pub record RanCalmly (account : Credentials) (words : List (List ℕ)) (input : List ℕ) (old new : QuietWorld) (s : Status) : Type 0 where
   pub ran : Ran account words input old new s
   pub no_disk : s ≡ status.Disk → ⊥
@@ -25,7 +25,7 @@ pub record RanCalmly (account : Credentials) (words : List (List ℕ)) (input : 
   pub no_memory : s ≡ status.Memory → ⊥
   pub no_limit : s ≡ status.Limit → ⊥
   pub completes : WritesPlay words → IsKeptNow (now_of old) → Untouched (clock_of old)
-      → WaitsForNone (seen_of old) (now_of old).outside.server → CameToItsEnd s
+      → HasEachBox (seen_of old) (now_of old).outside.server → CameToItsEnd s
 
 -- nothing is against a command without an input: carried out in such a world it ends with 0
 abbrev pub NothingAgainst : Credentials → List (List ℕ) → QuietWorld → QuietWorld → Type 0

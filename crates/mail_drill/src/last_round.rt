@@ -1,14 +1,13 @@
 //! The last round of a drill, in which nothing goes wrong.
 
-ghost use Rattle.std.specs.Prelude.{◌≡◌, List, IfOk};
+ghost use Rattle.std.specs.Prelude.{◌≡◌, IfOk};
 ghost use Rattle.action_queue.specs.Book.{Meaning};
-ghost use Rattle.mail_top.specs.CompletePlay.{WaitsForNone};
+ghost use Rattle.mail_top.specs.CompletePlay.{HasEachBox};
 ghost use Rattle.mail_top.specs.KeptNow.{IsKeptNow};
 ghost use Rattle.mail_drill.specs.Connected.{Untouched};
 ghost use Rattle.mail_drill.specs.Held.{CameToItsEnd};
 ghost use Rattle.mail_drill.specs.Rounds.{EndsIn, IsLastRound, IsOver, RunsLast};
-ghost use Rattle.mail_drill.specs.Standing.{HasAsked, PlaysOn, clock_of, now_of, seen_of};
-ghost use Rattle.mail_drill.specs.declared.orders.Order.{Order as AnyOrder};
+ghost use Rattle.mail_drill.specs.Standing.{PlaysOn, clock_of, now_of, seen_of};
 
 use crate::calm_world::CalmWorld;
 use crate::misfortune::no_plan;
@@ -27,7 +26,7 @@ pub fn last_round(
     pick: u64,
 ) -> Result<(Box<QuietWorld>, Ended), AllocError>
     ensures ends { (b : Meaning) → PlaysOn b world.value → IfOk result (λ both. EndsIn b both.1 both.0.value) }
-    ensures over { (b : Meaning) (os : List AnyOrder) → HasAsked os b → PlaysOn b world.value → IfOk result (λ both. IsOver both.1) }
+    ensures over { (b : Meaning) → PlaysOn b world.value → IfOk result (λ both. IsOver both.1) }
     ensures round { IfOk result (λ both. IsLastRound pick world.value.world both.1 both.0.value.world) }
 {
     let begun = Box::into_inner(world).restart(pick, no_plan(alloc))?;
@@ -41,7 +40,7 @@ pub fn last_round(
 fn played_out(alloc: Global, account: &Account, world: &mut CalmWorld) -> Result<Ended, AllocError>
     ensures ends { (b : Meaning) → PlaysOn b world.old.quiet → IfOk result (λ ended. EndsIn b ended world.new.quiet) }
     ensures over { IsKeptNow (now_of world.old.quiet) → Untouched (clock_of world.old.quiet)
-        → WaitsForNone (seen_of world.old.quiet) (now_of world.old.quiet).outside.server → IfOk result IsOver }
+        → HasEachBox (seen_of world.old.quiet) (now_of world.old.quiet).outside.server → IfOk result IsOver }
     ensures runs { IfOk result (λ ended. RunsLast ended world.old.quiet.world world.new.quiet.world) }
 {
     let words = words_of(alloc, &["play"])?;

@@ -1,14 +1,13 @@
 //! The rounds in which the actions are played back.
 
-ghost use Rattle.std.specs.Prelude.{◌≡◌, List, [], IfOk, OnOk};
+ghost use Rattle.std.specs.Prelude.{◌≡◌, [], IfOk, OnOk};
 ghost use Rattle.action_queue.specs.Book.{Meaning};
 ghost use Rattle.world_mem.specs.Draws.{next};
 ghost use Rattle.mail_drill.specs.Misfortunes.{misfortune_at, nothing_fails, pick_of, plan_of};
 ghost use Rattle.mail_drill.specs.Came.{Begins};
 ghost use Rattle.mail_drill.specs.Held.{CameToItsEnd};
 ghost use Rattle.mail_drill.specs.Rounds.{EndsIn, IsOver, RoundsEnd, RunsTo, TurnsTo};
-ghost use Rattle.mail_drill.specs.Standing.{HasAsked, PlaysOn};
-ghost use Rattle.mail_drill.specs.declared.orders.Order.{Order as AnyOrder};
+ghost use Rattle.mail_drill.specs.Standing.{PlaysOn};
 
 use crate::last_round::last_round;
 use crate::misfortune::drawn_misfortune;
@@ -49,7 +48,7 @@ pub fn play_through(
     world: Box<QuietWorld>,
 ) -> Result<(Box<QuietWorld>, Ended), AllocError>
     ensures ends { (b : Meaning) → PlaysOn b world.value → IfOk result (λ both. EndsIn b both.1 both.0.value) }
-    ensures over { (b : Meaning) (os : List AnyOrder) → HasAsked os b → PlaysOn b world.value → IfOk result (λ both. IsOver both.1) }
+    ensures over { (b : Meaning) → PlaysOn b world.value → IfOk result (λ both. IsOver both.1) }
     ensures rounds { IfOk result (λ both. RoundsEnd world.value.world draws.old both.1 both.0.value.world) }
 {
     let mut world = world;

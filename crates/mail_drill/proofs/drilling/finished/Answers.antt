@@ -1,7 +1,5 @@
 -- Where all is played, the line tells what became of the actions.
-use Rattle.std.proofs.Common.{[], subst}
-use Rattle.mail_drill.specs.Accepted.{accepted}
-use Rattle.mail_drill.specs.Orders.{orders_of}
+use Rattle.std.proofs.Common.{subst}
 use Rattle.mail_drill.specs.Rounds.{IsOver}
 use Rattle.mail_drill.proofs.Endings.{all_played, always_counted, counts_told, limit_passed}
 use Rattle.mail_drill.proofs.PlayingOn.{plays_on}
@@ -29,4 +27,4 @@ returns-in_default c = λ task b has asked gives count all.
 pub returns-in-Unfinished : goal.returns-in-Unfinished
 returns-in-Unfinished c = λ task b has asked gives count all.
     absurd (subst IsOver c.in-Unfinished.is
-    (c.in_ok-both.ensures.over b (accepted [] (orders_of task)) asked (plays_on b c.args.world.value has)))
+    (c.in_ok-both.ensures.over b (plays_on b c.args.world.value has)))

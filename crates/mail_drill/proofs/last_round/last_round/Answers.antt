@@ -29,7 +29,7 @@ returns c =
       ends = λ b before. ends_lent c.in_ok-ended.ended lent begun new left same is_left b (c.in_ok-ended.ensures.ends b)
           (restarted_on b c.into_inner.result begun stop.run.0 stop.run.1 stop.run.2 stop.short
           (subst (λ (w : QuietWorld). PlaysOn b w) (sym c.into_inner.ensures) before));
-      over = λ b os asked before. over_lent c.in_ok-ended.ended lent begun same b os asked
+      over = λ b before. over_lent c.in_ok-ended.ended lent begun same b
           (restarted_on b c.into_inner.result begun stop.run.0 stop.run.1 stop.run.2 stop.short
           (subst (λ (w : QuietWorld). PlaysOn b w) (sym c.into_inner.ensures) before))
           stop.run.0 (run_in c.into_inner.result.world) stop.run.2 c.in_ok-ended.ensures.over;

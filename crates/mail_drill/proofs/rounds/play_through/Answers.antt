@@ -32,7 +32,7 @@ returns-in-Ended-clause-rounds c =
     c.deref_mut.ensures.value c.in_ok-ended.ensures.runs)
 
 pub returns-in-Ended-clause-over : goal.returns-in-Ended-clause-over
-returns-in-Ended-clause-over c = λ b os asked before.
+returns-in-Ended-clause-over c = λ b before.
     runs_over c.in-Ended.ended c.in_ok-begun.begun.value.world c.played.new.world.world
     (lent_runs c.in_ok-ended.field-0 (turns.Ended c.in-Ended.ended) c.in-Ended.is c.deref_mut.result.now c.in_ok-begun.begun.value c.played.new.world
     c.deref_mut.ensures.value c.in_ok-ended.ensures.runs)
@@ -41,7 +41,7 @@ pub returns-clause-ends : goal.returns-clause-ends
 returns-clause-ends c = λ b before. c.last_round.ensures.ends b (c.loop-round.invariant.plays_on b before)
 
 pub returns-clause-over : goal.returns-clause-over
-returns-clause-over c = λ b os asked before. c.last_round.ensures.over b os asked (c.loop-round.invariant.plays_on b before)
+returns-clause-over c = λ b before. c.last_round.ensures.over b (c.loop-round.invariant.plays_on b before)
 
 pub returns-clause-rounds : goal.returns-clause-rounds
 returns-clause-rounds c =
