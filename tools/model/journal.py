@@ -1,7 +1,8 @@
 """Events as bytes and back (docs/JOURNAL.md), and the book that they make.
 
 An event is a tuple: ('begin', names), ('accept', number, action), ('intend', number, intent), ('settle', number, outcome),
-('learn', mailbox, whole, validity, highest, uidnext, gone, rows), a row being (uid, modseq, flags), or ('old', number, action, outcome).
+('learn', mailbox, whole, validity, highest, uidnext, gone, rows), a row being (uid, modseq, flags), ('reset', mailbox, kept, told), or
+('old', number, action, outcome).
 An action is ('flag', target, sign, flags), ('move', target, to) or ('append', to, flags, text), a target
 ('real', mailbox, validity, uid) or ('dummy', number).
 An intent is ('store', mailbox, validity, uid, modseq), ('shift', mailbox, validity, uid, to) or ('put', to, validity, uidnext).
@@ -17,9 +18,11 @@ HEAD = b'\x01' + MAGIC + (1).to_bytes(4, 'big')
 # How many rows are told at once where a book is told anew.
 ROWS_AT_ONCE = 1000
 # The bytes of each number of a conflict that has some, by its kind.
-WIDTHS = {3: [8], 7: [4], 9: [8, 8], 12: [4, 4]}
+WIDTHS = {3: [8], 7: [4], 9: [8, 8], 12: [4, 4], 13: [4, 4], 14: [4, 4]}
 KIND_NAMES = ('message-gone already-so flags-changed refused-no refused-bad not-permanent target-unknown found-so store-unsure source-gone '
-              'gone-after-loss ambiguous').split()
+              'gone-after-loss ambiguous validity-changed reset-after-loss').split()
+# The kinds that say that nothing was changed.
+NOTHING = (1, 2, 3, 4, 5, 6, 7, 13)
 
 
 def u16(number: int) -> bytes:
@@ -111,7 +114,11 @@ def learn(box: str, whole: int, validity: int, highest: int, uidnext: int, gone:
     return front + vanished + u32(len(rows)) + b''.join(u32(uid) + u64(modseq) + flags_of(flags) for uid, modseq, flags in rows)
 
 
-BODIES = dict(begin=lambda names: begin(*names), accept=accept, intend=intend, settle=settle, learn=learn, old=old)
+def reset(box: str, kept: int, told: int) -> bytes:
+    return b'R' + named(box) + u32(kept) + u32(told)
+
+
+BODIES = dict(begin=lambda names: begin(*names), accept=accept, intend=intend, settle=settle, learn=learn, reset=reset, old=old)
 
 
 def body_of(event: tuple) -> bytes:
@@ -200,6 +207,8 @@ class Body:
             return ('old', self.num(), self.action(), self.outcome())
         if letter == b'L':
             return self.learned()
+        if letter == b'R':
+            return ('reset', self.name(), self.num(), self.num())
         return None
 
 
@@ -240,6 +249,8 @@ class Book:
             self.outcomes.append(event[3])
         elif kind == 'learn':
             self.learned(*event[1:])
+        elif kind == 'reset':
+            self.boxes[event[1]] = None
 
     def learned(self, name: str, whole: int, validity: int, highest: int, uidnext: int, gone: List[int], rows: List[tuple]) -> None:
         kept = {} if whole else dict(self.boxes[name]['rows'])
@@ -344,7 +355,7 @@ class Book:
         if outcome[0] == 'done':
             return [str(word) for word in outcome]
         _, kind, numbers = outcome
-        return ['nothing' if kind <= 7 else 'unsure', KIND_NAMES[kind - 1]] + [str(n) for n in numbers]
+        return ['nothing' if kind in NOTHING else 'unsure', KIND_NAMES[kind - 1]] + [str(n) for n in numbers]
 
     def history_line(self, number: int) -> str:
         return ' '.join([str(number), *self.stands(number), self.action_text(self.queue[number - 1])])

@@ -10,7 +10,7 @@ from .commands import Store
 from .words import astring, fields, flag_text, keys, login_parts, message_id, set_text
 from .world import Fault, World
 
-(GONE, SO, CHANGED, NO, BAD, BARRED, UNKNOWN, FOUND_SO, UNSURE, SOURCE_GONE, GONE_LATER, AMBIGUOUS) = range(1, 13)
+(GONE, SO, CHANGED, NO, BAD, BARRED, UNKNOWN, FOUND_SO, UNSURE, SOURCE_GONE, GONE_LATER, AMBIGUOUS, RENEWED, RENEWED_LATER) = range(1, 15)
 ROW = '(UID FLAGS MODSEQ)'
 
 
@@ -80,28 +80,41 @@ class Run:
 
     # Selecting.
 
-    def select(self, name: str) -> Tuple[int, int]:
-        """Resynchronises a mailbox, and records what was told. It gives the UIDVALIDITY and the UIDNEXT that were told."""
+    def select(self, name: str, under: int = 0) -> Tuple[int, int]:
+        """Resynchronises a mailbox, and records what was told. Its UIDVALIDITY is to be at least `under`. A cache of a lower one is taken
+        away, and the rows of all messages are asked for. It gives the UIDVALIDITY and the UIDNEXT that were told."""
         cache = self.book.boxes[name]
         mark = '' if cache is None else ' (QRESYNC (%d %d))' % (cache['validity'], cache['highest'])
         told = self.ask('SELECT %s%s' % (astring(name), mark), carried=lambda: self.told_of(name, cache))
         if not told:
             raise Fault(5, 'error refused: C%d NO [TRYCREATE] done' % self.count)
-        if cache and cache['validity'] != told['validity']:
-            raise Fault(8, 'error validity %s %d %d' % (name, cache['validity'], told['validity']))
+        if cache:
+            self.look_lower(name, cache['validity'], told['validity'])
+        if cache and cache['validity'] < told['validity']:
+            self.store.commit(('reset', name, cache['validity'], told['validity']))
+            cache = None
         rows = told['rows']
         if cache is None and not told['empty']:
             rows = self.ask('UID FETCH 1:* ' + ROW, carried=lambda: [row_of(m) for m in self.world.box(name).messages])
+        self.look_lower(name, under, told['validity'])
         self.selected = (name, told['validity'])
         whole = int(cache is None)
         self.store.commit(('learn', name, whole, told['validity'], told['highest'], told['uidnext'], told['gone'], rows))
         return told['validity'], told['uidnext']
+
+    @staticmethod
+    def look_lower(name: str, kept: int, told: int) -> None:
+        """A server numbers no mailbox below what it told of it before."""
+        if told < kept:
+            raise Fault(6, 'error reply validity %s %d %d' % (name, kept, told))
 
     def told_of(self, name: str, cache: Optional[dict]) -> Optional[dict]:
         box = self.world.box(name)
         self.world.in_box = box.name if box else None
         if box is None:
             return None
+        if cache and cache['validity'] != box.validity:
+            cache = None
         highest = cache['highest'] if cache else 0
         return dict(validity=box.validity, highest=box.highest, uidnext=box.uidnext, empty=not box.messages,
                     gone=[uid for uid, modseq in box.gone if cache and modseq > highest],
@@ -116,9 +129,13 @@ class Run:
         outcome = self.book.outcomes[target[1] - 1]
         return target[1] if outcome[0] == 'conflict' else (self.book.to_of(target[1]), *outcome[1:])
 
-    def be_in(self, name: str, validity: int) -> None:
-        if self.selected != (name, validity):
-            self.select(name)
+    def be_in(self, name: str, validity: int) -> Optional[tuple]:
+        """Selects a mailbox, unless it is selected under this UIDVALIDITY or a greater one. It gives how the action ends where that
+        is greater: what it is about isn't numbered any more."""
+        if self.selected is None or self.selected[0] != name or self.selected[1] < validity:
+            self.select(name, validity)
+        told = self.selected[1]
+        return conflict(RENEWED_LATER if self.resumed else RENEWED, validity, told) if validity < told else None
 
     def row(self, uid: int) -> Optional[dict]:
         def told() -> Optional[dict]:
@@ -136,7 +153,9 @@ class Run:
         if not isinstance(at, tuple):
             return conflict(UNKNOWN, at)
         name, validity, uid = at
-        self.be_in(name, validity)
+        renewed = self.be_in(name, validity)
+        if renewed:
+            return renewed
         row = self.row(uid)
         reason = self.why_not(row, sign, asked)
         if reason:
@@ -194,7 +213,9 @@ class Run:
         if not isinstance(at, tuple):
             return conflict(UNKNOWN, at)
         name, validity, uid = at
-        self.be_in(name, validity)
+        renewed = self.be_in(name, validity)
+        if renewed:
+            return renewed
         gone = conflict(SOURCE_GONE if self.resumed else GONE)
         if self.row(uid) is None:
             return gone
@@ -220,7 +241,12 @@ class Run:
     def append(self, number: int, to: str, flags: List[str], text: bytes) -> tuple:
         if self.resumed:
             _, _, validity, uidnext = self.book.pending
-            self.select(to)
+            # Where the mailbox is selected under this UIDVALIDITY, it is selected once more.
+            if self.selected == (to, validity):
+                self.selected = None
+            renewed = self.be_in(to, validity)
+            if renewed:
+                return renewed
             found = self.probe(to, text, uidnext)
             if len(found) == 1:
                 return ('done', validity, found[0])

@@ -180,16 +180,19 @@ class Run:
         while True:
             yield Need('finished')
 
-    # Selecting. It gives the UIDVALIDITY and the UIDNEXT that were told.
+    # Selecting. It gives the UIDVALIDITY and the UIDNEXT that were told. A cache of a lower UIDVALIDITY is taken away first.
 
     def select(self, name: str, under: Optional[int]) -> Steps:
         while True:
             selected = yield Need(f'select {name}', 'C1')
             kept, rows = self.book.caches[name], selected
+            if kept and self.code_fault(selected) is None and kept.validity < self.code(selected, 'UIDVALIDITY'):
+                yield Need(f'reset {name} {kept.validity} {self.code(selected, "UIDVALIDITY")}')
+                kept = self.book.caches[name] = None
             if kept is None and not any(isinstance(r, Exists) and r.count == 0 for r in selected.behind_closed()):
                 rows = yield More()
             fault = self.resync_fault(kept, selected, rows)
-            if fault is None and under is not None and self.code(selected, 'UIDVALIDITY') != under:
+            if fault is None and under is not None and self.code(selected, 'UIDVALIDITY') < under:
                 fault = f'target {under} {self.code(selected, "UIDVALIDITY")}'
             if fault is None:
                 break
@@ -205,7 +208,8 @@ class Run:
         told = [code.rest[0] for code in selected.codes() if code.name == name]
         return told[-1] if told else None
 
-    def resync_fault(self, kept: Optional[Cache], selected: Reply, rows: Reply) -> Optional[str]:
+    @staticmethod
+    def code_fault(selected: Reply) -> Optional[str]:
         told = [code.name for code in selected.codes()]
         if 'NOMODSEQ' in told:
             return 'resync nomodseq'
@@ -214,7 +218,13 @@ class Run:
         for name in ['UIDVALIDITY', 'UIDNEXT', 'HIGHESTMODSEQ']:
             if name not in told:
                 return f'resync no {name}'
-        if kept and kept.validity != self.code(selected, 'UIDVALIDITY'):
+        return None
+
+    def resync_fault(self, kept: Optional[Cache], selected: Reply, rows: Reply) -> Optional[str]:
+        fault = self.code_fault(selected)
+        if fault:
+            return fault
+        if kept and kept.validity > self.code(selected, 'UIDVALIDITY'):
             return f'resync validity {kept.validity} {self.code(selected, "UIDVALIDITY")}'
         if kept and self.code(selected, 'HIGHESTMODSEQ') < kept.highest:
             return f'resync unfit {kept.highest} {self.code(selected, "HIGHESTMODSEQ")}'
@@ -254,6 +264,16 @@ class Run:
             return (maker.to, int(validity), int(uid))
         return target
 
+    # A mailbox is selected, unless it is under this UIDVALIDITY or a greater one. It gives how the action ends where that is greater.
+
+    def be_in(self, name: str, validity: int) -> Steps:
+        if self.selected is None or self.selected[0] != name or self.selected[1] < validity:
+            yield from self.select(name, validity)
+        told = self.selected[1]
+        if told == validity:
+            return None
+        return f'reset-after-loss {validity} {told}' if self.open else f'validity-changed {validity} {told}'
+
     # The row of a message, or None. FLAGS and MODSEQ are needed of it.
 
     def ask_row(self, uid: int) -> Steps:
@@ -281,8 +301,9 @@ class Run:
         if not isinstance(target, tuple):
             return f'target-unknown {target}'
         name, validity, uid = target
-        if self.selected != (name, validity):
-            yield from self.select(name, validity)
+        ended = yield from self.be_in(name, validity)
+        if ended:
+            return ended
         row, barred = yield from self.ask_row(uid)
         if self.open:
             mark = int(self.book.intent.split()[-1])
@@ -322,8 +343,9 @@ class Run:
         if not isinstance(target, tuple):
             return f'target-unknown {target}'
         name, validity, uid = target
-        if self.selected != (name, validity):
-            yield from self.select(name, validity)
+        ended = yield from self.be_in(name, validity)
+        if ended:
+            return ended
         row, _ = yield from self.ask_row(uid)
         if row is None:
             return 'source-gone' if self.open else 'message-gone'
@@ -348,7 +370,12 @@ class Run:
     def append(self, number: int, action: Action) -> Steps:
         if self.open:
             _, to, validity, uidnext = self.book.intent.split()
-            yield from self.select(to, int(validity))
+            # Its mailbox is selected anew, unless it is under a greater UIDVALIDITY.
+            if self.selected == (to, int(validity)):
+                self.selected = None
+            ended = yield from self.be_in(to, int(validity))
+            if ended:
+                return ended
             found = yield from self.probe(action, int(uidnext))
             if len(found) == 1:
                 return f'done {validity} {found[0]}'

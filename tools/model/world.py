@@ -179,17 +179,17 @@ class World(Server):
             self.waiting()
         self.on, self.was_sent, self.waiting, self.in_box, self.waits_in = True, b'', None, None, None
 
-    def send(self, text: bytes, carried: Callable[[], Any] = lambda: None) -> Any:
+    def send(self, text: bytes, carried: Optional[Callable[[], Any]] = None) -> Any:
         """Sends a text; what it is carried out as, where it is a command's last part, gives what the server answers."""
         loss = self.link_call()
         if loss == 'stop' or not self.on:
             raise link_fault()
         if loss is None:
             self.was_sent += text
-            return carried()
+            return carried and carried()
         arrived = 0 if loss == 'nothing' else int(loss.split()[1]) if loss.startswith('part ') else len(text)
         self.was_sent += text[:arrived]
-        if arrived >= len(text):
+        if carried and arrived >= len(text):
             if not loss.startswith('waits'):
                 carried()
             else:

@@ -100,6 +100,7 @@ def selects(validity, uidnext, highest):
     lists = [
         [v, n, h], [n, h], [v, h], [v, n], [], [h, n, v, told('NOMODSEQ')], [v, n, h, told('UIDNOTSTICKY')],
         [told('NOMODSEQ'), told('UIDNOTSTICKY')], [told('UIDVALIDITY', validity + 1), n, h], [told('UIDVALIDITY', validity + 1), v, n, h],
+        [told('UIDVALIDITY', validity - 1), n, h], [v, told('UIDVALIDITY', validity + 1), told('HIGHESTMODSEQ', 1), h, Vanished(40), n],
         [v, n, told('HIGHESTMODSEQ', highest - 1)], [v, n, h, told('HIGHESTMODSEQ', highest - 1)],
         [v, n, h, told('HIGHESTMODSEQ', highest + 9)],
         [v, told('UIDNEXT', uidnext + 5), h], [v, n, h, row(40, '\\Seen', 700)], [row(42, '\\Flagged', 719), v, n, h, row(40, '', 718)],
@@ -167,6 +168,9 @@ STATES = [
     ('an added flag, and no cache: the SELECT', lambda: with_action('flag', new=True), [], selects(5, 44, 715)),
     ('an added flag, and no cache: all rows', lambda: with_action('flag', new=True), [INBOX], alls()),
     ('an added flag, and no cache of another UIDVALIDITY: all rows', lambda: with_action('flag', new=True), [select(6, 44, 715)], alls()),
+    ('an added flag behind a lost STORE: the SELECT', lambda: with_action('flag', STORE), [], selects(5, 44, 715)),
+    ('a move: the SELECT', lambda: with_action('move'), [], selects(5, 44, 715)),
+    ('a move behind a lost MOVE: the SELECT', lambda: with_action('move', SHIFT), [], selects(5, 44, 715)),
     ('an added flag: the row', lambda: with_action('flag'), [INBOX], questions()),
     ('an added flag that the mailbox does not keep: the row', lambda: with_action('flag'), [INBOX], questions(barred=True)),
     ('an added flag: the STORE', lambda: with_action('flag'), [INBOX, PLAIN], answers(ROWS[:12])),
@@ -248,9 +252,10 @@ def main():
             player, _ = reached(make, replies)
             before = len(player.lines)
             player.tell(reply)
+            player.need()
             if isinstance(player.wants, More):
                 player.tell(ALL)
-            player.need()
+                player.need()
             print('each')
             print('\n'.join(player.lines[before:]))
 

@@ -6,7 +6,7 @@ import sys
 
 from common import (ARCHIVE_LEARNED, BEGIN, BEGUN, BOTH_LEARNED, INBOX_LEARNED, LOSSES, M40, M42, OFFERS, WORKED, Cases, Scenario,
                     journal, learn)
-from model.journal import HEAD
+from model.journal import HEAD, reset
 from model.words import word
 from model.world import World
 from scripts import (AGAIN, CLOSED, ENTERED, FIRST, GREETING, INBOX_ROWS, PLAYED, SENT_AGAIN, SENT_WHOLE, WHOLE, Script, archive,
@@ -274,8 +274,12 @@ def too_large(c: Cases) -> None:
 def lacking(c: Cases) -> None:
     kept = lambda *args, **named: ENTERED + [selected('C5', *args, **named)]
     sent = SENT_AGAIN[:5]
-    script(c, 'UIDVALIDITY is another', BOTH_LEARNED, kept(2, 6, 44, 715), 8, 'error validity INBOX 5 6', sent, lists=['INBOX'])
-    script(c, 'UIDVALIDITY is a lower one', BOTH_LEARNED, kept(2, 4, 44, 715), 8, 'error validity INBOX 5 4', sent)
+    script(c, 'UIDVALIDITY is a greater one: the cache is taken away, and all rows are asked for', BOTH_LEARNED,
+        kept(2, 6, 44, 715) + [INBOX_ROWS + ok('C6'), archive('C7'), left('C8')], 0, PLAYED,
+        sent + ['C6 UID FETCH 1:* (UID FLAGS MODSEQ)', 'C7 SELECT Archive (QRESYNC (9 300))', 'C8 LOGOUT'],
+        after=journal(BEGIN, INBOX_LEARNED, ARCHIVE_LEARNED, reset('INBOX', 5, 6),
+        learn('INBOX', 1, 6, 715, 44, [], [(40, 700, ['\\Seen']), (42, 715, [])]), AGAIN[1]), lists=['INBOX'])
+    script(c, 'UIDVALIDITY is a lower one', BOTH_LEARNED, kept(2, 4, 44, 715), 6, 'error reply validity INBOX 5 4', sent, lists=['INBOX'])
     script(c, 'the highest mod-sequence fell', BOTH_LEARNED, kept(2, 5, 44, 714), 6, 'error reply modseq 715 714', sent, lists=['INBOX'])
     script(c, 'no highest mod-sequence is told', BOTH_LEARNED, kept(2, 5, 44, None), 6, 'error reply lacks HIGHESTMODSEQ', sent)
     script(c, 'no UIDNEXT is told', BOTH_LEARNED, kept(2, 5, None, 715), 6, 'error reply lacks UIDNEXT', sent)
@@ -283,7 +287,7 @@ def lacking(c: Cases) -> None:
     script(c, 'there are no mod-sequences', BOTH_LEARNED, kept(2, 5, 44, None, '* OK [NOMODSEQ] none'), 7, 'error lacking MODSEQ', sent)
     script(c, 'none, though one is told', BOTH_LEARNED, kept(2, 5, 44, 715, '* NO [NOMODSEQ] none'), 7, 'error lacking MODSEQ', sent)
     script(c, 'UIDs don\'t stay', BOTH_LEARNED, kept(2, 5, 44, 715, '* OK [UIDNOTSTICKY] so it is'), 7, 'error lacking STICKY', sent)
-    script(c, 'UIDVALIDITY comes before the mod-sequence', BOTH_LEARNED, kept(2, 6, 44, 714), 8, 'error validity INBOX 5 6', sent)
+    script(c, 'UIDVALIDITY comes before the mod-sequence', BOTH_LEARNED, kept(2, 4, 44, 714), 6, 'error reply validity INBOX 5 4', sent)
     script(c, 'a row lacks its flags', BOTH_LEARNED, kept(2, 5, 44, 715, '* 1 FETCH (UID 42 MODSEQ (715))'), 6, 'error reply lacks ROW',
         sent)
 
@@ -301,7 +305,7 @@ def nothing_kept(c: Cases) -> None:
         new(selected('C5', 2, 5, 44, 715), crlf('* 1 FETCH (UID 40 FLAGS (\\Seen))', 'C6 OK done')), 6, 'error reply lacks ROW',
         SENT_WHOLE[:6])
     script(c, 'the second mailbox is at fault: the first is known', BOTH_LEARNED,
-        ENTERED + [selected('C5', 2, 5, 44, 715), selected('C6', 0, 10, 7, 300, front=[CLOSED])], 8, 'error validity Archive 9 10',
+        ENTERED + [selected('C5', 2, 5, 44, 715), selected('C6', 0, 8, 7, 300, front=[CLOSED])], 6, 'error reply validity Archive 9 8',
         SENT_AGAIN[:6],
         after=journal(BEGIN, INBOX_LEARNED, ARCHIVE_LEARNED, AGAIN[0]))
     s = Script()

@@ -11,7 +11,7 @@ from common import (ARCHIVE_LEARNED, BEGIN, BEGUN, BOTH_LEARNED, INBOX_LEARNED, 
 from common import add as add_drawn, worked_server
 from gen_random import Draw
 from model.commands import Store
-from model.journal import Book
+from model.journal import NOTHING, Book
 from model.world import World
 from scripts import CLOSED, FIRST, crlf, left, script, selected
 
@@ -64,7 +64,7 @@ class Played(Told):
         for n, outcome in enumerate(book.outcomes, 1):
             count = deeds.count('P%d' % n)
             assert count <= 1 and (outcome != ('done',) and (outcome or ('',))[0] != 'done' or count == 1), (n, outcome, deeds)
-            if outcome and outcome[0] == 'conflict' and outcome[1] <= 7:
+            if outcome and outcome[0] == 'conflict' and outcome[1] in NOTHING:
                 assert count == 0, (n, outcome, deeds)
         return book
 
@@ -242,38 +242,6 @@ def reasons(c: Cases) -> None:
     s.plays('played 2 conflicts 2')
     s.sent()
     add(c, 'the message goes between FETCH and MOVE', s.ends(), conflict(1), conflict(7, 1))
-
-
-def recreated_mailboxes(c: Cases) -> None:
-    s = flagged()
-    s.change('reset', 'INBOX', 6, 50, 800, 1, 2)
-    s.plays('error validity INBOX 5 6')
-    s.sent()
-    add(c, 'INBOX was recreated between two runs: nothing is sent for its action', s.ends())
-    s = flagged()
-    s.change('reset', 'Archive', 10, 1, 1)
-    s.plays('error validity Archive 9 10')
-    s.sent()
-    add(c, 'Archive was recreated between two runs: the action in INBOX is played, and then the run ends', s.ends(), done())
-    s = flagged()
-    s.other(15, 'reset', 'INBOX', 6, 50, 800, 1, 2)
-    s.plays('played 1 conflicts 0')
-    s.sent()
-    add(c, 'a mailbox isn\'t recreated while it is selected', s.ends(), done())
-    s = flagged()
-    s.link(15, 'waits done')
-    s.plays('error link')
-    s.change('reset', 'INBOX', 6, 50, 800, 1, 2)
-    s.plays('played 1 conflicts 1')
-    s.sent()
-    add(c, 'a mailbox isn\'t recreated while a change of flags in it waits', s.ends(), conflict(8))
-    s = flagged()
-    s.link(15, 'nothing')
-    s.plays('error link')
-    s.change('reset', 'INBOX', 6, 50, 800, 1, 2)
-    s.plays('error validity INBOX 5 6')
-    s.sent()
-    add(c, 'INBOX was recreated behind a change of flags that was lost', s.ends())
 
 
 def reasons_of_a_second_try(c: Cases) -> None:
@@ -456,9 +424,9 @@ def older(c: Cases) -> None:
         after=after[:after.index(intend(1, ('store', 'INBOX', 5, 42, 715))) - 5] + b'\0')
     script(c, 'a row is asked for, and refused', before, says[:7] + [crlf('C6 NO not now')], 5, 'error refused: C6 NO not now', sent[:7],
         after=after[:after.index(intend(1, ('store', 'INBOX', 5, 42, 715))) - 5] + b'\0')
-    script(c, 'an action\'s message has another UIDVALIDITY than its mailbox',
-        journal(BEGIN, INBOX_LEARNED, ARCHIVE_LEARNED, accept(1, ('flag', real('INBOX', 4, 42), '+', ['\\Seen']))),
-        says[:7], 8, 'error validity INBOX 4 5', sent[:6])
+    script(c, 'an action\'s message has a UIDVALIDITY above its mailbox\'s',
+        journal(BEGIN, INBOX_LEARNED, ARCHIVE_LEARNED, accept(1, ('flag', real('INBOX', 6, 42), '+', ['\\Seen']))),
+        says[:7], 6, 'error reply validity INBOX 6 5', sent[:6])
 
 
 def older_server(c: Cases) -> None:
@@ -479,8 +447,11 @@ def older_server(c: Cases) -> None:
 class Lost:
     """A play in which a call is lost or fails, or behind which the world stops."""
 
-    def __init__(self, what: str, begun: Callable[[], Played]):
-        self.cases, self.begun = Cases(LOST % what), begun
+    # By which images it goes on from a stop.
+    picks = range(5)
+
+    def __init__(self, text: str, begun: Callable[[], Played]):
+        self.cases, self.begun = Cases(text), begun
         head = begun()
         self.heads = len(head.lines)
         self.cases.head(head)
@@ -511,7 +482,7 @@ class Lost:
             s.gives(3, 'play')
             self.ended('call %d of the disk fails' % n, s)
         for n in range(self.link_calls + self.disk_calls + 1):
-            for pick in range(5):
+            for pick in self.picks:
                 s = self.begun()
                 s.stop(n)
                 s.run('play')
@@ -540,8 +511,7 @@ LOST = """\
 # effect once, or is a conflict; none took effect twice.
 
 """
-MAKERS = [worked, lost_before_or_behind, reasons, recreated_mailboxes, reasons_of_a_second_try, refusals, several, waiting, to_the_end, older,
-          older_server]
+MAKERS = [worked, lost_before_or_behind, reasons, reasons_of_a_second_try, refusals, several, waiting, to_the_end, older, older_server]
 
 
 def main(folder: str) -> None:
@@ -550,10 +520,10 @@ def main(folder: str) -> None:
         make(cases)
     cases.write(folder, 'playback', 'gen_playback')
     drawn().write(folder, 'drawn', 'gen_playback')
-    Lost('A move and a change of flags where it comes are', moved).all().write(folder, 'lost_moves', 'gen_playback')
-    Lost('An append is', appended).all().write(folder, 'lost_appends', 'gen_playback')
-    Lost('A move is', one_move).all().write(folder, 'lost_one_move', 'gen_playback')
-    Lost('An append whose reply was lost is', searched).all().write(folder, 'lost_searches', 'gen_playback')
+    Lost(LOST % 'A move and a change of flags where it comes are', moved).all().write(folder, 'lost_moves', 'gen_playback')
+    Lost(LOST % 'An append is', appended).all().write(folder, 'lost_appends', 'gen_playback')
+    Lost(LOST % 'A move is', one_move).all().write(folder, 'lost_one_move', 'gen_playback')
+    Lost(LOST % 'An append whose reply was lost is', searched).all().write(folder, 'lost_searches', 'gen_playback')
 
 
 if __name__ == '__main__':

@@ -11,7 +11,7 @@ from common import (ARCHIVE_LEARNED, INBOX_LEARNED, LOSSES, OFFERS, T, WORKED, C
                     keys, over, without_head, worked_server)
 from gen_words import TEXTS
 from model.commands import Store
-from model.journal import Book
+from model.journal import NOTHING, Book
 from model.words import message_id
 from model.world import Fault, World
 
@@ -212,7 +212,7 @@ class Draw(random.Random):
             count = deeds.count('P%d' % n)
             assert count <= 1, (n, deeds)
             if outcome:
-                assert count == 1 if outcome[0] == 'done' else count == 0 or outcome[1] > 7, (n, outcome, deeds)
+                assert count == 1 if outcome[0] == 'done' else count == 0 or outcome[1] not in NOTHING, (n, outcome, deeds)
         return s
 
     def step(self, s):

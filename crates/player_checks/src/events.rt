@@ -202,7 +202,12 @@ pub fn put_event(answer: &mut Answer, event: &Event) -> Result<(), CaseFault> {
         }
         Event::Learn { name, delta } => put_learn(answer, name, delta),
         Event::Old { .. } => answer.word("old"),
-        Event::Reset { .. } => answer.word("reset"),
+        Event::Reset { name, kept, told } => {
+            answer.word("reset")?;
+            put_name(answer, name)?;
+            put_validity(answer, *kept)?;
+            put_validity(answer, *told)
+        }
         Event::Withdraw { .. } => answer.word("withdraw"),
     }
 }

@@ -6,13 +6,14 @@ use crate::faults::put_fault;
 use crate::held::{enter, settle};
 use crate::lines::{Kind, kind_of};
 use crate::needs::{is_learn, put_need};
-use crate::telling::{choose, wants_rows};
+use crate::telling::{choose, outdated, wants_rows};
 use action_queue::{Book, Event, Outcome};
 use case_files::{Fault, differs, same_text};
 use case_words::{Answer, CaseFault};
 use imap_model::Replies;
 use mail_base::ActionId;
 use playback::{Need, Player, Unheard};
+use qresync_core::is_told_empty;
 use std::alloc::Global;
 
 // What the server owes.
@@ -22,6 +23,8 @@ enum Owed {
     Nothing,
     // The reply to a SELECT, and that to the FETCH of all rows where it is due.
     Mailbox,
+    // Nothing, until what takes a cache away is recorded: the reply to the SELECT told a greater UIDVALIDITY.
+    Reset,
     // The reply to a question or to an action's command.
     Reply,
 }
@@ -132,9 +135,14 @@ impl Play {
     // What is needed next is what the line says. What is to be recorded is recorded.
     fn need(&mut self, book: &mut Book, wanted: &str) -> Result<(), Fault> {
         self.check_fault()?;
-        if self.owed != Owed::Nothing {
-            return Err(Fault::Form);
+        match self.owed {
+            Owed::Nothing => self.need_next(book, wanted),
+            Owed::Reset => self.reset(book, wanted),
+            Owed::Mailbox | Owed::Reply => Err(Fault::Form),
         }
+    }
+
+    fn need_next(&mut self, book: &mut Book, wanted: &str) -> Result<(), Fault> {
         let need = self.next(book)?;
         self.compare(&need, wanted)?;
         if self.is_moved(&need)? {
@@ -186,6 +194,10 @@ impl Play {
         if self.has_delta() {
             return Err(differs(self.alloc, b"no delta that waits", wanted.as_bytes()));
         }
+        self.compare_event(event, wanted)
+    }
+
+    fn compare_event(&mut self, event: &Event, wanted: &str) -> Result<(), Fault> {
         self.compared = self.compared.saturating_add(1);
         match shown_event(self.alloc, event) {
             Ok(told) => same_text(self.alloc, wanted, told.as_str()),
@@ -268,7 +280,7 @@ impl Play {
 
     fn hand_over(&mut self, book: &Book, replies: Replies) -> Result<(), Fault> {
         match self.owed {
-            Owed::Nothing => Err(Fault::Form),
+            Owed::Nothing | Owed::Reset => Err(Fault::Form),
             Owed::Mailbox => self.choose(book, replies),
             Owed::Reply => self.hand_reply(book, &replies),
         }
@@ -285,14 +297,64 @@ impl Play {
         self.answered(done)
     }
 
-    // The reply to a SELECT, behind which the FETCH of all rows may be due, or the reply to that.
+    // What takes the mailbox's cache away is what the line says, and is recorded. Then all rows are told, unless there are none.
+    fn reset(&mut self, book: &mut Book, wanted: &str) -> Result<(), Fault> {
+        let Some(event) = self.outdated(book) else {
+            return Err(Fault::Form);
+        };
+        self.record_reset(book, event, wanted)?;
+        self.owed = Owed::Mailbox;
+        self.choose_empty(book)
+    }
+
+    fn record_reset(&mut self, book: &mut Book, event: Event, wanted: &str) -> Result<(), Fault> {
+        let same = self.compare_event(&event, wanted);
+        if let Err(fault) = same {
+            drop(event);
+            return Err(fault);
+        }
+        record(self.alloc, book, event, wanted)
+    }
+
+    fn outdated(&self, book: &Book) -> Option<Event> {
+        let player = self.player.as_ref()?;
+        let selected = self.selected.as_ref()?;
+        outdated(player, book, selected)
+    }
+
+    // Where the mailbox was told to be empty, no reply is owed any more.
+    fn choose_empty(&mut self, book: &Book) -> Result<(), Fault> {
+        match &self.selected {
+            Some(selected) if is_told_empty(selected) => (),
+            _ => return Ok(()),
+        }
+        let Some(selected) = self.selected.take() else {
+            return Ok(());
+        };
+        self.choose_by(book, &None, &selected)
+    }
+
+    // The reply to a SELECT, behind which a cache may be taken away, or the FETCH of all rows may be due; or the reply to that.
     fn choose(&mut self, book: &Book, replies: Replies) -> Result<(), Fault> {
+        if self.is_outdated(book, &replies) {
+            self.owed = Owed::Reset;
+            self.selected = Some(replies);
+            return Ok(());
+        }
         if self.is_first(book, &replies)? {
             self.selected = Some(replies);
             return Ok(());
         }
         let selected = self.selected.take();
         self.choose_by(book, &selected, &replies)
+    }
+
+    // Whether the reply is that to a SELECT, and told a greater UIDVALIDITY than the cache's.
+    fn is_outdated(&self, book: &Book, replies: &Replies) -> bool {
+        match &self.player {
+            Some(player) => self.selected.is_none() && outdated(player, book, replies).is_some(),
+            None => false,
+        }
     }
 
     // Whether the FETCH of all rows is due behind this reply.

@@ -8,12 +8,12 @@ ghost use Rattle.std.specs.Option.{option_copied};
 ghost use Rattle.std.specs.Prelude.{◌≡◌, Option, IfOk};
 
 use crate::writable::have_few_flags;
-use action_queue::Book;
+use action_queue::{Book, Event};
 use imap_model::Replies;
 use mail_base::BoxName;
 use mailbox_cache::{Cache, Delta};
 use playback::{Need, Player, Unheard};
-use qresync_core::{ResyncFault, delta_of, is_told_empty};
+use qresync_core::{ResyncFault, codes_of, delta_of, is_told_empty};
 use std::alloc::{AllocError, Global};
 
 // The cache that the book has of this name, if it has one.
@@ -36,6 +36,14 @@ pub fn wants_rows(player: &Player, book: &Book, selected: &Replies) -> Result<bo
         return Ok(false);
     };
     Ok(is_new(book, &name) && !is_told_empty(selected))
+}
+
+/// What takes the mailbox's cache away, where this reply to the SELECT that is needed told a greater UIDVALIDITY.
+pub fn outdated(player: &Player, book: &Book, selected: &Replies) -> Option<Event> {
+    match codes_of(selected) {
+        Ok(codes) => player.outdated(book, codes.validity),
+        Err(_) => None,
+    }
 }
 
 // The delta, or want of memory where a row has too many flags, as none has of a reply that was read.
