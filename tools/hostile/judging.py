@@ -24,9 +24,8 @@ LINES = {
     1: r"played \d+ conflicts [1-9]\d*",
     4: "error link",
     5: r"error refused: [ -~]{1,200}",
-    6: r"error reply (\d+|lacks [A-Z]+|modseq \d+ \d+)",
+    6: r"error reply (\d+|lacks [A-Z]+|modseq \d+ \d+|validity (INBOX|Archive) \d+ \d+)",
     7: r"error lacking [A-Z0-9]+",
-    8: r"error validity (INBOX|Archive) \d+ \d+",
     14: r"error limit (literal|line|reply|flags|flag|rows) \d+",
 }
 HISTORY = re.compile(r"(\d+) (waiting|begun|done(?: \d+ \d+)?|(nothing|unsure) [a-z-]+(?: \d+)*) ((?:flag|move|append) .*)")

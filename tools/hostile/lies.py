@@ -40,7 +40,7 @@ LIES: List[Lie] = [
     Lie("CLOSED", r"UID FETCH 1:\* .*", ".*", "cache", STALE),
     Lie("HIGHESTMODSEQ higher", SYNCHRONISED, ".*", "clean cache", BEGIN),
     Lie("its numbers are 4294967296", SYNCHRONISED, ".*HIGHESTMODSEQ.*", "clean cache", BEGIN),
-    Lie("another UIDVALIDITY", r"SELECT [^ ]*|UID FETCH 1:\* .*", ".*", "clean cache", BEGIN),
+    Lie("another UIDVALIDITY", SYNCHRONISED, ".*", "clean cache", BEGIN),
     Lie("(NO|BAD|MODIFIED), and it was done", ".*", ".*", "effect", "what the server says wasn't done, it did"),
     Lie(UNTOLD, "UID STORE .*", r"\* \d+ FETCH.*", "effect", "a changed message without its row counts as gone"),
     Lie(UNTOLD, "UID MOVE .*", r".*COPYUID.*", "effect", "a moved message without its COPYUID counts as gone"),

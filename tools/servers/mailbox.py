@@ -121,8 +121,10 @@ def refused(trial: Trial, mine: Program) -> None:
         time.sleep(1.1)
         other.create("Archive")
         new = other.mark("Archive")[0]
-    trial.same("a mailbox that was recreated", mine.say("play"), (f"error validity Archive {old} {new}\n", 8))
-    trial.same_rows("  and then", mine, "INBOX")
+    trial.same("a mailbox that was recreated under a greater UIDVALIDITY", old < new, True)
+    trial.same("  is played on", mine.say("play"), PLAYED)
+    for name in BOXES:
+        trial.same_rows("  and then", mine, name)
 
 
 def processor_time() -> float:

@@ -48,6 +48,13 @@ class Box:
         row = self.rows[uid]
         row.mark, row.flags = self.tick(), (row.flags | flags if is_added else row.flags - flags)
 
+    def recreate(self) -> None:
+        """Is there again with its messages, under the next UIDVALIDITY: they get UIDs from 1 on, in their order, and one mod-sequence."""
+        mark = self.tick()
+        rows = [row for _, row in sorted(self.rows.items())]
+        self.rows = {uid: Row(mark, row.flags, row.text) for uid, row in enumerate(rows, 1)}
+        self.validity, self.next_uid, self.gone = self.validity + 1, len(rows) + 1, {}
+
     def place(self, uid: int) -> int:
         """The number of a message."""
         return sorted(self.rows).index(uid) + 1
