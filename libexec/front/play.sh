@@ -223,7 +223,7 @@ play_to_the_end() {
         status=$ended program_pid=''
         # Link still waits for the program, if that ended before it connected. With these statuses it did connect, or tried to.
         case $status in
-            [014-8]) ;;
+            [014-7]) ;;
             *) pass_on USR2 "$link_pid" ;;
         esac
     fi
