@@ -7,7 +7,7 @@ from typing import List, Optional
 
 from common import (BOTH_LEARNED, M40, M42, OFFERS, SEEN, STATE, WORKED, Cases, Told, accept, intend, journal, learn, real, settle)
 from gen_playback import Played, add, done
-from scripts import AGAIN, ENTERED, FIRST, PLAYED, SENT_AGAIN, Script, archive, crlf, left, script, selected
+from scripts import AGAIN, ENTERED, FIRST, PLAYED, SENT_AGAIN, Script, archive, crlf, left, selected
 
 SELECTED = FIRST + ['C5 SELECT INBOX (QRESYNC (5 715))']
 # The line of the action that waits in the journal SEEN.

@@ -4,9 +4,8 @@ drawn_resets), by the plain models of tools/model.
 usage: tools/scenarios/gen_resets.py FOLDER    (crates/mail_scenario, or a folder with a folder data in it)
 """
 import sys
-from typing import List
 
-from common import (ARCHIVE_LEARNED, BEGIN, BOTH_LEARNED, INBOX_LEARNED, SEEN, STATE, T, Cases, accept, journal, learn, real,
+from common import (ARCHIVE_LEARNED, BEGIN, INBOX_LEARNED, SEEN, STATE, Cases, accept, journal, learn, real,
                     worked_server)
 from common import add as add_drawn
 from gen_playback import LOST, Lost, Played, add, appended, conflict, done, flagged, moved, new, one_move
