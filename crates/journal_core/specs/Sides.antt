@@ -11,7 +11,7 @@ magic_of Second = codes "ODMAILJ2"
 
 -- the version that is written; a side of another one is only read
 abbrev pub version_written : Version
-version_written = First
+version_written = Second
 
 -- the bytes from 1 to 12
 abbrev pub header_of : Version → ℕ → List ℕ

@@ -25,9 +25,10 @@ impl Journal {
     ghost use Rattle.journal_core.specs.declared.appending.AppendFault.TheVariants as faults;
     ghost use Rattle.journal_core.specs.Appending.{IsFrame, Appends, end_with, told_end};
     ghost use Rattle.journal_core.specs.OneSide.{IsAside};
+    ghost use Rattle.journal_core.specs.Sides.{version_written};
 
-    /// Adds a record, given as the frame of its body: the length in four bytes, high byte first,
-    /// the body, and a closed gate. It takes no memory.
+    /// Adds a record to a journal of the version that is written, given as the frame of its body:
+    /// the length in four bytes, high byte first, the body, and a closed gate. It takes no memory.
     ///
     /// The limit is on the place behind the journal's last gate. After `Full` all is as it was.
     pub fn append<D: Disk>(
@@ -36,6 +37,7 @@ impl Journal {
         frame: &[u8],
         limit: u64,
     ) -> Result<(), AppendFault>
+        requires written { self.old.version ≡ version_written }
         requires all_read { IsTrue self.old.all_read }
         requires sound { IsTrue self.old.failed → ⊥ }
         requires limit_fits { limit ≤ 2 ^ 30 }

@@ -14,10 +14,10 @@ pub enum Version {
 }
 
 /// The version that is written. A side of another one is only read.
-pub const WRITTEN: Version = Version::First;
+pub const WRITTEN: Version = Version::Second;
 
 /// The magic word of the version that is written.
-pub const MAGIC: [u8; 8] = MAGIC_1;
+pub const MAGIC: [u8; 8] = MAGIC_2;
 
 // The magic words of the two versions.
 const MAGIC_1: [u8; 8] = *b"ODMAILJ1";

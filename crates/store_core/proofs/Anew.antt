@@ -43,13 +43,12 @@ module _ (K : Keeping) (now : Holding K) (bodies : List (List ℕ)) (make : Make
 
   pub book_stays : Since (Only (HasBook K now.book)) (Remains (HasBook K now.book)) k l
   book_stays = passes_one (Holds now.journal.version left.bodies) (Holds version_written bodies) (HasBook K now.book)
-      (λ files h. record { version = now.journal.version; written = left.written; bodies = left.bodies; holds = h; make = left.make })
-      (λ files h. record { version = version_written; written = refl; bodies = bodies; holds = h; make = make }) k l (here.passing left.bodies left.still)
+      (λ files h. record { version = now.journal.version; bodies = left.bodies; holds = h; make = left.make })
+      (λ files h. record { version = version_written; bodies = bodies; holds = h; make = make }) k l (here.passing left.bodies left.still)
 
   pub left_told : (x : T) → r ≡ Ok x → (book : K.Book) → book ≡ now.book → later.version ≡ version_written → later.all_read ≡ true →
       IsAsLeft K (record { journal = later; book = book }) l.now g
   left_told x ok book same_book version read = record {
-    written = version;
     bodies = bodies;
     make = subst (λ (b : K.Book). Make K later.version bodies (Some b)) (sym same_book)
         (subst (λ (v : Version). Make K v bodies (Some now.book)) (sym version) make);

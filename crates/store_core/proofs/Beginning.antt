@@ -68,7 +68,7 @@ module _ (body : List ℕ) (names : List (List ℕ)) (are : AreNames names) (is 
   some_begin = omega (arith, ap length is.is)
 
   has_begin : (files : Files) → Holds version_written (body ∷ []) files → HoldsBook mail (Some (begun names)) files
-  has_begin files h = record { version = version_written; written = refl; bodies = body ∷ []; holds = h; make = make_begin }
+  has_begin files h = record { version = version_written; bodies = body ∷ []; holds = h; make = make_begin }
 
   module _ (k l : Clock) (bodies : List (List ℕ)) (one : bodies ≡ body ∷ []) (through : CreatesThrough bodies k l) where
     through_one : CreatesThrough (body ∷ []) k l
@@ -109,7 +109,6 @@ module _ (body : List ℕ) (names : List (List ℕ)) (are : AreNames names) (is 
       j.all_read ≡ true → IsStill j bodies m f → (book : Meaning) → book ≡ begun names →
       IsAsLeft mail (record { journal = j; book = book }) m f
   left_begun j m f bodies one version read still book becomes = record {
-    written = version;
     bodies = body ∷ [];
     make = subst (λ (v : Version). Make mail v (body ∷ []) (Some book)) (sym version)
         (subst (λ (b : Meaning). Make mail version_written (body ∷ []) (Some b)) (sym becomes) make_begin);

@@ -30,7 +30,6 @@ only_left K store m seen left =
     rests_only (HasBook K store.book) m seen left.still.rests
     (record {
       version = store.journal.version;
-      written = left.written;
       bodies = left.bodies;
       holds =
           still_holds store.journal left.bodies m seen left.still left.all_read;

@@ -34,7 +34,7 @@ use Rattle.store_core.specs.Mail.{mail, rules_of}
 use Rattle.store_core.specs.Books.{Make, HasBook}
 use Rattle.store_core.specs.Holding.{IsAsLeft}
 use Rattle.store_core.specs.HeldActions.{KeepsActions}
-use Rattle.store_core.specs.Broken.{IsUndue, IsBroken, IsOfAnotherVersion}
+use Rattle.store_core.specs.Broken.{IsUndue, IsBroken}
 use Rattle.store_core.specs.Reading.{Enters, EntersAll, ReadsBook, UndueAt}
 use Rattle.store_core.proofs.Folding.{make_none, make_more}
 use Rattle.store_core.proofs.MailBook.{one_mail_event}
@@ -152,22 +152,8 @@ gate_closed j after file (Some b) is next = absurd cc
 pub no_journal_broken : (K : Keeping) (why : Place9) (f : Files) → IsNoJournal why f → IsBroken K why f
 no_journal_broken K (places.Record at) f not = absurd not
 no_journal_broken K places.Absent f not = not
-no_journal_broken K places.Header f not = inl not
+no_journal_broken K places.Header f not = not
 no_journal_broken K places.Generations f not = not
-
--- a journal of another version is told as a wrong header
-pub another_version : (j : Standing) (f : Files) → IsAtFirst j f → (j.version ≡ version_written → ⊥) → IsOfAnotherVersion f
-another_version j f at differs = record { side = j.side; version = j.version; generation = j.generation; present = at.present; other = differs }
-
-pub header_broken : (K : Keeping) (f : Files) → IsOfAnotherVersion f → (why : Place9) → places.Header ≡ why → IsBroken K why f
-header_broken K f version why is = subst (λ (w : Place9). IsBroken K w f) is (inr version)
-
--- such a fault is the wrong header, and not the disk's
-pub header_told : {T : Type 0} (why : Place9) → IsErrOf {T = T} (Err (store.NotAJournal places.Header)) (store.NotAJournal why) → places.Header ≡ why
-header_told why is = cc
-
-pub header_no_disk : {T : Type 0} → IsErrOf {T = T} (Err (store.NotAJournal places.Header)) store.Disk → ⊥
-header_no_disk is = cc
 
 no_longer : (xs ys : List (List ℕ)) → length (records xs) ≤ length (records (xs ++ ys))
 no_longer [] ys = omega arith
@@ -211,13 +197,13 @@ reads_first K v body later j m f same e still =
 
 -- all were, so the files hold the book
 pub holds_all : (K : Keeping) (book : K.Book) (j : Standing) (m : Moment) (f g : Files) → f ≡ g → ReadsBook K book j m f → IsTrue j.all_read →
-    j.version ≡ version_written → HasBook K book g
-holds_all K book j m f g same r read written = subst (HasBook K book) same
-    (record { version = j.version; written = written; bodies = r.bodies; holds = still_holds j r.bodies m f r.still read; make = r.make })
+    HasBook K book g
+holds_all K book j m f g same r read = subst (HasBook K book) same
+    (record { version = j.version; bodies = r.bodies; holds = still_holds j r.bodies m f r.still read; make = r.make })
 
 pub left_as : (K : Keeping) (book : K.Book) (j : Standing) (m : Moment) (f : Files) → ReadsBook K book j m f → j.all_read ≡ true →
-    j.version ≡ version_written → IsAsLeft K (record { journal = j; book = book }) m f
-left_as K book j m f r read written = record { written = written; bodies = r.bodies; make = r.make; still = r.still; all_read = read }
+    IsAsLeft K (record { journal = j; book = book }) m f
+left_as K book j m f r read = record { bodies = r.bodies; make = r.make; still = r.still; all_read = read }
 
 -- a body whose event breaks a rule spells none that may come
 pub undue : (v : Version) (b : Meaning) (body : List ℕ) (e : Event) → Spelled body e → true ≡ is_some (first_broken (rules_of v) b e) →

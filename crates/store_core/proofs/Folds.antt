@@ -1,6 +1,5 @@
 -- A record that was entered goes on with a fold.
 use Rattle.std.proofs.Common.{◌≡◌, ◌∙◌, ℕ, List, Some, None, ap, sym, subst}
-use Rattle.journal_core.specs.Sides.{version_written}
 use Rattle.journal_core.specs.declared.version.Version.{Version}
 use Rattle.action_queue.specs.Book.{Meaning, after, begun}
 use Rattle.action_queue.specs.Events.{AreNames}
@@ -35,12 +34,16 @@ pub made_as : (v w : Version) (b : Meaning) → w ≡ v → IsMade v b → IsMad
 made_as v w b same made = subst (λ (x : Version). IsMade x b) (sym same) made
 
 -- what a store keeps of its book, behind an event that was recorded
-pub well_recorded : (store now : Holding mail) → store ≡ now → store.journal.version ≡ version_written → (event : Event) →
-    MayCome now.journal.version (Some now.book) event → IsWritable event → IsWellBook (rules_of version_written) store.book → (later : Meaning) →
-    later ≡ after now.book event → IsWellBook (rules_of version_written) later
-well_recorded store now same version event lawful writable well later is =
-    let here : MayCome store.journal.version (Some store.book) event =
+pub well_recorded : (store now : Holding mail) → store ≡ now → (event : Event) → MayCome now.journal.version (Some now.book) event → IsWritable event →
+    IsWellBook (rules_of store.journal.version) store.book → (version : Version) → version ≡ store.journal.version → (later : Meaning) →
+    later ≡ after now.book event → IsWellBook (rules_of version) later
+well_recorded store now same event lawful writable well version here later is =
+    let may : MayCome store.journal.version (Some store.book) event =
     subst (λ (s : Holding mail). MayCome s.journal.version (Some s.book) event) (sym same) lawful in
-    let may : MayCome version_written (Some store.book) event = subst (λ (v : Version). MayCome v (Some store.book) event) version here in
-    subst (IsWellBook (rules_of version_written)) (sym (is ∙ ap (λ (s : Holding mail). after s.book event) (sym same)))
-    (well_stays (rules_of version_written) store.book event may writable well)
+    subst (λ (v : Version). IsWellBook (rules_of v) later) (sym here)
+    (subst (IsWellBook (rules_of store.journal.version)) (sym (is ∙ ap (λ (s : Holding mail). after s.book event) (sym same)))
+    (well_stays (rules_of store.journal.version) store.book event may writable well))
+
+-- the same, where nothing was recorded
+pub well_still : (v w : Version) (b : Meaning) → w ≡ v → IsWellBook (rules_of v) b → IsWellBook (rules_of w) b
+well_still v w b same well = subst (λ (x : Version). IsWellBook (rules_of x) b) (sym same) well

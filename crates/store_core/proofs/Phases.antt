@@ -3,7 +3,6 @@ use Rattle.std.proofs.Common.{◌≡◌, inl, inr, true, ℕ, zero, suc, ◌+◌
 use Rattle.world_traits.specs.Files.{Files}
 use Rattle.world_traits.specs.Moments.{Moment, Clock, AtPhase, GoesOn, Since}
 use Rattle.world_traits.proofs.Passing.{since_weaker}
-use Rattle.journal_core.specs.Sides.{version_written}
 use Rattle.journal_core.specs.declared.version.Version.{Version}
 use Rattle.journal_core.specs.Holds.{Holds}
 use Rattle.journal_core.specs.Gates.{Passes}
@@ -77,12 +76,12 @@ step_of K v b e may m n s = by_phase K v b e may m n s.outside s.from s.to s.for
 -- A book that a store keeps, and an event that may come in its journal.
 module _ (K : Keeping) (v : Version) (b : K.Book) (e : K.Event) (may : K.MayCome v (Some b) e) (old new : Clock) where
   -- the moments of an append, as books
-  pub takes_as : v ≡ version_written → (bodies : List (List ℕ)) (body : List ℕ) → Make K v bodies (Some b) → K.Spelled body e →
+  pub takes_as : (bodies : List (List ℕ)) (body : List ℕ) → Make K v bodies (Some b) → K.Spelled body e →
       Passes (Holds v bodies) (Holds v (bodies ++ body ∷ [])) old new → Takes K (Some b) e old new
-  takes_as written bodies body make is p =
+  takes_as bodies body make is p =
       passes_as (Holds v bodies) (Holds v (bodies ++ body ∷ [])) (HoldsBook K (Some b)) (HoldsBook K (Some (K.next_book (Some b) e)))
-      (λ files h. record { version = v; written = written; bodies = bodies; holds = h; make = make })
-      (λ files h. record { version = v; written = written; bodies = bodies ++ body ∷ []; holds = h; make = make_more K v bodies (Some b) body e make is may })
+      (λ files h. record { version = v; bodies = bodies; holds = h; make = make })
+      (λ files h. record { version = v; bodies = bodies ++ body ∷ []; holds = h; make = make_more K v bodies (Some b) body e make is may })
       old new p
 
 -- An append of the frame of a body that spells the event to a store's journal, as the store's books.
@@ -94,12 +93,11 @@ module _ (K : Keeping) (now : Holding K) (e : K.Event) (may : K.MayCome now.jour
   here = subst (λ (s : Holding K). Appends s.journal later frame k l f g r) same adds
 
   pub took : Takes K (Some now.book) e k l
-  took = takes_as K now.journal.version now.book e may k l left.written left.bodies body left.make is (here.passing left.bodies body left.still size framed)
+  took = takes_as K now.journal.version now.book e may k l left.bodies body left.make is (here.passing left.bodies body left.still size framed)
 
   pub left_after : (x : T) → r ≡ Ok x → later.version ≡ now.journal.version → later.all_read ≡ true → (book : K.Book) →
       book ≡ K.next_book (Some now.book) e → IsAsLeft K (record { journal = later; book = book }) l.now g
   left_after x ok version read book becomes = record {
-    written = version ∙ left.written;
     bodies = left.bodies ++ body ∷ [];
     make = subst (λ (v : Version). Make K v (left.bodies ++ body ∷ []) (Some book)) (sym version)
         (subst (λ (b : K.Book). Make K now.journal.version (left.bodies ++ body ∷ []) (Some b)) (sym becomes)

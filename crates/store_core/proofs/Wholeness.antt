@@ -62,9 +62,6 @@ module _ (K : Keeping) (one_event : OneEvent K) (book : K.Book) (files : Files) 
 
   pub never_both : (why : Place9) → IsBroken K why files → ⊥
   never_both places.Absent broken = is_journal holds.version holds.bodies files places.Absent holds.holds broken
-  never_both places.Header (inl broken) = is_journal holds.version holds.bodies files places.Header holds.holds broken
-  never_both places.Header (inr o) =
-      let h = holds.holds in
-      o.other (one_presence o.side h.side o.version holds.version o.generation h.generation files o.present h.present ∙ holds.written)
+  never_both places.Header broken = is_journal holds.version holds.bodies files places.Header holds.holds broken
   never_both places.Generations broken = is_journal holds.version holds.bodies files places.Generations holds.holds broken
   never_both (places.Record at) broken = not_broken at broken

@@ -1,7 +1,6 @@
 -- Which book two files hold: the fold of the events that their bodies spell.
 use Rattle.std.specs.Prelude.{◌≡◌, ℕ, List, [], ◌∷◌, Option, Some, None, ⊤}
 use Rattle.world_traits.specs.Files.{Files}
-use Rattle.journal_core.specs.Sides.{version_written}
 use Rattle.journal_core.specs.declared.version.Version.{Version}
 use Rattle.journal_core.specs.Holds.{Holds}
 use Rattle.journal_core.specs.Creating.{IsUnbegun}
@@ -26,10 +25,9 @@ pub record Make (K : Keeping) (version : Version) (bodies : List (List ℕ)) (bo
   pub spelled : AreSpelled K bodies events
   pub folds : Folds K version None events book
 
--- the files hold bodies that make this book in the journal's version, which is the one that is written
+-- the files hold bodies that make this book in the journal's version
 pub record HasBook (K : Keeping) (book : K.Book) (files : Files) : Type 0 where
   pub version : Version
-  pub written : version ≡ version_written
   pub bodies : List (List ℕ)
   pub holds : Holds version bodies files
   pub make : Make K version bodies (Some book)

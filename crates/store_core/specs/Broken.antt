@@ -1,14 +1,11 @@
 -- Why files hold no book.
-use Rattle.std.specs.Prelude.{◌≡◌, ◌≢◌, ◌⊎◌, ℕ, List, Option, None}
+use Rattle.std.specs.Prelude.{◌≡◌, ℕ, List, Option, None}
 use Rattle.world_traits.specs.Files.{Files}
-use Rattle.world_traits.specs.declared.disk.Side.{Side}
 use Rattle.journal_core.specs.declared.version.Version.{Version}
 use Rattle.journal_core.specs.declared.fault.Place9.{Place9}
 use Rattle.journal_core.specs.declared.fault.Place9.TheVariants as places
 use Rattle.journal_core.specs.Reading.{IsNoJournal}
 use Rattle.journal_core.specs.Broken.{BrokenBehind}
-use Rattle.journal_core.specs.Holds.{IsPresent}
-use Rattle.journal_core.specs.Sides.{version_written}
 use Rattle.store_core.specs.Keeping.{Keeping}
 use Rattle.store_core.specs.Books.{Make}
 
@@ -25,17 +22,9 @@ pub record BrokenAt (K : Keeping) (place : ℕ) (files : Files) : Type 0 where
   pub make : Make K version before book
   pub broken : BrokenBehind version (IsUndue K version book) (book ≡ None) before place files
 
--- The journal is of another version than the one that is written, which isn't opened yet.
-pub record IsOfAnotherVersion (files : Files) : Type 0 where
-  pub side : Side
-  pub version : Version
-  pub generation : ℕ
-  pub present : IsPresent side version generation files
-  pub other : version ≢ version_written
-
 -- why the files hold no book
 abbrev pub IsBroken : Keeping → Place9 → Files → Type 0
 IsBroken K (places.Record at) files = BrokenAt K at files
 IsBroken K places.Absent files = IsNoJournal places.Absent files
-IsBroken K places.Header files = IsNoJournal places.Header files ⊎ IsOfAnotherVersion files
+IsBroken K places.Header files = IsNoJournal places.Header files
 IsBroken K places.Generations files = IsNoJournal places.Generations files

@@ -4,6 +4,7 @@ ghost use Rattle.std.specs.Prelude.{◌≡◌, ◌↔◌, ◌≤◌, ◌<◌, �
 ghost use Rattle.journal_core.specs.Blames.{BlamesWhere};
 ghost use Rattle.journal_core.specs.Appending.{end_with, told_end};
 ghost use Rattle.journal_core.specs.Limits.{max_side};
+ghost use Rattle.journal_core.specs.Sides.{version_written};
 ghost use Rattle.mail_base.specs.Bodies.{frame_of};
 ghost use Rattle.record_codec.specs.Bodies.{body_of};
 ghost use Rattle.action_queue.specs.Book.{after};
@@ -19,7 +20,7 @@ use crate::{CommitFault, Store};
 use action_queue::{Event, Outcome};
 use journal_core::{Journal, MAX_SIDE};
 use mail_base::ActionId;
-use record_codec::{encode, encode_outcome, size};
+use record_codec::{encode, encode_outcome, encode_withdraw, size};
 use std::alloc::Global;
 use world_traits::{Clocked, Disk};
 
@@ -41,6 +42,7 @@ impl Store {
         disk: &mut D,
         event: Event,
     ) -> Result<(), CommitFault>
+        requires written { self.old.journal.version ≡ version_written }
         requires lawful { MayCome self.old.journal.version (Some self.old.book) event }
         requires writable { IsWritable event }
         requires fresh { IsOld event → ⊥ }
@@ -94,6 +96,7 @@ impl Store {
         id: ActionId,
         outcome: Outcome,
     ) -> Result<(), CommitFault>
+        requires written { self.old.journal.version ≡ version_written }
         requires lawful { MayCome self.old.journal.version (Some self.old.book) (events.Settle id outcome) }
         requires sound { IsTrue self.old.journal.failed → ⊥ }
         requires still { D.tells_files → IsAsLeft mail self.old (D.clock disk.old).now (D.seen disk.old) }
@@ -121,6 +124,48 @@ impl Store {
         let frame = encode_outcome(id, &outcome);
         self.journal.append(disk, &frame, MAX_OTHER)?;
         self.book.settle(id, outcome);
+        Ok(())
+    }
+
+    /// Records that the command of the action that is due is taken back, so that it may be tried once more, behind this
+    /// many that were, and enters it into the book. It takes no memory.
+    ///
+    /// After `Full` the book and the files are as before. After `Disk` the event is on the disk or not, and the store
+    /// isn't used again.
+    pub fn withdraw<D: Disk>(
+        &mut self,
+        disk: &mut D,
+        id: ActionId,
+        tries: u8,
+    ) -> Result<(), CommitFault>
+        requires written { self.old.journal.version ≡ version_written }
+        requires lawful { MayCome self.old.journal.version (Some self.old.book) (events.Withdraw id tries) }
+        requires sound { IsTrue self.old.journal.failed → ⊥ }
+        requires still { D.tells_files → IsAsLeft mail self.old (D.clock disk.old).now (D.seen disk.old) }
+
+        // As `commit` says it of this event.
+        ensures moments { D.tells_files → RecordsEvent self.old.journal.version self.old.book (events.Withdraw id tries)
+            (D.clock disk.old) (D.clock disk.new) }
+        ensures value { OnOk result (self.new.book ≡ after self.old.book (events.Withdraw id tries)) }
+        ensures done { D.tells_files → OnOk result (IsAsLeft mail self.new (D.clock disk.new).now (D.seen disk.new)) }
+        ensures sound_still { OnOk result (self.new.journal.failed ≡ false) }
+        ensures moved { OnOk result (self.new.journal ≡ record self.old.journal {
+          place = self.old.journal.place + length (frame_of (body_of (events.Withdraw id tries)));
+        }) }
+
+        ensures over { max_side < end_after (events.Withdraw id tries) self.old → IsErrOf result
+            (faults.Full (told_end (end_with 0 self.old.journal)) (told_end (end_after (events.Withdraw id tries) self.old))) }
+        ensures full { (end wanted : ℕ) → IsErrOf result (faults.Full end wanted) →
+            max_side < end_after (events.Withdraw id tries) self.old }
+        ensures no_memory { IsErrOf result faults.Memory → ⊥ }
+        ensures stopped { IsErrOf result faults.Disk → (self.new.book ≡ self.old.book) × (self.new.journal.failed ≡ true) }
+        ensures kept { IsErr result → (IsErrOf result faults.Disk → ⊥) →
+            (self.new ≡ self.old) × (disk.new ≡ disk.old) }
+        ensures blames { BlamesWhere D.Clocked disk.old disk.new (IsErrOf result faults.Disk) }
+    {
+        let frame = encode_withdraw(id, tries);
+        self.journal.append(disk, &frame, MAX_OTHER)?;
+        self.book.withdraw(id, tries);
         Ok(())
     }
 }

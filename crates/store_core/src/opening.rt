@@ -5,7 +5,6 @@ ghost use Rattle.std.specs.Prelude.{get_or, length, true, false};
 ghost use Rattle.journal_core.specs.Blames.{BlamesWhere};
 ghost use Rattle.world_traits.specs.Files.{Files, file_of};
 ghost use Rattle.journal_core.specs.Records.{records};
-ghost use Rattle.journal_core.specs.Sides.{version_written};
 ghost use Rattle.journal_core.specs.Reading.{HasFirstRecord, HasRecord, OnlyLooks};
 ghost use Rattle.journal_core.specs.Standing.{IsStill};
 ghost use Rattle.journal_core.specs.declared.version.Version.{Version};
@@ -30,7 +29,7 @@ ghost use Rattle.store_core.specs.declared.fault.StoreFault.TheVariants as fault
 use crate::rules::rules_of;
 use crate::{Store, StoreFault};
 use action_queue::{Book, Event};
-use journal_core::{Bodies, Journal, Place9, Version, WRITTEN};
+use journal_core::{Bodies, Journal, Place9, Version};
 use record_codec::{RecordFault, decode};
 use std::alloc::Global;
 use world_traits::{Clocked, Disk};
@@ -40,8 +39,7 @@ impl Store {
     /// time, or for one that is longer.
     ///
     /// Both files are synced before they are read, so a later stop leaves what is read. A journal without records is broken
-    /// at the place of its first gate, since a Begin is missing there. One of another version than the one that is written
-    /// is refused as a wrong header.
+    /// at the place of its first gate, since a Begin is missing there. It is judged by the rules of its version.
     pub fn open<D: Disk>(alloc: Global, disk: &mut D) -> Result<Store, StoreFault>
         // The book is the fold of what the files hold.
         ensures value { D.tells_files → IfOk result (λ store. HasBook mail store.book (D.seen disk.old)) }
@@ -70,22 +68,10 @@ impl Store {
         ensures blames { BlamesWhere D.Clocked disk.old disk.new (IsErrOf result faults.Disk) }
     {
         let mut journal = Journal::open(disk)?;
-        if !is_written(journal.version()) {
-            return Err(StoreFault::NotAJournal {
-                why: Place9::Header,
-            });
-        }
         let mut book = read_begin(alloc, disk, &mut journal)?;
         read_later(alloc, disk, &mut journal, &mut book)?;
         Ok(Store { journal, book })
     }
-}
-
-// Whether this version is the one that is written.
-fn is_written(version: Version) -> bool
-    ensures { IsTrue result ↔ (version ≡ version_written) }
-{
-    version == WRITTEN
 }
 
 // Reads the first record, which must be a Begin, and makes its book.

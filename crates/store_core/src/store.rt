@@ -2,7 +2,6 @@
 
 ghost use Rattle.std.specs.Prelude.{◌≡◌};
 ghost use Rattle.journal_core.specs.Appending.{end_with, told_end};
-ghost use Rattle.journal_core.specs.Sides.{version_written};
 ghost use Rattle.action_queue.specs.Book.{meaning};
 ghost use Rattle.action_queue.specs.Rules.{first_broken};
 ghost use Rattle.store_core.specs.Mail.{rules_of};
@@ -12,8 +11,8 @@ use action_queue::{Book, Event, Rule};
 use journal_core::{Journal, Version};
 use std::marker::Model;
 
-/// A book on a journal. The book is what the events of the journal's records make, and the journal is
-/// of the version that is written.
+/// A book on a journal. The book is what the events of the journal's records make, by the rules of
+/// the journal's version.
 #[derive(Drop)]
 pub struct Store {
     pub(crate) journal: Journal,
@@ -23,7 +22,6 @@ pub struct Store {
 impl Model for Store {
     ghost use Rattle.std.specs.Prelude.{◌≡◌, true};
     ghost use Rattle.action_queue.specs.Book.{meaning};
-    ghost use Rattle.journal_core.specs.Sides.{version_written};
     ghost use Rattle.action_queue.specs.Restating.{IsWellBook};
     ghost use Rattle.store_core.specs.Mail.{mail, rules_of};
     ghost use Rattle.store_core.specs.Holding.{Holding};
@@ -33,8 +31,7 @@ impl Model for Store {
     ghost view = { λ store. record { journal = store.journal; book = meaning store.book } };
 
     ghost invariant = { λ store. (store.journal.all_read ≡ true)
-        × (store.journal.version ≡ version_written)
-        × IsWellBook (rules_of version_written) (meaning store.book) };
+        × IsWellBook (rules_of store.journal.version) (meaning store.book) };
 }
 
 impl Store {
@@ -59,10 +56,10 @@ impl Store {
         self.journal.generation()
     }
 
-    /// The version of the journal: the one that is written.
+    /// The version of the journal. Only to one of the version that is written something may be
+    /// added.
     pub fn version(&self) -> Version
-        ensures value { result ≡ self.now.journal.version }
-        ensures written { self.now.journal.version ≡ version_written }
+        ensures { result ≡ self.now.journal.version }
     {
         self.journal.version()
     }

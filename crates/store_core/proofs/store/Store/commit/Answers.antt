@@ -1,9 +1,8 @@
 use Rattle.std.proofs.Common.{rules, ◌≡◌, ◌∙◌, ap, subst, sym, Err}
-use Rattle.journal_core.specs.Sides.{version_written}
 use Rattle.journal_core.specs.Standing.{Standing}
 use Rattle.action_queue.specs.Book.{meaning, after}
 use Rattle.action_queue.specs.Restating.{IsWellBook}
-use Rattle.store_core.proofs.Folds.{well_recorded}
+use Rattle.store_core.proofs.Folds.{well_recorded, well_still}
 use Rattle.store_core.proofs.Unless.{append_failed}
 use Rattle.store_core.specs.Mail.{mail, rules_of}
 use Rattle.store_core.specs.Holding.{Holding}
@@ -49,8 +48,7 @@ returns-in-Ok-clause-moments g c tells =
 pub invariant_of-self : goal.invariant_of-self
 invariant_of-self g c = (
   c.self.invariant.0,
-  c.self.invariant.1,
-  subst (IsWellBook (rules_of version_written)) (sym c.prepare.ensures.same) c.self.invariant.2,
+  subst (IsWellBook (rules_of c.self.inside.journal.version)) (sym c.prepare.ensures.same) c.self.invariant.1,
 )
 
 pub invariant_of-self-in-Err : goal.invariant_of-self-in-Err
@@ -58,14 +56,14 @@ invariant_of-self-in-Err g c =
     let same = append_failed c.in-Err.fault _ _ (λ is. c.in-Err.ensures.broken (ap Err is))
     (λ end wanted is. (c.in-Err.ensures.kept end wanted (ap Err is)).0) in (
       same.1 ∙ c.self.invariant.0,
-      same.0 ∙ c.self.invariant.1,
-      subst (IsWellBook (rules_of version_written)) (sym c.in_ok-ready.ensures.same) c.self.invariant.2,
+      well_still _ _ _ same.0
+          (subst (IsWellBook (rules_of c.self.inside.journal.version)) (sym c.in_ok-ready.ensures.same) c.self.invariant.1),
     )
 
 pub invariant_of-self-in-Ok : goal.invariant_of-self-in-Ok
 invariant_of-self-in-Ok g c =
     let becomes : meaning c.enter.new.self ≡ after c.args.self.now.book c.args.event = search rules in (
       ap (λ (j : Standing). j.all_read) c.in-Ok.ensures.done ∙ c.self.invariant.0,
-      ap (λ (j : Standing). j.version) c.in-Ok.ensures.done ∙ c.self.invariant.1,
-      well_recorded _ c.args.self.now c.self.view_is c.self.invariant.1 c.args.event c.requires.lawful c.requires.writable c.self.invariant.2 _ becomes,
+      well_recorded _ c.args.self.now c.self.view_is c.args.event c.requires.lawful c.requires.writable c.self.invariant.1 _
+          (ap (λ (j : Standing). j.version) c.in-Ok.ensures.done) _ becomes,
     )

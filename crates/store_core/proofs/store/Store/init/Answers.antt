@@ -4,7 +4,7 @@ use Rattle.journal_core.specs.Sides.{version_written}
 use Rattle.journal_core.specs.Standing.{Standing}
 use Rattle.store_core.specs.Faults.{of_creating}
 use Rattle.store_core.specs.Fold.{IsFold, begins}
-use Rattle.store_core.proofs.Folds.{made_first}
+use Rattle.store_core.proofs.Folds.{made_first, well_still}
 use Rattle.store_core.proofs.Unless.{not_disk}
 use Rattle.store_core.proofs.Beginning.{some_begin, left_begun, never_over}
 use Rattle.store_core.proofs.Moments.{begins_no_book, begins_book}
@@ -60,6 +60,6 @@ returns-clause-moments g c tells = begins_book c.in_ok-body.body c.args.names c.
 pub invariant_of-result : goal.invariant_of-result
 invariant_of-result g c = (
   ap (λ (j : Standing). j.all_read) c.in_ok-journal.ensures.value,
-  ap (λ (j : Standing). j.version) c.in_ok-journal.ensures.value,
-  (made_first version_written _ c.args.names c.in_ok-book.ensures c.requires).well,
+  well_still version_written _ _ (ap (λ (j : Standing). j.version) c.in_ok-journal.ensures.value)
+      (made_first version_written _ c.args.names c.in_ok-book.ensures c.requires).well,
 )

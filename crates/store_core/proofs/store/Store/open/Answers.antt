@@ -1,5 +1,4 @@
-use Rattle.std.proofs.Common.{◌∙◌, refl, rules, subst, sym}
-use Rattle.journal_core.specs.declared.fault.Place9.TheVariants as places
+use Rattle.std.proofs.Common.{◌∙◌, rules, subst}
 use Rattle.journal_core.proofs.Looking.{looks_then}
 use Rattle.journal_core.proofs.Syncing.{syncs_look}
 use Rattle.journal_core.specs.Reading.{HasRecord}
@@ -9,9 +8,9 @@ use Rattle.store_core.specs.Broken.{IsBroken}
 use Rattle.store_core.proofs.MailBook.{one_mail_event}
 use Rattle.store_core.proofs.Wholeness.{never_both}
 use Rattle.store_core.proofs.Choosing.{one_of, only_left}
-use Rattle.store_core.proofs.Entering.{another_version, header_broken, header_no_disk, header_told, no_journal_broken, holds_all, left_as}
+use Rattle.store_core.proofs.Entering.{no_journal_broken, holds_all, left_as}
 use Rattle.store_core.proofs.FirstRecord.{first_record}
-use Rattle.store_core.proofs.Folds.{made_as}
+use Rattle.store_core.proofs.Folds.{well_still}
 use Rattle.store_core.proofs.Moments.{opening_moments}
 use Rattle.store_core.proofs.store.Store.open.Goals as goal
 
@@ -49,24 +48,18 @@ returns-clause-value g c tells =
     holds_all mail _ _ _ _ _ ((c.read_later.ensures.told tells).seen_same ∙ (c.read_begin.ensures.told tells).seen_same
     ∙ c.in_ok-journal.ensures.seen tells (λ e. cc e))
     (c.in_ok-read_later.ensures.value tells (c.in_ok-book.ensures.value tells (c.in_ok-journal.ensures.still tells))) c.in_ok-read_later.ensures.all_read
-    (c.read_later.ensures.same.version ∙ c.read_begin.ensures.same.version
-    ∙ sym c.version.ensures ∙ c.is_written.ensures.0 c.if-not-is_written.false)
 
 pub returns-clause-still : goal.returns-clause-still
 returns-clause-still g c tells = left_as mail _ _ _ _ (c.in_ok-read_later.ensures.value tells
     (c.in_ok-book.ensures.value tells (c.in_ok-journal.ensures.still tells))) c.in_ok-read_later.ensures.all_read
-    (c.read_later.ensures.same.version ∙ c.read_begin.ensures.same.version
-    ∙ sym c.version.ensures ∙ c.is_written.ensures.0 c.if-not-is_written.false)
 
 pub returns-clause-chosen : goal.returns-clause-chosen
 returns-clause-chosen g c tells books have =
     let reads = c.in_ok-read_later.ensures.value tells (c.in_ok-book.ensures.value tells (c.in_ok-journal.ensures.still tells)) in
-    let same = (c.read_later.ensures.told tells).seen_same ∙ (c.read_begin.ensures.told tells).seen_same ∙ c.in_ok-journal.ensures.seen tells (λ e. cc e) in
-    let written = c.read_later.ensures.same.version ∙ c.read_begin.ensures.same.version ∙ sym c.version.ensures
-    ∙ c.is_written.ensures.0 c.if-not-is_written.false in (
+    let same = (c.read_later.ensures.told tells).seen_same ∙ (c.read_begin.ensures.told tells).seen_same ∙ c.in_ok-journal.ensures.seen tells (λ e. cc e) in (
       one_of mail one_mail_event books _ _ _ (g.met.D.Disk.seen_is c.args.disk.now tells) have
-          (holds_all mail _ _ _ _ _ same reads c.in_ok-read_later.ensures.all_read written),
-      only_left mail _ _ _ (left_as mail _ _ _ _ reads c.in_ok-read_later.ensures.all_read written),
+          (holds_all mail _ _ _ _ _ same reads c.in_ok-read_later.ensures.all_read),
+      only_left mail _ _ _ (left_as mail _ _ _ _ reads c.in_ok-read_later.ensures.all_read),
     )
 
 pub returns-in_err-book-clause-memory : goal.returns-in_err-book-clause-memory
@@ -100,36 +93,7 @@ returns-clause-moments g c tells = opening_moments _ _ _ (g.met.D.Disk.seen_is c
     (syncs_look _ _ _ _ _ _ (c.open.ensures.syncs tells) (looks_then _ _ _ _ _ _ (c.read_begin.ensures.told tells) (c.read_later.ensures.told tells)))
 
 pub invariant_of-result : goal.invariant_of-result
-invariant_of-result g c =
-    let here = sym c.version.ensures ∙ c.is_written.ensures.0 c.if-not-is_written.false in
-    let begun = c.read_begin.ensures.same.version ∙ here in (
-      c.in_ok-read_later.ensures.all_read,
-      c.read_later.ensures.same.version ∙ begun,
-      (made_as _ _ _ (sym begun) (c.in_ok-read_later.ensures.made (c.in_ok-book.ensures.made _))).well,
-    )
-
--- a journal of another version
-pub returns-then-not-is_written-clause-broken : goal.returns-then-not-is_written-clause-broken
-returns-then-not-is_written-clause-broken g c tells why is =
-    header_broken mail _ (another_version _ _ (c.in_ok-journal.ensures.value tells) (λ written.
-    let here = c.is_written.ensures.1 (c.version.ensures ∙ written) in absurd (cc (here, c.if-not-is_written.true)))) why (header_told why is)
-
-pub returns-then-not-is_written-clause-whole : goal.returns-then-not-is_written-clause-whole
-returns-then-not-is_written-clause-whole g c tells book holds why is =
-    never_both mail one_mail_event book _ holds places.Header
-    (header_broken mail _ (another_version _ _ (c.in_ok-journal.ensures.value tells) (λ written.
-    let here = c.is_written.ensures.1 (c.version.ensures ∙ written) in absurd (cc (here, c.if-not-is_written.true)))) places.Header refl)
-
-pub returns-then-not-is_written-clause-seen : goal.returns-then-not-is_written-clause-seen
-returns-then-not-is_written-clause-seen g c tells other = c.in_ok-journal.ensures.seen tells (λ e. cc e)
-
-pub returns-then-not-is_written-clause-moments : goal.returns-then-not-is_written-clause-moments
-returns-then-not-is_written-clause-moments g c tells = opening_moments _ _ _ (g.met.D.Disk.seen_is c.args.disk.now tells) (c.open.ensures.syncs tells)
-
-pub returns-then-not-is_written-clause-blames : goal.returns-then-not-is_written-clause-blames
-returns-then-not-is_written-clause-blames g c = record {
-  link = c.open.ensures.blames.link;
-  count = c.open.ensures.blames.count;
-  cause = λ is. absurd (header_no_disk is);
-  unfailed = λ other. c.in_ok-journal.ensures.blames.unfailed (λ is. cc is);
-}
+invariant_of-result g c = (
+  c.in_ok-read_later.ensures.all_read,
+  well_still _ _ _ c.read_later.ensures.same.version (c.in_ok-read_later.ensures.made (c.in_ok-book.ensures.made _)).well,
+)

@@ -2,7 +2,7 @@ use Rattle.std.proofs.Common.{rules, ◌≡◌, ◌∙◌, ap, Err}
 use Rattle.journal_core.specs.Standing.{Standing}
 use Rattle.action_queue.specs.Book.{meaning, after}
 use Rattle.action_queue.specs.declared.event.Event.TheVariants as events
-use Rattle.store_core.proofs.Folds.{well_recorded}
+use Rattle.store_core.proofs.Folds.{well_recorded, well_still}
 use Rattle.store_core.proofs.Unless.{append_failed}
 use Rattle.store_core.specs.Mail.{mail}
 use Rattle.store_core.specs.Holding.{Holding}
@@ -41,15 +41,13 @@ invariant_of-self g c =
     let same = append_failed c.in_err-append.field-0.0 _ _ (λ is. c.in_err-append.ensures.broken (ap Err is))
     (λ end wanted is. (c.in_err-append.ensures.kept end wanted (ap Err is)).0) in (
       same.1 ∙ c.self.invariant.0,
-      same.0 ∙ c.self.invariant.1,
-      c.self.invariant.2,
+      well_still _ _ _ same.0 c.self.invariant.1,
     )
 
 pub invariant_of-self-2 : goal.invariant_of-self-2
 invariant_of-self-2 g c =
     let becomes : meaning c.settle.new.self ≡ after c.args.self.now.book (events.Settle c.args.id c.args.outcome) = search rules in (
       ap (λ (j : Standing). j.all_read) c.in_ok-append.ensures.done ∙ c.self.invariant.0,
-      ap (λ (j : Standing). j.version) c.in_ok-append.ensures.done ∙ c.self.invariant.1,
-      well_recorded _ c.args.self.now c.self.view_is c.self.invariant.1 (events.Settle c.args.id c.args.outcome) c.requires.lawful tt
-          c.self.invariant.2 _ becomes,
+      well_recorded _ c.args.self.now c.self.view_is (events.Settle c.args.id c.args.outcome) c.requires.lawful tt c.self.invariant.1 _
+          (ap (λ (j : Standing). j.version) c.in_ok-append.ensures.done) _ becomes,
     )

@@ -1,10 +1,11 @@
 use Rattle.std.proofs.Common.{rules}
+use Rattle.store_core.proofs.Anew.{well_second}
 use Rattle.store_core.proofs.Moments.{tells_none}
 use Rattle.store_core.proofs.store.Store.turn.Goals as goal
 
 pub told_bodies-requires : goal.told_bodies-requires
 told_bodies-requires g c = record {
-  well = c.self.invariant.2;
+  well = well_second c.self.inside.journal.version _ c.self.invariant.1;
   fits = search rules;
 }
 

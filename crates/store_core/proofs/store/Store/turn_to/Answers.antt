@@ -3,7 +3,9 @@ use Rattle.journal_core.specs.Standing.{Standing}
 use Rattle.action_queue.specs.Telling.{pieces}
 use Rattle.store_core.specs.Mail.{mail}
 use Rattle.store_core.specs.Holding.{Holding}
-use Rattle.store_core.proofs.Anew.{book_stays, fails_for_disk, left_told, makes_now, stays_held, stays_steps, turned_on}
+use Rattle.store_core.proofs.Anew.{book_stays, fails_for_disk, left_told, makes_now, stays_held, stays_steps, turned_on, well_second}
+use Rattle.store_core.proofs.Folds.{well_still}
+use Rattle.journal_core.specs.Sides.{version_written}
 use Rattle.store_core.proofs.Moments.{tells_anew}
 use Rattle.store_core.proofs.Restated.{restated_first, restated_some}
 use Rattle.store_core.proofs.Unless.{turn_failed, turn_stopped}
@@ -21,7 +23,7 @@ turn-requires g c = record {
 pub returns-in_err-turn-clause-moments : goal.returns-in_err-turn-clause-moments
 returns-in_err-turn-clause-moments g c tells =
     let still = c.requires.still tells in
-    let make = makes_now _ c.args.self.now c.self.view_is c.self.invariant.2 c.args.bodies.now c.requires.tells in
+    let make = makes_now _ c.args.self.now c.self.view_is (well_second c.self.inside.journal.version _ c.self.invariant.1) c.args.bodies.now c.requires.tells in
     tells_anew c.args.self.now.book c.self.inside.journal.side _ _ _ still.still.rests
     (stays_steps mail c.args.self.now c.args.bodies.now make _ _ _ _ still _ c.self.view_is _ _ (c.turn.ensures.told tells))
     (stays_held c.args.self.now.book _ _
@@ -40,7 +42,7 @@ returns-in_err-turn-clause-stopped g c failed =
 pub returns-clause-moments : goal.returns-clause-moments
 returns-clause-moments g c tells =
     let still = c.requires.still tells in
-    let make = makes_now _ c.args.self.now c.self.view_is c.self.invariant.2 c.args.bodies.now c.requires.tells in
+    let make = makes_now _ c.args.self.now c.self.view_is (well_second c.self.inside.journal.version _ c.self.invariant.1) c.args.bodies.now c.requires.tells in
     tells_anew c.args.self.now.book c.self.inside.journal.side _ _ _ still.still.rests
     (stays_steps mail c.args.self.now c.args.bodies.now make _ _ _ _ still _ c.self.view_is _ _ (c.turn.ensures.told tells))
     (stays_held c.args.self.now.book _ _
@@ -49,7 +51,7 @@ returns-clause-moments g c tells =
 
 pub returns-clause-done : goal.returns-clause-done
 returns-clause-done g c tells =
-    let make = makes_now _ c.args.self.now c.self.view_is c.self.invariant.2 c.args.bodies.now c.requires.tells in
+    let make = makes_now _ c.args.self.now c.self.view_is (well_second c.self.inside.journal.version _ c.self.invariant.1) c.args.bodies.now c.requires.tells in
     left_told mail c.args.self.now c.args.bodies.now make _ _ _ _ (c.requires.still tells) _ c.self.view_is _ _ (c.turn.ensures.told tells) _ c.in_ok-turn.was
     _ (ap (λ (s : Holding mail). s.book) c.self.view_is)
     (ap (λ (j : Standing). j.version) c.in_ok-turn.ensures.done) (ap (λ (j : Standing). j.all_read) c.in_ok-turn.ensures.done)
@@ -64,13 +66,12 @@ invariant_of-self g c =
     let same = turn_failed c.in_err-turn.field-0.0 _ _ (λ is. c.in_err-turn.ensures.broken (ap Err is))
     (λ end wanted is. (c.in_err-turn.ensures.kept end wanted (ap Err is)).0) in (
       same.1 ∙ c.self.invariant.0,
-      same.0 ∙ c.self.invariant.1,
-      c.self.invariant.2,
+      well_still _ _ _ same.0 c.self.invariant.1,
     )
 
 pub invariant_of-self-2 : goal.invariant_of-self-2
 invariant_of-self-2 g c = (
   ap (λ (j : Standing). j.all_read) c.in_ok-turn.ensures.done,
-  ap (λ (j : Standing). j.version) c.in_ok-turn.ensures.done,
-  c.self.invariant.2,
+  well_still version_written _ _ (ap (λ (j : Standing). j.version) c.in_ok-turn.ensures.done)
+      (well_second c.self.inside.journal.version _ c.self.invariant.1),
 )
