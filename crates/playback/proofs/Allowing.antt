@@ -3,6 +3,7 @@ use Rattle.std.proofs.Common.{◌≡◌, ◌≢◌, inl, inr, ℕ, ◌≤◌, Bo
 use Rattle.std.proofs.Common.{◌<◌, ◌∙◌, ap, subst}
 use Rattle.std.proofs.lemmas.Bool.{both_ways, cond_both, eqb-true, eqb-false}
 use Rattle.std.proofs.lemmas.Option.{same_Some}
+use Rattle.std.specs.Option.{is_some}
 use Rattle.std.specs.Prelude.{Err, IfOk, Ok, Result, slice_get}
 use Rattle.std.specs.declared.alloc.AllocError.{AllocError}
 use Rattle.imap_model.specs.Carrying.{Waiting}
@@ -10,13 +11,20 @@ use Rattle.imap_model.specs.Ours.{ours}
 use Rattle.imap_model.specs.declared.command.Command.{Command}
 use Rattle.imap_model.specs.declared.command.Command.TheVariants as commands
 use Rattle.imap_model.specs.declared.deed.Deed.{Deed}
+use Rattle.imap_model.specs.declared.ending.Ending.{Ending}
+use Rattle.imap_model.specs.declared.ending.Ending.TheVariants as endings
+use Rattle.imap_model.specs.declared.item.Item.{Item}
+use Rattle.imap_model.specs.declared.replies.Replies.{Replies}
+use Rattle.imap_model.specs.declared.response.Response.{Response}
 use Rattle.imap_model.specs.declared.server.Server.{Server}
 use Rattle.action_queue.specs.Book.{Meaning, cache_at}
-use Rattle.action_queue.specs.Queues.{due_action}
+use Rattle.action_queue.specs.Queues.{due, due_action, tries_due}
+use Rattle.action_queue.specs.Rules.{is_no_flag, is_no_flag_of}
 use Rattle.action_queue.specs.Targets.{resolved}
 use Rattle.action_queue.specs.declared.action.Action.{Action}
 use Rattle.action_queue.specs.declared.action.Action.TheVariants as actions
 use Rattle.action_queue.specs.declared.book.Known.{Known}
+use Rattle.action_queue.specs.declared.event.Event.TheVariants as events
 use Rattle.action_queue.specs.declared.found.Found.{Found}
 use Rattle.action_queue.specs.declared.found.Found.TheVariants as found
 use Rattle.action_queue.specs.declared.intent.Intent.{Intent}
@@ -33,21 +41,22 @@ use Rattle.playback.proofs.Elsewhere.{IsAbove, elsewhere_any}
 use Rattle.playback.specs.Steps.{above_at, elsewhere, renewed_as}
 use Rattle.playback.specs.Why.{WasAboveIntent}
 use Rattle.playback.specs.Allowed.{IsAllowed, MaySend}
-use Rattle.playback.specs.Course.{AtMoment}
+use Rattle.playback.specs.Course.{AtMoment, Course}
 use Rattle.playback.specs.InBox.{InBox, InBoxNow}
 use Rattle.playback.specs.Kept.{KeptBook}
 use Rattle.playback.specs.Knows.{HasEnded, IsTold, IsUnsent, Knows, Learning, OfAppend, OfPut, Rests, RowTold}
-use Rattle.playback.specs.Needs.{due_id, need_for, need_ids, need_learn, need_of, need_search, need_send, search_of, send_meant, send_of}
+use Rattle.playback.specs.Needs.{IsReadyEvent, again, due_id, end_of, need_end, need_for, need_ids, need_learn, need_of, need_search, need_send, search_of, send_meant, send_of}
 use Rattle.playback.specs.Of.{MutatingWaits, command_of, tag_of}
 use Rattle.playback.specs.Once.{Fits}
 use Rattle.playback.specs.Open.{IntentFacts, IsOpen, PutFacts, intent_name, intent_validity}
+use Rattle.playback.specs.Replying.{flag_gone, last_fetch, names_modified, read_sent, read_store, read_stored}
 use Rattle.playback.specs.Resolved.{Resolves}
 use Rattle.playback.specs.Steps.{append_again, append_first, append_in_box, append_judged, append_meant, append_new, append_open, conflict}
 use Rattle.playback.specs.Steps.{flag_again, flag_first, flag_judged, flag_meant, flag_new, flag_open, in_box, is_selected, is_selected_at}
 use Rattle.playback.specs.Steps.{move_again, move_first, move_meant, move_open, select_any, step_action}
 use Rattle.playback.specs.Steps.{step_append, step_box, step_due, step_flag_at, step_flag_found, step_learn, step_move_at, step_move_found}
 use Rattle.playback.specs.Why.{AreTwo, IsMark, IsNever, IsOpenStill, RowAt, RowSo, RowWas, SomeRow, TellsNext, TwoWere, WasSelected}
-use Rattle.playback.specs.Why.{WhyIntent}
+use Rattle.playback.specs.Why.{RowIs, RowPassed, WasCarried, WasPassed, WhyIntent}
 use Rattle.playback.specs.Worlds.{Among, IsUnder, World, name_of}
 use Rattle.playback.specs.declared.finding.Finding.{Finding}
 use Rattle.playback.specs.declared.finding.Finding.TheVariants as findings
@@ -59,6 +68,9 @@ use Rattle.playback.specs.declared.player.Player.{Player}
 use Rattle.playback.specs.declared.step.Step.{Step}
 use Rattle.playback.specs.declared.step.Step.TheVariants as steps
 use Rattle.playback.proofs.Carrying.{nothing_waits}
+use Rattle.playback.proofs.Lawful.{withdraw_flag}
+use Rattle.playback.proofs.Lawfulness.{read_lawful}
+use Rattle.playback.proofs.Trying.{IsAgain, again_is}
 use Rattle.playback.proofs.Endings.{IsRight, ended_right, is_never_of, no_flag, no_move, suited_is}
 use Rattle.playback.proofs.Onward.{IsIdle, idle}
 use Rattle.playback.proofs.Queueing.{Suited}
@@ -81,6 +93,43 @@ shift_same : (f : Found) (spot : Spot) (name : List ℕ) (validity uid : ℕ) (t
 shift_same f spot name validity uid to other e g o =
     let is : found.Real spot.name spot.validity spot.uid ≡ found.Real name validity uid = sym e ∙ g in cc
 
+-- what a reply to a STORE tells of a message that was changed names the intent's mod-sequence
+gone_apart : (m : ℕ) (resumed : Bool) → ◌≡◌ {A = Result Finding Item} (Ok (flag_gone resumed)) (Ok (findings.Ended (outcomes.Conflict (kinds.FlagsChanged m)))) → ⊥
+gone_apart m true e = absurd (cc)
+gone_apart m false e = absurd (cc)
+
+stored_apart : (uid : ℕ) (resumed : Bool) (m : ℕ) (told : List Response) (ending : Ending) →
+    ◌≡◌ {A = Result Finding Item} (Ok (read_stored uid resumed told ending)) (Ok (findings.Ended (outcomes.Conflict (kinds.FlagsChanged m)))) → ⊥
+stored_apart uid resumed m told endings.Ok =
+    cond_both (is_some (last_fetch uid told)) (findings.Ended (outcomes.Done None)) (flag_gone resumed)
+    (λ (f : Finding). ◌≡◌ {A = Result Finding Item} (Ok f) (Ok (findings.Ended (outcomes.Conflict (kinds.FlagsChanged m)))) → ⊥) (λ t e. absurd (cc))
+    (λ f e. gone_apart m resumed e)
+stored_apart uid resumed m told endings.No = λ e. absurd (cc)
+stored_apart uid resumed m told endings.Bad = λ e. absurd (cc)
+
+store_mark : (uid mark : ℕ) (resumed : Bool) (r : Replies) (m : ℕ) →
+    ◌≡◌ {A = Result Finding Item} (Ok (read_store uid mark resumed r)) (Ok (findings.Ended (outcomes.Conflict (kinds.FlagsChanged m)))) → mark ≡ m
+store_mark uid mark resumed r m =
+    cond_both (names_modified uid r.code) (findings.Ended (outcomes.Conflict (kinds.FlagsChanged mark))) (read_stored uid resumed r.untagged r.ending)
+    (λ (f : Finding). ◌≡◌ {A = Result Finding Item} (Ok f) (Ok (findings.Ended (outcomes.Conflict (kinds.FlagsChanged m)))) → mark ≡ m)
+    (λ t e. cc) (λ f e. absurd (stored_apart uid resumed m r.untagged r.ending e))
+
+changed_mark : (resumed : Bool) (r : Replies) (m : ℕ) (action : Action) (intent : Intent) → is_no_flag_of action ≡ false → (queue : List Queued) →
+    Suited queue action intent → read_sent resumed action intent r ≡ Ok (findings.Ended (outcomes.Conflict (kinds.FlagsChanged m))) → IsMark (Some intent) m
+changed_mark resumed r m (actions.Flag target add asked) (intents.Store name validity uid mark) flag queue s k = store_mark uid mark resumed r m k
+changed_mark resumed r m (actions.Flag target add asked) (intents.Shift from validity uid to) flag queue s k = absurd s
+changed_mark resumed r m (actions.Flag target add asked) (intents.Put to validity uidnext) flag queue s k = absurd s
+changed_mark resumed r m (actions.Move target to) intent flag queue s k = absurd (cc)
+changed_mark resumed r m (actions.Append to flags text id) intent flag queue s k = absurd (cc)
+
+passed_by : (b : Meaning) (c : Course) (m : ℕ) (pending : Option Intent) → IsMark pending m →
+    WasCarried (λ action e. RowIs (RowPassed m action) b.queue action e.before) b c → WasPassed pending b c
+passed_by b c m None mark was = absurd mark
+passed_by b c m (Some (intents.Store name validity uid modseq)) mark was =
+    subst (λ (n : ℕ). WasCarried (λ action e. RowIs (RowPassed n action) b.queue action e.before) b c) (sym mark) was
+passed_by b c m (Some (intents.Shift from validity uid to)) mark was = absurd mark
+passed_by b c m (Some (intents.Put to validity uidnext)) mark was = absurd mark
+
 -- the step's need may be done
 abbrev pub IsGoodStep : Player → Meaning → World → Step → Type 0
 IsGoodStep p b w step = IsAllowed (need_for step p b) p b w
@@ -91,11 +140,37 @@ module _ (p : Player) (b : Meaning) (w : World) (kept : KeptBook b w.course.now 
   quiet = subst (λ (o : Option Waiting). MutatingWaits o → ⊥) (sym rest.waiting) nothing_waits
 
   -- an outcome that fits and is true
-  settles : (outcome : Outcome) → IsRight b w p.resumed outcome → IsGoodStep p b w (steps.Settle outcome)
-  settles outcome r = ((quiet, r.0), r.1)
+  settles : (outcome : Outcome) → again (tries_due b.queue) outcome ≡ None → IsRight b w p.resumed outcome → IsGoodStep p b w (steps.Settle outcome)
+  settles outcome last r =
+      subst (λ (o : Option ℕ). IsAllowed (need_end (due_id b) outcome o) p b w) (sym last) ((quiet, r.0), r.1)
+
+  -- a try is taken back: its STORE had no effect
+  withdrawn_ok : (outcome : Outcome) → HasEnded outcome p.resumed b w → (next : ℕ) → again (tries_due b.queue) outcome ≡ Some next →
+      IsAllowed (needs.Withdraw (due_id b) next) p b w
+  withdrawn_ok outcome h next more =
+      let a : IsAgain (tries_due b.queue) outcome next = again_is (tries_due b.queue) outcome next more in
+      let r : IsRight b w p.resumed (outcomes.Conflict (kinds.FlagsChanged a.mark)) =
+      subst (IsRight b w p.resumed) a.is (ended_right b w p.resumed h.queued h.there h.said h.sent h.intent h.pending h.seen outcome h.read) in
+      let ready : IsReadyEvent b (events.Withdraw (due_id b) next) =
+      subst (λ (o : Option ℕ). IsReadyEvent b (end_of (due_id b) outcome o)) more
+      (read_lawful b h.queued h.there (kept.sound.tries (due b.queue) h.queued h.there) h.intent h.pending p.resumed h.said.reply outcome h.read) in
+      let flag : is_no_flag_of h.queued.action ≡ false = sym (ap is_no_flag h.there) ∙ withdraw_flag b (due_id b) next ready.lawful in
+      let mark : IsMark (Some h.intent) a.mark =
+      changed_mark p.resumed h.said.reply a.mark h.queued.action h.intent flag b.queue
+      (suited_is b kept.sound h.queued h.there h.intent h.pending)
+      (h.read ∙ ap (λ (x : Outcome). Ok (findings.Ended x)) a.is) in (
+        (quiet, r.0),
+        subst (λ (o : Option Intent). WasPassed o b w.course) (sym h.pending) (passed_by b w.course a.mark (Some h.intent) mark r.1.1),
+      )
+
+  ended_by : (outcome : Outcome) → HasEnded outcome p.resumed b w → (o : Option ℕ) → again (tries_due b.queue) outcome ≡ o →
+      IsAllowed (need_end (due_id b) outcome o) p b w
+  ended_by outcome h None last =
+      let r = ended_right b w p.resumed h.queued h.there h.said h.sent h.intent h.pending h.seen outcome h.read in ((quiet, r.0), r.1)
+  ended_by outcome h (Some next) more = withdrawn_ok outcome h next more
 
   ended_ok : (outcome : Outcome) → HasEnded outcome p.resumed b w → IsGoodStep p b w (steps.Settle outcome)
-  ended_ok outcome h = settles outcome (ended_right b w p.resumed h.queued h.there h.said h.sent h.intent h.pending h.seen outcome h.read)
+  ended_ok outcome h = ended_by outcome h (again (tries_due b.queue) outcome) refl
 
   at_most_one : length (ours (due_id b) w.course.now.history) ≤ 1
   at_most_one = kept.once.once
@@ -121,7 +196,7 @@ module _ (p : Player) (b : Meaning) (w : World) (kept : KeptBook b w.course.now 
   changed_ok : b.pending ≡ None → (spot : Spot) → IsAboutSpot b.queue q.action spot → (n : ℕ) → spot.validity < n → IsUnder spot.name n w.course.now →
       IsGoodStep p b w (conflict (kinds.ValidityChanged spot.validity n))
   changed_ok free spot about n l now =
-      settles (outcomes.Conflict (kinds.ValidityChanged spot.validity n)) (
+      settles (outcomes.Conflict (kinds.ValidityChanged spot.validity n)) refl (
         kept.once.idle free,
         (
           known.fresh free,
@@ -209,7 +284,7 @@ module _ (p : Player) (b : Meaning) (w : World) (kept : KeptBook b w.course.now 
       by : (r : Bool) → p.resumed ≡ r → IsGoodStep p b w (conflict (kinds.ResetAfterLoss (intent_validity intent) n))
       by false r = absurd (both_ways (is_selected_at p.selected (intent_name intent) (intent_validity intent)) apart (known.placed r intent pending))
       by true r =
-          settles (outcomes.Conflict (kinds.ResetAfterLoss (intent_validity intent) n)) (
+          settles (outcomes.Conflict (kinds.ResetAfterLoss (intent_validity intent) n)) refl (
             at_most_one,
             (
               open_still r told unsent,
@@ -234,7 +309,7 @@ module _ (p : Player) (b : Meaning) (w : World) (kept : KeptBook b w.course.now 
         (told : Finding) (unsent : IsUnsent told p.resumed b w) (modseq : ℕ) (so : Bool) →
         RowWas (RowTold modseq so) b w.course → IsGoodStep p b w (flag_new modseq so spot)
     new_ok free selected told unsent modseq true i =
-        settles (outcomes.Conflict kinds.AlreadySo) (
+        settles (outcomes.Conflict kinds.AlreadySo) refl (
           kept.once.idle free,
           (
             known.fresh free,
@@ -251,12 +326,12 @@ module _ (p : Player) (b : Meaning) (w : World) (kept : KeptBook b w.course.now 
     first_ok : b.pending ≡ None → (told : Finding) → IsTold told b w.course → Rests told p.resumed b w →
         IsGoodStep p b w (in_box p.selected false spot (flag_first told spot))
     first_ok free findings.NoRow i r =
-        boxed false spot (conflict kinds.MessageGone) (λ t. settles (outcomes.Conflict kinds.MessageGone)
+        boxed false spot (conflict kinds.MessageGone) (λ t. settles (outcomes.Conflict kinds.MessageGone) refl
         (kept.once.idle free, (known.fresh free, i))) (λ f. changed_ok free spot flag_about)
     first_ok free (findings.Row modseq so) i r =
         boxed false spot (flag_new modseq so spot) (λ t. new_ok free t (findings.Row modseq so) r modseq so i) (λ f. changed_ok free spot flag_about)
     first_ok free findings.Barred i r =
-        boxed false spot (conflict kinds.NotPermanent) (λ t. settles (outcomes.Conflict kinds.NotPermanent) (kept.once.idle free, i))
+        boxed false spot (conflict kinds.NotPermanent) (λ t. settles (outcomes.Conflict kinds.NotPermanent) refl (kept.once.idle free, i))
         (λ f. changed_ok free spot flag_about)
     first_ok free findings.Nothing i r = boxed false spot (steps.AskRow spot.uid) (λ t. tt) (λ f. changed_ok free spot flag_about)
     first_ok free (findings.Ended outcome) i r = boxed false spot (steps.AskRow spot.uid) (λ t. tt) (λ f. changed_ok free spot flag_about)
@@ -281,7 +356,7 @@ module _ (p : Player) (b : Meaning) (w : World) (kept : KeptBook b w.course.now 
           RowWas (RowTold new so) b w.course →
           IsGoodStep p b w (cond so (conflict kinds.FoundSo) (conflict (kinds.StoreUnsure modseq new)))
       unsure_ok resumed told unsent new true apart i =
-          settles (outcomes.Conflict kinds.FoundSo) (
+          settles (outcomes.Conflict kinds.FoundSo) refl (
             at_most_one,
             (
               open_still resumed told unsent,
@@ -294,7 +369,7 @@ module _ (p : Player) (b : Meaning) (w : World) (kept : KeptBook b w.course.now 
             ),
           )
       unsure_ok resumed told unsent new false apart i =
-          settles (outcomes.Conflict (kinds.StoreUnsure modseq new)) (at_most_one, (open_still resumed told unsent, is_mark, apart, i))
+          settles (outcomes.Conflict (kinds.StoreUnsure modseq new)) refl (at_most_one, (open_still resumed told unsent, is_mark, apart, i))
 
       judged_ok : p.resumed ≡ true → is_selected p.selected spot ≡ true →
           (told : Finding) (unsent : IsUnsent told p.resumed b w) (new : ℕ) (so : Bool) →
@@ -315,7 +390,7 @@ module _ (p : Player) (b : Meaning) (w : World) (kept : KeptBook b w.course.now 
           IsUnsent told p.resumed b w →
           IsGoodStep p b w (flag_open modseq told spot)
       open_ok resumed selected findings.NoRow i unsent =
-          settles (outcomes.Conflict kinds.GoneAfterLoss) (at_most_one, (open_still resumed findings.NoRow unsent, i))
+          settles (outcomes.Conflict kinds.GoneAfterLoss) refl (at_most_one, (open_still resumed findings.NoRow unsent, i))
       open_ok resumed selected (findings.Row new so) i unsent = judged_ok resumed selected (findings.Row new so) unsent new so i
       open_ok resumed selected findings.Nothing i unsent = tt
       open_ok resumed selected findings.Barred i unsent = tt
@@ -375,7 +450,7 @@ module _ (p : Player) (b : Meaning) (w : World) (kept : KeptBook b w.course.now 
     move_first_ok : b.pending ≡ None → (told : Finding) → IsTold told b w.course → Rests told p.resumed b w →
         IsGoodStep p b w (in_box p.selected false spot (move_first told spot to))
     move_first_ok free findings.NoRow i r =
-        boxed false spot (conflict kinds.MessageGone) (λ t. settles (outcomes.Conflict kinds.MessageGone)
+        boxed false spot (conflict kinds.MessageGone) (λ t. settles (outcomes.Conflict kinds.MessageGone) refl
         (kept.once.idle free, (known.fresh free, i))) (λ f. changed_ok free spot move_about)
     move_first_ok free (findings.Row modseq so) i r =
         boxed false spot (steps.Intend (intents.Shift spot.name spot.validity spot.uid to))
@@ -409,7 +484,7 @@ module _ (p : Player) (b : Meaning) (w : World) (kept : KeptBook b w.course.now 
           IsUnsent told p.resumed b w →
           IsGoodStep p b w (move_open told spot)
       move_open_ok resumed selected findings.NoRow i unsent =
-          settles (outcomes.Conflict kinds.SourceGone) (at_most_one, (open_still resumed findings.NoRow unsent, i))
+          settles (outcomes.Conflict kinds.SourceGone) refl (at_most_one, (open_still resumed findings.NoRow unsent, i))
       move_open_ok resumed selected (findings.Row modseq so) i unsent =
           move_still resumed selected (findings.Row modseq so) unsent modseq so i
       move_open_ok resumed selected findings.Nothing i unsent = tt
@@ -523,7 +598,7 @@ module _ (p : Player) (b : Meaning) (w : World) (kept : KeptBook b w.course.now 
           IsUnsent (findings.Probed verdict) p.resumed b w → IsGoodStep p b w (append_judged verdict validity)
       verdict_ok resumed selected verdicts.NotThere i unsent = put_send selected unsent.holds
       verdict_ok resumed selected (verdicts.There uid) i unsent =
-          settles (outcomes.Done (Some (record { validity = validity; uid = uid }))) (
+          settles (outcomes.Done (Some (record { validity = validity; uid = uid }))) refl (
             of_put (λ x y v l. Fits (outcomes.Done (Some (record { validity = v; uid = uid })))
                 (ours (due_id b) w.course.now.history)) unsent.holds,
             tt,
@@ -531,7 +606,7 @@ module _ (p : Player) (b : Meaning) (w : World) (kept : KeptBook b w.course.now 
       verdict_ok resumed selected (verdicts.Several first second) i unsent =
           let two : AtMoment (λ s. InBoxNow (AreTwo first second uidnext id) to validity s.boxes) w.course =
           of_put (λ x y v l. AtMoment (λ s. InBoxNow (AreTwo first second l y) x v s.boxes) w.course) i in
-          settles (outcomes.Conflict (kinds.Ambiguous first second)) (
+          settles (outcomes.Conflict (kinds.Ambiguous first second)) refl (
             at_most_one,
             (
               open_still resumed (findings.Probed (verdicts.Several first second)) unsent,
@@ -615,7 +690,7 @@ module _ (p : Player) (b : Meaning) (w : World) (kept : KeptBook b w.course.now 
   never_ok : (by : ℕ) → ((intent : Intent) → Suited b.queue q.action intent → ⊥) → IsNever b.queue by q.action →
       IsGoodStep p b w (conflict (kinds.TargetUnknown by))
   never_ok by f why =
-      settles (outcomes.Conflict (kinds.TargetUnknown by)) (
+      settles (outcomes.Conflict (kinds.TargetUnknown by)) refl (
         kept.once.idle
             (never_free f b.pending refl),
         record { queued = q; there = e; holds = why },

@@ -1,12 +1,12 @@
 -- What was taken may be recorded, and a lawful server's reply lacks nothing.
 use Rattle.action_queue.specs.Book.{Meaning, cache_at, learned}
-use Rattle.action_queue.specs.Queues.{due_action}
+use Rattle.action_queue.specs.Queues.{due, due_action}
 use Rattle.action_queue.specs.declared.action.Action.{Action}
 use Rattle.action_queue.specs.declared.book.Known.{Known}
 use Rattle.action_queue.specs.declared.intent.Intent.{Intent}
 use Rattle.action_queue.specs.declared.outcome.Outcome.{Outcome}
 use Rattle.action_queue.specs.declared.queued.Queued.{Queued}
-use Rattle.action_queue.specs.declared.rule.Version.TheVariants.{First}
+use Rattle.action_queue.specs.declared.rule.Version.TheVariants.{Second}
 use Rattle.action_queue.specs.Writable.{HaveFewFlags}
 use Rattle.imap_model.specs.CarriedOut.{Asks, Decides, OneRow, RowsSay}
 use Rattle.imap_model.specs.Carrying.{Waiting}
@@ -16,8 +16,6 @@ use Rattle.imap_model.specs.Remarks.{selected_box}
 use Rattle.imap_model.specs.declared.code.Code.{Code}
 use Rattle.imap_model.specs.declared.command.Command.{Command}
 use Rattle.imap_model.specs.declared.ending.Ending.{Ending}
-use Rattle.imap_model.specs.declared.fetched.Fetched.{Fetched}
-use Rattle.imap_model.specs.declared.item.Item.{Item}
 use Rattle.imap_model.specs.declared.mark.Mark.{Mark}
 use Rattle.imap_model.specs.declared.replies.Replies.{Replies}
 use Rattle.imap_model.specs.declared.server.Server.{Server}
@@ -27,6 +25,8 @@ use Rattle.playback.proofs.CodesTold.{copied_read, last_this, none_copied}
 use Rattle.playback.proofs.Fetches.{row_read}
 use Rattle.playback.proofs.Lawfulness.{read_lawful}
 use Rattle.playback.proofs.Learnable.{may_learn, rows_within}
+use Rattle.playback.proofs.Placed.{send_placed}
+use Rattle.playback.proofs.Readings.{row_any, same_finding}
 use Rattle.playback.proofs.Purposes.{AsksRow, Purpose, SendsIt, a_box, a_row, a_search, an_effect, purpose_of, selects_known, the_ids}
 use Rattle.playback.proofs.Taking.{IsOwed, carried_by, owed_of}
 use Rattle.playback.specs.Allowed.{IsReply}
@@ -34,10 +34,10 @@ use Rattle.playback.specs.Choosing.{FitsWanted, IsChosen, box_fault, chosen_box,
 use Rattle.playback.specs.Choosing.{rows_fault, rows_with, target_fault, wanted_by}
 use Rattle.playback.specs.Kept.{KeptBook}
 use Rattle.playback.specs.Knows.{IsNeeded, Knows}
-use Rattle.playback.specs.Needs.{IsBeside, IsNextBox, IsPlain, IsReadyEvent, MayEnd, due_id, need_for, send_of}
+use Rattle.playback.specs.Needs.{IsBeside, IsNextBox, IsPlaced, IsPlain, IsReadyEvent, MayEnd, due_id, end_due, need_for, send_of}
 use Rattle.playback.specs.Replying.{Hears, HearsDue, HearsIdsFor, HearsIdsOf, HearsStep, IsHeard, copied_code, found_uids, is_barred}
-use Rattle.playback.specs.Replying.{is_so, lacked_by, lacked_in, lacks, last_copied, last_fetch, read_append_by, read_copied, read_items}
-use Rattle.playback.specs.Replying.{read_meant, read_move_by, read_moved, read_of, read_row, read_sent}
+use Rattle.playback.specs.Replying.{lacked_by, lacked_in, lacks, last_copied, last_fetch, read_append_by, read_copied}
+use Rattle.playback.specs.Replying.{read_meant, read_move_by, read_moved, read_of, read_sent}
 use Rattle.playback.specs.Sound.{IsSound}
 use Rattle.playback.specs.Steps.{step_box, step_due, step_learn, step_of}
 use Rattle.playback.specs.Worlds.{World}
@@ -48,16 +48,17 @@ use Rattle.playback.specs.declared.need.Unheard.{Unheard}
 use Rattle.playback.specs.declared.player.Player.{Player}
 use Rattle.playback.specs.declared.step.Step.{Step}
 use Rattle.qresync_core.specs.Fitting.{Fits}
-use Rattle.std.proofs.Common.{Bool, Err, List, [], None, Ok, Option, Result, Some, ap, arith, cond, false, inl, inr, length, not, refl}
-use Rattle.std.proofs.Common.{subst, sym, true, ℕ, ◌&&◌, ◌∙◌, ◌∷◌, ◌≡◌, ◌≢◌, ◌≤◌}
-use Rattle.std.proofs.lemmas.Bool.{cond_both, ltb-false}
+use Rattle.std.proofs.Common.{Bool, List, [], None, Ok, Option, Some, ap, arith, cond, false, inl, inr, length, refl}
+use Rattle.std.proofs.Common.{subst, sym, true, ℕ, ◌∙◌, ◌∷◌, ◌≡◌, ◌≢◌, ◌≤◌}
+use Rattle.std.proofs.lemmas.Bool.{ltb-false}
 use Rattle.std.specs.Option.{is_some}
 use Rattle.std.specs.Prelude.{nat_lt, slice_get}
+use Rattle.append_probe.specs.declared.verdict.Verdict.{Verdict}
+use Rattle.append_probe.specs.declared.verdict.Verdict.TheVariants as verdicts
 use Rattle.uid_sets.specs.declared.uid.UidRange.{UidRange}
 use Rattle.action_queue.specs.declared.action.Action.TheVariants as actions
 use Rattle.imap_model.specs.declared.command.Command.TheVariants as commands
 use Rattle.imap_model.specs.declared.ending.Ending.TheVariants as endings
-use Rattle.action_queue.specs.declared.event.Event.TheVariants as events
 use Rattle.playback.specs.declared.finding.Finding.TheVariants as findings
 use Rattle.action_queue.specs.declared.intent.Intent.TheVariants as intents
 use Rattle.playback.specs.declared.step.Step.TheVariants as steps
@@ -116,14 +117,16 @@ module _ (p : Player) (b : Meaning) (delta : Delta) (fits : FitsWanted p b (Ok d
       record {
         learns = record {
           lawful = record {
-            version = First;
-            unbroken = may_learn First b name delta (selects_known p b sound name under s).known fit.0 few;
+            version = Second;
+            unbroken = may_learn Second b name delta (selects_known p b sound name under s).known fit.0 few;
           };
+          second = refl;
           writable = (omega (arith, few, within), fit.1);
         };
         ends = (due_ends (due_action b.queue)).0;
         plain = λ _. (due_ends (due_action b.queue)).1;
         fresh = beside.fresh;
+        placed = λ outcome is. absurd (subst IsPlain is (due_ends (due_action b.queue)).1);
         within = beside.within;
         last = beside.last;
         next = learn_next name under p.learns s;
@@ -147,30 +150,9 @@ pub chosen_beside : (p : Player) (b : Meaning) (delta : Delta) (new : Player) �
 chosen_beside p b delta new fits chosen sound beside =
     subst (λ (x : Player). IsBeside x b) (sym chosen.1) (step_beside p b delta fits sound beside (step_of p b) refl chosen.0)
 
--- a row, a verdict or candidates end nothing
-abbrev EndsNothing : Result Finding Item → Meaning → Type 0
-EndsNothing (Ok finding) b = MayEnd finding b
-EndsNothing (Err item) b = Unit {0}
-
-items_end : (b : Meaning) (barred : Bool) (action : Action) (flags : Option (List (List ℕ))) (modseq : Option ℕ) →
-    EndsNothing (read_items barred action flags modseq) b
-items_end b barred action None modseq = tt
-items_end b barred action (Some flags) None = tt
-items_end b barred action (Some flags) (Some modseq) =
-    cond_both (barred && not (is_so action flags)) findings.Barred (findings.Row modseq (is_so action flags))
-    (λ (f : Finding). MayEnd f b) (λ _. tt) (λ _. tt)
-
-row_ends : (b : Meaning) (barred : Bool) (action : Action) (o : Option Fetched) → EndsNothing (read_row barred action o) b
-row_ends b barred action None = tt
-row_ends b barred action (Some fetched) = items_end b barred action fetched.flags fetched.modseq
-
-found_ends : (b : Meaning) (set : List UidRange) → MayEnd (found_uids set) b
-found_ends b [] = tt
-found_ends b (range ∷ set) = tt
-
 -- a finding that ends the action may end it
 end_if : (b : Meaning) (finding : Finding) →
-    ((outcome : Outcome) → finding ≡ findings.Ended outcome → IsReadyEvent b (events.Settle (due_id b) outcome)) → MayEnd finding b
+    ((outcome : Outcome) → finding ≡ findings.Ended outcome → IsReadyEvent b (end_due b outcome)) → MayEnd finding b
 end_if b (findings.Ended outcome) f = f outcome refl
 end_if b findings.Nothing f = tt
 end_if b findings.NoRow f = tt
@@ -180,50 +162,66 @@ end_if b (findings.Next validity uidnext) f = tt
 end_if b (findings.Candidates uids) f = tt
 end_if b (findings.Probed verdict) f = tt
 
-module _ (p : Player) (b : Meaning) (beside : IsBeside p b) (permits : Bool) (r : Replies) (finding : Finding) where
-  -- as before
-  same_ends : finding ≡ p.told → MayEnd finding b
-  same_ends e = subst (λ (f : Finding). MayEnd f b) (sym e) beside.ends
+-- what is so of what was found before, and of each finding that tells no end, is so of what is heard, where it is so of the reply to a command
+module _ (p : Player) (b : Meaning) (permits : Bool) (r : Replies) (finding : Finding) (P : Finding → Type 0) (same : P p.told)
+    (none : P findings.NoRow) (row : (modseq : ℕ) (so : Bool) → P (findings.Row modseq so)) (bars : P findings.Barred)
+    (candidates : (uids : List UidRange) → P (findings.Candidates uids)) (probed : (verdict : Verdict) → P (findings.Probed verdict)) where
+  as_before : finding ≡ p.told → P finding
+  as_before e = subst P (sym e) same
 
-  module _ (q : Queued) (there : due_action b.queue ≡ Some q) where
-    sent_ends : (pending : Option Intent) → b.pending ≡ pending → read_meant p.resumed q.action pending r ≡ Ok finding → MayEnd finding b
-    sent_ends None h e = subst (λ (x : Result Finding Item). EndsNothing x b) e tt
-    sent_ends (Some intent) h e =
-        end_if b finding (λ outcome is. read_lawful b q there intent h p.resumed r outcome (e ∙ ap (λ (f : Finding). Ok f) is))
+  found_any : (set : List UidRange) → P (found_uids set)
+  found_any [] = probed verdicts.NotThere
+  found_any (range ∷ set) = candidates (range ∷ set)
 
+  -- of the reply to the command of this action
+  abbrev pub OfSent : Queued → Type 0
+  OfSent q = (pending : Option Intent) → b.pending ≡ pending → step_of p b ≡ steps.Send → read_meant p.resumed q.action pending r ≡ Ok finding → P finding
+
+  module _ (q : Queued) (sent : OfSent q) where
     ids_for : (uids : List UidRange) (action : Action) → p.told ≡ findings.Candidates uids →
-        HearsIdsFor uids (findings.Candidates uids) action r finding →
-        MayEnd finding b
-    ids_for uids (actions.Append to flags text id) t h = subst (λ (f : Finding). MayEnd f b) (sym h.is) tt
-    ids_for uids (actions.Flag target add flags) t h = same_ends (h ∙ sym t)
-    ids_for uids (actions.Move target to) t h = same_ends (h ∙ sym t)
+        HearsIdsFor uids (findings.Candidates uids) action r finding → P finding
+    ids_for uids (actions.Append to flags text id) t h = subst P (sym h.is) (probed h.verdict)
+    ids_for uids (actions.Flag target add flags) t h = as_before (h ∙ sym t)
+    ids_for uids (actions.Move target to) t h = as_before (h ∙ sym t)
 
-    ids_of : (told : Finding) → p.told ≡ told → HearsIdsOf told q.action r finding → MayEnd finding b
+    ids_of : (told : Finding) → p.told ≡ told → HearsIdsOf told q.action r finding → P finding
     ids_of (findings.Candidates uids) t h = ids_for uids q.action t h
-    ids_of findings.Nothing t h = same_ends (h ∙ sym t)
-    ids_of findings.NoRow t h = same_ends (h ∙ sym t)
-    ids_of (findings.Row modseq so) t h = same_ends (h ∙ sym t)
-    ids_of findings.Barred t h = same_ends (h ∙ sym t)
-    ids_of (findings.Ended outcome) t h = same_ends (h ∙ sym t)
-    ids_of (findings.Next validity uidnext) t h = same_ends (h ∙ sym t)
-    ids_of (findings.Probed verdict) t h = same_ends (h ∙ sym t)
+    ids_of findings.Nothing t h = as_before (h ∙ sym t)
+    ids_of findings.NoRow t h = as_before (h ∙ sym t)
+    ids_of (findings.Row modseq so) t h = as_before (h ∙ sym t)
+    ids_of findings.Barred t h = as_before (h ∙ sym t)
+    ids_of (findings.Ended outcome) t h = as_before (h ∙ sym t)
+    ids_of (findings.Next validity uidnext) t h = as_before (h ∙ sym t)
+    ids_of (findings.Probed verdict) t h = as_before (h ∙ sym t)
 
-    step_ends : (step : Step) → HearsStep step p q.action b.pending permits r finding → MayEnd finding b
-    step_ends steps.Learn h = same_ends h
-    step_ends (steps.Select name under) h = same_ends h
-    step_ends (steps.AskRow uid) h =
-        subst (λ (x : Result Finding Item). EndsNothing x b) h
-        (row_ends b (is_barred permits q.action b.pending) q.action (last_fetch uid r.untagged))
-    step_ends (steps.Search uidnext) h = subst (λ (f : Finding). MayEnd f b) (sym h.is) (found_ends b h.uids)
-    step_ends steps.AskIds h = ids_of p.told refl h
-    step_ends (steps.Intend intent) h = same_ends h
-    step_ends (steps.Settle outcome) h = same_ends h
-    step_ends steps.Send h = sent_ends b.pending refl h
-    step_ends steps.Finished h = same_ends h
+    step_any : (step : Step) → step_of p b ≡ step → HearsStep step p q.action b.pending permits r finding → P finding
+    step_any steps.Learn e h = as_before h
+    step_any (steps.Select name under) e h = as_before h
+    step_any (steps.AskRow uid) e h =
+        row_any P (is_barred permits q.action b.pending) q.action none row (λ _. bars) (last_fetch uid r.untagged) finding h
+    step_any (steps.Search uidnext) e h = subst P (sym h.is) (found_any h.uids)
+    step_any steps.AskIds e h = ids_of p.told refl h
+    step_any (steps.Intend intent) e h = as_before h
+    step_any (steps.Settle outcome) e h = as_before h
+    step_any steps.Send e h = sent b.pending refl e h
+    step_any steps.Finished e h = as_before h
 
-  due_may : (o : Option Queued) → due_action b.queue ≡ o → HearsDue p b o permits r finding → MayEnd finding b
-  due_may None e h = same_ends h
-  due_may (Some q) e h = step_ends q e (step_of p b) h
+  pub heard_any : ((q : Queued) → due_action b.queue ≡ Some q → OfSent q) → (o : Option Queued) → due_action b.queue ≡ o →
+      HearsDue p b o permits r finding → P finding
+  heard_any sent None e h = as_before h
+  heard_any sent (Some q) e h = step_any q (sent q e) (step_of p b) refl h
+
+module _ (p : Player) (b : Meaning) (sound : IsSound b) (beside : IsBeside p b) (permits : Bool) (r : Replies) (finding : Finding) where
+  sent_ends : (q : Queued) → due_action b.queue ≡ Some q → (pending : Option Intent) → b.pending ≡ pending →
+      read_meant p.resumed q.action pending r ≡ Ok finding → MayEnd finding b
+  sent_ends q there None h e = subst (λ (f : Finding). MayEnd f b) (same_finding findings.Nothing finding e) tt
+  sent_ends q there (Some intent) h e =
+      end_if b finding
+      (λ outcome is. read_lawful b q there (sound.tries (due b.queue) q there) intent h p.resumed r outcome (e ∙ ap (λ (f : Finding). Ok f) is))
+
+  -- where it tells an end, the mailbox of the pending intent is selected
+  abbrev PlacedIf : Finding → Type 0
+  PlacedIf f = (outcome : Outcome) → f ≡ findings.Ended outcome → (intent : Intent) → b.pending ≡ Some intent → IsPlaced intent p
 
   -- while a delta waits for its record nothing is heard
   learn_plain : (o : Option Resynced) → is_some o ≡ true → (q : Queued) →
@@ -238,7 +236,13 @@ module _ (p : Player) (b : Meaning) (beside : IsBeside p b) (permits : Bool) (r 
   heard_so : Hears p b permits r finding → IsBeside (record p { told = finding }) b
   heard_so h = record {
     learns = beside.learns;
-    ends = due_may (due_action b.queue) refl h;
+    ends =
+        heard_any p b permits r finding (λ (f : Finding). MayEnd f b) beside.ends tt (λ modseq so. tt) tt (λ uids. tt) (λ verdict. tt)
+        (λ q there pending is step read. sent_ends q there pending is read) (due_action b.queue) refl h;
+    placed =
+        heard_any p b permits r finding PlacedIf beside.placed (λ outcome e. absurd (cc)) (λ modseq so outcome e. absurd (cc)) (λ outcome e. absurd (cc))
+        (λ uids outcome e. absurd (cc)) (λ verdict outcome e. absurd (cc))
+        (λ q there pending is step read outcome e intent meant. send_placed p b sound intent meant p.learns step) (due_action b.queue) refl h;
     plain = λ t. subst (λ (f : Finding). IsPlain f) (sym (due_plain (due_action b.queue) t h)) (beside.plain t);
     fresh = beside.fresh;
     within = beside.within;
@@ -250,7 +254,7 @@ pub heard_beside : (p : Player) (b : Meaning) (permits : Bool) (r : Replies) (ne
     IsBeside p b →
     IsBeside new b
 heard_beside p b permits r new heard sound beside =
-    subst (λ (x : Player). IsBeside x b) (sym heard.is) (heard_so p b beside permits r heard.finding heard.hears)
+    subst (λ (x : Player). IsBeside x b) (sym heard.is) (heard_so p b sound beside permits r heard.finding heard.hears)
 
 -- a MOVE tells COPYUID of the one message, and an APPEND tells APPENDUID
 module _ (c : Waiting) (s t : Server) (r : Replies) (after : Option (List ℕ)) (resumed : Bool) where

@@ -1,5 +1,5 @@
 -- The waiting command is carried out.
-use Rattle.std.proofs.Common.{◌≡◌, inl, inr, ⊎_elim, ℕ, suc, ◌<◌, ◌≤◌, Bool, true, false, leb, not, List, [], ◌∷◌, ◌++◌, length, Option}
+use Rattle.std.proofs.Common.{◌≡◌, inl, inr, ⊎_elim, ℕ, suc, zero, ◌<◌, ◌≤◌, Bool, true, false, leb, not, List, [], ◌∷◌, ◌++◌, length, Option}
 use Rattle.std.proofs.Common.{Some, None, refl, sym, ◌∙◌, ap, subst, arith}
 use Rattle.std.specs.Prelude.{slice_get}
 use Rattle.std.proofs.lemmas.Bool.{cond-true, le-leb, eq-eqb, ne_eqb, eqb-true, or_right, and_right, not_from_true}
@@ -22,6 +22,7 @@ use Rattle.imap_model.specs.declared.server.Server.{Server}
 use Rattle.imap_model.specs.declared.deed.Author.TheVariants.{Ours}
 use Rattle.imap_model.specs.declared.deed.Change.{Change}
 use Rattle.imap_model.specs.declared.deed.Change.TheVariants as changes
+use Rattle.mail_base.specs.Tags.{try_tag}
 use Rattle.mail_base.specs.declared.tag.Tag.{Tag}
 use Rattle.mail_base.specs.declared.tag.Tag.TheVariants.{Again, Count, Play, Strange}
 use Rattle.imap_model.specs.declared.command.Command.{Command}
@@ -64,8 +65,13 @@ try_apart n k (Again m turn) d = λ t. ne_eqb m n (λ e. d (sym e ∙ eqb-true m
 try_apart n k (Count m) d = λ t. absurd (cc)
 try_apart n k Strange d = λ t. absurd (cc)
 
+-- the tag of a try is one of its action's
+try_is : (n tries : ℕ) → is_try n (try_tag n tries) ≡ true
+try_is n zero = eq-eqb n n refl
+try_is n (suc k) = eq-eqb n n refl
+
 tag_is : (b : Meaning) → IsSound b → (i : ℕ) (q : Queued) → slice_get b.queue i ≡ Some q → is_try (suc i) (tag_of (suc i) q) ≡ true
-tag_is b s i q e = eq-eqb (suc i) (suc i) refl
+tag_is b s i q e = try_is (suc i) q.tries
 
 no_intent : (b : Meaning) (intent : Intent) → b.pending ≡ Some intent → b.pending ≡ None → ⊥
 no_intent b intent p n = absurd (cc)

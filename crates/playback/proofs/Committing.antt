@@ -1,7 +1,7 @@
 -- A record of what is needed leaves fewer records and replies.
-use Rattle.action_queue.proofs.Queueing.{length_change}
+use Rattle.action_queue.proofs.Queueing.{due_try, length_change}
 use Rattle.action_queue.specs.Book.{Meaning, after, cache_at, learned, put_cache}
-use Rattle.action_queue.specs.Queues.{change_first, due, due_action, settled}
+use Rattle.action_queue.specs.Queues.{change_first, due, due_action, settled, tried, tries_due}
 use Rattle.action_queue.specs.Targets.{resolved}
 use Rattle.action_queue.specs.declared.action.Action.{Action}
 use Rattle.action_queue.specs.declared.book.Known.{Known}
@@ -19,7 +19,9 @@ use Rattle.playback.proofs.Recording.{due_there, put_length}
 use Rattle.playback.specs.Allowed.{Records}
 use Rattle.playback.specs.Choosing.{committed, counted, told_after}
 use Rattle.playback.specs.Left.{left, rank, rank_behind, rank_of, unsettled}
-use Rattle.playback.specs.Needs.{IsBeside, IsNextBox, due_id, need_for, need_learn, need_of}
+use Rattle.playback.proofs.Trying.{tries_tried}
+use Rattle.playback.proofs.Withdrawing.{IsWithdrawn, asks_anew, withdrawn}
+use Rattle.playback.specs.Needs.{IsBeside, IsNextBox, again, due_id, need_end, need_for, need_learn, need_of}
 use Rattle.playback.specs.Sound.{IsSound}
 use Rattle.playback.specs.Steps.{append_again, append_meant, flag_again, flag_first, flag_meant, move_again, move_first, move_meant}
 use Rattle.playback.specs.Steps.{step_action, step_append, step_due, step_flag_at, step_flag_found, step_last, step_learn}
@@ -58,19 +60,23 @@ recorded_with p b learns = record p {
 }
 
 abbrev left_with : Player → Meaning → Option Resynced → ℕ
-left_with p b learns = rank_of p b learns + 8 * unsettled b.queue + 8 * (length b.boxes - p.resynced)
+left_with p b learns = rank_of p b learns + 4 * (2 - tries_due b.queue) + 16 * unsettled b.queue + 16 * (length b.boxes - p.resynced)
 
 -- a queue with one more outcome, a mailbox that counts, and one that doesn't
-settled_less : (r old all later done more c : ℕ) → r ≤ 7 → old ≡ 1 → later ≡ all → more ≡ suc done → done < all →
-    r + 8 * (later - more) + c < old + 8 * (all - done) + c
-settled_less r old all later done more c h o a d l = omega (arith, h, o, a, d, l)
+settled_less : (r t old u all later done more c : ℕ) → r ≤ 7 → old ≡ 1 → later ≡ all → more ≡ suc done → done < all →
+    r + 4 * (2 - t) + 16 * (later - more) + c < old + 4 * (2 - u) + 16 * (all - done) + c
+settled_less r t old u all later done more c h o a d l = omega (arith, h, o, a, d, l)
 
-counted_less : (r all later count more c : ℕ) → r ≤ 7 → later ≡ all → more ≡ count + 1 → count < all →
-    r + c + 8 * (later - more) < 6 + c + 8 * (all - count)
-counted_less r all later count more c h a d l = omega (arith, h, a, d, l)
+counted_less : (r t all later count more c : ℕ) → r ≤ 7 → later ≡ all → more ≡ count + 1 → count < all →
+    r + t + c + 16 * (later - more) < 6 + t + c + 16 * (all - count)
+counted_less r t all later count more c h a d l = omega (arith, h, a, d, l)
 
-same_less : (r old all later count c : ℕ) → r ≡ old → later ≡ all → r + c + 8 * (later - count) < 1 + old + c + 8 * (all - count)
-same_less r old all later count c h a = omega (arith, h, a)
+same_less : (r t old all later count c : ℕ) → r ≡ old → later ≡ all → r + t + c + 16 * (later - count) < 1 + old + t + c + 16 * (all - count)
+same_less r t old all later count c h a = omega (arith, h, a)
+
+withdrawn_less : (r t old u all was c : ℕ) → r < 5 → old ≡ 1 → t ≡ u + 1 → u < 2 → all ≡ was →
+    r + 4 * (2 - t) + 16 * all + c < old + 4 * (2 - u) + 16 * was + c
+withdrawn_less r t old u all was c h o n l a = omega (arith, h, o, n, l, a)
 
 resumed_still : (resumed : Bool) (pending : Option Intent) → (pending ≡ None → resumed ≡ false) → (resumed && is_some pending) ≡ resumed
 resumed_still false pending fresh = refl
@@ -226,15 +232,15 @@ module _ (p : Player) (b : Meaning) (fresh : b.pending ≡ None → p.resumed �
 
     due_learned : (queued : Option Queued) → IsNextBox queued (Some told) p.resynced b.boxes →
         rank (step_due (learned_now boxes (counted_now queued) (p.resumed && is_some b.pending)) (record b { boxes = boxes }) queued)
-        + 8 * unsettled b.queue + 8 * (length boxes - counted_now queued)
-        < rank_behind p b queued + 8 * unsettled b.queue + 8 * (length b.boxes - p.resynced)
+        + 4 * (2 - tries_due b.queue) + 16 * unsettled b.queue + 16 * (length boxes - counted_now queued)
+        < rank_behind p b queued + 4 * (2 - tries_due b.queue) + 16 * unsettled b.queue + 16 * (length b.boxes - p.resynced)
     due_learned None turn =
         let within : p.resynced < length b.boxes = slice_get_within b.boxes p.resynced turn.0 turn.1 in
-        counted_less (rank (step_last (counted_now None) (record b { boxes = boxes }))) (length b.boxes) (length boxes) p.resynced (counted_now None)
-        (8 * unsettled b.queue) (at_most (step_last (counted_now None) (record b { boxes = boxes }))) same (counts_one within) within
+        counted_less (rank (step_last (counted_now None) (record b { boxes = boxes }))) (4 * (2 - tries_due b.queue)) (length b.boxes) (length boxes)
+        p.resynced (counted_now None) (16 * unsettled b.queue) (at_most (step_last (counted_now None) (record b { boxes = boxes }))) same (counts_one within) within
     due_learned (Some q) turn =
         same_less (rank (step_action (learned_now boxes p.resynced (p.resumed && is_some b.pending)) (record b { boxes = boxes }) q.action))
-        (rank (step_action p b q.action)) (length b.boxes) (length boxes) p.resynced (8 * unsettled b.queue)
+        (4 * (2 - tries_due b.queue)) (rank (step_action p b q.action)) (length b.boxes) (length boxes) p.resynced (16 * unsettled b.queue)
         (learned_same boxes p.resynced q.action) same
 
 module _ (p : Player) (b : Meaning) (sound : IsSound b) (beside : IsBeside p b) where
@@ -248,7 +254,7 @@ module _ (p : Player) (b : Meaning) (sound : IsSound b) (beside : IsBeside p b) 
       (sym (unlearned p b none) ∙ e) (due_intends p b beside.fresh (due_action b.queue)) in
       let was : rank (step_of p b) ≡ 3 = ap rank e in
       add_less (rank (step_due (intended p b beside.fresh) (record b { pending = Some intent }) (due_action b.queue))) (rank (step_of p b))
-      (8 * unsettled b.queue) (8 * (length b.boxes - p.resynced)) (omega (arith, less, was))
+      (4 * (2 - tries_due b.queue)) (16 * unsettled b.queue) (16 * (length b.boxes - p.resynced)) (omega (arith, less, was))
 
   settle_falls : p.learns ≡ None → (outcome : Outcome) → step_of p b ≡ steps.Settle outcome → FallsBehind (events.Settle (due_id b) outcome) None
   settle_falls none outcome e =
@@ -256,11 +262,31 @@ module _ (p : Player) (b : Meaning) (sound : IsSound b) (beside : IsBeside p b) 
       due_there p b (due_action b.queue) outcome (sym (unlearned p b none) ∙ e) in
       settled_less
       (rank (step_of (recorded_with p (after b (events.Settle (due_id b) outcome)) None) (after b (events.Settle (due_id b) outcome))))
-      (rank (step_of p b)) (length b.queue) (length (change_first (settled outcome) b.queue)) (due b.queue)
-      (due (change_first (settled outcome) b.queue)) (8 * (length b.boxes - p.resynced))
+      (tries_due (change_first (settled outcome) b.queue)) (rank (step_of p b)) (tries_due b.queue) (length b.queue) (length (change_first (settled outcome) b.queue)) (due b.queue)
+      (due (change_first (settled outcome) b.queue)) (16 * (length b.boxes - p.resynced))
       (at_most (step_of (recorded_with p (after b (events.Settle (due_id b) outcome)) None) (after b (events.Settle (due_id b) outcome))))
       (ap rank e) (length_change (settled outcome) b.queue) (due_settle outcome b.queue there.0 there.1 sound.rest)
       (slice_get_within b.queue (due b.queue) there.0 there.1)
+
+  -- a try is taken back: its mailbox is selected still, so that the row is asked for
+  withdraw_falls : p.learns ≡ None → (outcome : Outcome) → step_of p b ≡ steps.Settle outcome → (next : ℕ) →
+      again (tries_due b.queue) outcome ≡ Some next → FallsBehind (events.Withdraw (due_id b) next) None
+  withdraw_falls none outcome e next more =
+      let x : IsWithdrawn p b next = withdrawn p b sound beside outcome next more none e in
+      let new : Meaning = after b (events.Withdraw (due_id b) next) in
+      let queue : List Queued = change_first (tried next) b.queue in
+      let less : rank (step_of (recorded_with p new None) new) < 5 = asks_anew p b next x (recorded_with p new None) refl refl refl in
+      let same : due queue ≡ due b.queue = due_try next b.queue in
+      let long : length queue ≡ length b.queue = length_change (tried next) b.queue in
+      let tries : tries_due queue ≡ next = tries_tried next b.queue x.queued x.there in
+      let was : rank (step_of p b) ≡ 1 = ap rank e in
+      withdrawn_less (rank (step_of (recorded_with p new None) new)) (tries_due queue) (rank (step_of p b)) (tries_due b.queue) (unsettled queue)
+      (unsettled b.queue) (16 * (length b.boxes - p.resynced)) less was (tries ∙ x.again.more) x.again.fewer (omega (arith, same, long))
+
+  end_falls : p.learns ≡ None → (outcome : Outcome) → step_of p b ≡ steps.Settle outcome → (o : Option ℕ) → again (tries_due b.queue) outcome ≡ o →
+      (event : Event) → Records (need_end (due_id b) outcome o) event → FallsBehind event None
+  end_falls none outcome e None last event r = subst (λ (x : Event). FallsBehind x None) (sym r) (settle_falls none outcome e)
+  end_falls none outcome e (Some next) more event r = subst (λ (x : Event). FallsBehind x None) (sym r) (withdraw_falls none outcome e next more)
 
   learn_falls : (told : Resynced) → p.learns ≡ Some told → FallsBehind (events.Learn told.name told.delta) (Some told)
   learn_falls told e =
@@ -278,7 +304,7 @@ module _ (p : Player) (b : Meaning) (sound : IsSound b) (beside : IsBeside p b) 
   step_falls none steps.AskIds e event r =
       absurd (ids_any (λ (need : Need). Records need event → ⊥) (λ x. x) (λ command x. x) (λ number command x. x) p.told r)
   step_falls none (steps.Intend intent) e event r = subst (λ (x : Event). FallsBehind x None) (sym r) (intend_falls none intent e)
-  step_falls none (steps.Settle outcome) e event r = subst (λ (x : Event). FallsBehind x None) (sym r) (settle_falls none outcome e)
+  step_falls none (steps.Settle outcome) e event r = end_falls none outcome e (again (tries_due b.queue) outcome) refl event r
   step_falls none steps.Send e event r =
       absurd
       (due_sent_any (λ (need : Need). Records need event → ⊥) (λ x. x) (λ command x. x) (λ number command x. x) (due_id b) (due_action b.queue)

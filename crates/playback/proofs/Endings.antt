@@ -1,6 +1,6 @@
 -- How the command of the action that is due ended, and that this may be recorded.
 use Rattle.std.proofs.Common.{◌≡◌, inl, inr, ℕ, ◌≤◌, arith, Bool, true, false, cond, List, [], length, Option, Some, None, Result, Ok, refl}
-use Rattle.std.proofs.Common.{sym, ◌∙◌, ap, subst}
+use Rattle.std.proofs.Common.{suc, sym, ◌∙◌, ap, subst}
 use Rattle.std.specs.Option.{is_some, option_map}
 use Rattle.std.proofs.lemmas.Bool.{cond_both, eq-eqb}
 use Rattle.std.proofs.lemmas.Option.{same_Some}
@@ -25,7 +25,7 @@ use Rattle.imap_model.specs.declared.server.Mailbox.{Mailbox}
 use Rattle.imap_model.specs.declared.server.Message.{Message}
 use Rattle.imap_model.specs.declared.server.Server.{Server}
 use Rattle.action_queue.specs.Book.{Meaning}
-use Rattle.action_queue.specs.Queues.{due_action}
+use Rattle.action_queue.specs.Queues.{due, due_action}
 use Rattle.action_queue.specs.Rules.{suits}
 use Rattle.action_queue.specs.Targets.{is_never, resolved}
 use Rattle.action_queue.specs.declared.action.Action.{Action}
@@ -100,6 +100,22 @@ right_if : (b : Meaning) (w : World) (resumed : Bool) (outcome : Outcome) → Is
 right_if b w resumed outcome r = λ other e.
     let is : outcome ≡ other = cc in
     subst (λ (x : Outcome). IsRight b w resumed x) is r
+
+-- the command that was sent is that of the action that is due
+module _ (b : Meaning) (w : World) (q : Queued) (e : due_action b.queue ≡ Some q) (said : Said) (sent : IsSent b said w) where
+  due_same : sent.is_of.queued ≡ q
+  due_same = same_Some sent.is_of.queued q (sym sent.is_of.there ∙ e)
+
+  abbrev of_due : IsOf b said.before said.command
+  of_due = record {
+    intent = sent.is_of.intent;
+    pending = sent.is_of.pending;
+    queued = q;
+    there = e;
+    is = subst (λ (x : Queued). command_of (tag_of (suc (due b.queue)) x) x.action sent.is_of.intent ≡ Some said.command) due_same sent.is_of.is;
+    none = sent.is_of.none;
+    at = sent.is_of.at;
+  }
 
 -- of any command of the action
 module _ (b : Meaning) (w : World) (resumed : Bool) (q : Queued) (e : due_action b.queue ≡ Some q) (intent : Intent)
@@ -220,7 +236,7 @@ module _ (b : Meaning) (w : World) (resumed : Bool) (q : Queued) (e : due_action
       IsRight b w resumed (outcomes.Done None)
   store_effect x = (
     subst (λ (l : List Deed). Fits (outcomes.Done None) l) (sym sent.later)
-        (store_done b said.before said.behind (Some said.command) sent.kept said.command sent.is_of (Some name) uid modseq add asked x),
+        (store_done b said.before said.behind (Some said.command) sent.kept said.command (of_due b w q e said sent) (Some name) uid modseq add asked x),
     tt,
   )
 
@@ -351,7 +367,7 @@ module _ (b : Meaning) (w : World) (resumed : Bool) (q : Queued) (e : due_action
           (box_at to said.behind.boxes);
       uid = x.received;
     }))) l) (sym sent.later)
-        (move_done b said.before said.behind (Some said.command) sent.kept said.command sent.is_of (Some from) uid to x),
+        (move_done b said.before said.behind (Some said.command) sent.kept said.command (of_due b w q e said sent) (Some from) uid to x),
     tt,
   )
 
@@ -410,7 +426,7 @@ module _ (b : Meaning) (w : World) (resumed : Bool) (q : Queued) (e : due_action
               (box_at to said.behind.boxes);
           uid = x.effect.uid;
         }))) l) (sym sent.later)
-            (append_done b said.before said.behind (Some said.command) sent.kept said.command sent.is_of to flags text x.effect),
+            (append_done b said.before said.behind (Some said.command) sent.kept said.command (of_due b w q e said sent) to flags text x.effect),
         tt,
       ))
   appended_so endings.No ends x =

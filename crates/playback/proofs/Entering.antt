@@ -9,7 +9,8 @@ use Rattle.imap_model.specs.declared.deed.Deed.{Deed}
 use Rattle.imap_model.specs.declared.server.Server.{Server}
 use Rattle.mailbox_cache.specs.declared.cache.Cache.{Cache}
 use Rattle.mailbox_cache.specs.declared.delta.Delta.{Delta}
-use Rattle.action_queue.specs.Queues.{due, due_action, accepted, settled, change_first}
+use Rattle.action_queue.proofs.Queueing.{due_try}
+use Rattle.action_queue.specs.Queues.{due, due_action, accepted, settled, tried, change_first}
 use Rattle.action_queue.specs.Book.{Meaning, known_at, cache_of, cache_at, learned, known_of, begun, after, put_cache}
 use Rattle.action_queue.specs.Events.{IsLawful, next_book}
 use Rattle.action_queue.specs.declared.action.Action.{Action}
@@ -27,10 +28,10 @@ use Rattle.playback.specs.Sound.{HasIntent, IsSound}
 use Rattle.playback.specs.Of.{tag_of, command_of, IsOf}
 use Rattle.playback.specs.Kept.{KeptBook, KeptBefore, Kept}
 use Rattle.playback.specs.Permitted.{MayFollow, Permits}
-use Rattle.playback.proofs.Queueing.{get_push, get_pushed, grows_push, due_push, IsChangedAt, changed_at, grows_settle, due_settle, cache_put}
-use Rattle.playback.proofs.Sounding.{begun_sound, accept_sound, intend_sound, settle_sound, caches_sound}
-use Rattle.playback.proofs.Lawful.{accept_known, accept_good, intend_due, settle_due, IsDue}
-use Rattle.playback.proofs.Reaching.{accept_reached, none_reached, settle_reached}
+use Rattle.playback.proofs.Queueing.{get_push, get_pushed, grows_push, due_push, IsChangedAt, changed_at, grows_settle, grows_try, due_settle, cache_put}
+use Rattle.playback.proofs.Sounding.{begun_sound, accept_sound, intend_sound, settle_sound, caches_sound, withdraw_sound}
+use Rattle.playback.proofs.Lawful.{accept_known, accept_good, intend_due, settle_due, withdraw_few, IsDue}
+use Rattle.playback.proofs.Reaching.{accept_reached, none_reached, settle_reached, tried_reached}
 use Rattle.playback.proofs.Deeds.{owned_grows, all_none_owned, none_ours}
 
 no_cache : (name : List ℕ) (names : List (List ℕ)) (cache : Cache) → cache_at name (map known_of names) ≡ Some cache → ⊥
@@ -194,6 +195,35 @@ caches_keep b c s waiting kept sound queue pending fresh = record {
   };
 }
 
+-- a try is taken back: its action has no deed, and no outcome changes
+old_fits : (b : Meaning) (tries : ℕ) (s : Server) (waiting : Option Waiting) → KeptBook b s waiting → (i : ℕ) (q : Queued) (other : Outcome) →
+    q.outcome ≡ Some other → IsChangedAt (tried tries) b.queue i q → Fits other (ours (suc i) s.history)
+old_fits b tries s waiting kept i q other o (inl h) = kept.once.settled i q other h.there o
+old_fits b tries s waiting kept i q other o (inr h) =
+    kept.once.settled i h.queued other h.there (sym (ap (λ (x : Queued). x.outcome) h.is) ∙ o)
+
+withdraw_keeps : (b : Meaning) (id tries : ℕ) (s : Server) (waiting : Option Waiting) → KeptBook b s waiting → tries ≤ 2 →
+    Permits (Some b) (events.Withdraw id tries) s waiting → KeptBook (after b (events.Withdraw id tries)) s waiting
+withdraw_keeps b id tries s waiting kept most permitted =
+    let same : due (change_first (tried tries) b.queue) ≡ due b.queue = due_try tries b.queue in
+    let none_now : ours (suc (due (change_first (tried tries) b.queue))) s.history ≡ [] =
+    subst (λ (k : ℕ). ours (suc k) s.history ≡ []) (sym same) permitted.1 in
+    record {
+      sound = withdraw_sound b tries kept.sound most;
+      well = kept.well;
+      once = record {
+        owned = owned_grows b.queue (change_first (tried tries) b.queue) s.history (grows_try tries b.queue) kept.once.owned;
+        settled = λ i q other e o. old_fits b tries s waiting kept i q other o (changed_at (tried tries) b.queue i q e);
+        once = subst (λ (l : List Deed). length l ≤ 1) (sym none_now) (omega arith);
+        idle = λ _. none_now;
+        later = λ i l. kept.once.later i (subst (λ (k : ℕ). k < i) same l);
+      };
+      open_intent = λ intent p q e. absurd (cc);
+      fresh = kept.fresh;
+      reached = record { waiting = tried_reached b tries s kept.reached; deeds = kept.reached.deeds };
+      waits = λ m. absurd (permitted.0 m);
+    }
+
 pub event_keeps : (b : Meaning) (event : Event) (s : Server) (waiting : Option Waiting) → KeptBook b s waiting → MayFollow (Some b) event →
     Permits (Some b) event s waiting → KeptBook (after b event) s waiting
 event_keeps b (events.Begin names) s waiting kept follows permitted = absurd permitted
@@ -209,7 +239,8 @@ event_keeps b (events.Old id action outcome) s waiting kept follows permitted = 
 event_keeps b (events.Reset name kept_validity told) s waiting kept follows permitted =
     caches_keep b (after b (events.Reset name kept_validity told)) s waiting kept (caches_sound b name None kept.sound) refl refl
     (λ n cache e. kept.fresh n cache (still_cached name n b.boxes cache e))
-event_keeps b (events.Withdraw id tries) s waiting kept follows permitted = absurd permitted
+event_keeps b (events.Withdraw id tries) s waiting kept follows permitted =
+    withdraw_keeps b id tries s waiting kept (withdraw_few b id tries follows) permitted
 
 pub book_keeps : (b : Option Meaning) (event : Event) (s : Server) (waiting : Option Waiting) → Kept b s waiting → MayFollow b event →
     Permits b event s waiting → KeptBook (next_book b event) s waiting

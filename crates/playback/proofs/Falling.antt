@@ -1,6 +1,6 @@
 -- A SELECT that is taken and a reply that is awaited leave fewer records and replies.
 use Rattle.action_queue.specs.Book.{Meaning}
-use Rattle.action_queue.specs.Queues.{due_action}
+use Rattle.action_queue.specs.Queues.{due_action, tries_due}
 use Rattle.action_queue.specs.Rules.{suits}
 use Rattle.action_queue.specs.Targets.{resolved}
 use Rattle.action_queue.specs.declared.action.Action.{Action}
@@ -20,7 +20,8 @@ use Rattle.playback.proofs.Elsewhere.{selected_now}
 use Rattle.playback.specs.Choosing.{IsChosen, begun_with, box_fault, chosen_due, chosen_for, chosen_in, is_many, is_below, rows_fault}
 use Rattle.playback.specs.Choosing.{rows_with, target_fault, wanted_by}
 use Rattle.playback.specs.Left.{Awaits, LeftAtFirst, left, rank, rank_behind, rank_of, unsettled}
-use Rattle.playback.specs.Needs.{due_id, need_for, need_learn, need_of}
+use Rattle.playback.proofs.Trying.{end_any}
+use Rattle.playback.specs.Needs.{again, due_id, need_for, need_learn, need_of}
 use Rattle.playback.specs.Replying.{Hears, HearsDue, HearsIds, HearsIdsOf, HearsStep, IsHeard, found_uids, is_barred, last_copied}
 use Rattle.playback.specs.Replying.{last_fetch, read_append, read_move, read_store}
 use Rattle.playback.specs.Sound.{HasIntent, IsSound}
@@ -220,7 +221,7 @@ module _ (p : Player) (b : Meaning) (delta : Delta) where
       (none_other (is_below under delta.validity) (rows_fault (is_many (rows_with box b delta))) fault) in
       let was : rank_of p b p.learns ≡ 7 = ap (λ (learns : Option Resynced). rank_of p b learns) (none_learned p.learns box under e) ∙ ap rank e in
       add_less (rank_behind (chosen_with box (chosen_due (due_action b.queue) delta)) b (due_action b.queue)) (rank_of p b p.learns)
-      (8 * unsettled b.queue) (8 * (length b.boxes - p.resynced)) (omega (arith, low, was))
+      (4 * (2 - tries_due b.queue)) (16 * unsettled b.queue) (16 * (length b.boxes - p.resynced)) (omega (arith, low, was))
   step_low sound name (steps.AskRow uid) e need fault = absurd (cc)
   step_low sound name (steps.Search uidnext) e need fault =
       absurd
@@ -229,7 +230,8 @@ module _ (p : Player) (b : Meaning) (delta : Delta) where
   step_low sound name steps.AskIds e need fault =
       absurd (ids_any (NoSelect name) (λ n. absurd (cc)) (λ command n. absurd (cc)) (λ number command n. absurd (cc)) p.told need)
   step_low sound name (steps.Intend intent) e need fault = absurd (cc)
-  step_low sound name (steps.Settle outcome) e need fault = absurd (cc)
+  step_low sound name (steps.Settle outcome) e need fault =
+      absurd (end_any (NoSelect name) (λ n o x. absurd (cc)) (λ n k x. absurd (cc)) (due_id b) outcome (again (tries_due b.queue) outcome) need)
   step_low sound name steps.Send e need fault =
       absurd
       (due_sent_any (NoSelect name) (λ n. absurd (cc)) (λ command n. absurd (cc)) (λ number command n. absurd (cc)) (due_id b) (due_action b.queue)
@@ -264,7 +266,8 @@ awaits_step p b (steps.AskRow uid) e w = tt
 awaits_step p b (steps.Search uidnext) e w = tt
 awaits_step p b steps.AskIds e w = tt
 awaits_step p b (steps.Intend intent) e w = w
-awaits_step p b (steps.Settle outcome) e w = w
+awaits_step p b (steps.Settle outcome) e w =
+    end_any (λ (need : Need). Awaits need → ⊥) (λ n o x. x) (λ n k x. x) (due_id b) outcome (again (tries_due b.queue) outcome) w
 awaits_step p b steps.Send e w = tt
 awaits_step p b steps.Finished e w = w
 
@@ -477,7 +480,7 @@ module _ (p : Player) (b : Meaning) (permits : Bool) (r : Replies) (finding : Fi
       due_falls none (due_action b.queue) refl waits h in
       let new : rank_of heard_now b p.learns ≡ rank (step_due heard_now b (due_action b.queue)) = rank_unlearned heard_now b none in
       let old : rank_of p b p.learns ≡ rank (step_due p b (due_action b.queue)) = rank_unlearned p b none in
-      add_less (rank_of heard_now b p.learns) (rank_of p b p.learns) (8 * unsettled b.queue) (8 * (length b.boxes - p.resynced))
+      add_less (rank_of heard_now b p.learns) (rank_of p b p.learns) (4 * (2 - tries_due b.queue)) (16 * unsettled b.queue) (16 * (length b.boxes - p.resynced))
       (omega (arith, less, new, old))
 
 -- A reply that is awaited leaves less.

@@ -5,7 +5,7 @@ use Rattle.std.specs.Prelude.{get_or, slice_get}
 use Rattle.std.proofs.lemmas.Bool.{cond_both}
 use Rattle.std.proofs.lemmas.Option.{slice_get_cases, slice_get_past}
 use Rattle.action_queue.specs.Book.{Meaning}
-use Rattle.action_queue.specs.Queues.{AllSettled, due, due_action}
+use Rattle.action_queue.specs.Queues.{AllSettled, due, due_action, tries_due}
 use Rattle.action_queue.specs.Targets.{resolved}
 use Rattle.action_queue.specs.declared.action.Action.{Action}
 use Rattle.action_queue.specs.declared.action.Action.TheVariants as actions
@@ -22,7 +22,8 @@ use Rattle.append_probe.specs.declared.verdict.Verdict.{Verdict}
 use Rattle.append_probe.specs.declared.verdict.Verdict.TheVariants as verdicts
 use Rattle.playback.proofs.Elsewhere.{elsewhere_any}
 use Rattle.playback.specs.Steps.{above_at, elsewhere}
-use Rattle.playback.specs.Needs.{IsFinished, due_id, need_for, need_ids, need_learn, need_of, need_search, need_send}
+use Rattle.playback.proofs.Trying.{end_any}
+use Rattle.playback.specs.Needs.{IsFinished, again, due_id, need_for, need_ids, need_learn, need_of, need_search, need_send}
 use Rattle.playback.specs.Needs.{search_of, send_meant, send_of}
 use Rattle.playback.specs.Steps.{append_again, append_first, append_in_box, append_judged, append_meant, append_new, append_open, conflict}
 use Rattle.playback.specs.Steps.{flag_again, flag_first, flag_judged, flag_meant, flag_new, flag_open, in_box, is_selected, is_selected_at}
@@ -45,6 +46,7 @@ IsCommit (needs.Select name) = ⊥
 IsCommit (needs.Ask command) = ⊥
 IsCommit (needs.Commit event) = Unit {0}
 IsCommit (needs.Settle n outcome) = ⊥
+IsCommit (needs.Withdraw n tries) = ⊥
 IsCommit (needs.Send n command) = ⊥
 IsCommit needs.Finished = ⊥
 
@@ -53,6 +55,7 @@ IsAsk (needs.Select name) = ⊥
 IsAsk (needs.Ask command) = Unit {0}
 IsAsk (needs.Commit event) = ⊥
 IsAsk (needs.Settle n outcome) = ⊥
+IsAsk (needs.Withdraw n tries) = ⊥
 IsAsk (needs.Send n command) = ⊥
 IsAsk needs.Finished = ⊥
 
@@ -61,6 +64,7 @@ IsSend (needs.Select name) = ⊥
 IsSend (needs.Ask command) = ⊥
 IsSend (needs.Commit event) = ⊥
 IsSend (needs.Settle n outcome) = ⊥
+IsSend (needs.Withdraw n tries) = ⊥
 IsSend (needs.Send n command) = Unit {0}
 IsSend needs.Finished = ⊥
 
@@ -294,7 +298,8 @@ not_last p b (steps.AskRow uid) = λ h e. absurd (cc)
 not_last p b (steps.Search uidnext) = λ h e. subst IsAsk e h
 not_last p b steps.AskIds = λ h e. subst IsAsk e h
 not_last p b (steps.Intend intent) = λ h e. absurd (cc)
-not_last p b (steps.Settle outcome) = λ h e. absurd (cc)
+not_last p b (steps.Settle outcome) = λ h e.
+    end_any (λ (need : Need). need ≡ needs.Finished → ⊥) (λ n o x. absurd (cc)) (λ n k x. absurd (cc)) (due_id b) outcome (again (tries_due b.queue) outcome) e
 not_last p b steps.Send = λ h e. subst IsSend e h
 not_last p b steps.Finished = λ h e. h
 

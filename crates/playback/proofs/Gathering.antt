@@ -31,9 +31,9 @@ use Rattle.playback.specs.Course.{IsOneOf, Said}
 use Rattle.playback.specs.Fresh.{IsFreshFor}
 use Rattle.playback.specs.InBox.{InBox}
 use Rattle.playback.specs.Kept.{KeptBook}
-use Rattle.playback.specs.Knows.{Came, HasCome, Holds, IsAnswered, IsFetched, IsNeeded, IsPlaced, IsQuiet, IsTold, IsUnsent, Knows, Rests}
+use Rattle.playback.specs.Knows.{Came, HasCome, Holds, IsAnswered, IsFetched, IsNeeded, IsQuiet, IsTold, IsUnsent, Knows, Rests}
 use Rattle.playback.specs.Knows.{SelectsBox, with_rows}
-use Rattle.playback.specs.Needs.{IsPlain, need_of}
+use Rattle.playback.specs.Needs.{IsPlaced, IsPlain, need_of}
 use Rattle.playback.specs.Open.{PutFacts}
 use Rattle.playback.specs.Worlds.{Among, IsAt, Since, World, given, name_of, selected_after, selected_by, selected_on}
 use Rattle.playback.specs.declared.finding.Finding.{Finding}

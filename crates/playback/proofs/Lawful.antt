@@ -1,9 +1,9 @@
 -- What is needed here of an event that breaks no rule.
-use Rattle.std.proofs.Common.{◌≡◌, ℕ, Bool, true, false, not, length, Option, Some, None, refl}
+use Rattle.std.proofs.Common.{◌≡◌, ◌≤◌, ℕ, Bool, true, false, not, length, Option, Some, None, refl}
 use Rattle.std.specs.Prelude.{is_none, is_some, nat_le, cond, ◌&&◌, ◌==◌, ◌+◌}
 use Rattle.action_queue.specs.Queues.{due, due_action}
 use Rattle.action_queue.specs.Rules.{suits, is_unsuited, is_unknown_intent, is_unknown_action, is_bad_action}
-use Rattle.action_queue.specs.Rules.{rests_on_intent, comes_before_intent, is_misplaced, is_misplaced_of}
+use Rattle.action_queue.specs.Rules.{rests_on_intent, comes_before_intent, is_misplaced, is_misplaced_of, is_no_flag, is_wrong_tries}
 use Rattle.action_queue.specs.Book.{Meaning}
 use Rattle.action_queue.specs.Events.{IsLawful}
 use Rattle.action_queue.specs.declared.event.Event.TheVariants as events
@@ -12,6 +12,9 @@ use Rattle.action_queue.specs.declared.intent.Intent.{Intent}
 use Rattle.action_queue.specs.declared.outcome.Outcome.{Outcome}
 use Rattle.action_queue.specs.declared.queued.Queued.{Queued}
 use Rattle.action_queue.specs.declared.rule.Rule.{Rule}
+use Rattle.action_queue.specs.declared.rule.Version.{Version}
+use Rattle.action_queue.specs.declared.rule.Version.TheVariants as versions
+use Rattle.playback.proofs.Trying.{turn_most}
 use Rattle.playback.specs.Sound.{HasIntent}
 
 -- the first rule isn't broken, nor one of the others
@@ -92,3 +95,23 @@ settle_due b id outcome l =
     let before = both_unbroken (is_some b.pending && comes_before_intent outcome) _ _ needs.1 in
     let placed = both_unbroken (is_misplaced (due_action b.queue) outcome) _ _ before.1 in
     due_there b outcome (due_action b.queue) refl waits.0 placed.0
+
+-- two tries at most are taken back
+right_number : (b : Meaning) (tries : ℕ) (version : Version) → is_none (due_action b.queue) ≡ false → is_wrong_tries version b tries ≡ false → tries ≤ 2
+right_number b tries versions.First there right = absurd (cc)
+right_number b tries versions.Second there right = turn_most (due_action b.queue) b.pending tries there right
+
+-- the action that is due changes flags
+pub withdraw_flag : (b : Meaning) (id tries : ℕ) → IsLawful b (events.Withdraw id tries) → is_no_flag (due_action b.queue) ≡ false
+withdraw_flag b id tries l =
+    let waits = both_unbroken (is_none (due_action b.queue)) _ _ l.unbroken in
+    let number = both_unbroken (not (id == due b.queue + 1)) _ _ waits.1 in
+    (both_unbroken (is_no_flag (due_action b.queue)) _ _ number.1).0
+
+pub withdraw_few : (b : Meaning) (id tries : ℕ) → IsLawful b (events.Withdraw id tries) → tries ≤ 2
+withdraw_few b id tries l =
+    let waits = both_unbroken (is_none (due_action b.queue)) _ _ l.unbroken in
+    let number = both_unbroken (not (id == due b.queue + 1)) _ _ waits.1 in
+    let flag = both_unbroken (is_no_flag (due_action b.queue)) _ _ number.1 in
+    let right = both_unbroken (is_wrong_tries l.version b tries) _ _ flag.1 in
+    right_number b tries l.version waits.0 right.0

@@ -2,9 +2,9 @@
 use Rattle.std.proofs.Common.{◌≡◌, inl, inr, ℕ, suc, zero, ◌+◌, arith, Bool, true, false, cond, eqb, not, ◌&&◌, ◌||◌, List, [], ◌∷◌, Option}
 use Rattle.std.proofs.Common.{Some, None, Result, Ok, Err, refl, sym, ◌∙◌, ap, subst}
 use Rattle.std.specs.Option.{is_none, is_some}
-use Rattle.std.specs.Prelude.{IfOk, bytes_eq, nat_lt, slice_get, ◌<◌}
+use Rattle.std.specs.Prelude.{IfOk, bytes_eq, nat_lt, slice_get, ◌<◌, ◌≤◌, ◌==◌}
 use Rattle.std.specs.declared.alloc.AllocError.{AllocError}
-use Rattle.std.proofs.lemmas.Bool.{and_from, cond_both, cond-false, cond-true, eq-eqb, lt-ltb}
+use Rattle.std.proofs.lemmas.Bool.{and_from, cond_both, cond-false, cond-true, eq-eqb, lt-ltb, ltb-true}
 use Rattle.std.proofs.lemmas.Option.{same_Some}
 use Rattle.imap_model.specs.declared.code.Code.{Code}
 use Rattle.imap_model.specs.declared.code.Code.TheVariants as codings
@@ -23,9 +23,10 @@ use Rattle.action_queue.specs.Writable.{IsWritableAction}
 use Rattle.append_probe.specs.Laws.{PartsAreParts}
 use Rattle.playback.proofs.Elsewhere.{elsewhere_any}
 use Rattle.playback.specs.Steps.{above_at, elsewhere, renewed_as}
-use Rattle.action_queue.specs.Rules.{is_found_under, names_validity, intent_validity}
+use Rattle.action_queue.specs.Rules.{is_found_under, is_no_flag, is_no_flag_of, is_no_turn, is_wrong_tries, is_wrong_turn, names_validity, intent_validity}
+use Rattle.playback.proofs.Trying.{end_lawful, end_plain, ends_plain, first_or_second, not_early}
 use Rattle.playback.specs.declared.finding.Selected.{Selected}
-use Rattle.action_queue.specs.Queues.{due, due_action}
+use Rattle.action_queue.specs.Queues.{due, due_action, tries_due, tries_of}
 use Rattle.action_queue.specs.Rules.{comes_before_intent, fits, follows_intent, is_early, is_misfit, is_misfit_of, is_misplaced, is_misplaced_of}
 use Rattle.action_queue.specs.Rules.{is_unknown, is_unknown_action, is_unknown_intent, is_unknown_target, is_unsuited, names_mark}
 use Rattle.action_queue.specs.Rules.{rests_on_intent, suits}
@@ -44,11 +45,11 @@ use Rattle.action_queue.specs.declared.outcome.Outcome.{Outcome}
 use Rattle.action_queue.specs.declared.outcome.Outcome.TheVariants as outcomes
 use Rattle.action_queue.specs.declared.queued.Queued.{Queued}
 use Rattle.action_queue.specs.declared.rule.Rule.{Rule}
-use Rattle.action_queue.specs.declared.rule.Version.TheVariants.{First}
+use Rattle.action_queue.specs.declared.rule.Version.TheVariants.{Second}
 use Rattle.action_queue.specs.declared.target.Target.{Target}
 use Rattle.append_probe.specs.declared.verdict.Verdict.{Verdict}
 use Rattle.append_probe.specs.declared.verdict.Verdict.TheVariants as verdicts
-use Rattle.playback.specs.Needs.{IsBeside, IsKnown, IsLawfulNeed, IsReadyEvent, MayEnd, MayRecord, due_id, need_for, need_ids, need_learn}
+use Rattle.playback.specs.Needs.{IsBeside, IsKnown, IsLawfulNeed, IsReadyEvent, MayEnd, MayRecord, again, again_as, due_id, end_due, end_of, need_for, need_ids, need_learn}
 use Rattle.playback.specs.Needs.{need_of, need_search, need_send, search_of, send_meant, send_of}
 use Rattle.playback.specs.Replying.{ended, flag_gone, last_copied, last_fetch, move_gone, names_modified, names_uid, one_of, place_if}
 use Rattle.playback.specs.Replying.{read_append_by, read_appended, read_copied, read_move_by, read_moved, read_sent, read_store}
@@ -95,7 +96,7 @@ module _ (b : Meaning) (q : Queued) (e : due_action b.queue ≡ Some q) where
       IsReadyEvent b (events.Intend (due_id b) intent)
   intend_ready intent free known suited = record {
     lawful = record {
-      version = First;
+      version = Second;
       unbroken =
           skip (is_unknown_intent b.boxes intent) _ _ known
           (skip (is_some b.pending) _ _ (ap (λ (o : Option Intent). is_some o) free)
@@ -104,40 +105,66 @@ module _ (b : Meaning) (q : Queued) (e : due_action b.queue ≡ Some q) where
           (skip (is_unsuited b.queue (due_action b.queue) intent) _ _
           (ap (λ (o : Option Queued). is_unsuited b.queue o intent) e ∙ ap not suited) refl))));
     };
+    second = refl;
     writable = tt;
   }
 
-  settle_ready : (outcome : Outcome) → (is_none b.pending && rests_on_intent outcome) ≡ false →
+  settle_ready : q.tries ≤ 2 → (outcome : Outcome) → again (tries_due b.queue) outcome ≡ None → (is_none b.pending && rests_on_intent outcome) ≡ false →
       (is_some b.pending && comes_before_intent outcome) ≡ false →
       is_misplaced_of q.action outcome ≡ false → is_misfit_of b q.action outcome ≡ false → IsReadyEvent b (events.Settle (due_id b) outcome)
-  settle_ready outcome needs_it before placed fit = record {
+  settle_ready few outcome last needs_it before placed fit = record {
     lawful = record {
-      version = First;
+      version = Second;
       unbroken =
           skip (is_none (due_action b.queue)) _ _ (ap (λ (o : Option Queued). is_none o) e)
           (skip (not (eqb (due_id b) (due b.queue + 1))) _ _ is_number
           (skip (is_none b.pending && rests_on_intent outcome) _ _ needs_it
           (skip (is_some b.pending && comes_before_intent outcome) _ _ before
           (skip (is_misplaced (due_action b.queue) outcome) _ _ (ap (λ (o : Option Queued). is_misplaced o outcome) e ∙ placed)
-          (skip (is_misfit b (due_action b.queue) outcome || is_early First (due_action b.queue) outcome) _ _
-          (neither_or (is_misfit b (due_action b.queue) outcome) (is_early First (due_action b.queue) outcome)
-          (ap (λ (o : Option Queued). is_misfit b o outcome) e ∙ fit) refl) refl)))));
+          (skip (is_misfit b (due_action b.queue) outcome || is_early Second (due_action b.queue) outcome) _ _
+          (neither_or (is_misfit b (due_action b.queue) outcome) (is_early Second (due_action b.queue) outcome)
+          (ap (λ (o : Option Queued). is_misfit b o outcome) e ∙ fit)
+          (ap (λ (o : Option Queued). is_early Second o outcome) e
+          ∙ not_early q.tries outcome few (sym (ap (λ (o : Option Queued). again (tries_of o) outcome) e) ∙ last))) refl)))));
     };
+    second = refl;
+    writable = tt;
+  }
+
+  -- the try of a flag action is taken back
+  withdraw_ready : (intent : Intent) → b.pending ≡ Some intent → is_no_flag_of q.action ≡ false → tries_due b.queue < 2 →
+      IsReadyEvent b (events.Withdraw (due_id b) (tries_due b.queue + 1))
+  withdraw_ready intent pending flag fewer = record {
+    lawful = record {
+      version = Second;
+      unbroken =
+          skip (is_none (due_action b.queue)) _ _ (ap (λ (o : Option Queued). is_none o) e)
+          (skip (not (eqb (due_id b) (due b.queue + 1))) _ _ is_number
+          (skip (is_no_flag (due_action b.queue)) _ _ (ap is_no_flag e ∙ flag)
+          (skip (is_wrong_tries Second b (tries_due b.queue + 1)) _ _
+          (ap (λ (o : Option Queued). is_wrong_turn o b.pending (tries_due b.queue + 1)) e
+          ∙ neither_or (not (tries_due b.queue + 1 == 1 || tries_due b.queue + 1 == 2)) (is_no_turn b.pending q.tries (tries_due b.queue + 1))
+          (first_or_second (tries_due b.queue) fewer)
+          (ap (λ (o : Option Intent). is_no_turn o q.tries (tries_due b.queue + 1)) pending
+          ∙ ap not (eq-eqb (tries_due b.queue + 1) (q.tries + 1) (ap (λ (o : Option Queued). tries_of o + 1) e)))) refl)));
+    };
+    second = refl;
     writable = tt;
   }
 
   -- a conflict without an intent
-  free_ready : b.pending ≡ None → (kind : Kind) → follows_intent kind ≡ false → fits b q.action kind ≡ true →
+  free_ready : q.tries ≤ 2 → b.pending ≡ None → (kind : Kind) → again_as (tries_due b.queue) kind ≡ None → follows_intent kind ≡ false → fits b q.action kind ≡ true →
       IsReadyEvent b (events.Settle (due_id b) (outcomes.Conflict kind))
-  free_ready free kind first fit =
-      settle_ready (outcomes.Conflict kind) (none_and (is_none b.pending) (follows_intent kind) first)
+  free_ready few free kind last first fit =
+      settle_ready few (outcomes.Conflict kind) last (none_and (is_none b.pending) (follows_intent kind) first)
       (ap (λ (o : Option Intent). is_some o && comes_before_intent (outcomes.Conflict kind)) free) refl (ap not fit)
 
   -- an outcome with an intent
-  meant_ready : (intent : Intent) → b.pending ≡ Some intent → (outcome : Outcome) → comes_before_intent outcome ≡ false →
+  meant_ready : q.tries ≤ 2 → (intent : Intent) → b.pending ≡ Some intent → (outcome : Outcome) → again (tries_due b.queue) outcome ≡ None →
+      comes_before_intent outcome ≡ false →
       is_misplaced_of q.action outcome ≡ false → is_misfit_of b q.action outcome ≡ false → IsReadyEvent b (events.Settle (due_id b) outcome)
-  meant_ready intent pending outcome later placed fit =
-      settle_ready outcome (ap (λ (o : Option Intent). is_none o && rests_on_intent outcome) pending)
+  meant_ready few intent pending outcome last later placed fit =
+      settle_ready few outcome last (ap (λ (o : Option Intent). is_none o && rests_on_intent outcome) pending)
       (none_and (is_some b.pending) (comes_before_intent outcome) later) placed fit
 
 -- what a target resolves to has one UIDVALIDITY
@@ -158,6 +185,9 @@ selected_some (Some sel) name validity = λ t. refl
 
 -- the action that is due
 module _ (p : Player) (b : Meaning) (sound : IsSound b) (q : Queued) (e : due_action b.queue ≡ Some q) where
+  few : q.tries ≤ 2
+  few = sound.tries (due b.queue) q e
+
   boxed_may : (meant : Bool) (spot : Spot) (step : Step) → IsKnown spot.name b → (is_some p.selected ≡ true → IsLawfulStep p b step) →
       ((n : ℕ) → spot.validity < n → IsLawfulStep p b (conflict (renewed_as meant spot.validity n))) →
       IsLawfulStep p b (in_box p.selected meant spot step)
@@ -196,20 +226,21 @@ module _ (p : Player) (b : Meaning) (sound : IsSound b) (q : Queued) (e : due_ac
 
   -- a flag action
   module _ (target : Target) (add : Bool) (asked : List (List ℕ)) (a : q.action ≡ actions.Flag target add asked) where
-    flag_free : b.pending ≡ None → (kind : Kind) → follows_intent kind ≡ false → fits b (actions.Flag target add asked) kind ≡ true →
+    flag_free : b.pending ≡ None → (kind : Kind) → again_as (tries_due b.queue) kind ≡ None → follows_intent kind ≡ false → fits b (actions.Flag target add asked) kind ≡ true →
         IsLawfulStep p b (conflict kind)
-    flag_free free kind first fit = free_ready b q e free kind first (subst (λ (x : Action). fits b x kind ≡ true) (sym a) fit)
+    flag_free free kind last first fit =
+        ends_plain p b (outcomes.Conflict kind) last (free_ready b q e few free kind last first (subst (λ (x : Action). fits b x kind ≡ true) (sym a) fit))
 
-    flag_later : (intent : Intent) → b.pending ≡ Some intent → (kind : Kind) → comes_before_intent (outcomes.Conflict kind) ≡ false →
+    flag_later : (intent : Intent) → b.pending ≡ Some intent → (kind : Kind) → again_as (tries_due b.queue) kind ≡ None → comes_before_intent (outcomes.Conflict kind) ≡ false →
         fits b (actions.Flag target add asked) kind ≡ true → IsReadyEvent b (events.Settle (due_id b) (outcomes.Conflict kind))
-    flag_later intent pending kind later fit =
-        meant_ready b q e intent pending (outcomes.Conflict kind) later refl
+    flag_later intent pending kind last later fit =
+        meant_ready b q e few intent pending (outcomes.Conflict kind) last later refl
         (ap not (subst (λ (x : Action). fits b x kind ≡ true) (sym a) fit))
 
     module _ (spot : Spot) (known : IsKnown spot.name b) where
       module _ (is : resolved b.queue target ≡ found.Real spot.name spot.validity spot.uid) (free : b.pending ≡ None) where
         flag_new_may : (modseq : ℕ) (so : Bool) → IsLawfulStep p b (flag_new modseq so spot)
-        flag_new_may modseq true = flag_free free kinds.AlreadySo refl refl
+        flag_new_may modseq true = flag_free free kinds.AlreadySo refl refl refl
         flag_new_may modseq false =
             intend_ready b q e (intents.Store spot.name spot.validity spot.uid modseq) free known
             (subst (λ (x : Action). suits b.queue x (intents.Store spot.name spot.validity spot.uid modseq) ≡ true) (sym a)
@@ -217,9 +248,9 @@ module _ (p : Player) (b : Meaning) (sound : IsSound b) (q : Queued) (e : due_ac
 
         flag_first_may : (told : Finding) → is_some p.selected ≡ true → IsLawfulStep p b (flag_first told spot)
         flag_first_may findings.Nothing t = (tt, t)
-        flag_first_may findings.NoRow t = flag_free free kinds.MessageGone refl refl
+        flag_first_may findings.NoRow t = flag_free free kinds.MessageGone refl refl refl
         flag_first_may (findings.Row modseq so) t = flag_new_may modseq so
-        flag_first_may findings.Barred t = flag_free free kinds.NotPermanent refl refl
+        flag_first_may findings.Barred t = flag_free free kinds.NotPermanent refl refl refl
         flag_first_may (findings.Ended outcome) t = (tt, t)
         flag_first_may (findings.Next validity uidnext) t = (tt, t)
         flag_first_may (findings.Candidates uids) t = (tt, t)
@@ -237,8 +268,8 @@ module _ (p : Player) (b : Meaning) (sound : IsSound b) (q : Queued) (e : due_ac
 
         unsure_may : (modseq : ℕ) (so : Bool) →
             IsLawfulStep p b (cond so (conflict kinds.FoundSo) (conflict (kinds.StoreUnsure mark modseq)))
-        unsure_may modseq true = flag_later (intents.Store name validity uid mark) pending kinds.FoundSo refl refl
-        unsure_may modseq false = flag_later (intents.Store name validity uid mark) pending (kinds.StoreUnsure mark modseq) refl names_it
+        unsure_may modseq true = flag_later (intents.Store name validity uid mark) pending kinds.FoundSo refl refl refl
+        unsure_may modseq false = flag_later (intents.Store name validity uid mark) pending (kinds.StoreUnsure mark modseq) refl refl names_it
 
         flag_judged_may : (modseq : ℕ) (so : Bool) → is_some p.selected ≡ true → IsLawfulStep p b (flag_judged mark modseq so)
         flag_judged_may modseq so t =
@@ -247,7 +278,7 @@ module _ (p : Player) (b : Meaning) (sound : IsSound b) (q : Queued) (e : due_ac
 
         flag_open_may : (told : Finding) → is_some p.selected ≡ true → IsLawfulStep p b (flag_open mark told spot)
         flag_open_may findings.Nothing t = (tt, t)
-        flag_open_may findings.NoRow t = flag_later (intents.Store name validity uid mark) pending kinds.GoneAfterLoss refl refl
+        flag_open_may findings.NoRow t = flag_later (intents.Store name validity uid mark) pending kinds.GoneAfterLoss refl refl refl
         flag_open_may (findings.Row modseq so) t = flag_judged_may modseq so t
         flag_open_may findings.Barred t = (tt, t)
         flag_open_may (findings.Ended outcome) t = (tt, t)
@@ -263,7 +294,7 @@ module _ (p : Player) (b : Meaning) (sound : IsSound b) (q : Queued) (e : due_ac
         flag_boxed_may : (told : Finding) → IsLawfulStep p b (in_box p.selected true spot (flag_again p.resumed mark told spot))
         flag_boxed_may told =
             boxed_may true spot (flag_again p.resumed mark told spot) known (flag_again_may p.resumed told)
-            (λ n l. flag_later (intents.Store name validity uid mark) pending (kinds.ResetAfterLoss spot.validity n) refl
+            (λ n l. flag_later (intents.Store name validity uid mark) pending (kinds.ResetAfterLoss spot.validity n) refl refl
             (intent_fits (intents.Store name validity uid mark) pending spot.validity n under l))
 
         flag_meant_may : (told : Finding) → MayEnd told b → IsLawfulStep p b (flag_meant p mark spot told)
@@ -271,7 +302,7 @@ module _ (p : Player) (b : Meaning) (sound : IsSound b) (q : Queued) (e : due_ac
         flag_meant_may findings.NoRow m = flag_boxed_may findings.NoRow
         flag_meant_may (findings.Row modseq so) m = flag_boxed_may (findings.Row modseq so)
         flag_meant_may findings.Barred m = flag_boxed_may findings.Barred
-        flag_meant_may (findings.Ended outcome) m = m
+        flag_meant_may (findings.Ended outcome) m = end_lawful p b outcome (again (tries_due b.queue) outcome) m
         flag_meant_may (findings.Next v l) m = flag_boxed_may (findings.Next v l)
         flag_meant_may (findings.Candidates uids) m = flag_boxed_may (findings.Candidates uids)
         flag_meant_may (findings.Probed verdict) m = flag_boxed_may (findings.Probed verdict)
@@ -280,7 +311,7 @@ module _ (p : Player) (b : Meaning) (sound : IsSound b) (q : Queued) (e : due_ac
           b.pending ≡ pending → IsLawfulStep p b (step_flag_at p pending spot)
       flag_at_may ends is None h =
           boxed_may false spot (flag_first p.told spot) known (flag_first_may is h p.told)
-          (λ n l. flag_free h (kinds.ValidityChanged spot.validity n) refl
+          (λ n l. flag_free h (kinds.ValidityChanged spot.validity n) refl refl
           (found_fits (resolved b.queue target) spot.name spot.validity spot.uid n is l))
       flag_at_may ends is (Some (intents.Store name validity uid mark)) h =
           let s : Suited b.queue (actions.Flag target add asked) (intents.Store name validity uid mark) =
@@ -298,13 +329,14 @@ module _ (p : Player) (b : Meaning) (sound : IsSound b) (q : Queued) (e : due_ac
         subst (λ (f : Found). IsLawfulStep p b (step_flag_found p b.pending f)) (sym n.is)
         (flag_free (never_free (λ intent s. no_flag b target add asked n.by n.is intent
         (subst (λ (x : Action). Suited b.queue x intent) a s)) b.pending refl)
-        (kinds.TargetUnknown n.by) refl (is_never_of (resolved b.queue target) n.by n.is))
+        (kinds.TargetUnknown n.by) refl refl (is_never_of (resolved b.queue target) n.by n.is))
 
   -- a move
   module _ (target : Target) (to : List ℕ) (a : q.action ≡ actions.Move target to) where
-    move_free : b.pending ≡ None → (kind : Kind) → follows_intent kind ≡ false → fits b (actions.Move target to) kind ≡ true →
+    move_free : b.pending ≡ None → (kind : Kind) → again_as (tries_due b.queue) kind ≡ None → follows_intent kind ≡ false → fits b (actions.Move target to) kind ≡ true →
         IsLawfulStep p b (conflict kind)
-    move_free free kind first fit = free_ready b q e free kind first (subst (λ (x : Action). fits b x kind ≡ true) (sym a) fit)
+    move_free free kind last first fit =
+        ends_plain p b (outcomes.Conflict kind) last (free_ready b q e few free kind last first (subst (λ (x : Action). fits b x kind ≡ true) (sym a) fit))
 
     knows_to : IsKnown to b
     knows_to =
@@ -322,7 +354,7 @@ module _ (p : Player) (b : Meaning) (sound : IsSound b) (q : Queued) (e : due_ac
 
         move_first_may : (told : Finding) → is_some p.selected ≡ true → IsLawfulStep p b (move_first told spot to)
         move_first_may findings.Nothing t = (tt, t)
-        move_first_may findings.NoRow t = move_free free kinds.MessageGone refl refl
+        move_first_may findings.NoRow t = move_free free kinds.MessageGone refl refl refl
         move_first_may (findings.Row modseq so) t = move_intend
         move_first_may findings.Barred t = (tt, t)
         move_first_may (findings.Ended outcome) t = (tt, t)
@@ -339,7 +371,7 @@ module _ (p : Player) (b : Meaning) (sound : IsSound b) (q : Queued) (e : due_ac
 
         source_gone : IsReadyEvent b (events.Settle (due_id b) (outcomes.Conflict kinds.SourceGone))
         source_gone =
-            meant_ready b q e (intents.Shift from validity uid other) pending (outcomes.Conflict kinds.SourceGone) refl refl
+            meant_ready b q e few (intents.Shift from validity uid other) pending (outcomes.Conflict kinds.SourceGone) refl refl refl
             (ap not (subst (λ (x : Action). fits b x kinds.SourceGone ≡ true) (sym a) refl))
 
         move_open_may : (told : Finding) → is_some p.selected ≡ true → IsLawfulStep p b (move_open told spot)
@@ -359,7 +391,7 @@ module _ (p : Player) (b : Meaning) (sound : IsSound b) (q : Queued) (e : due_ac
         move_boxed_may : (told : Finding) → IsLawfulStep p b (in_box p.selected true spot (move_again p.resumed told spot))
         move_boxed_may told =
             boxed_may true spot (move_again p.resumed told spot) known (move_again_may p.resumed told)
-            (λ n l. meant_ready b q e (intents.Shift from validity uid other) pending (outcomes.Conflict (kinds.ResetAfterLoss spot.validity n)) refl refl
+            (λ n l. meant_ready b q e few (intents.Shift from validity uid other) pending (outcomes.Conflict (kinds.ResetAfterLoss spot.validity n)) refl refl refl
             (ap not (subst (λ (x : Action). fits b x (kinds.ResetAfterLoss spot.validity n) ≡ true) (sym a)
             (intent_fits (intents.Shift from validity uid other) pending spot.validity n under l))))
 
@@ -368,7 +400,7 @@ module _ (p : Player) (b : Meaning) (sound : IsSound b) (q : Queued) (e : due_ac
         move_meant_may findings.NoRow m = move_boxed_may findings.NoRow
         move_meant_may (findings.Row modseq so) m = move_boxed_may (findings.Row modseq so)
         move_meant_may findings.Barred m = move_boxed_may findings.Barred
-        move_meant_may (findings.Ended outcome) m = m
+        move_meant_may (findings.Ended outcome) m = end_lawful p b outcome (again (tries_due b.queue) outcome) m
         move_meant_may (findings.Next v l) m = move_boxed_may (findings.Next v l)
         move_meant_may (findings.Candidates uids) m = move_boxed_may (findings.Candidates uids)
         move_meant_may (findings.Probed verdict) m = move_boxed_may (findings.Probed verdict)
@@ -377,7 +409,7 @@ module _ (p : Player) (b : Meaning) (sound : IsSound b) (q : Queued) (e : due_ac
           b.pending ≡ pending → IsLawfulStep p b (step_move_at p pending spot to)
       move_at_may ends is None h =
           boxed_may false spot (move_first p.told spot to) known (move_first_may is h p.told)
-          (λ n l. move_free h (kinds.ValidityChanged spot.validity n) refl
+          (λ n l. move_free h (kinds.ValidityChanged spot.validity n) refl refl
           (found_fits (resolved b.queue target) spot.name spot.validity spot.uid n is l))
       move_at_may ends is (Some (intents.Shift from validity uid other)) h =
           let s : Suited b.queue (actions.Move target to) (intents.Shift from validity uid other) =
@@ -395,7 +427,7 @@ module _ (p : Player) (b : Meaning) (sound : IsSound b) (q : Queued) (e : due_ac
         subst (λ (f : Found). IsLawfulStep p b (step_move_found p b.pending to f)) (sym n.is)
         (move_free (never_free (λ intent s. no_move b target to n.by n.is intent
         (subst (λ (x : Action). Suited b.queue x intent) a s)) b.pending refl)
-        (kinds.TargetUnknown n.by) refl (is_never_of (resolved b.queue target) n.by n.is))
+        (kinds.TargetUnknown n.by) refl refl (is_never_of (resolved b.queue target) n.by n.is))
 
   -- an append
   module _ (parts : PartsAreParts) (to : List ℕ) (flags : List (List ℕ)) (text id : List ℕ)
@@ -441,12 +473,12 @@ module _ (p : Player) (b : Meaning) (sound : IsSound b) (q : Queued) (e : due_ac
       put_judged_may : (verdict : Verdict) → is_some p.selected ≡ true → IsLawfulStep p b (append_judged verdict validity)
       put_judged_may verdicts.NotThere t = put_send_may t
       put_judged_may (verdicts.There uid) t =
-          meant_ready b q e (intents.Put other validity uidnext) pending
-          (outcomes.Done (Some (record { validity = validity; uid = uid }))) refl
+          meant_ready b q e few (intents.Put other validity uidnext) pending
+          (outcomes.Done (Some (record { validity = validity; uid = uid }))) refl refl
           (subst (λ (x : Action). is_misplaced_of x (outcomes.Done (Some (record { validity = validity; uid = uid }))) ≡ false)
           (sym a) refl) refl
       put_judged_may (verdicts.Several first second) t =
-          meant_ready b q e (intents.Put other validity uidnext) pending (outcomes.Conflict (kinds.Ambiguous first second)) refl refl
+          meant_ready b q e few (intents.Put other validity uidnext) pending (outcomes.Conflict (kinds.Ambiguous first second)) refl refl refl
           (ap not (subst (λ (x : Action). fits b x (kinds.Ambiguous first second) ≡ true) (sym a) refl))
 
       put_open_may : (told : Finding) → p.told ≡ told → is_some p.selected ≡ true → IsLawfulStep p b (append_open told to validity uidnext)
@@ -470,7 +502,7 @@ module _ (p : Player) (b : Meaning) (sound : IsSound b) (q : Queued) (e : due_ac
           (elsewhere true (above_at p.selected to validity) to validity) (λ (s : Step). IsLawfulStep p b s)
           (λ t. put_again_may p.resumed told is (selected_some p.selected to validity t))
           (λ f. elsewhere_any (λ (s : Step). IsLawfulStep p b s) p.selected true to validity knows_box
-          (λ n above. meant_ready b q e (intents.Put other validity uidnext) pending (outcomes.Conflict (kinds.ResetAfterLoss validity n)) refl refl
+          (λ n above. meant_ready b q e few (intents.Put other validity uidnext) pending (outcomes.Conflict (kinds.ResetAfterLoss validity n)) refl refl refl
           (ap not (subst (λ (x : Action). fits b x (kinds.ResetAfterLoss validity n) ≡ true) (sym a)
           (intent_fits (intents.Put other validity uidnext) pending validity n refl above.above)))))
 
@@ -479,7 +511,7 @@ module _ (p : Player) (b : Meaning) (sound : IsSound b) (q : Queued) (e : due_ac
       put_meant_may findings.NoRow is m = put_boxed_may findings.NoRow is
       put_meant_may (findings.Row modseq so) is m = put_boxed_may (findings.Row modseq so) is
       put_meant_may findings.Barred is m = put_boxed_may findings.Barred is
-      put_meant_may (findings.Ended outcome) is m = m
+      put_meant_may (findings.Ended outcome) is m = end_lawful p b outcome (again (tries_due b.queue) outcome) m
       put_meant_may (findings.Next v l) is m = put_boxed_may (findings.Next v l) is
       put_meant_may (findings.Candidates uids) is m = put_boxed_may (findings.Candidates uids) is
       put_meant_may (findings.Probed verdict) is m = put_boxed_may (findings.Probed verdict) is
@@ -535,12 +567,12 @@ needed_lawful parts p b (Err error) is sound beside = tt
 
 -- the outcome, if this is one, may be recorded
 abbrev IsReadyIf : Meaning → Result Finding Item → Type 0
-IsReadyIf b r = (outcome : Outcome) → r ≡ Ok (findings.Ended outcome) → IsReadyEvent b (events.Settle (due_id b) outcome)
+IsReadyIf b r = (outcome : Outcome) → r ≡ Ok (findings.Ended outcome) → IsReadyEvent b (end_due b outcome)
 
-ready_if : (b : Meaning) (outcome : Outcome) → IsReadyEvent b (events.Settle (due_id b) outcome) → IsReadyIf b (Ok (findings.Ended outcome))
+ready_if : (b : Meaning) (outcome : Outcome) → IsReadyEvent b (end_due b outcome) → IsReadyIf b (Ok (findings.Ended outcome))
 ready_if b outcome r = λ other e.
     let is : outcome ≡ other = cc in
-    subst (λ (x : Outcome). IsReadyEvent b (events.Settle (due_id b) x)) is r
+    subst (λ (x : Outcome). IsReadyEvent b (end_due b x)) is r
 
 none_ready : (b : Meaning) (item : Item) → IsReadyIf b (Err item)
 none_ready b item = λ other e. absurd (cc)
@@ -548,62 +580,74 @@ none_ready b item = λ other e. absurd (cc)
 idle_ready : (b : Meaning) → IsReadyIf b (Ok findings.Nothing)
 idle_ready b = λ other e. absurd (cc)
 
-module _ (b : Meaning) (q : Queued) (e : due_action b.queue ≡ Some q) (intent : Intent) (pending : b.pending ≡ Some intent)
+module _ (b : Meaning) (q : Queued) (e : due_action b.queue ≡ Some q) (few : q.tries ≤ 2) (intent : Intent) (pending : b.pending ≡ Some intent)
     (resumed : Bool) (r : Replies) where
-  conflict_if : (kind : Kind) → comes_before_intent (outcomes.Conflict kind) ≡ false → fits b q.action kind ≡ true →
-      IsReadyIf b (Ok (ended (outcomes.Conflict kind)))
-  conflict_if kind later fit =
-      ready_if b (outcomes.Conflict kind) (meant_ready b q e intent pending (outcomes.Conflict kind) later refl (ap not fit))
+  conflict_if : (kind : Kind) → again_as (tries_due b.queue) kind ≡ None → comes_before_intent (outcomes.Conflict kind) ≡ false →
+      fits b q.action kind ≡ true → IsReadyIf b (Ok (ended (outcomes.Conflict kind)))
+  conflict_if kind last later fit =
+      ready_if b (outcomes.Conflict kind)
+      (end_plain b (outcomes.Conflict kind) last (meant_ready b q e few intent pending (outcomes.Conflict kind) last later refl (ap not fit)))
 
   refused_no_if : (action : Action) → q.action ≡ action → fits b action kinds.RefusedNo ≡ true →
       IsReadyIf b (Ok (ended (outcomes.Conflict kinds.RefusedNo)))
-  refused_no_if action a fit = conflict_if kinds.RefusedNo refl (subst (λ (x : Action). fits b x kinds.RefusedNo ≡ true) (sym a) fit)
+  refused_no_if action a fit = conflict_if kinds.RefusedNo refl refl (subst (λ (x : Action). fits b x kinds.RefusedNo ≡ true) (sym a) fit)
 
   refused_bad_if : (action : Action) → q.action ≡ action → fits b action kinds.RefusedBad ≡ true →
       IsReadyIf b (Ok (ended (outcomes.Conflict kinds.RefusedBad)))
-  refused_bad_if action a fit = conflict_if kinds.RefusedBad refl (subst (λ (x : Action). fits b x kinds.RefusedBad ≡ true) (sym a) fit)
+  refused_bad_if action a fit = conflict_if kinds.RefusedBad refl refl (subst (λ (x : Action). fits b x kinds.RefusedBad ≡ true) (sym a) fit)
 
   -- a STORE
   module _ (target : Target) (add : Bool) (asked : List (List ℕ)) (a : q.action ≡ actions.Flag target add asked) (uid mark : ℕ)
       (names_it : names_mark b.pending mark ≡ true) where
-    flag_if : (kind : Kind) → comes_before_intent (outcomes.Conflict kind) ≡ false → fits b (actions.Flag target add asked) kind ≡ true →
-        IsReadyIf b (Ok (ended (outcomes.Conflict kind)))
-    flag_if kind later fit = conflict_if kind later (subst (λ (x : Action). fits b x kind ≡ true) (sym a) fit)
+    flag_if : (kind : Kind) → again_as (tries_due b.queue) kind ≡ None → comes_before_intent (outcomes.Conflict kind) ≡ false →
+        fits b (actions.Flag target add asked) kind ≡ true → IsReadyIf b (Ok (ended (outcomes.Conflict kind)))
+    flag_if kind last later fit = conflict_if kind last later (subst (λ (x : Action). fits b x kind ≡ true) (sym a) fit)
+
+    -- another changed the message: the try is taken back, or the action ends
+    flag_changed : IsReadyIf b (Ok (ended (outcomes.Conflict (kinds.FlagsChanged mark))))
+    flag_changed =
+        let tries : ℕ = tries_due b.queue in
+        ready_if b (outcomes.Conflict (kinds.FlagsChanged mark))
+        (cond_both (nat_lt tries 2) (Some (tries + 1)) None
+        (λ (o : Option ℕ). IsReadyEvent b (end_of (due_id b) (outcomes.Conflict (kinds.FlagsChanged mark)) o))
+        (λ t. withdraw_ready b q e intent pending (ap is_no_flag_of a) (ltb-true tries 2 t))
+        (λ f. meant_ready b q e few intent pending (outcomes.Conflict (kinds.FlagsChanged mark)) (cond-false (nat_lt tries 2) (Some (tries + 1)) None f)
+        refl refl (ap not (subst (λ (x : Action). fits b x (kinds.FlagsChanged mark) ≡ true) (sym a) names_it))))
 
     flag_gone_if : (t : Bool) → IsReadyIf b (Ok (flag_gone t))
-    flag_gone_if true = flag_if kinds.GoneAfterLoss refl refl
-    flag_gone_if false = flag_if kinds.MessageGone refl refl
+    flag_gone_if true = flag_if kinds.GoneAfterLoss refl refl refl
+    flag_gone_if false = flag_if kinds.MessageGone refl refl refl
 
     flag_done : IsReadyIf b (Ok (ended (outcomes.Done None)))
     flag_done =
         ready_if b (outcomes.Done None)
-        (meant_ready b q e intent pending (outcomes.Done None) refl
+        (meant_ready b q e few intent pending (outcomes.Done None) refl refl
         (subst (λ (x : Action). is_misplaced_of x (outcomes.Done None) ≡ false) (sym a) refl) refl)
 
     stored_if : (told : List Response) (ending : Ending) → IsReadyIf b (Ok (read_stored uid resumed told ending))
     stored_if told endings.Ok =
         cond_both (is_some (last_fetch uid told)) (ended (outcomes.Done None)) (flag_gone resumed) (λ (f : Finding). IsReadyIf b (Ok f))
         (λ t. flag_done) (λ f. flag_gone_if resumed)
-    stored_if told endings.No = flag_if kinds.RefusedNo refl refl
-    stored_if told endings.Bad = flag_if kinds.RefusedBad refl refl
+    stored_if told endings.No = flag_if kinds.RefusedNo refl refl refl
+    stored_if told endings.Bad = flag_if kinds.RefusedBad refl refl refl
 
     store_if : IsReadyIf b (Ok (read_store uid mark resumed r))
     store_if =
         cond_both (names_modified uid r.code) (ended (outcomes.Conflict (kinds.FlagsChanged mark)))
         (read_stored uid resumed r.untagged r.ending)
         (λ (f : Finding). IsReadyIf b (Ok f))
-        (λ t. flag_if (kinds.FlagsChanged mark) refl names_it) (λ f. stored_if r.untagged r.ending)
+        (λ t. flag_changed) (λ f. stored_if r.untagged r.ending)
 
   -- a MOVE
   module _ (target : Target) (to : List ℕ) (a : q.action ≡ actions.Move target to) (uid : ℕ) where
     move_gone_if : (t : Bool) → IsReadyIf b (Ok (move_gone t))
-    move_gone_if true = conflict_if kinds.SourceGone refl (subst (λ (x : Action). fits b x kinds.SourceGone ≡ true) (sym a) refl)
-    move_gone_if false = conflict_if kinds.MessageGone refl (subst (λ (x : Action). fits b x kinds.MessageGone ≡ true) (sym a) refl)
+    move_gone_if true = conflict_if kinds.SourceGone refl refl (subst (λ (x : Action). fits b x kinds.SourceGone ≡ true) (sym a) refl)
+    move_gone_if false = conflict_if kinds.MessageGone refl refl (subst (λ (x : Action). fits b x kinds.MessageGone ≡ true) (sym a) refl)
 
     place_is : (t : Bool) (validity : ℕ) (o : Option ℕ) → IsReadyIf b (place_if t validity o)
     place_is true validity (Some received) =
         ready_if b (outcomes.Done (Some (record { validity = validity; uid = received })))
-        (meant_ready b q e intent pending (outcomes.Done (Some (record { validity = validity; uid = received }))) refl
+        (meant_ready b q e few intent pending (outcomes.Done (Some (record { validity = validity; uid = received }))) refl refl
         (subst (λ (x : Action). is_misplaced_of x (outcomes.Done (Some (record { validity = validity; uid = received }))) ≡ false)
         (sym a) refl) refl)
     place_is true validity None = none_ready b _
@@ -638,7 +682,7 @@ module _ (b : Meaning) (q : Queued) (e : due_action b.queue ≡ Some q) (intent 
     appended_if : (code : Code) → IsReadyIf b (read_appended code)
     appended_if (codings.AppendUid validity uid) =
         ready_if b (outcomes.Done (Some (record { validity = validity; uid = uid })))
-        (meant_ready b q e intent pending (outcomes.Done (Some (record { validity = validity; uid = uid }))) refl
+        (meant_ready b q e few intent pending (outcomes.Done (Some (record { validity = validity; uid = uid }))) refl refl
         (subst (λ (x : Action). is_misplaced_of x (outcomes.Done (Some (record { validity = validity; uid = uid }))) ≡ false)
         (sym a) refl) refl)
     appended_if codings.None = none_ready b _
@@ -659,16 +703,16 @@ module _ (b : Meaning) (q : Queued) (e : due_action b.queue ≡ Some q) (intent 
     append_if code endings.No = refused_no_if (actions.Append to flags text id) a refl
     append_if code endings.Bad = refused_bad_if (actions.Append to flags text id) a refl
 
-module _ (b : Meaning) (q : Queued) (e : due_action b.queue ≡ Some q) (resumed : Bool) (r : Replies) where
+module _ (b : Meaning) (q : Queued) (e : due_action b.queue ≡ Some q) (few : q.tries ≤ 2) (resumed : Bool) (r : Replies) where
   sent_if : (action : Action) → q.action ≡ action → (intent : Intent) → b.pending ≡ Some intent →
       IsReadyIf b (read_sent resumed action intent r)
   sent_if (actions.Flag target add asked) a (intents.Store name validity uid mark) p =
-      store_if b q e (intents.Store name validity uid mark) p resumed r target add asked a uid mark
+      store_if b q e few (intents.Store name validity uid mark) p resumed r target add asked a uid mark
       (ap (λ (o : Option Intent). names_mark o mark) p ∙ eq-eqb mark mark refl)
   sent_if (actions.Move target to) a (intents.Shift from validity uid other) p =
-      move_if b q e (intents.Shift from validity uid other) p resumed r target to a uid (last_copied r.untagged r.code) r.ending
+      move_if b q e few (intents.Shift from validity uid other) p resumed r target to a uid (last_copied r.untagged r.code) r.ending
   sent_if (actions.Append to flags text id) a (intents.Put other validity uidnext) p =
-      append_if b q e (intents.Put other validity uidnext) p resumed r to flags text id a r.code r.ending
+      append_if b q e few (intents.Put other validity uidnext) p resumed r to flags text id a r.code r.ending
   sent_if (actions.Flag target add asked) a (intents.Shift from validity uid to) p = idle_ready b
   sent_if (actions.Flag target add asked) a (intents.Put to validity uidnext) p = idle_ready b
   sent_if (actions.Move target to) a (intents.Store name validity uid mark) p = idle_ready b
@@ -677,7 +721,7 @@ module _ (b : Meaning) (q : Queued) (e : due_action b.queue ≡ Some q) (resumed
   sent_if (actions.Append to flags text id) a (intents.Shift from validity uid other) p = idle_ready b
 
 -- what a reply to the command of an intent makes of its action may be recorded
-pub read_lawful : (b : Meaning) (q : Queued) → due_action b.queue ≡ Some q → (intent : Intent) → b.pending ≡ Some intent →
+pub read_lawful : (b : Meaning) (q : Queued) → due_action b.queue ≡ Some q → q.tries ≤ 2 → (intent : Intent) → b.pending ≡ Some intent →
     (resumed : Bool) (r : Replies) (outcome : Outcome) →
-    read_sent resumed q.action intent r ≡ Ok (findings.Ended outcome) → IsReadyEvent b (events.Settle (due_id b) outcome)
-read_lawful b q e intent pending resumed r outcome k = sent_if b q e resumed r q.action refl intent pending outcome k
+    read_sent resumed q.action intent r ≡ Ok (findings.Ended outcome) → IsReadyEvent b (end_due b outcome)
+read_lawful b q e few intent pending resumed r outcome k = sent_if b q e few resumed r q.action refl intent pending outcome k

@@ -20,6 +20,7 @@ pub mod Moving
 pub mod Deciding
 pub mod PlainDeeds
 pub mod PlainBoxes
+pub mod Trying
 pub mod Sounding
 pub mod Resolving
 pub mod Needing
@@ -54,8 +55,10 @@ pub mod Finishing
 pub mod Ranks
 pub mod Readings
 pub mod Falling
+pub mod Withdrawing
 pub mod Committing
 pub mod Learning
 pub mod CodesTold
 pub mod PlayedThrough
 pub mod PlayedOver
+pub mod PlayedThrice

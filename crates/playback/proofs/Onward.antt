@@ -1,4 +1,5 @@
 -- What the player knows is kept as the server goes on, and as commands are sent and carried out.
+use Rattle.action_queue.specs.Queues.{tries_due}
 use Rattle.action_queue.specs.Book.{Meaning}
 use Rattle.action_queue.specs.Targets.{resolved}
 use Rattle.action_queue.specs.declared.action.Action.{Action}
@@ -29,9 +30,10 @@ use Rattle.playback.proofs.Moments.{intent_grows, learns_stay, rests_grows, sent
 use Rattle.playback.proofs.Moments.{since_same, stays_is, stays_others, stays_same, stays_then, told_grows, under_stays, unsent_grows}
 use Rattle.playback.specs.Course.{IsCourse, Said}
 use Rattle.playback.specs.Kept.{KeptBook}
-use Rattle.playback.specs.Knows.{Came, FetchesRows, HasCome, HasEnded, IsAnswered, IsFetched, IsNeeded, IsPlaced, IsResting, IsTold, IsUnsent}
+use Rattle.playback.specs.Knows.{Came, FetchesRows, HasCome, HasEnded, IsAnswered, IsFetched, IsNeeded, IsResting, IsTold, IsUnsent}
 use Rattle.playback.specs.Knows.{IsWaiting, Knows, Learning, MayAskRows, Rests, Stays, with_rows}
-use Rattle.playback.specs.Needs.{due_id, need_for, need_learn, need_of}
+use Rattle.playback.proofs.Trying.{end_any}
+use Rattle.playback.specs.Needs.{IsPlaced, again, due_id, need_end, need_for, need_learn, need_of}
 use Rattle.playback.specs.Of.{IsOf}
 use Rattle.playback.specs.Open.{Open}
 use Rattle.playback.specs.Polite.{KeepsBox, KeepsWaiting, Spares}
@@ -247,7 +249,7 @@ ended_settles p b w outcome l e h =
     (subst (λ (q : Option Queued). Settles (step_due p b q)) (sym h.there)
     (action_settles p b h.queued.action h.intent outcome p.resumed h.said.reply h.pending e h.read))
 
-pub settles_need : (p : Player) (b : Meaning) → (s : Settles (step_of p b)) → need_of p b ≡ needs.Settle (due_id b) s.0
+pub settles_need : (p : Player) (b : Meaning) → (s : Settles (step_of p b)) → need_of p b ≡ need_end (due_id b) s.0 (again (tries_due b.queue) s.0)
 settles_need p b s = ap (λ (step : Step). need_for step p b) s.1
 
 -- what was told of a mailbox is recorded first
@@ -259,7 +261,9 @@ learns_need p b told e = ap (λ (learns : Option Resynced). need_for (step_learn
 pub ended_asks : (p : Player) (b : Meaning) (w : World) (c : Waiting) (outcome : Outcome) (learns : Option Resynced) → p.learns ≡ learns →
     p.told ≡ findings.Ended outcome → IsNeeded (need_of p b) c p.selected b → HasEnded outcome p.resumed b w → ⊥
 ended_asks p b w c outcome None l e n h =
-    subst (λ (need : Need). IsNeeded need c p.selected b) (settles_need p b (ended_settles p b w outcome l e h)) n
+    let s : Settles (step_of p b) = ended_settles p b w outcome l e h in
+    end_any (λ (need : Need). IsNeeded need c p.selected b → ⊥) (λ k o x. x) (λ k t x. x) (due_id b) s.0 (again (tries_due b.queue) s.0)
+    (subst (λ (need : Need). IsNeeded need c p.selected b) (settles_need p b s) n)
 ended_asks p b w c outcome (Some told) l e n h = subst (λ (need : Need). IsNeeded need c p.selected b) (learns_need p b told l) n
 
 pub rests_unsent : (p : Player) (b : Meaning) (w : World) (c : Waiting) (told : Finding) → p.told ≡ told →

@@ -1,4 +1,5 @@
--- An intent is recorded only where its mailbox is selected under its UIDVALIDITY; and while this run's intent is pending no mailbox is selected.
+-- An intent is recorded, and its command sent, only where its mailbox is selected under its UIDVALIDITY; and while this run's intent is pending no
+-- mailbox is selected.
 use Rattle.std.proofs.Common.{Bool, List, None, Option, Some, ap, false, refl, subst, sym, true, ℕ, ◌∙◌, ◌≡◌}
 use Rattle.std.proofs.lemmas.Bool.{both_ways, cond-true}
 use Rattle.std.specs.Prelude.{slice_get}
@@ -174,3 +175,65 @@ module _ (p : Player) (b : Meaning) (sound : IsSound b) (ours : p.resumed ≡ fa
 
   pub no_select : (learns : Option Resynced) (name : List ℕ) (under : Option ℕ) → step_learn p b learns ≡ steps.Select name under → ⊥
   no_select learns name under e = subst NoSelect e (learn_stays learns)
+
+-- where the command of the pending intent is sent, its mailbox is selected
+module _ (p : Player) (b : Meaning) (sound : IsSound b) (intent : Intent) (pending : b.pending ≡ Some intent) where
+  abbrev There : Step → Type 0
+  There steps.Send = is_selected_at p.selected (intent_name intent) (intent_validity intent) ≡ true
+  There step = Unit {0}
+
+  here : (name : List ℕ) (validity : ℕ) → name ≡ intent_name intent → validity ≡ intent_validity intent →
+      is_selected_at p.selected name validity ≡ true → is_selected_at p.selected (intent_name intent) (intent_validity intent) ≡ true
+  here name validity n v t =
+      subst (λ (x : List ℕ). is_selected_at p.selected x (intent_validity intent) ≡ true) n
+      (subst (λ (x : ℕ). is_selected_at p.selected name x ≡ true) v t)
+
+  flag_sends : (target : Target) (place : Found) → (i : Intent) → i ≡ intent → resolved b.queue target ≡ place →
+      (add : Bool) (flags : List (List ℕ)) → Suited b.queue (actions.Flag target add flags) i → There (step_flag_found p (Some i) place)
+  flag_sends target place (intents.Store name validity uid modseq) is r add flags s =
+      subst (λ (f : Found). There (step_flag_found p (Some (intents.Store name validity uid modseq)) f)) (sym s ∙ r)
+      (flag_meant_any There (λ outcome. tt) p modseq (record { name = name; validity = validity; uid = uid }) (λ f. tt) (λ t. tt)
+      (here name validity (ap intent_name is) (ap intent_validity is)) p.told)
+  flag_sends target place (intents.Shift from validity uid to) is r add flags s = absurd s
+  flag_sends target place (intents.Put to validity uidnext) is r add flags s = absurd s
+
+  move_sends : (target : Target) (to : List ℕ) (place : Found) → (i : Intent) → i ≡ intent → resolved b.queue target ≡ place →
+      Suited b.queue (actions.Move target to) i → There (step_move_found p (Some i) to place)
+  move_sends target to place (intents.Shift from validity uid other) is r s =
+      subst (λ (f : Found). There (step_move_found p (Some (intents.Shift from validity uid other)) to f)) (sym s.0 ∙ r)
+      (move_meant_any There (λ outcome. tt) p (record { name = from; validity = validity; uid = uid }) (λ f. tt) (λ t. tt)
+      (here from validity (ap intent_name is) (ap intent_validity is)) p.told)
+  move_sends target to place (intents.Store name validity uid modseq) is r s = absurd s
+  move_sends target to place (intents.Put other validity uidnext) is r s = absurd s
+
+  append_sends : (to : List ℕ) (i : Intent) → i ≡ intent → (flags : List (List ℕ)) (text id : List ℕ) →
+      Suited b.queue (actions.Append to flags text id) i → There (step_append p (Some i) to)
+  append_sends to (intents.Put other validity uidnext) is flags text id s =
+      append_meant_any There (λ outcome. tt) to validity uidnext tt p (λ t. tt)
+      (here to validity (sym s ∙ ap intent_name is) (ap intent_validity is)) p.told (λ uids e t. tt)
+  append_sends to (intents.Store name validity uid modseq) is flags text id s = absurd s
+  append_sends to (intents.Shift from validity uid other) is flags text id s = absurd s
+
+  action_sends : (action : Action) → Suited b.queue action intent → There (step_action p b action)
+  action_sends (actions.Flag target add flags) s =
+      subst (λ (o : Option Intent). There (step_flag_found p o (resolved b.queue target))) (sym pending)
+      (flag_sends target (resolved b.queue target) intent refl refl add flags s)
+  action_sends (actions.Move target to) s =
+      subst (λ (o : Option Intent). There (step_move_found p o to (resolved b.queue target))) (sym pending)
+      (move_sends target to (resolved b.queue target) intent refl refl s)
+  action_sends (actions.Append to flags text id) s =
+      subst (λ (o : Option Intent). There (step_append p o to)) (sym pending) (append_sends to intent refl flags text id s)
+
+  due_sends : There (step_due p b (due_action b.queue))
+  due_sends =
+      let has : HasIntent b intent = sound.intent intent pending in
+      subst (λ (o : Option Queued). There (step_due p b o)) (sym has.there)
+      (action_sends has.queued.action (suited_is b sound has.queued has.there intent pending))
+
+  learn_sends : (learns : Option Resynced) → There (step_learn p b learns)
+  learn_sends None = due_sends
+  learn_sends (Some told) = tt
+
+  pub send_placed : (learns : Option Resynced) → step_learn p b learns ≡ steps.Send →
+      is_selected_at p.selected (intent_name intent) (intent_validity intent) ≡ true
+  send_placed learns e = subst There e (learn_sends learns)

@@ -240,7 +240,7 @@ last_gathered alloc = record {
 }
 
 -- the reply to a command that is no SELECT is the last one, and says OK
-is_reply : (c : Waiting) (r : Replies) (t : Server) (x : Game)
+pub is_reply : (c : Waiting) (r : Replies) (t : Server) (x : Game)
     → ((name : List ℕ) (since : Option Mark) → c.command ≢ commands.Select name since)
     → r.ending ≡ endings.Ok → IsReply r (carries_to c r t (sends_to c x)).world
 is_reply c r t x apart ok = record {
@@ -257,8 +257,8 @@ is_reply c r t x apart ok = record {
 }
 
 -- the turns up to the first record, and from each record to the next
-learns_first : (alloc : Global) → Play (game_learned alloc) (game_end alloc) → Play (game_one alloc) (game_end alloc)
-learns_first alloc later =
+pub learns_first : (alloc : Global) (y : Game) → Play (game_learned alloc) y → Play (game_one alloc) y
+learns_first alloc y later =
     turns (sends select_first refl (selects_first alloc))
     (turns (carries select_first first_told server_before (Some box_name) refl first_selects)
     (turns (asks ask_rows (record {
@@ -280,8 +280,8 @@ learns_first alloc later =
     (turns (records (events.Learn box_name delta_first) refl refl)
     later)))))
 
-means_it : (alloc : Global) → Play (game_meant alloc) (game_end alloc) → Play (game_learned alloc) (game_end alloc)
-means_it alloc later =
+pub means_it : (alloc : Global) (y : Game) → Play (game_meant alloc) y → Play (game_learned alloc) y
+means_it alloc y later =
     turns (sends ask_row refl (record { is = refl; at = refl; harmless = refl }))
     (turns (carries ask_row one_row server_before (Some box_name) refl row_asked)
     (turns (hears one_row true (record (game_learned alloc).player { told = findings.Row 10 false })
@@ -312,7 +312,7 @@ learns_last alloc =
 
 pub played : (alloc : Global) → PlaysThrough alloc
 played alloc = record {
-  play = learns_first alloc (means_it alloc (settles_it alloc (learns_last alloc)));
+  play = learns_first alloc (game_end alloc) (means_it alloc (game_end alloc) (settles_it alloc (learns_last alloc)));
   good = starts_good alloc;
   effect = refl;
   done = refl;

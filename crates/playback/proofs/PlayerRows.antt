@@ -49,7 +49,7 @@ flag_rows alloc = record {
 }
 
 store_rows : (alloc : Global) → StoreRows alloc
-store_rows alloc = record { sends = refl; done = refl; changed = refl; of_another = refl; refused = refl; gone = refl }
+store_rows alloc = record { sends = refl; done = refl; changed = refl; begins_anew = refl; sends_anew = refl; changed_again = refl; changed_at_last = refl; of_another = refl; refused = refl; gone = refl }
 
 open_store_rows : (alloc : Global) → OpenStoreRows alloc
 open_store_rows alloc = record { asks = refl; found_so = refl; unsure = refl; sends_again = refl; gone = refl }

@@ -57,6 +57,7 @@ sends_by p b w c (needs.Select name) kept i ok n = harmless_sent b w.course.now 
 sends_by p b w c (needs.Ask command) kept i ok n = harmless_sent b w.course.now w.waiting c (ap is_mutating n.is ∙ n.harmless) kept
 sends_by p b w c (needs.Commit event) kept i ok n = absurd n
 sends_by p b w c (needs.Settle id outcome) kept i ok n = absurd n
+sends_by p b w c (needs.Withdraw id tries) kept i ok n = absurd n
 sends_by p b w c (needs.Send id command) kept i ok n =
     sent b w.course.now w.waiting c kept
     (subst (λ (x : Waiting). IsOf b w.course.now x) (same_command id command p b w c i.resting.selected n ok) ok.is_of)
@@ -73,6 +74,9 @@ records_keep p b w event (needs.Commit other) kept lawful ok is =
 records_keep p b w event (needs.Settle n outcome) kept lawful ok is =
     subst (λ (x : Event). KeptBook (after b x) w.course.now w.waiting) (sym is)
     (book_keeps (Some b) (events.Settle n outcome) w.course.now w.waiting kept lawful.lawful ok.0)
+records_keep p b w event (needs.Withdraw n tries) kept lawful ok is =
+    subst (λ (x : Event). KeptBook (after b x) w.course.now w.waiting) (sym is)
+    (book_keeps (Some b) (events.Withdraw n tries) w.course.now w.waiting kept lawful.lawful ok.0)
 records_keep p b w event (needs.Send n command) kept lawful ok is = absurd is
 records_keep p b w event needs.Finished kept lawful ok is = absurd is
 

@@ -1,6 +1,6 @@
 -- What a command that is needed is for.
 use Rattle.action_queue.specs.Book.{Meaning, known_at}
-use Rattle.action_queue.specs.Queues.{due, due_action}
+use Rattle.action_queue.specs.Queues.{due, due_action, tries_due}
 use Rattle.action_queue.specs.Rules.{is_unknown, is_unknown_action, suits}
 use Rattle.action_queue.specs.Targets.{resolved}
 use Rattle.action_queue.specs.declared.action.Action.{Action}
@@ -19,7 +19,8 @@ use Rattle.playback.proofs.RowFacts.{row_mark, was_map}
 use Rattle.playback.proofs.Elsewhere.{elsewhere_any}
 use Rattle.playback.specs.Steps.{above_at, elsewhere}
 use Rattle.playback.specs.Knows.{IsNeeded, IsTold, Knows, RowTold, SelectsBox, WasSeen}
-use Rattle.playback.specs.Needs.{due_id, need_for, need_ids, need_learn, need_of, need_search, need_send, search_of, send_meant, send_of}
+use Rattle.playback.proofs.Trying.{end_any}
+use Rattle.playback.specs.Needs.{again, due_id, need_for, need_ids, need_learn, need_of, need_search, need_send, search_of, send_meant, send_of}
 use Rattle.playback.specs.Resolved.{Resolves}
 use Rattle.playback.specs.Sound.{HasIntent, IsSound}
 use Rattle.playback.specs.Steps.{append_again, append_first, append_in_box, append_judged, append_meant, append_open, conflict}
@@ -469,7 +470,8 @@ module _ (p : Player) (b : Meaning) (w : World) (c : Waiting) where
   purpose_by (steps.Search uidnext) s g n = search_for uidnext s g n
   purpose_by steps.AskIds s g n = ids_for s g n
   purpose_by (steps.Intend intent) s g n = absurd n
-  purpose_by (steps.Settle outcome) s g n = absurd n
+  purpose_by (steps.Settle outcome) s g n =
+      absurd (end_any (λ (need : Need). IsNeeded need c p.selected b → ⊥) (λ k o x. x) (λ k t x. x) (due_id b) outcome (again (tries_due b.queue) outcome) n)
   purpose_by steps.Send s g n = send_for s g n
   purpose_by steps.Finished s g n = absurd n
 

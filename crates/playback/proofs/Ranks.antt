@@ -6,6 +6,7 @@ use Rattle.action_queue.specs.declared.book.Known.{Known}
 use Rattle.action_queue.specs.declared.intent.Intent.{Intent}
 use Rattle.action_queue.specs.declared.outcome.Kind.{Kind}
 use Rattle.action_queue.specs.declared.outcome.Outcome.{Outcome}
+use Rattle.action_queue.specs.declared.outcome.Place.{Place}
 use Rattle.action_queue.specs.declared.queued.Queued.{Queued}
 use Rattle.append_probe.specs.Question.{question_of}
 use Rattle.append_probe.specs.declared.verdict.Verdict.{Verdict}
@@ -13,7 +14,7 @@ use Rattle.imap_model.specs.declared.command.Command.{Command}
 use Rattle.playback.proofs.Elsewhere.{elsewhere_any}
 use Rattle.playback.specs.Steps.{above_at, elsewhere, renewed_as}
 use Rattle.playback.specs.Left.{rank, rank_of}
-use Rattle.playback.specs.Needs.{need_ids, need_search, need_send, search_of, send_meant, send_of}
+use Rattle.playback.specs.Needs.{again_as, need_ids, need_search, need_send, search_of, send_meant, send_of}
 use Rattle.playback.specs.Steps.{append_again, append_first, append_in_box, append_judged, append_meant, append_open, conflict, flag_again}
 use Rattle.playback.specs.Steps.{flag_first, flag_judged, flag_meant, flag_open, in_box, is_selected, is_selected_at, move_again}
 use Rattle.playback.specs.Steps.{move_first, move_meant, move_open, select_any, select_box, select_under, step_box, step_due, step_learn}
@@ -51,114 +52,161 @@ module _ (P : Step → Type 0) where
       cond_both (is_selected selected spot) step (elsewhere meant (above_at selected spot.name spot.validity) spot.name spot.validity) P here
       (λ f. elsewhere_any P selected meant spot.name spot.validity (selects f) (λ n a. above n))
 
+  -- An action ends as a conflict that takes no try back, or it is done; where its command was answered, it ends as that tells.
+  module _ (ends : (kind : Kind) → again_as 0 kind ≡ None → P (conflict kind)) (done : (place : Option Place) → P (steps.Settle (outcomes.Done place))) where
+    pub flag_first_by : (spot : Spot) → P (steps.AskRow spot.uid) →
+        ((modseq : ℕ) → P (steps.Intend (intents.Store spot.name spot.validity spot.uid modseq))) → (told : Finding) → P (flag_first told spot)
+    flag_first_by spot asks means findings.NoRow = ends kinds.MessageGone refl
+    flag_first_by spot asks means (findings.Row modseq so) =
+        either so (conflict kinds.AlreadySo) (steps.Intend (intents.Store spot.name spot.validity spot.uid modseq)) (ends kinds.AlreadySo refl)
+        (means modseq)
+    flag_first_by spot asks means findings.Barred = ends kinds.NotPermanent refl
+    flag_first_by spot asks means told = asks
+
+    pub judged_by : P steps.Send → (mark modseq : ℕ) (so : Bool) → P (flag_judged mark modseq so)
+    judged_by sends mark modseq so =
+        either (modseq == mark) steps.Send (cond so (conflict kinds.FoundSo) (conflict (kinds.StoreUnsure mark modseq))) sends
+        (either so (conflict kinds.FoundSo) (conflict (kinds.StoreUnsure mark modseq)) (ends kinds.FoundSo refl) (ends (kinds.StoreUnsure mark modseq) refl))
+
+    flag_open_by : (spot : Spot) → P (steps.AskRow spot.uid) → P steps.Send → (mark : ℕ) (told : Finding) → P (flag_open mark told spot)
+    flag_open_by spot asks sends mark findings.NoRow = ends kinds.GoneAfterLoss refl
+    flag_open_by spot asks sends mark (findings.Row modseq so) = judged_by sends mark modseq so
+    flag_open_by spot asks sends mark told = asks
+
+    flag_again_by : (spot : Spot) → P (steps.AskRow spot.uid) → P steps.Send → (resumed : Bool) (mark : ℕ) (told : Finding) →
+        P (flag_again resumed mark told spot)
+    flag_again_by spot asks sends false mark told = sends
+    flag_again_by spot asks sends true mark told = flag_open_by spot asks sends mark told
+
+    module _ (p : Player) (mark : ℕ) (spot : Spot) (selects : is_selected p.selected spot ≡ false → P (select_box spot))
+        (asks : is_selected p.selected spot ≡ true → P (steps.AskRow spot.uid)) (sends : is_selected p.selected spot ≡ true → P steps.Send) where
+      flag_boxed_by : (told : Finding) → P (in_box p.selected true spot (flag_again p.resumed mark told spot))
+      flag_boxed_by told =
+          boxed p.selected true spot (flag_again p.resumed mark told spot) (λ t. flag_again_by spot (asks t) (sends t) p.resumed mark told) selects
+          (λ n. ends (kinds.ResetAfterLoss spot.validity n) refl)
+
+      pub flag_meant_by : (told : Finding) → ((outcome : Outcome) → told ≡ findings.Ended outcome → P (steps.Settle outcome)) → P (flag_meant p mark spot told)
+      flag_meant_by (findings.Ended outcome) ended = ended outcome refl
+      flag_meant_by told ended = flag_boxed_by told
+
+    pub move_first_by : (spot : Spot) (to : List ℕ) → P (steps.AskRow spot.uid) →
+        P (steps.Intend (intents.Shift spot.name spot.validity spot.uid to)) → (told : Finding) → P (move_first told spot to)
+    move_first_by spot to asks means findings.NoRow = ends kinds.MessageGone refl
+    move_first_by spot to asks means (findings.Row modseq so) = means
+    move_first_by spot to asks means told = asks
+
+    move_open_by : (spot : Spot) → P (steps.AskRow spot.uid) → P steps.Send → (told : Finding) → P (move_open told spot)
+    move_open_by spot asks sends findings.NoRow = ends kinds.SourceGone refl
+    move_open_by spot asks sends (findings.Row modseq so) = sends
+    move_open_by spot asks sends told = asks
+
+    move_again_by : (spot : Spot) → P (steps.AskRow spot.uid) → P steps.Send → (resumed : Bool) (told : Finding) → P (move_again resumed told spot)
+    move_again_by spot asks sends false told = sends
+    move_again_by spot asks sends true told = move_open_by spot asks sends told
+
+    module _ (p : Player) (spot : Spot) (selects : is_selected p.selected spot ≡ false → P (select_box spot))
+        (asks : is_selected p.selected spot ≡ true → P (steps.AskRow spot.uid))
+        (sends : is_selected p.selected spot ≡ true → P steps.Send) where
+      move_boxed_by : (told : Finding) → P (in_box p.selected true spot (move_again p.resumed told spot))
+      move_boxed_by told =
+          boxed p.selected true spot (move_again p.resumed told spot) (λ t. move_again_by spot (asks t) (sends t) p.resumed told) selects
+          (λ n. ends (kinds.ResetAfterLoss spot.validity n) refl)
+
+      pub move_meant_by : (told : Finding) → ((outcome : Outcome) → told ≡ findings.Ended outcome → P (steps.Settle outcome)) → P (move_meant p spot told)
+      move_meant_by (findings.Ended outcome) ended = ended outcome refl
+      move_meant_by told ended = move_boxed_by told
+
+    pub append_first_by : (selected : Option Selected) (to : List ℕ) → P (select_any to) →
+        ((validity uidnext : ℕ) → is_selected_at selected to validity ≡ true → P (steps.Intend (intents.Put to validity uidnext))) →
+        (told : Finding) → P (append_first selected told to)
+    append_first_by selected to selects means (findings.Next validity uidnext) =
+        cond_both (is_selected_at selected to validity) (steps.Intend (intents.Put to validity uidnext)) (select_any to) P (means validity uidnext)
+        (λ f. selects)
+    append_first_by selected to selects means told = selects
+
+    pub append_judged_by : P steps.Send → (verdict : Verdict) (validity : ℕ) → P (append_judged verdict validity)
+    append_judged_by sends verdicts.NotThere validity = sends
+    append_judged_by sends (verdicts.There uid) validity = done (Some (record { validity = validity; uid = uid }))
+    append_judged_by sends (verdicts.Several first second) validity = ends (kinds.Ambiguous first second) refl
+
+    module _ (to : List ℕ) (validity uidnext : ℕ) (selects : P (select_under to validity)) where
+      append_open_by : P (steps.Search uidnext) → P steps.Send → (told : Finding) →
+          ((uids : List UidRange) → told ≡ findings.Candidates uids → P steps.AskIds) → P (append_open told to validity uidnext)
+      append_open_by searches sends (findings.Next validity_told next) asks = searches
+      append_open_by searches sends (findings.Candidates uids) asks = asks uids refl
+      append_open_by searches sends (findings.Probed verdict) asks = append_judged_by sends verdict validity
+      append_open_by searches sends told asks = selects
+
+      append_again_by : P (steps.Search uidnext) → P steps.Send → (resumed : Bool) (told : Finding) →
+          ((uids : List UidRange) → told ≡ findings.Candidates uids → P steps.AskIds) → P (append_again resumed told to validity uidnext)
+      append_again_by searches sends false told asks = sends
+      append_again_by searches sends true told asks = append_open_by searches sends told asks
+
+      module _ (p : Player) (searches : is_selected_at p.selected to validity ≡ true → P (steps.Search uidnext))
+          (sends : is_selected_at p.selected to validity ≡ true → P steps.Send) where
+        append_boxed_by : (told : Finding) →
+            ((uids : List UidRange) → told ≡ findings.Candidates uids → is_selected_at p.selected to validity ≡ true → P steps.AskIds) →
+            P (append_in_box p to validity uidnext told)
+        append_boxed_by told asks =
+            cond_both (is_selected_at p.selected to validity) (append_again p.resumed told to validity uidnext)
+            (elsewhere true (above_at p.selected to validity) to validity) P
+            (λ t. append_again_by (searches t) (sends t) p.resumed told (λ uids e. asks uids e t))
+            (λ f. elsewhere_any P p.selected true to validity selects (λ n a. ends (kinds.ResetAfterLoss validity n) refl))
+
+        pub append_meant_by : (told : Finding) →
+            ((uids : List UidRange) → told ≡ findings.Candidates uids → is_selected_at p.selected to validity ≡ true → P steps.AskIds) →
+            ((outcome : Outcome) → told ≡ findings.Ended outcome → P (steps.Settle outcome)) → P (append_meant p to validity uidnext told)
+        append_meant_by (findings.Ended outcome) asks ended = ended outcome refl
+        append_meant_by told asks ended = append_boxed_by told asks
+
   module _ (settles : (outcome : Outcome) → P (steps.Settle outcome)) where
+    plain : (kind : Kind) → again_as 0 kind ≡ None → P (conflict kind)
+    plain kind e = settles (outcomes.Conflict kind)
+
+    did : (place : Option Place) → P (steps.Settle (outcomes.Done place))
+    did place = settles (outcomes.Done place)
+
     pub ends : (kind : Kind) → P (conflict kind)
     ends kind = settles (outcomes.Conflict kind)
 
     pub flag_first_any : (spot : Spot) → P (steps.AskRow spot.uid) →
         ((modseq : ℕ) → P (steps.Intend (intents.Store spot.name spot.validity spot.uid modseq))) → (told : Finding) → P (flag_first told spot)
-    flag_first_any spot asks means findings.NoRow = ends kinds.MessageGone
-    flag_first_any spot asks means (findings.Row modseq so) =
-        either so (conflict kinds.AlreadySo) (steps.Intend (intents.Store spot.name spot.validity spot.uid modseq)) (ends kinds.AlreadySo)
-        (means modseq)
-    flag_first_any spot asks means findings.Barred = ends kinds.NotPermanent
-    flag_first_any spot asks means told = asks
+    flag_first_any spot asks means told = flag_first_by plain did spot asks means told
 
     pub judged_any : P steps.Send → (mark modseq : ℕ) (so : Bool) → P (flag_judged mark modseq so)
-    judged_any sends mark modseq so =
-        either (modseq == mark) steps.Send (cond so (conflict kinds.FoundSo) (conflict (kinds.StoreUnsure mark modseq))) sends
-        (either so (conflict kinds.FoundSo) (conflict (kinds.StoreUnsure mark modseq)) (ends kinds.FoundSo) (ends (kinds.StoreUnsure mark modseq)))
-
-    flag_open_any : (spot : Spot) → P (steps.AskRow spot.uid) → P steps.Send → (mark : ℕ) (told : Finding) → P (flag_open mark told spot)
-    flag_open_any spot asks sends mark findings.NoRow = ends kinds.GoneAfterLoss
-    flag_open_any spot asks sends mark (findings.Row modseq so) = judged_any sends mark modseq so
-    flag_open_any spot asks sends mark told = asks
-
-    flag_again_any : (spot : Spot) → P (steps.AskRow spot.uid) → P steps.Send → (resumed : Bool) (mark : ℕ) (told : Finding) →
-        P (flag_again resumed mark told spot)
-    flag_again_any spot asks sends false mark told = sends
-    flag_again_any spot asks sends true mark told = flag_open_any spot asks sends mark told
+    judged_any sends mark modseq so = judged_by plain did sends mark modseq so
 
     module _ (p : Player) (mark : ℕ) (spot : Spot) (selects : is_selected p.selected spot ≡ false → P (select_box spot))
         (asks : is_selected p.selected spot ≡ true → P (steps.AskRow spot.uid)) (sends : is_selected p.selected spot ≡ true → P steps.Send) where
-      flag_boxed_any : (told : Finding) → P (in_box p.selected true spot (flag_again p.resumed mark told spot))
-      flag_boxed_any told =
-          boxed p.selected true spot (flag_again p.resumed mark told spot) (λ t. flag_again_any spot (asks t) (sends t) p.resumed mark told) selects
-          (λ n. ends (kinds.ResetAfterLoss spot.validity n))
-
       pub flag_meant_any : (told : Finding) → P (flag_meant p mark spot told)
-      flag_meant_any (findings.Ended outcome) = settles outcome
-      flag_meant_any told = flag_boxed_any told
+      flag_meant_any told = flag_meant_by plain did p mark spot selects asks sends told (λ outcome e. settles outcome)
 
     pub move_first_any : (spot : Spot) (to : List ℕ) → P (steps.AskRow spot.uid) →
         P (steps.Intend (intents.Shift spot.name spot.validity spot.uid to)) → (told : Finding) → P (move_first told spot to)
-    move_first_any spot to asks means findings.NoRow = ends kinds.MessageGone
-    move_first_any spot to asks means (findings.Row modseq so) = means
-    move_first_any spot to asks means told = asks
-
-    move_open_any : (spot : Spot) → P (steps.AskRow spot.uid) → P steps.Send → (told : Finding) → P (move_open told spot)
-    move_open_any spot asks sends findings.NoRow = ends kinds.SourceGone
-    move_open_any spot asks sends (findings.Row modseq so) = sends
-    move_open_any spot asks sends told = asks
-
-    move_again_any : (spot : Spot) → P (steps.AskRow spot.uid) → P steps.Send → (resumed : Bool) (told : Finding) → P (move_again resumed told spot)
-    move_again_any spot asks sends false told = sends
-    move_again_any spot asks sends true told = move_open_any spot asks sends told
+    move_first_any spot to asks means told = move_first_by plain did spot to asks means told
 
     module _ (p : Player) (spot : Spot) (selects : is_selected p.selected spot ≡ false → P (select_box spot))
         (asks : is_selected p.selected spot ≡ true → P (steps.AskRow spot.uid))
         (sends : is_selected p.selected spot ≡ true → P steps.Send) where
-      move_boxed_any : (told : Finding) → P (in_box p.selected true spot (move_again p.resumed told spot))
-      move_boxed_any told =
-          boxed p.selected true spot (move_again p.resumed told spot) (λ t. move_again_any spot (asks t) (sends t) p.resumed told) selects
-          (λ n. ends (kinds.ResetAfterLoss spot.validity n))
-
       pub move_meant_any : (told : Finding) → P (move_meant p spot told)
-      move_meant_any (findings.Ended outcome) = settles outcome
-      move_meant_any told = move_boxed_any told
+      move_meant_any told = move_meant_by plain did p spot selects asks sends told (λ outcome e. settles outcome)
 
     pub append_first_any : (selected : Option Selected) (to : List ℕ) → P (select_any to) →
         ((validity uidnext : ℕ) → is_selected_at selected to validity ≡ true → P (steps.Intend (intents.Put to validity uidnext))) →
         (told : Finding) → P (append_first selected told to)
-    append_first_any selected to selects means (findings.Next validity uidnext) =
-        cond_both (is_selected_at selected to validity) (steps.Intend (intents.Put to validity uidnext)) (select_any to) P (means validity uidnext)
-        (λ f. selects)
-    append_first_any selected to selects means told = selects
+    append_first_any selected to selects means told = append_first_by plain did selected to selects means told
 
     pub append_judged_any : P steps.Send → (verdict : Verdict) (validity : ℕ) → P (append_judged verdict validity)
-    append_judged_any sends verdicts.NotThere validity = sends
-    append_judged_any sends (verdicts.There uid) validity = settles (outcomes.Done (Some (record { validity = validity; uid = uid })))
-    append_judged_any sends (verdicts.Several first second) validity = ends (kinds.Ambiguous first second)
+    append_judged_any sends verdict validity = append_judged_by plain did sends verdict validity
 
     module _ (to : List ℕ) (validity uidnext : ℕ) (selects : P (select_under to validity)) where
-      append_open_any : P (steps.Search uidnext) → P steps.Send → (told : Finding) →
-          ((uids : List UidRange) → told ≡ findings.Candidates uids → P steps.AskIds) → P (append_open told to validity uidnext)
-      append_open_any searches sends (findings.Next validity_told next) asks = searches
-      append_open_any searches sends (findings.Candidates uids) asks = asks uids refl
-      append_open_any searches sends (findings.Probed verdict) asks = append_judged_any sends verdict validity
-      append_open_any searches sends told asks = selects
-
-      append_again_any : P (steps.Search uidnext) → P steps.Send → (resumed : Bool) (told : Finding) →
-          ((uids : List UidRange) → told ≡ findings.Candidates uids → P steps.AskIds) → P (append_again resumed told to validity uidnext)
-      append_again_any searches sends false told asks = sends
-      append_again_any searches sends true told asks = append_open_any searches sends told asks
-
       module _ (p : Player) (searches : is_selected_at p.selected to validity ≡ true → P (steps.Search uidnext))
           (sends : is_selected_at p.selected to validity ≡ true → P steps.Send) where
-        append_boxed_any : (told : Finding) →
-            ((uids : List UidRange) → told ≡ findings.Candidates uids → is_selected_at p.selected to validity ≡ true → P steps.AskIds) →
-            P (append_in_box p to validity uidnext told)
-        append_boxed_any told asks =
-            cond_both (is_selected_at p.selected to validity) (append_again p.resumed told to validity uidnext)
-            (elsewhere true (above_at p.selected to validity) to validity) P
-            (λ t. append_again_any (searches t) (sends t) p.resumed told (λ uids e. asks uids e t))
-            (λ f. elsewhere_any P p.selected true to validity selects (λ n a. ends (kinds.ResetAfterLoss validity n)))
-
         pub append_meant_any : (told : Finding) →
             ((uids : List UidRange) → told ≡ findings.Candidates uids → is_selected_at p.selected to validity ≡ true → P steps.AskIds) →
             P (append_meant p to validity uidnext told)
-        append_meant_any (findings.Ended outcome) asks = settles outcome
-        append_meant_any told asks = append_boxed_any told asks
+        append_meant_any told asks =
+            append_meant_by plain did to validity uidnext selects p searches sends told asks (λ outcome e. settles outcome)
 
   pub box_any : P steps.Finished → ((name : List ℕ) → P (select_any name)) → (known : Option Known) → P (step_box known)
   box_any last selects None = last
@@ -205,8 +253,8 @@ at_most (steps.Settle outcome) = omega arith
 at_most steps.Send = omega arith
 at_most steps.Finished = omega arith
 
-pub add_less : (r s a c : ℕ) → r < s → r + a + c < s + a + c
-add_less r s a c h = omega (arith, h)
+pub add_less : (r s t a c : ℕ) → r < s → r + t + a + c < s + t + a + c
+add_less r s t a c h = omega (arith, h)
 
 -- where nothing is to be recorded, the step is that of the action or of the mailbox
 pub unlearned : (p : Player) (b : Meaning) → p.learns ≡ None → step_of p b ≡ step_due p b (due_action b.queue)

@@ -1,6 +1,6 @@
 -- What a UIDVALIDITY names is reached still as the server and the book go on.
 use Rattle.action_queue.specs.Book.{Meaning}
-use Rattle.action_queue.specs.Queues.{accepted, change_first, settled}
+use Rattle.action_queue.specs.Queues.{accepted, change_first, settled, tried}
 use Rattle.action_queue.specs.declared.action.Action.{Action}
 use Rattle.action_queue.specs.declared.outcome.Outcome.{Outcome}
 use Rattle.action_queue.specs.declared.queued.Queued.{Queued}
@@ -107,3 +107,15 @@ module _ (b : Meaning) (outcome : Outcome) (s : Server) (reached : Reached b s) 
   pub settle_reached : (i : ℕ) (q : Queued) → slice_get (change_first (settled outcome) b.queue) i ≡ Some q → q.outcome ≡ None →
       ActionReached s.boxes q.action
   settle_reached i q e o = settled_at i q o (changed_at (settled outcome) b.queue i q e)
+
+-- a try of one is taken back
+module _ (b : Meaning) (tries : ℕ) (s : Server) (reached : Reached b s) where
+  tried_at : (i : ℕ) (q : Queued) → q.outcome ≡ None → IsChangedAt (tried tries) b.queue i q → ActionReached s.boxes q.action
+  tried_at i q o (inl h) = reached.waiting i q h.there o
+  tried_at i q o (inr h) =
+      subst (λ (x : Queued). ActionReached s.boxes x.action) (sym h.is)
+      (reached.waiting i h.queued h.there (sym (ap (λ (x : Queued). x.outcome) h.is) ∙ o))
+
+  pub tried_reached : (i : ℕ) (q : Queued) → slice_get (change_first (tried tries) b.queue) i ≡ Some q → q.outcome ≡ None →
+      ActionReached s.boxes q.action
+  tried_reached i q e o = tried_at i q o (changed_at (tried tries) b.queue i q e)

@@ -1,6 +1,7 @@
 -- An event that is needed is recorded, and a connection begins.
 use Rattle.action_queue.specs.Book.{Meaning, after, cache_at, learned, put_cache}
-use Rattle.action_queue.specs.Queues.{change_first, due, due_action, settled}
+use Rattle.action_queue.proofs.Queueing.{due_try}
+use Rattle.action_queue.specs.Queues.{change_first, due, due_action, settled, tried, tries_due}
 use Rattle.action_queue.specs.Targets.{resolved}
 use Rattle.action_queue.specs.declared.action.Action.{Action}
 use Rattle.action_queue.specs.declared.book.Known.{Known}
@@ -22,13 +23,14 @@ use Rattle.playback.proofs.Onward.{IsIdle, Settles, ended_settles, idle, learns_
 use Rattle.playback.proofs.Elsewhere.{elsewhere_any}
 use Rattle.playback.proofs.Placed.{intend_placed}
 use Rattle.playback.proofs.Queueing.{due_settle}
+use Rattle.playback.proofs.Trying.{IsAgain, again_is, tries_tried}
 use Rattle.playback.specs.Allowed.{IsAllowed, Records}
 use Rattle.playback.specs.Choosing.{IsEntered, begun_with, committed, counted, told_after}
 use Rattle.playback.specs.Course.{Course}
 use Rattle.playback.specs.InBox.{InBox}
 use Rattle.playback.specs.Kept.{KeptBook}
-use Rattle.playback.specs.Knows.{Came, IsLearning, IsPlaced, IsResting, IsTold, IsUnsent, Knows, Learning, OfAppend, Rests}
-use Rattle.playback.specs.Needs.{IsBeside, IsNextBox, IsPlain, MayEnd, due_id, need_for, need_ids, need_learn, need_of, need_search}
+use Rattle.playback.specs.Knows.{Came, IsLearning, IsResting, IsTold, IsUnsent, Knows, Learning, OfAppend, Rests}
+use Rattle.playback.specs.Needs.{IsBeside, IsNextBox, IsPlaced, IsPlain, MayEnd, again, due_id, need_end, need_for, need_ids, need_learn, need_of, need_search}
 use Rattle.playback.specs.Needs.{need_send, search_of, send_meant, send_of}
 use Rattle.playback.specs.Open.{Open, PutFacts}
 use Rattle.playback.specs.Sound.{IsSound}
@@ -47,8 +49,8 @@ use Rattle.playback.specs.declared.player.Player.{Player}
 use Rattle.playback.specs.declared.step.Step.{Step}
 use Rattle.std.proofs.Common.{Bool, List, None, Option, Some, [], ap, arith, cond, false, inl, inr, length, refl, subst, suc, sym, true, ℕ}
 use Rattle.std.proofs.Common.{⊎_elim, ◌+◌, ◌<◌, ◌∙◌, ◌∷◌, ◌≡◌, ◌≤◌, ◌⊎◌}
-use Rattle.std.proofs.lemmas.Bool.{and_parts, and_right, both_ways, cond_both, eq-eqb, eqb-true, ltb-true, ne_eqb}
-use Rattle.std.proofs.lemmas.Option.{same_Some}
+use Rattle.std.proofs.lemmas.Bool.{and_from, and_left, and_parts, and_right, both_ways, cond_both, eq-eqb, eqb-true, ltb-false, ltb-true, ne_eqb}
+use Rattle.std.proofs.lemmas.Option.{none-some, same_Some}
 use Rattle.std.specs.Option.{is_some}
 use Rattle.std.specs.Prelude.{bytes_eq, nat_lt, slice_get, ◌&&◌, ◌==◌}
 use Rattle.std.specs.declared.alloc.Global.{Global}
@@ -257,8 +259,19 @@ pub record RecordsLearned (p : Player) (b : Meaning) (event : Event) : Type 0 wh
   pub learns : p.learns ≡ Some told
   pub is : event ≡ events.Learn told.name told.delta
 
+-- or that its try is taken back
+pub record RecordsWithdrawal (p : Player) (b : Meaning) (event : Event) : Type 0 where
+  pub none : p.learns ≡ None
+  pub outcome : Outcome
+  pub step : step_of p b ≡ steps.Settle outcome
+  pub queued : Queued
+  pub there : due_action b.queue ≡ Some queued
+  pub next : ℕ
+  pub again : IsAgain (tries_due b.queue) outcome next
+  pub is : event ≡ events.Withdraw (due_id b) next
+
 abbrev pub IsRecorded : Player → Meaning → Event → Type 0
-IsRecorded p b event = RecordsIntent p b event ⊎ (RecordsOutcome p b event ⊎ RecordsLearned p b event)
+IsRecorded p b event = RecordsIntent p b event ⊎ (RecordsOutcome p b event ⊎ (RecordsLearned p b event ⊎ RecordsWithdrawal p b event))
 
 -- questions and commands record nothing
 search_records : (uidnext : ℕ) (action : Action) (event : Event) → Records (search_of uidnext action) event → ⊥
@@ -304,6 +317,20 @@ module _ (p : Player) (b : Meaning) (event : Event) where
   due_step : p.learns ≡ None → (step : Step) → step_of p b ≡ step → step_due p b (due_action b.queue) ≡ step
   due_step l step e = sym (ap (λ (learns : Option Resynced). step_learn p b learns) l) ∙ e
 
+  by_end : p.learns ≡ None → (outcome : Outcome) → step_of p b ≡ steps.Settle outcome → (q : Queued) → due_action b.queue ≡ Some q → (o : Option ℕ) →
+      again (tries_due b.queue) outcome ≡ o → Records (need_end (due_id b) outcome o) event → IsRecorded p b event
+  by_end l outcome e q there None last r = inr (inl (record { none = l; outcome = outcome; queued = q; there = there; is = r }))
+  by_end l outcome e q there (Some next) more r = inr (inr (inr (record {
+    none = l;
+    outcome = outcome;
+    step = e;
+    queued = q;
+    there = there;
+    next = next;
+    again = again_is (tries_due b.queue) outcome next more;
+    is = r;
+  })))
+
   by_step : p.learns ≡ None → (step : Step) → step_of p b ≡ step → Records (need_for step p b) event → IsRecorded p b event
   by_step l steps.Learn e r = absurd (subst (λ (learns : Option Resynced). Records (need_learn learns) event) l r)
   by_step l (steps.Select name under) e r = absurd r
@@ -320,14 +347,14 @@ module _ (p : Player) (b : Meaning) (event : Event) where
   by_step l (steps.Settle outcome) e r =
       let there : (q : Queued) × (due_action b.queue ≡ Some q) =
       due_there p b (due_action b.queue) outcome (due_step l (steps.Settle outcome) e) in
-      inr (inl (record { none = l; outcome = outcome; queued = there.0; there = there.1; is = r }))
+      by_end l outcome e there.0 there.1 (again (tries_due b.queue) outcome) refl r
   by_step l steps.Send e r = absurd (due_send_records (due_id b) (due_action b.queue) b.pending event r)
   by_step l steps.Finished e r = absurd r
 
   by_learns : (learns : Option Resynced) → p.learns ≡ learns → Records (need_of p b) event → IsRecorded p b event
   by_learns None l r = by_step l (step_of p b) refl r
   by_learns (Some told) l r =
-      inr (inr (record { told = told; learns = l; is = subst (λ (need : Need). Records need event) (learns_need p b told l) r }))
+      inr (inr (inl (record { told = told; learns = l; is = subst (λ (need : Need). Records need event) (learns_need p b told l) r })))
 
 pub recorded : (p : Player) (b : Meaning) (event : Event) → Records (need_of p b) event → IsRecorded p b event
 recorded p b event r = by_learns p b event p.learns refl r
@@ -410,6 +437,15 @@ and_true : (x : Bool) → (x && true) ≡ x
 and_true true = refl
 and_true false = refl
 
+-- an intent is there, or none
+none_apart : (o : Option Intent) → is_some o ≡ false → o ≡ None
+none_apart None = λ f. refl
+none_apart (Some intent) = λ f. absurd (cc)
+
+none_false : (o : Option Intent) → o ≡ None → is_some o ≡ false
+none_false None = λ n. refl
+none_false (Some intent) = λ n. absurd (cc)
+
 -- with an intent that is to be recorded no command was sent
 rests_intends : (p : Player) (b : Meaning) (w : World) (intent : Intent) (told : Finding) → p.learns ≡ None → p.told ≡ told →
     step_of p b ≡ steps.Intend intent → Rests told p.resumed b w → IsUnsent told p.resumed b w
@@ -458,24 +494,25 @@ module _ (p : Player) (b : Meaning) (w : World) (kept : KeptBook b w.course.now 
         });
       }
 
-  outcome_known : (outcome : Outcome) → KeptBook (after b (events.Settle (due_id b) outcome)) w.course.now w.waiting →
-      Knows (plainly p (after b (events.Settle (due_id b) outcome))) (after b (events.Settle (due_id b) outcome)) w
-  outcome_known outcome later =
-      let none : ours (due_id (after b (events.Settle (due_id b) outcome))) w.course.now.history ≡ [] = later.once.idle refl in
+  -- behind an outcome, or a try that was taken back, no intent is pending, and the action that is due has no deed
+  ended_known : (c : Meaning) → c.pending ≡ None → KeptBook c w.course.now w.waiting → Knows (plainly p c) c w
+  ended_known c free later =
+      let none : ours (due_id c) w.course.now.history ≡ [] = later.once.idle free in
+      let off : (p.resumed && is_some c.pending) ≡ false = and_right p.resumed (is_some c.pending) (none_false c.pending free) in
       record {
         course = known.course;
         since = known.since;
         valid = known.valid;
-        fresh = λ e. and_right p.resumed false refl;
-        meant = λ r intent e. absurd (cc);
-        placed = λ r intent e. absurd (cc);
-        resumed = λ r. let f : false ≡ true = (and_parts p.resumed false r).1 in absurd (cc);
+        fresh = λ e. off;
+        meant = λ r intent e. absurd (none-some intent (sym free ∙ e));
+        placed = λ r intent e. absurd (none-some intent (sym free ∙ e));
+        resumed = λ r. absurd (both_ways (p.resumed && is_some c.pending) off r);
         told = tt;
         learns = tt;
-        came = came_rest (plainly p (after b (events.Settle (due_id b) outcome))) (after b (events.Settle (due_id b) outcome)) (record {
+        came = came_rest (plainly p c) c (record {
           selected = rest.resting.selected;
           rests = record {
-            same = λ s a. (known.since s a).grows (due_id (after b (events.Settle (due_id b) outcome))) none ∙ sym none;
+            same = λ s a. (known.since s a).grows (due_id c) none ∙ sym none;
             none = λ r. none;
             holds = tt;
           };
@@ -531,9 +568,14 @@ module _ (p : Player) (b : Meaning) (w : World) (kept : KeptBook b w.course.now 
       subst (λ (y : Event). Knows (committed p (after b y)) (after b y) w) (sym x.is)
       (subst (λ (y : Player). Knows y (after b (events.Settle (due_id b) x.outcome)) w)
       (sym (plainly_is p (after b (events.Settle (due_id b) x.outcome)) x.none))
-      (outcome_known x.outcome (subst (λ (y : Event). KeptBook (after b y) w.course.now w.waiting) x.is later)))
-  event_known event later (inr (inr x)) =
+      (ended_known (after b (events.Settle (due_id b) x.outcome)) refl (subst (λ (y : Event). KeptBook (after b y) w.course.now w.waiting) x.is later)))
+  event_known event later (inr (inr (inl x))) =
       subst (λ (y : Event). Knows (committed p (after b y)) (after b y) w) (sym x.is) (learned_known x.told x.learns)
+  event_known event later (inr (inr (inr x))) =
+      subst (λ (y : Event). Knows (committed p (after b y)) (after b y) w) (sym x.is)
+      (subst (λ (y : Player). Knows y (after b (events.Withdraw (due_id b) x.next)) w)
+      (sym (plainly_is p (after b (events.Withdraw (due_id b) x.next)) x.none))
+      (ended_known (after b (events.Withdraw (due_id b) x.next)) refl (subst (λ (y : Event). KeptBook (after b y) w.course.now w.waiting) x.is later)))
 
 -- what the player knows is kept behind a record of what it needs
 pub committed_knows : (p : Player) (b c : Meaning) (w : World) (event : Event) → c ≡ after b event → Records (need_of p b) event →
@@ -558,15 +600,6 @@ ends_after : (learns : Option Resynced) (told : Finding) (b : Meaning) → (is_s
     MayEnd (told_after learns told) b
 ends_after None told b plain = tt
 ends_after (Some resynced) told b plain = ends_plainly told b (plain refl)
-
--- an intent is there, or none
-none_apart : (o : Option Intent) → is_some o ≡ false → o ≡ None
-none_apart None = λ f. refl
-none_apart (Some intent) = λ f. absurd (cc)
-
-none_false : (o : Option Intent) → o ≡ None → is_some o ≡ false
-none_false None = λ n. refl
-none_false (Some intent) = λ n. absurd (cc)
 
 -- behind a record nothing is to be recorded yet, and the mailboxes were resynchronised in their order
 pub next_none : (due_now : Option Queued) (count : ℕ) (boxes : List Known) → IsNextBox due_now None count boxes
@@ -603,6 +636,7 @@ module _ (p : Player) (b : Meaning) (beside : IsBeside p b) where
     last = last;
     next = next_none (due_action c.queue) p.resynced c.boxes;
     fresh = λ n. and_right p.resumed (is_some c.pending) (none_false c.pending n);
+    placed = λ outcome is. absurd (cc);
   }
 
   beside_learned : (told : Resynced) → p.learns ≡ Some told → (boxes : List Known) → length boxes ≡ length b.boxes →
@@ -621,6 +655,8 @@ module _ (p : Player) (b : Meaning) (beside : IsBeside p b) where
             (counted_last told (due_action b.queue) (length boxes) p.resynced beside.last);
         next = next_none (due_action b.queue) (counted p.learns (due_action b.queue) (length boxes) p.resynced) boxes;
         fresh = λ n. and_right p.resumed (is_some b.pending) (none_false b.pending n);
+        placed = λ outcome is intent pending.
+            absurd (subst IsPlain (sym (ap (λ (x : Option Resynced). told_after x p.told) l) ∙ is) (beside.plain (ap (λ (x : Option Resynced). is_some x) l)));
       }
 
   event_beside : (event : Event) → IsRecorded p b event → IsBeside (committed p (after b event)) (after b event)
@@ -635,7 +671,13 @@ module _ (p : Player) (b : Meaning) (beside : IsBeside p b) where
       (sym (plainly_is p (after b (events.Settle (due_id b) x.outcome)) x.none))
       (beside_plainly (after b (events.Settle (due_id b) x.outcome)) x.none refl
       (λ l. let n : due_action b.queue ≡ None = beside.last l in let s : due_action b.queue ≡ Some x.queued = x.there in absurd (cc))))
-  event_beside event (inr (inr x)) =
+  event_beside event (inr (inr (inr x))) =
+      subst (λ (y : Event). IsBeside (committed p (after b y)) (after b y)) (sym x.is)
+      (subst (λ (y : Player). IsBeside y (after b (events.Withdraw (due_id b) x.next)))
+      (sym (plainly_is p (after b (events.Withdraw (due_id b) x.next)) x.none))
+      (beside_plainly (after b (events.Withdraw (due_id b) x.next)) x.none refl
+      (λ l. let n : due_action b.queue ≡ None = beside.last l in let s : due_action b.queue ≡ Some x.queued = x.there in absurd (cc))))
+  event_beside event (inr (inr (inl x))) =
       let cache : Option Cache = Some (learned (cache_at x.told.name b.boxes) x.told.delta) in
       subst (λ (y : Event). IsBeside (committed p (after b y)) (after b y)) (sym x.is)
       (beside_learned x.told x.learns (put_cache x.told.name cache b.boxes) (put_length x.told.name cache b.boxes))
@@ -652,13 +694,20 @@ and_is false y z e f = e
 
 open_apart : (entry b : Meaning) → due entry.queue < due b.queue → is_open entry b ≡ false
 open_apart entry b l =
-    and_right (is_some entry.pending) (due entry.queue == due b.queue)
-    (ne_eqb (due entry.queue) (due b.queue) (λ e. absurd (omega (arith, l, e))))
+    and_right (is_some entry.pending) ((due entry.queue == due b.queue) && (tries_due entry.queue == tries_due b.queue))
+    (and_left (due entry.queue == due b.queue) (tries_due entry.queue == tries_due b.queue)
+    (ne_eqb (due entry.queue) (due b.queue) (λ e. absurd (omega (arith, l, e)))))
+
+open_before : (entry b : Meaning) → tries_due entry.queue < tries_due b.queue → is_open entry b ≡ false
+open_before entry b l =
+    and_right (is_some entry.pending) ((due entry.queue == due b.queue) && (tries_due entry.queue == tries_due b.queue))
+    (and_right (due entry.queue == due b.queue) (tries_due entry.queue == tries_due b.queue)
+    (ne_eqb (tries_due entry.queue) (tries_due b.queue) (λ e. absurd (omega (arith, l, e)))))
 
 module _ (entry b : Meaning) (p : Player) (sound : IsSound b) (e : IsEntered entry p b) where
   entered_intend : (id : ℕ) (intent : Intent) →
       IsEntered entry (committed p (after b (events.Intend id intent))) (after b (events.Intend id intent))
-  entered_intend id intent = record { same = and_true p.resumed ∙ e.same; further = e.further; pending = λ d s. refl }
+  entered_intend id intent = record { same = and_true p.resumed ∙ e.same; further = e.further; tries = e.tries; pending = λ d t s. refl }
 
   entered_settle : (id : ℕ) (outcome : Outcome) (q : Queued) → due_action b.queue ≡ Some q →
       IsEntered entry (committed p (after b (events.Settle id outcome))) (after b (events.Settle id outcome))
@@ -669,22 +718,54 @@ module _ (entry b : Meaning) (p : Player) (sound : IsSound b) (e : IsEntered ent
       record {
         same = and_right p.resumed false refl ∙ sym (open_apart entry (after b (events.Settle id outcome)) below);
         further = omega (arith, next, further);
-        pending = λ d s. absurd (omega (arith, d, below));
+        tries = λ d. absurd (omega (arith, d, below));
+        pending = λ d t s. absurd (omega (arith, d, below));
       }
+
+  entered_withdraw : (id next : ℕ) (q : Queued) → due_action b.queue ≡ Some q → next ≡ tries_due b.queue + 1 →
+      IsEntered entry (committed p (after b (events.Withdraw id next))) (after b (events.Withdraw id next))
+  entered_withdraw id next q there more =
+      let same : due (change_first (tried next) b.queue) ≡ due b.queue = due_try next b.queue in
+      let tries : tries_due (change_first (tried next) b.queue) ≡ next = tries_tried next b.queue q there in
+      by_case (nat_lt (due entry.queue) (due b.queue)) refl same tries
+    where
+      by_case : (further : Bool) → nat_lt (due entry.queue) (due b.queue) ≡ further → due (change_first (tried next) b.queue) ≡ due b.queue →
+          tries_due (change_first (tried next) b.queue) ≡ next →
+          IsEntered entry (committed p (after b (events.Withdraw id next))) (after b (events.Withdraw id next))
+      by_case true t same tries =
+          let below : due entry.queue < due b.queue = ltb-true (due entry.queue) (due b.queue) t in
+          let apart : due entry.queue < due (change_first (tried next) b.queue) = omega (arith, below, same) in
+          record {
+            same = and_right p.resumed false refl ∙ sym (open_apart entry (after b (events.Withdraw id next)) apart);
+            further = omega (arith, apart);
+            tries = λ d. absurd (omega (arith, d, apart));
+            pending = λ d k s. absurd (omega (arith, d, apart));
+          }
+      by_case false f same tries =
+          let reached : due b.queue ≤ due entry.queue = ltb-false (due entry.queue) (due b.queue) f in
+          let was : due entry.queue ≡ due b.queue = omega (arith, reached, e.further) in
+          let fewer : tries_due entry.queue ≤ tries_due b.queue = e.tries was in
+          let before : tries_due entry.queue < tries_due (change_first (tried next) b.queue) = omega (arith, fewer, tries, more) in
+          record {
+            same = and_right p.resumed false refl ∙ sym (open_before entry (after b (events.Withdraw id next)) before);
+            further = omega (arith, was, same);
+            tries = λ d. omega (arith, before);
+            pending = λ d k s. absurd (omega (arith, k, before));
+          }
 
   -- where an earlier run's intent is the pending one, one is pending
   pending_still : p.resumed ≡ true → is_some b.pending ≡ true
   pending_still r =
-      let opens : (is_some entry.pending && (due entry.queue == due b.queue)) ≡ true = sym e.same ∙ r in
-      let parts : (is_some entry.pending ≡ true) × ((due entry.queue == due b.queue) ≡ true) =
-      and_parts (is_some entry.pending) (due entry.queue == due b.queue) opens in
-      e.pending (eqb-true (due entry.queue) (due b.queue) parts.1) parts.0
+      let parts = and_parts (is_some entry.pending) ((due entry.queue == due b.queue) && (tries_due entry.queue == tries_due b.queue)) (sym e.same ∙ r) in
+      let same = and_parts (due entry.queue == due b.queue) (tries_due entry.queue == tries_due b.queue) parts.1 in
+      e.pending (eqb-true (due entry.queue) (due b.queue) same.0) (eqb-true (tries_due entry.queue) (tries_due b.queue) same.1) parts.0
 
   entered_learn : (name : List ℕ) (delta : Delta) →
       IsEntered entry (committed p (after b (events.Learn name delta))) (after b (events.Learn name delta))
   entered_learn name delta = record {
     same = and_is p.resumed (is_open entry b) (is_some b.pending) e.same pending_still;
     further = e.further;
+    tries = e.tries;
     pending = e.pending;
   }
 
@@ -694,7 +775,10 @@ module _ (entry b : Meaning) (p : Player) (sound : IsSound b) (e : IsEntered ent
   event_entered event (inr (inl x)) =
       subst (λ (y : Event). IsEntered entry (committed p (after b y)) (after b y)) (sym x.is)
       (entered_settle (due_id b) x.outcome x.queued x.there)
-  event_entered event (inr (inr x)) =
+  event_entered event (inr (inr (inr x))) =
+      subst (λ (y : Event). IsEntered entry (committed p (after b y)) (after b y)) (sym x.is)
+      (entered_withdraw (due_id b) x.next x.queued x.there x.again.more)
+  event_entered event (inr (inr (inl x))) =
       subst (λ (y : Event). IsEntered entry (committed p (after b y)) (after b y)) (sym x.is) (entered_learn x.told.name x.told.delta)
 
 pub committed_entered : (entry : Meaning) (p : Player) (b c : Meaning) (event : Event) → c ≡ after b event → Records (need_of p b) event →
@@ -733,14 +817,18 @@ begins_beside alloc b = record {
   last = λ l. absurd (omega (arith, l));
   next = next_none (due_action b.queue) 0 b.boxes;
   fresh = λ n. none_false b.pending n;
+  placed = λ outcome is. absurd (cc);
 }
 
 -- a run's player is one that entered with the run's book
 pub begins_entered : (alloc : Global) (b : Meaning) → IsEntered b (begun_with alloc b) b
 begins_entered alloc b = record {
-  same = sym (ap (λ (t : Bool). is_some b.pending && t) (eq-eqb (due b.queue) (due b.queue) refl) ∙ and_true (is_some b.pending));
+  same = sym (ap (λ (t : Bool). is_some b.pending && t)
+      (and_from (due b.queue == due b.queue) (tries_due b.queue == tries_due b.queue) (eq-eqb (due b.queue) (due b.queue) refl)
+      (eq-eqb (tries_due b.queue) (tries_due b.queue) refl)) ∙ and_true (is_some b.pending));
   further = omega arith;
-  pending = λ d t. t;
+  tries = λ d. omega arith;
+  pending = λ d t s. s;
 }
 
 -- of the player as it is behind the record

@@ -1,6 +1,6 @@
 -- What is so of a cache that is taken away, whatever the server did: it may come next, and the player needs what it needed.
 use Rattle.action_queue.specs.Book.{Meaning, after, cache_at, cache_of, known_at, put_cache}
-use Rattle.action_queue.specs.Queues.{due_action}
+use Rattle.action_queue.specs.Queues.{due_action, tries_due}
 use Rattle.action_queue.specs.Rules.{is_unknown, is_wrong_reset}
 use Rattle.action_queue.specs.declared.action.Action.{Action}
 use Rattle.action_queue.specs.declared.book.Known.{Known}
@@ -11,7 +11,8 @@ use Rattle.playback.proofs.Recording.{next_none, put_length}
 use Rattle.playback.proofs.Resetting.{ends_boxes, known_then, none_learned, right_one, step_same, two}
 use Rattle.playback.specs.Choosing.{IsEntered, reset_in, reset_of, wanted, wanted_by}
 use Rattle.playback.specs.Left.{left, rank, rank_of, unsettled}
-use Rattle.playback.specs.Needs.{IsBeside, IsNextBox, IsReadyEvent, MayRecord, due_id, need_for, need_learn, need_of}
+use Rattle.playback.proofs.Trying.{end_any}
+use Rattle.playback.specs.Needs.{IsBeside, again, IsNextBox, IsReadyEvent, MayRecord, due_id, need_for, need_learn, need_of}
 use Rattle.playback.specs.Steps.{step_action, step_learn, step_of}
 use Rattle.playback.specs.declared.finding.Resynced.{Resynced}
 use Rattle.playback.specs.declared.need.Need.{Need}
@@ -31,10 +32,11 @@ pub reset_ready : (b : Meaning) (name : List ℕ) (cache : Cache) (kept told : �
     IsReadyEvent b (events.Reset name kept told)
 reset_ready b name cache kept told there old above = record {
   lawful = record {
-    version = versions.First;
+    version = versions.Second;
     unbroken = two (is_unknown b.boxes name) (is_wrong_reset (cache_at name b.boxes) kept told) (known_then (known_at name b.boxes) cache there)
         (ap (λ (o : Option Cache). is_wrong_reset o kept told) there ∙ right_one cache kept told old above);
   };
+  second = refl;
   writable = tt;
 }
 
@@ -93,6 +95,7 @@ module _ (p : Player) (b : Meaning) (box name : List ℕ) (needed : need_of p b 
     ends = ends_boxes p.told b boxes beside.ends;
     plain = beside.plain;
     fresh = beside.fresh;
+    placed = beside.placed;
     within = subst (λ (n : ℕ). p.resynced ≤ n) (sym (put_length box None b.boxes)) beside.within;
     last = beside.last;
     next = subst (λ (x : Option Resynced). IsNextBox (due_action b.queue) x p.resynced boxes) (sym none) (next_none (due_action b.queue) p.resynced boxes);
@@ -104,11 +107,11 @@ module _ (p : Player) (b : Meaning) (box name : List ℕ) (needed : need_of p b 
   -- and as much is left
   pub reset_left : left p later ≡ left p b
   reset_left =
-      ap (λ (n : ℕ). n + 8 * unsettled b.queue + 8 * (length boxes - p.resynced)) (rank_at later ∙ ap rank step_is ∙ sym (rank_at b))
-      ∙ ap (λ (n : ℕ). rank_of p b p.learns + 8 * unsettled b.queue + 8 * (n - p.resynced)) (put_length box None b.boxes)
+      ap (λ (n : ℕ). n + 4 * (2 - tries_due b.queue) + 16 * unsettled b.queue + 16 * (length boxes - p.resynced)) (rank_at later ∙ ap rank step_is ∙ sym (rank_at b))
+      ∙ ap (λ (n : ℕ). rank_of p b p.learns + 4 * (2 - tries_due b.queue) + 16 * unsettled b.queue + 16 * (n - p.resynced)) (put_length box None b.boxes)
 
   pub reset_entered : (entry : Meaning) → IsEntered entry p b → IsEntered entry p later
-  reset_entered entry e = record { same = e.same; further = e.further; pending = e.pending }
+  reset_entered entry e = record { same = e.same; further = e.further; tries = e.tries; pending = e.pending }
 
 -- ---- the mailbox that is needed is the one that is to be selected
 
@@ -135,7 +138,8 @@ module _ (p : Player) (b : Meaning) (told : ℕ) (name : List ℕ) where
   asked_by steps.AskIds need =
       absurd (ids_any NoSelect (λ n. absurd (cc)) (λ command n. absurd (cc)) (λ number command n. absurd (cc)) p.told need)
   asked_by (steps.Intend intent) need = absurd (cc)
-  asked_by (steps.Settle outcome) need = absurd (cc)
+  asked_by (steps.Settle outcome) need =
+      absurd (end_any NoSelect (λ n o x. absurd (cc)) (λ n k x. absurd (cc)) (due_id b) outcome (again (tries_due b.queue) outcome) need)
   asked_by steps.Send need =
       absurd
       (due_sent_any NoSelect (λ n. absurd (cc)) (λ command n. absurd (cc)) (λ number command n. absurd (cc)) (due_id b) (due_action b.queue)

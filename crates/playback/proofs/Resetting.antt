@@ -1,7 +1,7 @@
 -- A cache is taken away behind a SELECT that told a greater UIDVALIDITY, while its reply is owed still.
 use Rattle.action_queue.specs.Book.{Meaning, after, cache_at, cache_of, known_at, put_cache}
 use Rattle.action_queue.specs.Events.{IsLawful}
-use Rattle.action_queue.specs.Queues.{due, due_action}
+use Rattle.action_queue.specs.Queues.{due, due_action, tries_due}
 use Rattle.action_queue.specs.Rules.{comes_before_intent, first_broken, fits, fits_append, fits_flag, fits_move, is_early, is_misfit, is_misplaced}
 use Rattle.action_queue.specs.Rules.{is_unknown, is_wrong_reset, rests_on_intent}
 use Rattle.action_queue.specs.declared.action.Action.{Action}
@@ -32,7 +32,7 @@ use Rattle.playback.specs.InBox.{InBox}
 use Rattle.playback.specs.Kept.{KeptBook}
 use Rattle.playback.specs.Knows.{Came, Covered, HasCome, Holds, HoldsVerdict, IsAnswered, IsNeeded, IsProbed, IsQuiet, IsTold, Knows}
 use Rattle.playback.specs.Knows.{Learning, MayReset, OfPut, RowTold}
-use Rattle.playback.specs.Needs.{IsBeside, IsNextBox, MayEnd, MayRecord, due_id, need_for, need_of}
+use Rattle.playback.specs.Needs.{IsBeside, IsNextBox, IsReadyEvent, MayEnd, MayRecord, again, due_id, end_of, need_for, need_of}
 use Rattle.playback.specs.Open.{PutFacts}
 use Rattle.playback.specs.Steps.{step_action, step_box, step_due, step_learn}
 use Rattle.playback.specs.Why.{NoRow, TellsNext, WasSelected}
@@ -150,18 +150,33 @@ settle_same version b boxes id outcome =
     (cond (m || is_early version (due_action b.queue) outcome) (Some rule.WrongKind) None))))))
     (misfit_same b boxes (due_action b.queue) outcome)
 
+tried_same : (version : Version) (b : Meaning) (boxes : List Known) (id tries : ℕ) →
+    first_broken version (record b { boxes = boxes }) (events.Withdraw id tries) ≡ first_broken version b (events.Withdraw id tries)
+tried_same versions.First b boxes id tries = refl
+tried_same versions.Second b boxes id tries = refl
+
+end_boxes : (b : Meaning) (boxes : List Known) (outcome : Outcome) (o : Option ℕ) → IsReadyEvent b (end_of (due_id b) outcome o) →
+    IsReadyEvent (record b { boxes = boxes }) (end_of (due_id b) outcome o)
+end_boxes b boxes outcome None m = record {
+  lawful = record {
+    version = m.lawful.version;
+    unbroken = settle_same m.lawful.version b boxes (due_id b) outcome ∙ m.lawful.unbroken;
+  };
+  second = m.second;
+  writable = m.writable;
+}
+end_boxes b boxes outcome (Some tries) m = record {
+  lawful = record { version = m.lawful.version; unbroken = tried_same m.lawful.version b boxes (due_id b) tries ∙ m.lawful.unbroken };
+  second = m.second;
+  writable = m.writable;
+}
+
 pub ends_boxes : (told : Finding) (b : Meaning) (boxes : List Known) → MayEnd told b → MayEnd told (record b { boxes = boxes })
 ends_boxes findings.Nothing b boxes m = tt
 ends_boxes findings.NoRow b boxes m = tt
 ends_boxes (findings.Row modseq so) b boxes m = tt
 ends_boxes findings.Barred b boxes m = tt
-ends_boxes (findings.Ended outcome) b boxes m = record {
-  lawful = record {
-    version = m.lawful.version;
-    unbroken = settle_same m.lawful.version b boxes (due_id b) outcome ∙ m.lawful.unbroken;
-  };
-  writable = m.writable;
-}
+ends_boxes (findings.Ended outcome) b boxes m = end_boxes b boxes outcome (again (tries_due b.queue) outcome) m
 ends_boxes (findings.Next validity uidnext) b boxes m = tt
 ends_boxes (findings.Candidates uids) b boxes m = tt
 ends_boxes (findings.Probed verdict) b boxes m = tt
@@ -318,15 +333,15 @@ module _ (p : Player) (b : Meaning) (w : World) (name : List ℕ) (kept told : �
     ),
   )
 
-  lawful : IsLawful b (events.Reset name kept told)
+  abbrev lawful : IsLawful b (events.Reset name kept told)
   lawful = record {
-    version = versions.First;
+    version = versions.Second;
     unbroken = two (is_unknown b.boxes name) (is_wrong_reset (cache_at name b.boxes) kept told) (known_then (known_at name b.boxes) may.cache may.there)
         (ap (λ (o : Option Cache). is_wrong_reset o kept told) may.there ∙ right_one may.cache kept told may.old may.above);
   }
 
   pub is_reset : IsReset name kept told b w
-  is_reset = record { ready = record { lawful = lawful; writable = tt }; permitted = renewed; why = why }
+  is_reset = record { ready = record { lawful = lawful; second = refl; writable = tt }; permitted = renewed; why = why }
 
   pub reset_kept : KeptBook later w.course.now w.waiting
   reset_kept = book_keeps (Some b) (events.Reset name kept told) w.course.now w.waiting book lawful renewed
@@ -393,6 +408,7 @@ module _ (p : Player) (b : Meaning) (w : World) (name : List ℕ) (kept told : �
     ends = ends_boxes p.told b boxes beside.ends;
     plain = beside.plain;
     fresh = beside.fresh;
+    placed = beside.placed;
     within = subst (λ (n : ℕ). p.resynced ≤ n) (sym (put_length name None b.boxes)) beside.within;
     last = beside.last;
     next = subst (λ (x : Option Resynced). IsNextBox (due_action b.queue) x p.resynced boxes) (sym none) (next_none (due_action b.queue) p.resynced boxes);

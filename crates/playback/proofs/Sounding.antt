@@ -20,7 +20,7 @@ use Rattle.playback.specs.Sound.{HasIntent, IsPlaced, IsSound}
 use Rattle.playback.proofs.Queueing.{get_push, get_pushed, grows_push, due_push, IsChangedAt, changed_at, grows_settle, grows_try, due_settle, suits_stays}
 use Rattle.playback.proofs.Making.{AllPlaced, good_grows, good_new, accepted_placed, accepted_good, settled_placed, settled_good, tried_good}
 use Rattle.playback.proofs.Making.{unknown_put, action_same}
-use Rattle.playback.proofs.Lawful.{accept_known, accept_good, intend_due, old_ended, settle_due, IsDue, IsEnded}
+use Rattle.playback.proofs.Lawful.{accept_known, accept_good, intend_due, old_ended, settle_due, withdraw_few, IsDue, IsEnded}
 
 accepted_rest : (b : Meaning) (q : Queued) → IsSound b → (i : ℕ) (x : Queued) → q.outcome ≡ None → due b.queue ≤ i →
     (slice_get b.queue i ≡ Some x) ⊎ ((i ≡ length b.queue) × (x ≡ q)) → x.outcome ≡ None
@@ -53,6 +53,7 @@ begun_sound names = record {
   boxes = λ i q e. absurd (cc);
   places = λ i q e. absurd (cc);
   targets = λ i q e. absurd (cc);
+  tries = λ i q e. absurd (cc);
 }
 
 -- the book stays sound at each event
@@ -77,6 +78,7 @@ accept_sound b action s w known good =
       targets = λ i x e.
           good_grows b.queue new (grows_push b.queue q) placed i x.action
           (accepted_good b.queue q s.targets (good_new b.queue s.places action good) i x (get_push b.queue q x i e));
+      tries = λ i x e. accepted_all (λ y. y.tries ≤ 2) b.queue q (omega arith) s.tries i x (get_push b.queue q x i e);
     }
 
 pub old_sound : (b : Meaning) (action : Action) (outcome : Outcome) → IsSound b → IsWritableAction action → IsEnded b action outcome →
@@ -97,14 +99,15 @@ old_sound b action outcome s w h =
       targets = λ i x e.
           good_grows b.queue new (grows_push b.queue q) placed i x.action
           (accepted_good b.queue q s.targets (good_new b.queue s.places action h.good) i x (get_push b.queue q x i e));
+      tries = λ i x e. accepted_all (λ y. y.tries ≤ 2) b.queue q (omega arith) s.tries i x (get_push b.queue q x i e);
     }
 
 tried_rest : (b : Meaning) (tries : ℕ) → IsSound b → (i : ℕ) (x : Queued) → due b.queue ≤ i → IsChangedAt (tried tries) b.queue i x → x.outcome ≡ None
 tried_rest b tries s i x l (inl h) = s.rest i x h.there l
 tried_rest b tries s i x l (inr h) = ap (λ (y : Queued). y.outcome) h.is ∙ s.rest i h.queued h.there l
 
-pub withdraw_sound : (b : Meaning) (tries : ℕ) → IsSound b → IsSound (record b { queue = change_first (tried tries) b.queue; pending = None })
-withdraw_sound b tries s =
+pub withdraw_sound : (b : Meaning) (tries : ℕ) → IsSound b → tries ≤ 2 → IsSound (record b { queue = change_first (tried tries) b.queue; pending = None })
+withdraw_sound b tries s most =
     let new : List Queued = change_first (tried tries) b.queue in
     let d : due new ≡ due b.queue = due_try tries b.queue in
     let placed : AllPlaced new = λ i x e. changed_all IsPlaced (tried tries) b.queue (λ y p. p) s.places i x (changed_at (tried tries) b.queue i x e) in
@@ -119,6 +122,7 @@ withdraw_sound b tries s =
       targets = λ i x e.
           good_grows b.queue new (grows_try tries b.queue) placed i x.action
           (tried_good b.queue tries s.targets i x (changed_at (tried tries) b.queue i x e));
+      tries = λ i x e. changed_all (λ y. y.tries ≤ 2) (tried tries) b.queue (λ y few. most) s.tries i x (changed_at (tried tries) b.queue i x e);
     }
 
 pub intend_sound : (b : Meaning) (intent : Intent) → IsSound b → HasIntent b intent → IsSound (record b { pending = Some intent })
@@ -131,6 +135,7 @@ intend_sound b intent s l =
       boxes = s.boxes;
       places = s.places;
       targets = s.targets;
+      tries = s.tries;
     }
 
 pub settle_sound : (b : Meaning) (outcome : Outcome) → IsSound b → IsDue b outcome →
@@ -151,6 +156,7 @@ settle_sound b outcome s h =
       targets = λ i x e.
           good_grows b.queue new (grows_settle outcome b.queue) placed i x.action
           (settled_good b.queue outcome s.targets i x (changed_at (settled outcome) b.queue i x e));
+      tries = λ i x e. changed_all (λ y. y.tries ≤ 2) (settled outcome) b.queue (λ y few. omega arith) s.tries i x (changed_at (settled outcome) b.queue i x e);
     }
 
 pub caches_sound : (b : Meaning) (name : List ℕ) (cache : Option Cache) → IsSound b →
@@ -162,6 +168,7 @@ caches_sound b name cache s = record {
   boxes = λ i q e. action_same b.boxes (put_cache name cache b.boxes) (unknown_put name cache b.boxes) q.action ∙ s.boxes i q e;
   places = s.places;
   targets = s.targets;
+  tries = s.tries;
 }
 
 pub sound_behind : (b : Meaning) (event : Event) → IsLawful b event → IsWritable event → IsSound b → IsSound (after b event)
@@ -172,4 +179,4 @@ sound_behind b (events.Settle id outcome) l w s = settle_sound b outcome s (sett
 sound_behind b (events.Learn name delta) l w s = caches_sound b name (Some (learned (cache_at name b.boxes) delta)) s
 sound_behind b (events.Old id action outcome) l w s = old_sound b action outcome s w (old_ended b id action outcome l)
 sound_behind b (events.Reset name kept told) l w s = caches_sound b name None s
-sound_behind b (events.Withdraw id tries) l w s = withdraw_sound b tries s
+sound_behind b (events.Withdraw id tries) l w s = withdraw_sound b tries s (withdraw_few b id tries l)

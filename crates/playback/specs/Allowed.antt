@@ -18,7 +18,7 @@ use Rattle.playback.specs.Knows.{OfTag, SelectsBox, with_rows}
 use Rattle.playback.specs.Needs.{need_of}
 use Rattle.playback.specs.Of.{IsOf, MutatingWaits}
 use Rattle.playback.specs.Permitted.{Permits}
-use Rattle.playback.specs.Why.{OfDue, TellsLack, TellsValidity, WasSelected, WhyIntent, WhyOutcome}
+use Rattle.playback.specs.Why.{OfDue, TellsLack, TellsValidity, WasPassed, WasSelected, WhyIntent, WhyOutcome}
 use Rattle.playback.specs.Worlds.{World, name_of}
 use Rattle.playback.specs.declared.need.Need.{Need}
 use Rattle.playback.specs.declared.need.Unheard.{Unheard}
@@ -52,7 +52,7 @@ WhyCommit (events.Settle n outcome) b c = ⊥
 WhyCommit (events.Learn name delta) b c = Unit {0}
 WhyCommit (events.Old n action outcome) b c = ⊥
 WhyCommit (events.Reset name kept told) b c = (kept < told) × WasSelected name (TellsValidity told) c
-WhyCommit (events.Withdraw n tries) b c = ⊥
+WhyCommit (events.Withdraw n tries) b c = WasPassed b.pending b c
 
 -- the event may be recorded now, the outcome too, each for its reason; the command may be sent
 abbrev pub IsAllowed : Need → Player → Meaning → World → Type 0
@@ -61,6 +61,8 @@ IsAllowed (needs.Ask command) p b w = Unit {0}
 IsAllowed (needs.Commit event) p b w = Permits (Some b) event w.course.now w.waiting × WhyCommit event b w.course
 IsAllowed (needs.Settle n outcome) p b w =
     Permits (Some b) (events.Settle n outcome) w.course.now w.waiting × WhyOutcome outcome p.resumed b w.course
+IsAllowed (needs.Withdraw n tries) p b w =
+    Permits (Some b) (events.Withdraw n tries) w.course.now w.waiting × WhyCommit (events.Withdraw n tries) b w.course
 IsAllowed (needs.Send n command) p b w = MaySend n command b w
 IsAllowed needs.Finished p b w = Unit {0}
 
@@ -122,6 +124,7 @@ Records (needs.Select name) event = ⊥
 Records (needs.Ask command) event = ⊥
 Records (needs.Commit recorded) event = event ≡ recorded
 Records (needs.Settle n outcome) event = event ≡ events.Settle n outcome
+Records (needs.Withdraw n tries) event = event ≡ events.Withdraw n tries
 Records (needs.Send n command) event = ⊥
 Records needs.Finished event = ⊥
 

@@ -1,7 +1,7 @@
 -- What the player keeps of a mailbox that was selected anew, and what follows a record (RFC 7162, section 3.2.5; RFC 9051, section
 -- 2.3.1.1).
 use Rattle.action_queue.specs.Book.{Meaning, cache_at, learned}
-use Rattle.action_queue.specs.Queues.{due, due_action}
+use Rattle.action_queue.specs.Queues.{due, due_action, tries_due}
 use Rattle.action_queue.specs.Writable.{HaveFewFlags}
 use Rattle.action_queue.specs.declared.action.Action.{Action}
 use Rattle.action_queue.specs.declared.event.Event.{Event}
@@ -173,9 +173,10 @@ abbrev pub begun_with : Global → Meaning → Player
 begun_with alloc b =
     record { alloc = alloc; resumed = is_some b.pending; selected = None; told = findings.Nothing; learns = None; resynced = 0 }
 
--- An intent of an earlier run is pending for the player exactly where one was pending in the book with which the run began, and its action
--- is due still. The run's book is at its beginning or further on.
+-- An intent of an earlier run is pending for the player exactly where one was pending in the book with which the run began, its action is
+-- due still, and its try wasn't taken back. The run's book is at its beginning or further on.
 pub record IsEntered (entry : Meaning) (p : Player) (b : Meaning) : Type 0 where
   pub same : p.resumed ≡ is_open entry b
   pub further : due entry.queue ≤ due b.queue
-  pub pending : due entry.queue ≡ due b.queue → is_some entry.pending ≡ true → is_some b.pending ≡ true
+  pub tries : due entry.queue ≡ due b.queue → tries_due entry.queue ≤ tries_due b.queue
+  pub pending : due entry.queue ≡ due b.queue → tries_due entry.queue ≡ tries_due b.queue → is_some entry.pending ≡ true → is_some b.pending ≡ true

@@ -25,13 +25,12 @@ use Rattle.playback.specs.Course.{AtMoment, Course, IsCourse, IsOneOf, Said}
 use Rattle.playback.specs.Fresh.{Fresh, IsFreshFor}
 use Rattle.playback.specs.InBox.{InBox, InBoxNow}
 use Rattle.playback.specs.Kept.{KeptBook}
-use Rattle.playback.specs.Needs.{IsPlain, due_id, need_of}
+use Rattle.playback.specs.Needs.{IsPlaced, IsPlain, due_id, need_of}
 use Rattle.playback.specs.Of.{IsOf, tag_of}
 use Rattle.playback.specs.Once.{Fits}
-use Rattle.playback.specs.Open.{Open, PutFacts, intent_name, intent_validity}
+use Rattle.playback.specs.Open.{Open, PutFacts}
 use Rattle.playback.specs.Polite.{Spares}
 use Rattle.playback.specs.Replying.{read_sent}
-use Rattle.playback.specs.Steps.{is_selected_at}
 use Rattle.playback.specs.Why.{AreTwo, NoRow, OfDue, RowAt, RowNotSo, RowSo, RowWas, TellsNext, WasRefused, WasSelected, WhyIntent}
 use Rattle.playback.specs.Worlds.{Among, IsAt, Since, World, name_of, selected_after}
 use Rattle.playback.specs.declared.finding.Finding.{Finding}
@@ -198,6 +197,7 @@ IsNeeded (needs.Select name) c selected b = SelectsBox name b c
 IsNeeded (needs.Ask command) c selected b = IsQuestion command selected c
 IsNeeded (needs.Commit event) c selected b = ⊥
 IsNeeded (needs.Settle n outcome) c selected b = ⊥
+IsNeeded (needs.Withdraw n tries) c selected b = ⊥
 IsNeeded (needs.Send n command) c selected b = OfTag n command c selected b
 IsNeeded needs.Finished c selected b = ⊥
 
@@ -277,10 +277,6 @@ Came None None p b w = IsResting p b w
 Came None (Some waits) p b w = ⊥
 Came (Some c) (Some waits) p b w = IsNeeded (need_of p b) c p.selected b × (IsWaiting c waits p b w ⊎ FetchesRows c waits p b w)
 Came (Some c) None p b w = IsNeeded (need_of p b) c p.selected b × IsAnswered c p b w
-
--- the mailbox of the intent is selected under its UIDVALIDITY
-abbrev pub IsPlaced : Intent → Player → Type 0
-IsPlaced intent p = is_selected_at p.selected (intent_name intent) (intent_validity intent) ≡ true
 
 -- What the player knows: the course tells the truth; each server of its moments went on to the one now; the selected mailbox has the
 -- UIDVALIDITY that was told; an intent that this run recorded had its reason, and its mailbox is selected still; one of an earlier run

@@ -40,3 +40,4 @@ pub mod Taken
 pub mod PlayerRows
 pub mod Left
 pub mod PlaysThrough
+pub mod PlaysThrice

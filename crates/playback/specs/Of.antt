@@ -1,8 +1,8 @@
 -- The command of a book: what its pending intent and the action of that intent give (RFC 9051, sections 6.3.12 and 6.4.8; RFC 7162,
 -- section 3.1.3).
 use Rattle.std.specs.Prelude.{◌≡◌, ℕ, suc, true, [], Option, Some, None}
+use Rattle.mail_base.specs.Tags.{try_tag}
 use Rattle.mail_base.specs.declared.tag.Tag.{Tag}
-use Rattle.mail_base.specs.declared.tag.Tag.TheVariants.{Play}
 use Rattle.playback.specs.InBox.{InBoxNow}
 use Rattle.playback.specs.Open.{intent_name, intent_validity}
 use Rattle.imap_model.specs.Carrying.{Waiting}
@@ -18,9 +18,9 @@ use Rattle.action_queue.specs.declared.intent.Intent.{Intent}
 use Rattle.action_queue.specs.declared.intent.Intent.TheVariants as intents
 use Rattle.action_queue.specs.declared.queued.Queued.{Queued}
 
--- the tag under which the command of action n is sent, as the action stands in the queue
+-- the tag under which the command of action n is sent, as the action stands in the queue: that of the try behind those that were taken back
 abbrev pub tag_of : ℕ → Queued → Tag
-tag_of n q = Play n
+tag_of n q = try_tag n q.tries
 
 -- the selected mailbox, the tag and the command that an intent and its action give
 abbrev pub command_of : Tag → Action → Intent → Option Waiting

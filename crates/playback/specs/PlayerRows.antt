@@ -1,5 +1,7 @@
 -- What is needed behind a reply, in worked states. INBOX has message 42; action 1 adds `\Seen` to it, moves it to Archive, or puts a text
 -- into Archive, whose UIDNEXT was 7 (this client's profile; RFC 7162, section 3.1.3; RFC 9051, sections 6.3.12 and 6.4.8).
+use Rattle.action_queue.specs.Book.{Meaning}
+use Rattle.action_queue.specs.Queues.{change_first, tried}
 use Rattle.action_queue.specs.declared.action.Action.{Action}
 use Rattle.action_queue.specs.declared.intent.Intent.{Intent}
 use Rattle.action_queue.specs.declared.outcome.Kind.{Kind}
@@ -69,6 +71,18 @@ in_archive alloc resumed told = player_in alloc resumed archive 9 told
 -- what the player needs for this action
 abbrev pub needed : Player → Action → Option Intent → Need
 needed p action pending = need_of p (book_of action None pending)
+
+-- the book of an action of which so many tries were taken back
+abbrev pub tried_book : ℕ → Meaning → Meaning
+tried_book tries b = record b { queue = change_first (tried tries) b.queue }
+
+-- what the player needs then
+abbrev pub needed_after : ℕ → Player → Action → Option Intent → Need
+needed_after tries p action pending = need_of p (tried_book tries (book_of action None pending))
+
+-- another changed the message before the STORE with this mod-sequence
+abbrev pub forestalled : Global → ℕ → Player
+forestalled alloc m = record (in_inbox alloc false) { told = findings.Ended (outcomes.Conflict (kinds.FlagsChanged m)) }
 
 -- what it needs once it found this out
 abbrev pub needed_told : Player → Action → Option Intent → Result Finding Item → Result Need Item
@@ -143,7 +157,11 @@ pub record StoreRows (alloc : Global) : Type 0 where
   pub done : needed_behind (in_inbox alloc false) flags_it (Some (stores 715)) true (told (row seen 716 ∷ [])) ≡ ends (outcomes.Done None)
   pub changed :
       needed_behind (in_inbox alloc false) flags_it (Some (stores 715)) true (replies_of [] endings.No (codings.Modified (one 42)))
-      ≡ conflict (kinds.FlagsChanged 715)
+      ≡ Ok (needs.Withdraw 1 1)
+  pub begins_anew : needed_after 1 (in_inbox alloc false) flags_it None ≡ needs.Ask (commands.FetchRow 42)
+  pub sends_anew : needed_after 1 (in_inbox alloc false) flags_it (Some (stores 716)) ≡ needs.Send 1 (commands.Store 42 716 true seen)
+  pub changed_again : needed_after 1 (forestalled alloc 716) flags_it (Some (stores 716)) ≡ needs.Withdraw 1 2
+  pub changed_at_last : needed_after 2 (forestalled alloc 717) flags_it (Some (stores 717)) ≡ needs.Settle 1 (outcomes.Conflict (kinds.FlagsChanged 717))
   pub of_another :
       needed_behind (in_inbox alloc false) flags_it (Some (stores 715)) true (replies_of [] endings.No (codings.Modified (one 41)))
       ≡ conflict kinds.RefusedNo

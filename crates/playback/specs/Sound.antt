@@ -44,7 +44,7 @@ IsTargetGood queue i (actions.Append to flags text id) = ⊤
 
 -- Behind the first unsettled action none has an outcome; the pending intent is one for the action that is due; each action can be
 -- written, so that an append's identifier is that of its text; its mailboxes are the book's; where it is done, it has a place exactly
--- where it makes a message; and a dummy that it is about is that of an earlier action.
+-- where it makes a message; a dummy that it is about is that of an earlier action; and at most two of its tries were taken back.
 pub record IsSound (b : Meaning) : Type 0 where
   pub rest : (i : ℕ) (q : Queued) → slice_get b.queue i ≡ Some q → due b.queue ≤ i → q.outcome ≡ None
   pub intent : (intent : Intent) → b.pending ≡ Some intent → HasIntent b intent
@@ -52,6 +52,7 @@ pub record IsSound (b : Meaning) : Type 0 where
   pub boxes : (i : ℕ) (q : Queued) → slice_get b.queue i ≡ Some q → is_unknown_action b.boxes q.action ≡ false
   pub places : (i : ℕ) (q : Queued) → slice_get b.queue i ≡ Some q → IsPlaced q
   pub targets : (i : ℕ) (q : Queued) → slice_get b.queue i ≡ Some q → IsTargetGood b.queue i q.action
+  pub tries : (i : ℕ) (q : Queued) → slice_get b.queue i ≡ Some q → q.tries ≤ 2
 
 -- The book of a journal that begins is sound, and a lawful event that can be written leaves a sound book.
 pub record SoundStays : Type 0 where

@@ -22,7 +22,7 @@ use Rattle.qresync_core.specs.Behind.{behind_closed}
 use Rattle.qresync_core.specs.Fresh.{server_row}
 use Rattle.qresync_core.specs.ToldCodes.{codes_in, told_codes}
 use Rattle.qresync_core.specs.declared.codes.Codes.{Codes}
-use Rattle.action_queue.specs.Queues.{due, due_action}
+use Rattle.action_queue.specs.Queues.{due, due_action, tries_due}
 use Rattle.action_queue.specs.Targets.{resolved, is_never}
 use Rattle.action_queue.specs.Book.{Meaning}
 use Rattle.action_queue.specs.declared.action.Action.{Action}
@@ -238,10 +238,10 @@ TwoWere u v c None (actions.Flag target add flags) = ⊥
 TwoWere u v c None (actions.Move target other) = ⊥
 TwoWere u v c None (actions.Append other flags text id) = ⊥
 
--- An intent was pending in the book with which the run began, and its action is due still. So the pending intent was recorded by an
--- earlier run: this is `resumed` below.
+-- An intent was pending in the book with which the run began, its action is due still, and its try wasn't taken back since. So the pending intent
+-- was recorded by an earlier run: this is `resumed` below.
 abbrev pub is_open : Meaning → Meaning → Bool
-is_open entry b = is_some entry.pending && (due entry.queue == due b.queue)
+is_open entry b = is_some entry.pending && ((due entry.queue == due b.queue) && (tries_due entry.queue == tries_due b.queue))
 
 -- the intent was pending as the run began, and the action has as many deeds as it had as the connection was made: so no command that
 -- was sent again took effect
@@ -277,6 +277,14 @@ WhyKind (kinds.Ambiguous u v) resumed b c = IsOpenStill resumed b c × OfDue (Tw
 WhyKind (kinds.ValidityChanged o n) resumed b c = (resumed ≡ false) × WasAbove o n b c
 WhyKind (kinds.ResetAfterLoss o n) resumed b c = IsOpenStill resumed b c × WasAboveIntent o n b.pending c
 
+-- When the STORE of the pending intent was carried out, the message wasn't there, or had a mod-sequence above the intent's.
+abbrev pub WasPassed : Option Intent → Meaning → Course → Type 0
+WasPassed None b c = ⊥
+WasPassed (Some (intents.Store name validity uid modseq)) b c =
+    WasCarried (λ action e. RowIs (RowPassed modseq action) b.queue action e.before) b c
+WasPassed (Some (intents.Shift from validity uid to)) b c = ⊥
+WasPassed (Some (intents.Put to validity uidnext)) b c = ⊥
+
 -- Why an intent of the action that is due was recorded: at a moment the row had the intent's mod-sequence and flags that weren't as
 -- asked; the message that is to be moved was there; a SELECT told the UIDNEXT.
 abbrev pub WhyIntent : Intent → Meaning → Course → Type 0
@@ -299,4 +307,4 @@ WhyEvent (events.Settle id outcome) entry b c = WhyOutcome outcome (is_open entr
 WhyEvent (events.Learn name delta) entry b c = Unit {0}
 WhyEvent (events.Old id action outcome) entry b c = ⊥
 WhyEvent (events.Reset name kept told) entry b c = (kept < told) × WasSelected name (TellsValidity told) c
-WhyEvent (events.Withdraw id tries) entry b c = ⊥
+WhyEvent (events.Withdraw id tries) entry b c = WasPassed b.pending b c

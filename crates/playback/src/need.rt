@@ -18,7 +18,10 @@ pub enum Need {
     Commit(Event),
     /// The action that is due ended so, which is to be recorded.
     Settle(ActionId, Outcome),
-    /// The command of the action that is due is to be sent, under the action's tag. Its intent is recorded.
+    /// The try of the action that is due had no effect, since another changed the message before it. It is to be taken back: so many tries
+    /// were then, and the action begins anew.
+    Withdraw(ActionId, u8),
+    /// The command of the action that is due is to be sent, under the tag of the action's try. Its intent is recorded.
     Send(ActionId, Command),
     /// No action is unsettled, and each mailbox was resynchronised since.
     Finished,

@@ -2,12 +2,12 @@
 
 ghost use Rattle.action_queue.specs.Book.{meaning};
 ghost use Rattle.action_queue.specs.Queues.{due_action};
-ghost use Rattle.playback.specs.Needs.{NeedsNoMemory, due_id, need_ids, need_learn, need_of};
+ghost use Rattle.playback.specs.Needs.{NeedsNoMemory, again, again_as, due_id, need_end, need_ids, need_learn, need_of};
 ghost use Rattle.playback.specs.Needs.{need_search, need_send, send_of};
 ghost use Rattle.std.specs.Prelude.{IfOk, Ok, ◌≡◌};
 
 use crate::{Finding, Need, Player, Step};
-use action_queue::{Action, Book, Event, Intent};
+use action_queue::{Action, Book, Event, Intent, Kind, Outcome};
 use append_probe::question_for;
 use imap_model::Command;
 use mail_base::ActionId;
@@ -30,7 +30,10 @@ impl Player {
                 id: due_id(book),
                 intent,
             })),
-            Step::Settle(outcome) => Ok(Need::Settle(due_id(book), outcome)),
+            Step::Settle(outcome) => {
+                let tries = again(book.tries_due(), &outcome);
+                Ok(need_end(due_id(book), outcome, tries))
+            }
             Step::Send => need_send(book),
             Step::Finished => Ok(Need::Finished),
         }
@@ -69,6 +72,47 @@ impl Player {
             | Finding::Next { .. }
             | Finding::Probed(_) => Ok(Need::Finished),
         }
+    }
+}
+
+// The action ends, or its try is taken back.
+fn need_end(id: ActionId, outcome: Outcome, again: Option<u8>) -> Need
+    ensures { result ≡ need_end id outcome again }
+{
+    match again {
+        None => Need::Settle(id, outcome),
+        Some(tries) => Need::Withdraw(id, tries),
+    }
+}
+
+// How many tries are taken back then, where a try ended so behind this many.
+fn again(tries: u8, outcome: &Outcome) -> Option<u8>
+    ensures { result ≡ again tries outcome.now }
+{
+    match outcome {
+        Outcome::Done { .. } => None,
+        Outcome::Conflict(kind) => again_as(tries, kind),
+    }
+}
+
+fn again_as(tries: u8, kind: &Kind) -> Option<u8>
+    ensures { result ≡ again_as tries kind.now }
+{
+    match kind {
+        Kind::FlagsChanged { .. } => { if tries < 2 { Some(tries + 1) } else { None } }
+        Kind::MessageGone
+        | Kind::AlreadySo
+        | Kind::RefusedNo
+        | Kind::RefusedBad
+        | Kind::NotPermanent
+        | Kind::TargetUnknown { .. }
+        | Kind::FoundSo
+        | Kind::StoreUnsure { .. }
+        | Kind::SourceGone
+        | Kind::GoneAfterLoss
+        | Kind::Ambiguous { .. }
+        | Kind::ValidityChanged { .. }
+        | Kind::ResetAfterLoss { .. } => None,
     }
 }
 

@@ -61,7 +61,7 @@ impl Player {
     }
 
     /// What is needed next. What a resynchronisation told is recorded first, and the actions are settled in order; then
-    /// each mailbox is resynchronised once more. Fails for want of memory alone; `Settle` and `Finished` take none.
+    /// each mailbox is resynchronised once more. Fails for want of memory alone; `Settle`, `Withdraw` and `Finished` take none.
     pub fn next(&self, book: &Book) -> Result<Need, AllocError>
         ensures value { IfOk result (λ need. need ≡ need_of self.now (meaning book.now)) }
         ensures at_hand { NeedsNoMemory (need_of self.now (meaning book.now)) → result ≡ Ok (need_of self.now (meaning book.now)) }
@@ -139,7 +139,7 @@ impl Player {
         self.hear(book, replies, permits)
     }
 
-    /// Goes on behind the record of what it needed, a `Commit` or a `Settle`; `book` is the book as it is then.
+    /// Goes on behind the record of what it needed, a `Commit`, a `Settle` or a `Withdraw`; `book` is the book as it is then.
     pub fn committed(&mut self, book: &Book)
         ensures value { self.new ≡ committed self.old (meaning book.now) }
         ensures beside { (before : Meaning) (event : Event) → meaning book.now ≡ after before event

@@ -4,6 +4,7 @@
 ghost use Rattle.playback.specs.Games.{KnownOnward, PlaysWell};
 ghost use Rattle.playback.specs.Left.{LeftAtFirst};
 ghost use Rattle.playback.specs.PlayerRows.{NeedsInCases};
+ghost use Rattle.playback.specs.PlaysThrice.{PlaysThrice};
 ghost use Rattle.playback.specs.PlaysThrough.{PlaysOver, PlaysThrough};
 ghost use Rattle.std.specs.declared.alloc.Global.{Global};
 
@@ -29,6 +30,12 @@ pub fn plays_through()
 /// messages are recorded anew.
 pub fn plays_over()
     ensures { (alloc : Global) → PlaysOver alloc }
+{}
+
+/// A play in which a flag action is done by its third try: others touched the message before the first
+/// two, which are taken back.
+pub fn plays_thrice()
+    ensures { (alloc : Global) → PlaysThrice alloc }
 {}
 
 /// A player as a connection begins comes to its end within so many records and replies.

@@ -30,7 +30,7 @@ pub enum Step {
     AskIds,
     /// The intent is recorded.
     Intend(Intent),
-    /// The action that is due ends so.
+    /// The action that is due ends so; or its try does, where that had no effect and another one may follow.
     Settle(Outcome),
     /// The command of the pending intent is sent.
     Send,
