@@ -1,6 +1,6 @@
 -- What is needed of the server can be asked of it while a mailbox is selected.
 use Rattle.action_queue.specs.Book.{Meaning}
-use Rattle.action_queue.specs.Queues.{due_action}
+use Rattle.action_queue.specs.Queues.{due_action, tries_due}
 use Rattle.imap_model.specs.CommandText.{IsCarried, parts_of}
 use Rattle.imap_model.specs.Mutating.{is_mutating}
 use Rattle.imap_model.specs.declared.command.Command.{Command}
@@ -14,6 +14,8 @@ use Rattle.imap_session.specs.Sent.{SentFront, joined}
 use Rattle.imap_session.specs.Session.{Follows, IsAsked, waiting_of}
 use Rattle.imap_session.specs.declared.chosen.Chosen.{Chosen}
 use Rattle.imap_session.specs.declared.fault.SessionFault.{SessionFault}
+use Rattle.imap_model.specs.TagText.{IsCommandTag}
+use Rattle.mail_base.specs.Tags.{action_of, try_tag}
 use Rattle.mail_base.specs.declared.tag.Tag.{Tag}
 use Rattle.play_driver.proofs.Faulting.{same_err}
 use Rattle.play_driver.proofs.Folds.{fold_sound}
@@ -33,7 +35,7 @@ use Rattle.playback.specs.declared.finding.Finding.{Finding}
 use Rattle.playback.specs.declared.need.Need.{Need}
 use Rattle.playback.specs.declared.need.Unheard.{Unheard}
 use Rattle.playback.specs.declared.player.Player.{Player}
-use Rattle.std.proofs.Common.{Bool, Err, IsErrOf, List, Option, ap, arith, false, inl, inr, None, refl, subst, sym, true, ℕ, ◌<◌, ◌∙◌, ◌≡◌, ◌≢◌}
+use Rattle.std.proofs.Common.{Bool, Err, IsErrOf, List, Option, Some, ap, arith, false, inl, inr, None, refl, subst, suc, sym, true, zero, ℕ, ◌<◌, ◌∙◌, ◌≡◌, ◌≢◌, ◌≤◌}
 use Rattle.std.proofs.lemmas.Bool.{both_ways}
 use Rattle.store_core.specs.Fold.{IsFold}
 use Rattle.store_core.specs.Holding.{Holding}
@@ -43,7 +45,6 @@ use Rattle.world_traits.specs.LinkState.{LinkState}
 use Rattle.world_traits.specs.Links.{Any, Linked}
 use Rattle.world_traits.specs.Moments.{Clock, Since}
 use Rattle.imap_model.specs.declared.command.Command.TheVariants as commands
-use Rattle.mail_base.specs.declared.tag.Tag.TheVariants as tags
 use Rattle.play_driver.specs.declared.session.Session.TheVariants as sessions
 use Rattle.playback.specs.declared.need.Need.TheVariants as needs
 
@@ -159,24 +160,33 @@ askable_question count command h = record {
   counted = λ e. tt;
 }
 
-askable_sent : (count n : ℕ) (command : Command) → 0 < n → is_mutating command ≡ true → IsAskable count (tags.Play n) command
-askable_sent count n command some e = record {
+tried_action : (n tries : ℕ) → action_of (try_tag n tries) ≡ Some n
+tried_action n zero = refl
+tried_action n (suc k) = refl
+
+tried_fits : (n tries : ℕ) → 0 < n → tries ≤ 2 → IsCommandTag (try_tag n tries)
+tried_fits n zero some few = some
+tried_fits n (suc k) some few = (some, omega arith, omega (arith, few))
+
+askable_sent : (count n tries : ℕ) (command : Command) → 0 < n → tries ≤ 2 → is_mutating command ≡ true → IsAskable count (try_tag n tries) command
+askable_sent count n tries command some few e = record {
   asked = sent_asked command e;
-  tagged = subst (λ (t : Bool). HasTag t count (tags.Play n)) (sym e) (n, refl, some);
+  tagged = subst (λ (t : Bool). HasTag t count (try_tag n tries)) (sym e) (n, tried_action n tries, tried_fits n tries some few);
   carried = sent_carried command e;
   counted = λ f. absurd (both_ways (is_mutating command) f e);
 }
 
-pub askable : (need : Need) (p : Player) (b : Meaning) (count : ℕ) (tag : Tag) (command : Command) → IsAskedFor need count tag command →
+pub askable : (need : Need) (p : Player) (b : Meaning) (tries count : ℕ) (tag : Tag) (command : Command) → IsAskedFor need tries count tag command →
     IsLawfulNeed need p b → IsAskable count tag command
-askable (needs.Select name) p b count tag command is lawful = absurd is
-askable (needs.Ask asked) p b count tag command is lawful =
+askable (needs.Select name) p b tries count tag command is lawful = absurd is
+askable (needs.Ask asked) p b tries count tag command is lawful =
     askable_as count tag (next_tag count) command asked is.0 is.1 (askable_question count asked lawful.0)
-askable (needs.Commit event) p b count tag command is lawful = absurd is
-askable (needs.Settle n outcome) p b count tag command is lawful = absurd is
-askable (needs.Send n sent) p b count tag command is lawful =
-    askable_as count tag (tags.Play n) command sent is.0 is.1 (askable_sent count n sent (omega (arith, lawful.0)) lawful.1)
-askable needs.Finished p b count tag command is lawful = absurd is
+askable (needs.Commit event) p b tries count tag command is lawful = absurd is
+askable (needs.Settle n outcome) p b tries count tag command is lawful = absurd is
+askable (needs.Withdraw n k) p b tries count tag command is lawful = absurd is
+askable (needs.Send n sent) p b tries count tag command is lawful =
+    askable_as count tag (try_tag n tries) command sent is.0 is.1 (askable_sent count n tries sent (omega (arith, lawful.0)) is.2 lawful.1)
+askable needs.Finished p b tries count tag command is lawful = absurd is
 
 -- what is needed can be done, where the book is the fold of some events
 pub lawful_fold : (p : Player) (b : Meaning) → IsFold b → IsBeside p b → IsLawfulNeed (need_of p b) p b
@@ -191,9 +201,9 @@ no_logout command asked is = subst IsAsked is asked
 
 -- nor is what is needed LOGOUT
 pub asked_remains : (p : Player) (b : Meaning) (count : ℕ) (tag : Tag) (command : Command) → IsFold b → IsBeside p b →
-    IsAskedFor (need_of p b) count tag command → command ≢ commands.Logout
+    IsAskedFor (need_of p b) (tries_due b.queue) count tag command → command ≢ commands.Logout
 asked_remains p b count tag command fold beside needed =
-    no_logout command (askable (need_of p b) p b count tag command needed (lawful_fold p b fold beside)).asked
+    no_logout command (askable (need_of p b) p b (tries_due b.queue) count tag command needed (lawful_fold p b fold beside)).asked
 
 -- nor does it ask for all rows of a mailbox
 question_no_rows : (name : List ℕ) (selected : Option (List ℕ)) (tag : Tag) (command : Command) → IsPlayQuestion command →
@@ -207,33 +217,35 @@ sent_no_rows name selected tag command e (inl (since, is)) =
     both_ways (is_mutating (commands.Select name since)) refl (sym (ap is_mutating is) ∙ e)
 sent_no_rows name selected tag command e (inr (there, is)) = both_ways (is_mutating commands.FetchAll) refl (sym (ap is_mutating is) ∙ e)
 
-needed_no_rows : (need : Need) (p : Player) (b : Meaning) (count : ℕ) (tag : Tag) (command : Command) → IsAskedFor need count tag command →
+needed_no_rows : (need : Need) (p : Player) (b : Meaning) (tries count : ℕ) (tag : Tag) (command : Command) → IsAskedFor need tries count tag command →
     IsLawfulNeed need p b → (name : List ℕ) (selected : Option (List ℕ)) → AsksRows name (waiting_of selected tag command) → ⊥
-needed_no_rows (needs.Select box) p b count tag command is lawful name selected asks = is
-needed_no_rows (needs.Ask asked) p b count tag command is lawful name selected asks =
+needed_no_rows (needs.Select box) p b tries count tag command is lawful name selected asks = is
+needed_no_rows (needs.Ask asked) p b tries count tag command is lawful name selected asks =
     question_no_rows name selected tag command (subst IsPlayQuestion (sym is.0) lawful.0) asks
-needed_no_rows (needs.Commit event) p b count tag command is lawful name selected asks = is
-needed_no_rows (needs.Settle n outcome) p b count tag command is lawful name selected asks = is
-needed_no_rows (needs.Send n sent) p b count tag command is lawful name selected asks =
+needed_no_rows (needs.Commit event) p b tries count tag command is lawful name selected asks = is
+needed_no_rows (needs.Settle n outcome) p b tries count tag command is lawful name selected asks = is
+needed_no_rows (needs.Withdraw n k) p b tries count tag command is lawful name selected asks = is
+needed_no_rows (needs.Send n sent) p b tries count tag command is lawful name selected asks =
     sent_no_rows name selected tag command (ap is_mutating is.0 ∙ lawful.1) asks
-needed_no_rows needs.Finished p b count tag command is lawful name selected asks = is
+needed_no_rows needs.Finished p b tries count tag command is lawful name selected asks = is
 
 -- So it reads no mailbox, where nothing waited or arrived before.
 pub asked_reads_none : (p : Player) (b : Meaning) (count : ℕ) (tag : Tag) (command : Command) (old new : Clock) → IsFold b → IsBeside p b →
-    IsAskedFor (need_of p b) count tag command → old.now.outside.waiting ≡ None → old.now.outside.talk.arriving ≡ None →
+    IsAskedFor (need_of p b) (tries_due b.queue) count tag command → old.now.outside.waiting ≡ None → old.now.outside.talk.arriving ≡ None →
     Linked (Asking old.now.outside.talk.told tag command) old new → (name : List ℕ) → Since Any (IsNotRead name) old new
 asked_reads_none p b count tag command old new fold beside needed none nothing linked name =
     asked_not_read name tag command old new none nothing
-    (needed_no_rows (need_of p b) p b count tag command needed (lawful_fold p b fold beside) name old.now.outside.talk.selected) linked
+    (needed_no_rows (need_of p b) p b (tries_due b.queue) count tag command needed (lawful_fold p b fold beside) name old.now.outside.talk.selected) linked
 
 -- a reply is awaited for it
-pub asked_awaits : (need : Need) (count : ℕ) (tag : Tag) (command : Command) → IsAskedFor need count tag command → Awaits need
-asked_awaits (needs.Select name) count tag command is = absurd is
-asked_awaits (needs.Ask asked) count tag command is = tt
-asked_awaits (needs.Commit event) count tag command is = absurd is
-asked_awaits (needs.Settle n outcome) count tag command is = absurd is
-asked_awaits (needs.Send n sent) count tag command is = tt
-asked_awaits needs.Finished count tag command is = absurd is
+pub asked_awaits : (need : Need) (tries count : ℕ) (tag : Tag) (command : Command) → IsAskedFor need tries count tag command → Awaits need
+asked_awaits (needs.Select name) tries count tag command is = absurd is
+asked_awaits (needs.Ask asked) tries count tag command is = tt
+asked_awaits (needs.Commit event) tries count tag command is = absurd is
+asked_awaits (needs.Settle n outcome) tries count tag command is = absurd is
+asked_awaits (needs.Withdraw n k) tries count tag command is = absurd is
+asked_awaits (needs.Send n sent) tries count tag command is = tt
+asked_awaits needs.Finished tries count tag command is = absurd is
 
 -- the player keeps the rest
 pub only_told : (p : Player) (b : Meaning) (permits : Bool) (r : Replies) (new : Player) → IsHeard p b permits r new →
@@ -242,23 +254,23 @@ only_told p b permits r new h = h.is ∙ ap (λ (f : Finding). record p { told =
 
 -- no reply came
 pub not_answered_so : (link later : LinkState) (chosen : Chosen) (store : Holding mail) (p : Player) (b : Meaning) (tag : Tag) (command : Command)
-    (f : SessionFault) (fault : PlayFault) → store.book ≡ b → IsAskedFor (need_of p b) chosen.conversation.count tag command →
+    (f : SessionFault) (fault : PlayFault) → store.book ≡ b → IsAskedFor (need_of p b) (tries_due b.queue) chosen.conversation.count tag command →
     (follows : Follows link.connection chosen.conversation.feed) → SentFront (joined (parts_of tag command)) link.sent later.sent →
     FailsBehind follows.0 tag command follows.1.connection.received later.connection f → fault ≡ of_session f →
     TurnFails (standing_of link (sessions.Chosen chosen) store p) later fault
 not_answered_so link later chosen store p b tag command f fault same is follows sent failing told =
-    not_answered tag command f (subst (λ (x : Meaning). IsAskedFor (need_of p x) chosen.conversation.count tag command) (sym same) is) told
+    not_answered tag command f (subst (λ (x : Meaning). IsAskedFor (need_of p x) (tries_due x.queue) chosen.conversation.count tag command) (sym same) is) told
     (record { heard = follows.0; hears = follows.1; sent = sent; failing = failing })
 
 -- a reply came, and isn't taken
 pub not_heard_so : (link later : LinkState) (chosen new : Chosen) (store : Holding mail) (p : Player) (b : Meaning) (tag : Tag) (command : Command)
-    (r : Replies) (unheard : Unheard) (fault : PlayFault) → store.book ≡ b → IsAskedFor (need_of p b) chosen.conversation.count tag command →
+    (r : Replies) (unheard : Unheard) (fault : PlayFault) → store.book ≡ b → IsAskedFor (need_of p b) (tries_due b.queue) chosen.conversation.count tag command →
     AskedBetween tag command r (stage_of link (sessions.Chosen chosen)) (stage_of later (sessions.Chosen new)) →
     IsHeardFault p b (permits_due chosen.permits (due_action b.queue)) r unheard → fault ≡ of_unheard chosen.name unheard →
     TurnFails (standing_of link (sessions.Chosen chosen) store p) later fault
 not_heard_so link later chosen new store p b tag command r unheard fault same is came lacking told =
     not_heard tag command r (stage_of later (sessions.Chosen new)) unheard chosen.name refl
-    (subst (λ (x : Meaning). IsAskedFor (need_of p x) chosen.conversation.count tag command) (sym same) is) came refl
+    (subst (λ (x : Meaning). IsAskedFor (need_of p x) (tries_due x.queue) chosen.conversation.count tag command) (sym same) is) came refl
     (subst (λ (x : Meaning). IsHeardFault p x (permits_due chosen.permits (due_action x.queue)) r unheard) (sym same) lacking) told
 
 -- the fault of a run where the reply isn't taken

@@ -6,7 +6,7 @@ use Rattle.std.proofs.lemmas.List.{length-map}
 use Rattle.std.proofs.lemmas.Bool.{leb-false}
 use Rattle.action_queue.specs.Book.{Meaning, after, known_of, learned, cache_at}
 use Rattle.action_queue.specs.Events.{IsLawful}
-use Rattle.action_queue.specs.Queues.{IsInOrder, accepted, due_action, ended, settled, tried}
+use Rattle.action_queue.specs.Queues.{IsInOrder, accepted, due, due_action, ended, settled, tried, tries_due, tries_of}
 use Rattle.action_queue.specs.Rules.{is_unknown_action, is_bad_action}
 use Rattle.action_queue.specs.declared.action.Action.{Action}
 use Rattle.action_queue.specs.declared.event.Event.{Event}
@@ -23,6 +23,14 @@ use Rattle.store_core.specs.Fold.{IsFold, begins, follows}
 pub fold_sound : (b : Meaning) → IsFold b → IsSound b
 fold_sound b (begins names named) = begun_sound names
 fold_sound b (follows a event fold lawful writable) = sound_behind a event lawful writable (fold_sound a fold)
+
+tries_by : (b : Meaning) → IsSound b → (o : Option Queued) → due_action b.queue ≡ o → tries_of o ≤ 2
+tries_by b sound None e = omega arith
+tries_by b sound (Some q) e = sound.tries (due b.queue) q e
+
+-- at most two tries of the action that is due were taken back
+pub tries_few : (b : Meaning) → IsFold b → tries_due b.queue ≤ 2
+tries_few b fold = tries_by b (fold_sound b fold) (due_action b.queue) refl
 
 unbroken_then : (b : Bool) (r : Rule) (o : Option Rule) → cond b (Some r) o ≡ None → (b ≡ false) × (o ≡ None)
 unbroken_then true r o e = absurd cc

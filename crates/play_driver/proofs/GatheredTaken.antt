@@ -1,6 +1,6 @@
 -- What the player makes of what was told of the mailbox that it needs.
 use Rattle.action_queue.specs.Book.{Meaning, cache_at}
-use Rattle.action_queue.specs.Queues.{due_action}
+use Rattle.action_queue.specs.Queues.{due_action, tries_due}
 use Rattle.action_queue.specs.Writable.{HaveFewFlags}
 use Rattle.imap_model.specs.declared.response.Response.{Response}
 use Rattle.imap_session.specs.Dialogue.{BrokeOff}
@@ -13,6 +13,7 @@ use Rattle.mailbox_cache.specs.declared.delta.Delta.{Delta}
 use Rattle.imap_session.specs.Session.{Follows}
 use Rattle.play_driver.specs.Turning.TurnFails.{not_chosen, not_told}
 use Rattle.play_driver.specs.Faults.{of_session, of_unheard}
+use Rattle.action_queue.specs.declared.outcome.Outcome.{Outcome}
 use Rattle.playback.specs.declared.step.Step.{Step}
 use Rattle.play_driver.specs.Resynchronising.{DeltaCame, IsLearnable, resync}
 use Rattle.play_driver.specs.Sessions.{count_of, feed_of, held_in}
@@ -23,7 +24,7 @@ use Rattle.play_driver.specs.declared.session.Session.{Session}
 use Rattle.playback.proofs.Ranks.{due_search_any, due_sent_any, ids_any}
 use Rattle.playback.specs.Allowed.{WhyNotChosen}
 use Rattle.playback.specs.Choosing.{FitsWanted, IsChosen, IsChosenFault, Wanted, chosen_box, chosen_in, wanted, wanted_by}
-use Rattle.playback.specs.Needs.{due_id, need_for, need_learn, need_of}
+use Rattle.playback.specs.Needs.{again, due_id, need_end, need_for, need_learn, need_of}
 use Rattle.playback.specs.Steps.{step_learn, step_of}
 use Rattle.playback.specs.Worlds.{name_of}
 use Rattle.playback.specs.declared.finding.Resynced.{Resynced}
@@ -85,6 +86,10 @@ module _ (p : Player) (b : Meaning) (delta : Delta) (name : List ℕ) where
   learn_selects None e = absurd cc
   learn_selects (Some told) e = absurd cc
 
+  end_selects : (outcome : Outcome) (o : Option ℕ) → NoSelect (need_end (due_id b) outcome o)
+  end_selects outcome None e = absurd cc
+  end_selects outcome (Some tries) e = absurd cc
+
   by_step : (step : Step) → need_for step p b ≡ needs.Select name → HasTaken name delta (chosen_in p b delta (wanted_by step))
   by_step steps.Learn need = absurd (learn_selects p.learns need)
   by_step (steps.Select box under) need =
@@ -95,7 +100,7 @@ module _ (p : Player) (b : Meaning) (delta : Delta) (name : List ℕ) where
       (due_search_any NoSelect (λ n. absurd cc) (λ command n. absurd cc) (λ number command n. absurd cc) uidnext (due_action b.queue) need)
   by_step steps.AskIds need = absurd (ids_any NoSelect (λ n. absurd cc) (λ command n. absurd cc) (λ number command n. absurd cc) p.told need)
   by_step (steps.Intend intent) need = absurd cc
-  by_step (steps.Settle outcome) need = absurd cc
+  by_step (steps.Settle outcome) need = absurd (end_selects outcome (again (tries_due b.queue) outcome) need)
   by_step steps.Send need =
       absurd
       (due_sent_any NoSelect (λ n. absurd cc) (λ command n. absurd cc) (λ number command n. absurd cc) (due_id b) (due_action b.queue) b.pending need)

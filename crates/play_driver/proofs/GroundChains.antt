@@ -3,6 +3,7 @@ use Rattle.std.proofs.Common.{◌≡◌, inl, inr, ℕ, ◌+◌, Bool, true, fal
 use Rattle.std.specs.Prelude.{bytes_eq, codes, cond, is_none, map, ⊤}
 use Rattle.std.proofs.lemmas.Bool.{cond_both}
 use Rattle.action_queue.specs.Book.{Meaning, after, known_at}
+use Rattle.action_queue.specs.Queues.{tries_due}
 use Rattle.action_queue.specs.Rules.{is_unknown}
 use Rattle.action_queue.specs.declared.book.Known.{Known}
 use Rattle.action_queue.specs.declared.event.Event.{Event}
@@ -217,10 +218,10 @@ module _ (names : List (List ℕ)) (name : List ℕ) (count : ℕ) (tag : Tag) w
   asked_ground commands.Logout asked tagged = absurd asked
 
 pub needed_grounded : (names : List (List ℕ)) (p : Player) (b : Meaning) → IsFold b → IsBeside p b → (count : ℕ) (tag : Tag) (command : Command) →
-    IsAskedFor (need_of p b) count tag command → (name : List ℕ) (old new : Clock) (c : Option Connection) (feed : Stream) →
+    IsAskedFor (need_of p b) (tries_due b.queue) count tag command → (name : List ℕ) (old new : Clock) (c : Option Connection) (feed : Stream) →
     Stands (Some name) old c feed → Linked (Asking old.now.outside.talk.told tag command) old new → Since Any (GroundStep names) old new
 needed_grounded names p b fold beside count tag command needed name old new c feed stands s =
-    let can = askable (need_of p b) p b count tag command needed (lawful_fold p b fold beside) in
+    let can = askable (need_of p b) p b (tries_due b.queue) count tag command needed (lawful_fold p b fold beside) in
     stands_grounded names (Some name) tag command (asked_ground names name count tag command can.asked can.tagged) old new c feed stands s
 
 -- A mailbox that the player needs is one of the book's.

@@ -34,6 +34,7 @@ permitted_by p b w event (needs.Select name) ok is = absurd is
 permitted_by p b w event (needs.Ask command) ok is = absurd is
 permitted_by p b w event (needs.Commit other) ok is = subst (λ (x : Event). Permits (Some b) x w.course.now w.waiting) (sym is) ok.0
 permitted_by p b w event (needs.Settle n outcome) ok is = subst (λ (x : Event). Permits (Some b) x w.course.now w.waiting) (sym is) ok.0
+permitted_by p b w event (needs.Withdraw n tries) ok is = subst (λ (x : Event). Permits (Some b) x w.course.now w.waiting) (sym is) ok.0
 permitted_by p b w event (needs.Send n command) ok is = absurd is
 permitted_by p b w event needs.Finished ok is = absurd is
 

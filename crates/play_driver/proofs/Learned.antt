@@ -68,13 +68,13 @@ use Rattle.play_driver.proofs.NotRead.{IsQuiet, last_earlier, quiet_all}
 use Rattle.play_driver.proofs.Parts.{grows, grows_then, since_first, since_second}
 
 -- a mailbox goes on through changes by others that leave its UIDVALIDITY
-record GoneOn (name : List ℕ) (box : Mailbox) (t : Server) : Type 0 where
+pub record GoneOn (name : List ℕ) (box : Mailbox) (t : Server) : Type 0 where
   pub later : Mailbox
   pub there : box_at name t.boxes ≡ Some later
   pub validity : later.validity ≡ box.validity
   pub goes : GoesOn box.highest box later
 
-goes_on : (name : List ℕ) (box : Mailbox) (s t : Server) → IsWellFormed s.boxes → Batch s.boxes s t → SameValidity name s t → box_at name s.boxes ≡ Some box →
+pub goes_on : (name : List ℕ) (box : Mailbox) (s t : Server) → IsWellFormed s.boxes → Batch s.boxes s t → SameValidity name s t → box_at name s.boxes ≡ Some box →
     GoneOn name box t
 goes_on name box s t well batch same there =
     let found : FindsEvolved (floor_of s.boxes name) name box t.boxes = (batches_stay s t well batch).1.each name box there in
@@ -112,7 +112,7 @@ pub record IsPast (name : List ℕ) (validity highest : ℕ) (s : Server) : Type
   pub same : box.validity ≡ validity
   pub higher : highest ≤ box.highest
 
-past_on : (name : List ℕ) (validity highest : ℕ) (s t : Server) → IsWellFormed s.boxes → Batch s.boxes s t → SameValidity name s t →
+pub past_on : (name : List ℕ) (validity highest : ℕ) (s t : Server) → IsWellFormed s.boxes → Batch s.boxes s t → SameValidity name s t →
     IsPast name validity highest s → IsPast name validity highest t
 past_on name validity highest s t well batch same p =
     let g = goes_on name p.box s t well batch same p.there in
@@ -149,7 +149,7 @@ module _ (name : List ℕ) where
       }
 
   -- SELECT, answered by OK
-  selects : (kept : Option Cache) (selected : Option (List ℕ)) (tag : Tag) (r : Replies) (old new : Clock) → r.ending ≡ endings.Ok →
+  pub selects : (kept : Option Cache) (selected : Option (List ℕ)) (tag : Tag) (r : Replies) (old new : Clock) → r.ending ≡ endings.Ok →
       (a : AnsweredAt selected tag (record { asked = select_of name kept; replies = r }) old new) →
       (box : Mailbox) × (there : box_at name a.at.now.outside.server.boxes ≡ Some box) × AnswersSelect name (mark_kept kept) box r
   selects kept selected tag r old new ok a =
@@ -224,7 +224,7 @@ module _ (name : List ℕ) where
       (since_tick Any (LeavesValidity name) a.at a.at (tick a.at a.to) a.to (since_start Any (LeavesValidity name) a.at) refl tt
       (answer_leaves selected tag x old mid a question)) behind
 
-  answered_stays : (selected : Option (List ℕ)) (tag : Tag) (x : Exchange) (old new : Clock) (a : AnsweredAt selected tag x old new) →
+  pub answered_stays : (selected : Option (List ℕ)) (tag : Tag) (x : Exchange) (old new : Clock) (a : AnsweredAt selected tag x old new) →
       is_mutating x.asked ≡ false → old.now.outside.waiting ≡ None → old.now.outside.talk.arriving ≡ None → a.selects ≡ Some name →
       SelectedStays old new → ValidityStays name a.at new
   answered_stays selected tag x old new a question none no_part named fair =

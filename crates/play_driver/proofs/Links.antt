@@ -111,7 +111,6 @@ module _ (K : Keeping) (S : Peer → Peer → Type 0) (store : Holding K) (old n
 
   pub left_there : IsAsLeft K store new.now later
   left_there = subst (λ (f : Files). IsAsLeft K store new.now f) (sym same_seen) (record {
-    written = left.written;
     bodies = left.bodies;
     make = left.make;
     still = record {

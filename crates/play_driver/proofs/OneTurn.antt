@@ -1,6 +1,6 @@
 -- One turn, by what its call tells: a record, a resynchronisation, or a question.
 use Rattle.action_queue.specs.Book.{Meaning, cache_at, learned}
-use Rattle.action_queue.specs.Queues.{due_action}
+use Rattle.action_queue.specs.Queues.{due_action, tries_due}
 use Rattle.action_queue.specs.declared.event.Event.{Event}
 use Rattle.imap_model.specs.declared.command.Command.{Command}
 use Rattle.imap_model.specs.declared.replies.Replies.{Replies}
@@ -205,40 +205,41 @@ module _ (session : Session) (chosen : Chosen) (is : session ≡ sessions.Chosen
     asked_fails fault fails = subst (λ (x : Session). TurnFails (standing_of link x s p) later fault) (sym is) fails
 
     pub asks_turn : (next : Chosen) (q : Player) (b : Meaning) (tag : Tag) (command : Command) → b ≡ s.book →
-        IsAskedFor (need_of p s.book) (count_of session) tag command → next.name ≡ chosen.name → next.permits ≡ chosen.permits →
+        IsAskedFor (need_of p s.book) (tries_due s.book.queue) (count_of session) tag command → next.name ≡ chosen.name → next.permits ≡ chosen.permits →
         ((r : Replies) × AskedBetween tag command r (stage_of link (sessions.Chosen chosen)) (stage_of later (sessions.Chosen next))
         × IsHeard p b (permits_due chosen.permits (due_action b.queue)) r q) →
         Turns (standing_of link session s p) (standing_of later (sessions.Chosen next) s q)
     asks_turn next q b tag command same needed named permits (r, asked, heard) =
-        subst (λ (x : Session). IsAskedFor (need_of p s.book) (count_of x) tag command →
+        subst (λ (x : Session). IsAskedFor (need_of p s.book) (tries_due s.book.queue) (count_of x) tag command →
         Turns (standing_of link x s p) (standing_of later (sessions.Chosen next) s q)) (sym is)
         (λ here. asks tag command r refl here asked
         (subst (λ (x : Meaning). IsHeard p x (permits_due chosen.permits (due_action x.queue)) r q) same heard)
         (ap (λ (n : List ℕ). Some n) named) permits refl refl) needed
 
 -- A mailbox is selected where something is to be asked.
-asked_by : (p : Player) (b : Meaning) (need : Need) (count : ℕ) (tag : Tag) (command : Command) → IsLawfulNeed need p b →
-    IsAskedFor need count tag command → is_some p.selected ≡ true
-asked_by p b (needs.Select name) count tag command lawful asked = absurd asked
-asked_by p b (needs.Ask question) count tag command lawful asked = lawful.1
-asked_by p b (needs.Commit event) count tag command lawful asked = absurd asked
-asked_by p b (needs.Settle n outcome) count tag command lawful asked = absurd asked
-asked_by p b (needs.Send n sent) count tag command lawful asked = lawful.2
-asked_by p b needs.Finished count tag command lawful asked = absurd asked
+asked_by : (p : Player) (b : Meaning) (need : Need) (tries count : ℕ) (tag : Tag) (command : Command) → IsLawfulNeed need p b →
+    IsAskedFor need tries count tag command → is_some p.selected ≡ true
+asked_by p b (needs.Select name) tries count tag command lawful asked = absurd asked
+asked_by p b (needs.Ask question) tries count tag command lawful asked = lawful.1
+asked_by p b (needs.Commit event) tries count tag command lawful asked = absurd asked
+asked_by p b (needs.Settle n outcome) tries count tag command lawful asked = absurd asked
+asked_by p b (needs.Withdraw n k) tries count tag command lawful asked = absurd asked
+asked_by p b (needs.Send n sent) tries count tag command lawful asked = lawful.2
+asked_by p b needs.Finished tries count tag command lawful asked = absurd asked
 
 is_named : (selected : Option Selected) → is_some selected ≡ true → is_some (name_of selected) ≡ true
 is_named None none = none
 is_named (Some box) there = refl
 
 pub asked_selected : (p : Player) (b : Meaning) (session : Session) (tag : Tag) (command : Command) → IsFold b → IsBeside p b →
-    name_of p.selected ≡ selected_in session → IsAskedFor (need_of p b) (count_of session) tag command → is_some (selected_in session) ≡ true
+    name_of p.selected ≡ selected_in session → IsAskedFor (need_of p b) (tries_due b.queue) (count_of session) tag command → is_some (selected_in session) ≡ true
 asked_selected p b session tag command fold beside same asked =
     subst (λ (o : Option (List ℕ)). is_some o ≡ true) same
     (is_named p.selected
-    (asked_by p b (need_of p b) (count_of session) tag command (lawful_fold p b fold beside) asked))
+    (asked_by p b (need_of p b) (tries_due b.queue) (count_of session) tag command (lawful_fold p b fold beside) asked))
 
 pub question_selected : (p : Player) (b : Meaning) (session : Session) (command : Command) → IsFold b → IsBeside p b →
     name_of p.selected ≡ selected_in session → need_of p b ≡ needs.Ask command → is_some (selected_in session) ≡ true
 question_selected p b session command fold beside same needed =
     asked_selected p b session (next_tag (count_of session)) command fold beside same
-    (subst (λ (n : Need). IsAskedFor n (count_of session) (next_tag (count_of session)) command) (sym needed) (refl, refl))
+    (subst (λ (n : Need). IsAskedFor n (tries_due b.queue) (count_of session) (next_tag (count_of session)) command) (sym needed) (refl, refl))

@@ -1,6 +1,6 @@
 -- A book is played back, call by call: the link's calls leave it, and a record begins an event and makes it firm.
 use Rattle.action_queue.specs.Book.{Meaning, after, cache_at, learned, put_cache}
-use Rattle.action_queue.specs.Queues.{change_first, change_queued, settled}
+use Rattle.action_queue.specs.Queues.{change_first, change_queued, settled, tried}
 use Rattle.action_queue.specs.declared.action.Action.{Action}
 use Rattle.action_queue.specs.declared.book.Known.{Known}
 use Rattle.action_queue.specs.declared.event.Event.{Event}
@@ -49,34 +49,34 @@ module _ (name : List ℕ) (cache : Option Cache) where
   names_put [] = refl
   names_put (k ∷ ks) = name_put k ks (names_put ks) (bytes_eq k.name name)
 
--- an outcome more: the actions are the same, and each outcome stays
-module _ (outcome : Outcome) where
+-- the first unsettled action changes, but what it asks for: the actions are the same, and each outcome stays
+module _ (f : Queued → Queued) (asks : (q : Queued) → (f q).action ≡ q.action) where
   abbrev acts : List Queued → List Action
   acts queue = map (λ (q : Queued). q.action) queue
 
-  act_settled : (q : Queued) (qs changed : List Queued) → acts changed ≡ acts qs → (o : Option Outcome) →
-      acts (change_queued (settled outcome) q qs changed o) ≡ q.action ∷ acts qs
-  act_settled q qs changed later None = refl
-  act_settled q qs changed later (Some old) = ap (λ (actions : List Action). q.action ∷ actions) later
+  act_changed : (q : Queued) (qs changed : List Queued) → acts changed ≡ acts qs → (o : Option Outcome) →
+      acts (change_queued f q qs changed o) ≡ q.action ∷ acts qs
+  act_changed q qs changed later None = ap (λ (a : Action). a ∷ acts qs) (asks q)
+  act_changed q qs changed later (Some old) = ap (λ (actions : List Action). q.action ∷ actions) later
 
-  acts_settled : (qs : List Queued) → acts (change_first (settled outcome) qs) ≡ acts qs
-  acts_settled [] = refl
-  acts_settled (q ∷ qs) = act_settled q qs (change_first (settled outcome) qs) (acts_settled qs) q.outcome
+  acts_changed : (qs : List Queued) → acts (change_first f qs) ≡ acts qs
+  acts_changed [] = refl
+  acts_changed (q ∷ qs) = act_changed q qs (change_first f qs) (acts_changed qs) q.outcome
 
   outcome_stays : (q : Queued) (qs changed : List Queued) →
       ((i : ℕ) (x : Queued) → slice_get qs i ≡ Some x → x.outcome ≢ None → slice_get changed i ≡ Some x) →
       (o : Option Outcome) → q.outcome ≡ o → (i : ℕ) (x : Queued) → slice_get (q ∷ qs) i ≡ Some x → x.outcome ≢ None →
-      slice_get (change_queued (settled outcome) q qs changed o) i ≡ Some x
+      slice_get (change_queued f q qs changed o) i ≡ Some x
   outcome_stays q qs changed later None is zero x there has = absurd (has (sym (ap (λ (y : Queued). y.outcome) (same_Some q x there)) ∙ is))
   outcome_stays q qs changed later None is (suc i) x there has = there
   outcome_stays q qs changed later (Some old) is zero x there has = there
   outcome_stays q qs changed later (Some old) is (suc i) x there has = later i x there has
 
   outcomes_stay : (qs : List Queued) (i : ℕ) (x : Queued) → slice_get qs i ≡ Some x → x.outcome ≢ None →
-      slice_get (change_first (settled outcome) qs) i ≡ Some x
+      slice_get (change_first f qs) i ≡ Some x
   outcomes_stay [] i x = λ there. absurd cc
   outcomes_stay (q ∷ qs) i x = λ there has.
-      outcome_stays q qs (change_first (settled outcome) qs) (outcomes_stay qs) q.outcome refl i x there has
+      outcome_stays q qs (change_first f qs) (outcomes_stay qs) q.outcome refl i x there has
 
 -- further on
 pub later_start : (b : Meaning) → IsLater b b
@@ -94,13 +94,22 @@ later_event b (events.Begin names) of_play = absurd of_play
 later_event b (events.Accept id action) of_play = absurd of_play
 later_event b (events.Intend id intent) of_play = record { names = refl; actions = refl; outcomes = λ i q there has. there }
 later_event b (events.Settle id outcome) of_play =
-    record { names = refl; actions = acts_settled outcome b.queue; outcomes = λ i q there has. outcomes_stay outcome b.queue i q there has }
+    record {
+      names = refl;
+      actions = acts_changed (settled outcome) (λ q. refl) b.queue;
+      outcomes = λ i q there has. outcomes_stay (settled outcome) (λ q. refl) b.queue i q there has;
+    }
 later_event b (events.Learn name delta) of_play =
     record { names = names_put name (Some (learned (cache_at name b.boxes) delta)) b.boxes; actions = refl; outcomes = λ i q there has. there }
 later_event b (events.Old id action outcome) of_play = absurd of_play
 later_event b (events.Reset name kept told) of_play =
     record { names = names_put name None b.boxes; actions = refl; outcomes = λ i q there has. there }
-later_event b (events.Withdraw id tries) of_play = absurd of_play
+later_event b (events.Withdraw id tries) of_play =
+    record {
+      names = refl;
+      actions = acts_changed (tried tries) (λ q. refl) b.queue;
+      outcomes = λ i q there has. outcomes_stay (tried tries) (λ q. refl) b.queue i q there has;
+    }
 
 -- a call of no moment
 pub progress_start : (b : Meaning) (k : Clock) → Progresses b k k

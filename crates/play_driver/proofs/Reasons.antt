@@ -16,11 +16,8 @@ use Rattle.play_driver.specs.TrueRecords.{TrueEvent}
 use Rattle.play_driver.proofs.PlayedKept.{withstood}
 use Rattle.playback.specs.Permitted.{Permits as Permitted}
 use Rattle.action_queue.specs.Events.{IsLawful}
-use Rattle.action_queue.specs.Queues.{due, due_action}
-use Rattle.action_queue.specs.Rules.{comes_before_intent, first_broken, is_early, is_misfit, is_misplaced, rests_on_intent}
-use Rattle.action_queue.specs.declared.rule.Rule.{Rule}
+use Rattle.action_queue.specs.Rules.{first_broken}
 use Rattle.action_queue.specs.declared.rule.Version.{Version as Rules}
-use Rattle.action_queue.specs.declared.rule.Version.TheVariants as rules
 use Rattle.play_driver.proofs.Folds.{fold_sound}
 use Rattle.play_driver.specs.Progress.{IsPlayEvent}
 use Rattle.playback.proofs.Allowing.{allowed_need}
@@ -37,8 +34,7 @@ use Rattle.playback.specs.Why.{WhyEvent, WhyOutcome, is_open}
 use Rattle.playback.specs.Worlds.{World}
 use Rattle.playback.specs.declared.need.Need.{Need}
 use Rattle.playback.specs.declared.player.Player.{Player}
-use Rattle.std.proofs.Common.{Bool, None, Option, Some, cond, false, inl, inr, is_some, not, refl, subst, sym, true, ◌+◌, ◌≡◌}
-use Rattle.std.specs.Prelude.{is_none, ◌&&◌, ◌==◌, ◌||◌}
+use Rattle.std.proofs.Common.{Bool, None, Option, Some, inl, inr, subst, sym, ◌≡◌}
 use Rattle.store_core.proofs.MailBook.{one_mail_event}
 use Rattle.store_core.specs.Mail.{IsOld, MayCome, mail}
 use Rattle.store_core.specs.Taking.{Takes}
@@ -55,7 +51,7 @@ why_commit entry b c (events.Settle id outcome) why = absurd why
 why_commit entry b c (events.Learn name delta) why = tt
 why_commit entry b c (events.Old id action outcome) why = absurd why
 why_commit entry b c (events.Reset name before told) why = why
-why_commit entry b c (events.Withdraw id tries) why = absurd why
+why_commit entry b c (events.Withdraw id tries) why = why
 
 reason_by : (entry : Meaning) (p : Player) (b : Meaning) (w : World) (event : Event) (need : Need) → p.resumed ≡ is_open entry b →
     IsAllowed need p b w → Records need event → WhyEvent event entry b w.course
@@ -65,6 +61,8 @@ reason_by entry p b w event (needs.Commit other) same ok is =
     subst (λ (x : Event). WhyEvent x entry b w.course) (sym is) (why_commit entry b w.course other ok.1)
 reason_by entry p b w event (needs.Settle n outcome) same ok is =
     subst (λ (x : Event). WhyEvent x entry b w.course) (sym is) (subst (λ (r : Bool). WhyOutcome outcome r b w.course) same ok.1)
+reason_by entry p b w event (needs.Withdraw n tries) same ok is =
+    subst (λ (x : Event). WhyEvent x entry b w.course) (sym is) (why_commit entry b w.course (events.Withdraw n tries) ok.1)
 reason_by entry p b w event (needs.Send n command) same ok is = absurd is
 reason_by entry p b w event needs.Finished same ok is = absurd is
 
@@ -75,7 +73,8 @@ of_playback p b event is = by (recorded p b event is)
     by : IsRecorded p b event → IsPlayEvent event
     by (inl x) = subst IsPlayEvent (sym x.is) tt
     by (inr (inl x)) = subst IsPlayEvent (sym x.is) tt
-    by (inr (inr x)) = subst IsPlayEvent (sym x.is) tt
+    by (inr (inr (inl x))) = subst IsPlayEvent (sym x.is) tt
+    by (inr (inr (inr x))) = subst IsPlayEvent (sym x.is) tt
 
 -- Beside a kept book, while the player knows the connection.
 module _ (p : Player) (b : Meaning) (event : Event) (made old : Clock) (permits : Option Permits)
@@ -122,48 +121,24 @@ ready_by p b event (needs.Select name) lawful is = absurd is
 ready_by p b event (needs.Ask command) lawful is = absurd is
 ready_by p b event (needs.Commit other) lawful is = subst (IsReadyEvent b) (sym is) lawful
 ready_by p b event (needs.Settle n outcome) lawful is = subst (IsReadyEvent b) (sym is) lawful
+ready_by p b event (needs.Withdraw n tries) lawful is = subst (IsReadyEvent b) (sym is) lawful
 ready_by p b event (needs.Send n command) lawful is = absurd is
 ready_by p b event needs.Finished lawful is = absurd is
 
 pub ready : (p : Player) (b : Meaning) (event : Event) → IsFold b → IsBeside p b → Records (need_of p b) event → IsReadyEvent b event
 ready p b event fold beside is = ready_by p b event (need_of p b) (lawful_need parts p b (fold_sound b fold) beside) is
 
--- What playback records may come by the rules of the first version, whichever it may come by: the second one has a test of outcomes more.
-behind_test : (x : Bool) (r : Rule) (o p : Option Rule) → (o ≡ None → p ≡ None) → cond x (Some r) o ≡ None → cond x (Some r) p ≡ None
-behind_test true r o p later is = absurd cc
-behind_test false r o p later is = later is
-
-test_less : (x y : Bool) (r : Rule) → cond (x || y) (Some r) None ≡ None → cond (x || false) (Some r) None ≡ None
-test_less true y r is = absurd cc
-test_less false y r is = refl
-
-pub by_first : (v : Rules) (b : Meaning) (event : Event) → IsPlayEvent event → first_broken v b event ≡ None → first_broken rules.First b event ≡ None
-by_first rules.First b event of_play unbroken = unbroken
-by_first rules.Second b (events.Begin names) of_play unbroken = absurd of_play
-by_first rules.Second b (events.Accept id action) of_play unbroken = absurd of_play
-by_first rules.Second b (events.Intend id intent) of_play unbroken = unbroken
-by_first rules.Second b (events.Settle id outcome) of_play unbroken =
-    behind_test (is_none (due_action b.queue)) _ _ _
-    (behind_test (not (id == due b.queue + 1)) _ _ _
-    (behind_test (is_none b.pending && rests_on_intent outcome) _ _ _
-    (behind_test (is_some b.pending && comes_before_intent outcome) _ _ _
-    (behind_test (is_misplaced (due_action b.queue) outcome) _ _ _
-    (test_less (is_misfit b (due_action b.queue) outcome) (is_early rules.Second (due_action b.queue) outcome) _))))) unbroken
-by_first rules.Second b (events.Learn name delta) of_play unbroken = unbroken
-by_first rules.Second b (events.Old id action outcome) of_play unbroken = absurd of_play
-by_first rules.Second b (events.Reset name before told) of_play unbroken = unbroken
-by_first rules.Second b (events.Withdraw id tries) of_play unbroken = absurd of_play
-
 -- what playback records may come in a journal of the version that is written
-pub may_come_ready : (version : Version) → version ≡ version_written → (b : Meaning) (event : Event) → IsPlayEvent event → IsReadyEvent b event →
+pub may_come_ready : (version : Version) → version ≡ version_written → (b : Meaning) (event : Event) → IsReadyEvent b event →
     MayCome version (Some b) event
-may_come_ready version written b event of_play comes =
-    subst (λ (v : Version). MayCome v (Some b) event) (sym written) (by_first comes.lawful.version b event of_play comes.lawful.unbroken)
+may_come_ready version written b event comes =
+    subst (λ (v : Version). MayCome v (Some b) event) (sym written)
+    (subst (λ (v : Rules). first_broken v b event ≡ None) comes.second comes.lawful.unbroken)
 
 pub may_come : (version : Version) → version ≡ version_written → (p : Player) (b : Meaning) (event : Event) → IsFold b → IsBeside p b →
     Records (need_of p b) event → MayCome version (Some b) event
 may_come version written p b event fold beside is =
-    may_come_ready version written b event (of_playback p b event is) (ready p b event fold beside is)
+    may_come_ready version written b event (ready p b event fold beside is)
 
 -- and it is none that is told anew
 pub play_new : (event : Event) → IsPlayEvent event → IsOld event → ⊥

@@ -69,7 +69,7 @@ module _ {Self : Type 0} (W : Ghosts Self) (old new : Self) (h : Held) (p : Play
     (left : W.tells_files → IsAsLeft mail s (W.clock old).now seen)
     (takes : W.tells_files → Takes mail (Some s.book) event (W.clock old) (W.clock new)) where
   may_reset : MayCome s.journal.version (Some s.book) event
-  may_reset = may_come_ready s.journal.version version s.book event (reset_plays h s.book event due) (reset_comes h s.book event due)
+  may_reset = may_come_ready s.journal.version version s.book event (reset_comes h s.book event due)
 
   pub stands_held : W.tells_server → IsKept mail Kept (W.clock old).now → StandsKept s.book (W.clock old)
   stands_held t kept = stands_kept s _ _ _ _ _ (left (W.server_with_files t)) (rests.stands t) kept

@@ -1,11 +1,10 @@
 -- A whole run sends each command of an action once at most.
-use Rattle.std.proofs.Common.{◌≡◌, ◌⊎◌, inl, inr, ℕ, Bool, true, List, [], ◌∷◌, ◌++◌, ◌<◌, length, refl, sym, ◌∙◌, ap, subst, arith}
+use Rattle.std.proofs.Common.{◌≡◌, ◌⊎◌, ⊎_elim, inl, inr, ℕ, Bool, true, List, [], ◌∷◌, ◌++◌, ◌<◌, ◌≤◌, length, refl, sym, ap, subst, arith}
 use Rattle.std.proofs.lemmas.List.{append-nil}
 use Rattle.std.specs.Option.{option_to_list}
 use Rattle.std.specs.declared.alloc.Global.{Global}
 use Rattle.action_queue.specs.Book.{cache_at}
 use Rattle.mail_base.specs.Account.{Credentials}
-use Rattle.mail_base.specs.Tags.{action_of}
 use Rattle.imap_model.specs.declared.command.Command.TheVariants as commands
 use Rattle.imap_session.specs.Dialogue.{Dialogue, next_tag}
 use Rattle.imap_session.specs.Dialogue.Dialogue.{Asks, Ends}
@@ -25,37 +24,37 @@ use Rattle.play_driver.proofs.TurnsFall.{left_less, left_no_more}
 use Rattle.play_driver.specs.Resynchronising.{exchanged, resync, select_of, then_all}
 use Rattle.play_driver.specs.Running.{RunsBetween, RunsTo, StopsBehind, turns_left_at}
 use Rattle.play_driver.specs.Running.RunsTo.{rests, turns}
-use Rattle.play_driver.specs.SendsOnce.{NumbersRise, SendsOnce}
+use Rattle.play_driver.specs.SendsOnce.{NumbersRise, SendsOnce, place_of}
 use Rattle.play_driver.specs.Stages.{Broke, CameBetween, Stage, stage_of}
-use Rattle.play_driver.specs.Turning.{Standing, TurnFails, Turns, need_at, standing_of}
+use Rattle.play_driver.specs.Turning.{Standing, TurnFails, Turns, need_at, standing_of, tries_at}
 use Rattle.play_driver.specs.Turning.TurnFails.{not_answered, not_chosen, not_fetched, not_heard, not_recorded, not_reset, not_taken, not_told, wanting}
 use Rattle.play_driver.specs.Turning.Turns.{asks, fetches, holds, records, resets, selects}
 use Rattle.play_driver.specs.declared.fault.PlayFault.{PlayFault}
 use Rattle.play_driver.specs.declared.session.Session.TheVariants as sessions
-use Rattle.play_driver.proofs.SentNumbers.{Below, StandsIn, asked_numbers, below_next, recorded_numbers, rises_next, sends_for, stands_then}
+use Rattle.play_driver.proofs.SentNumbers.{Below, StandsIn, asked_few, asked_numbers, below_next, recorded_numbers, rises_next, sends_at, sends_for, stands_then}
 use Rattle.play_driver.proofs.SentTexts.{SentMore, SentSome, dialogue_more, dialogue_some, exchanges_more, more_as, more_none, more_parts}
 use Rattle.play_driver.proofs.SentTexts.{more_then, question_front, question_whole, some_as, some_front, some_then, whole_some}
 
 -- what a turn sends
-turn_sends : (p q : Standing) → Turns p q → SentMore (sends_for (need_at p)) p.stage.link.sent q.stage.link.sent
+turn_sends : (p q : Standing) → Turns p q → SentMore (sends_at p) p.stage.link.sent q.stage.link.sent
 turn_sends p q (records event resting needed is) =
-    more_as [] (sends_for (need_at p)) _ _ (recorded_numbers (need_at p) event needed)
+    more_as [] (sends_at p) _ _ (recorded_numbers (need_at p) event needed (tries_at p))
     (more_none p.stage.link.sent q.stage.link.sent (ap (λ (s : Standing). s.stage.link.sent) is))
 turn_sends p q (selects name delta resting needed came taken selected unheld same) =
-    more_as [] (sends_for (need_at p)) _ _ (sym (ap sends_for needed))
+    more_as [] (sends_at p) _ _ (sym (ap (sends_for (tries_at p)) needed))
     (exchanges_more (exchanged name (cache_at name p.store.book.boxes) came.came.gathered) p.stage.count p.stage.link.sent came.hears.connection.received came.heard q.stage.link q.stage.feed came.came.came)
 turn_sends p q (holds h r event resting needed came is tells reset permits selected here same player) =
-    more_as [] (sends_for (need_at p)) _ _ (sym (ap sends_for needed))
+    more_as [] (sends_at p) _ _ (sym (ap (sends_for (tries_at p)) needed))
     (more_parts (next_tag p.stage.count) (select_of h.chosen.name (cache_at h.chosen.name p.store.book.boxes)) _ p.stage.link.sent q.stage.link.sent
     came.came.sent)
 turn_sends p q (resets h event here needed reset is) =
-    more_as [] (sends_for (need_at p)) _ _ (sym (ap sends_for needed))
+    more_as [] (sends_at p) _ _ (sym (ap (sends_for (tries_at p)) needed))
     (more_none p.stage.link.sent q.stage.link.sent (ap (λ (s : Standing). s.stage.link.sent) is))
 turn_sends p q (fetches h delta here needed away came taken selected permits unheld same) =
-    more_as [] (sends_for (need_at p)) _ _ (sym (ap sends_for needed))
+    more_as [] (sends_at p) _ _ (sym (ap (sends_for (tries_at p)) needed))
     (exchanges_more (then_all came.came.all) p.stage.count p.stage.link.sent came.hears.connection.received came.heard q.stage.link q.stage.feed came.came.came)
 turn_sends p q (asks tag command r resting asked came heard selected permits unheld same) =
-    more_as _ (sends_for (need_at p)) _ _ (asked_numbers (need_at p) p.stage.count tag command asked)
+    more_as _ (sends_at p) _ _ (asked_numbers (need_at p) (tries_at p) p.stage.count tag command asked)
     (more_parts tag command _ p.stage.link.sent q.stage.link.sent came.came.sent)
 
 -- and one that fails: its command, or nothing of it
@@ -66,7 +65,7 @@ none_sent : (ns old new : List ℕ) → new ≡ old → SendsAtMost ns old new
 none_sent ns old new same = inl (whole_some [] old new (more_none old new same))
 
 failed_sends : (p : Standing) (link : LinkState) (fault : PlayFault) → TurnFails p link fault →
-    SendsAtMost (sends_for (need_at p)) p.stage.link.sent link.sent
+    SendsAtMost (sends_at p) p.stage.link.sent link.sent
 failed_sends p link fault (wanting takes same is) = none_sent _ _ _ (ap (λ (l : LinkState). l.sent) same)
 failed_sends p link fault (not_recorded event needed same why) = none_sent _ _ _ (ap (λ (l : LinkState). l.sent) same)
 failed_sends p link fault (not_told name f resting needed is broke) =
@@ -84,25 +83,29 @@ failed_sends p link fault (not_taken h told q unheard here needed came there why
     (subst (λ (l : LinkState). SentMore [] p.stage.link.sent l.sent) there
     (exchanges_more (then_all came.came.all) p.stage.count p.stage.link.sent came.hears.connection.received came.heard q.link q.feed came.came.came)))
 failed_sends p link fault (not_answered tag command f asked is unanswered) =
-    inr (some_as _ (sends_for (need_at p)) _ _ (asked_numbers (need_at p) p.stage.count tag command asked)
+    inr (some_as _ (sends_at p) _ _ (asked_numbers (need_at p) (tries_at p) p.stage.count tag command asked)
     (some_front tag command p.stage.link.sent link.sent unanswered.sent))
 failed_sends p link fault (not_heard tag command r q unheard name selected asked came here lacks is) =
-    inr (some_as _ (sends_for (need_at p)) _ _ (asked_numbers (need_at p) p.stage.count tag command asked)
+    inr (some_as _ (sends_at p) _ _ (asked_numbers (need_at p) (tries_at p) p.stage.count tag command asked)
     (whole_some _ p.stage.link.sent link.sent
-    (subst (λ (l : LinkState). SentMore (option_to_list (action_of tag)) p.stage.link.sent l.sent) here
+    (subst (λ (l : LinkState). SentMore (option_to_list (place_of tag)) p.stage.link.sent l.sent) here
     (more_parts tag command _ p.stage.link.sent q.link.sent came.came.sent))))
 
 -- ---- turns one behind the other
 
 -- less is left behind a turn that sends an action's command
-sends_less : (p q : Standing) → Turns p q → turns_left_at q < turns_left_at p →
-    (sends_for (need_at p) ≡ []) ⊎ (left q.player q.store.book < left p.player p.store.book)
-sends_less p q (records event resting needed is) falls = inr (left_less p q (ap (λ (s : Standing). s.held) is ∙ resting) falls)
-sends_less p q (selects name delta resting needed came taken selected unheld same) falls = inr (left_less p q unheld falls)
-sends_less p q (holds h r event resting needed came is tells reset permits selected here same player) falls = inl (ap sends_for needed)
-sends_less p q (resets h event here needed reset is) falls = inl (ap sends_for needed)
-sends_less p q (fetches h delta here needed away came taken selected permits unheld same) falls = inr (left_less p q unheld falls)
-sends_less p q (asks tag command r resting asked came heard selected permits unheld same) falls = inr (left_less p q unheld falls)
+abbrev SendsLess : Standing → Standing → Type 0
+SendsLess p q = (sends_at p ≡ []) ⊎ ((left q.player q.store.book < left p.player p.store.book) × (tries_at p ≤ 2))
+
+sends_less : (p q : Standing) → Turns p q → turns_left_at q < turns_left_at p → SendsLess p q
+sends_less p q (records event resting needed is) falls = inl (sym (recorded_numbers (need_at p) event needed (tries_at p)))
+sends_less p q (selects name delta resting needed came taken selected unheld same) falls = inl (ap (sends_for (tries_at p)) needed)
+sends_less p q (holds h r event resting needed came is tells reset permits selected here same player) falls = inl (ap (sends_for (tries_at p)) needed)
+sends_less p q (resets h event here needed reset is) falls = inl (ap (sends_for (tries_at p)) needed)
+sends_less p q (fetches h delta here needed away came taken selected permits unheld same) falls = inl (ap (sends_for (tries_at p)) needed)
+sends_less p q (asks tag command r resting asked came heard selected permits unheld same) falls =
+    ⊎_elim (λ (none : sends_at p ≡ []). inl none) (λ (few : tries_at p ≤ 2). inr (left_less p q unheld falls, few))
+    (asked_few (need_at p) (tries_at p) p.stage.count tag command asked)
 
 -- what was sent in the turns from one standing to another, in a run of so many actions and mailboxes
 record SentSoFar (n m : ℕ) (p q : Standing) : Type 0 where
@@ -123,8 +126,8 @@ sent_so_far n m p first q chose learnt rests = record {
 sent_so_far n m p first q chose learnt (turns at last some_chose some_learnt run turn falls) =
     let x = sent_so_far n m p first at some_chose some_learnt run in
     record {
-      numbers = x.numbers ++ sends_for (need_at at);
-      sent = more_then x.numbers (sends_for (need_at at)) p.stage.link.sent at.stage.link.sent last.stage.link.sent x.sent (turn_sends at last turn);
+      numbers = x.numbers ++ sends_at at;
+      sent = more_then x.numbers (sends_at at) p.stage.link.sent at.stage.link.sent last.stage.link.sent x.sent (turn_sends at last turn);
       rising = rises_next n m at x.stands x.numbers x.rising x.below;
       below = below_next n m at x.stands last x.numbers (left_no_more at last falls) (sends_less at last turn falls) x.below;
       stands = stands_then n m at last x.stands turn;
@@ -202,12 +205,12 @@ module _ (account : Credentials) (alloc : Global) (s : Holding mail) (p : Player
   -- a turn failed
   pub stopped_once : (store : Holding mail) (fault : PlayFault) → StopsBehind FirstOf store later fault → SendsOnce old later
   stopped_once store fault stops = by (failed_sends stops.at later fault stops.fails) where
-    by : SendsAtMost (sends_for (need_at stops.at)) stops.at.stage.link.sent later.sent → SendsOnce old later
+    by : SendsAtMost (sends_at stops.at) stops.at.stage.link.sent later.sent → SendsOnce old later
     by (inl some) = behind_turns stops.at stops.came some
     by (inr some) =
         let x = run_so_far stops.at stops.came in
-        in_one old later earlier (x.numbers ++ sends_for (need_at stops.at))
-        (some_then x.numbers (sends_for (need_at stops.at)) [] stops.at.stage.link.sent later.sent (sent_before stops.at stops.came) some)
+        in_one old later earlier (x.numbers ++ sends_at stops.at)
+        (some_then x.numbers (sends_at stops.at) [] stops.at.stage.link.sent later.sent (sent_before stops.at stops.came) some)
         (rises_next (length s.book.queue) (length s.book.boxes) stops.at x.stands x.numbers x.rising x.below)
 
   -- it left, or didn't

@@ -1,9 +1,8 @@
--- What a run sent, as the texts of commands, of which each action has one at most.
+-- What a run sent, as the texts of commands, of which each try of an action has one at most.
 use Rattle.std.proofs.Common.{◌≡◌, inl, inr, ℕ, ◌+◌, List, [], ◌∷◌, ◌++◌, length, take, refl, sym, ◌∙◌, ap, append_assoc}
 use Rattle.std.proofs.Math.Seq.{take-append-add, take-length}
 use Rattle.std.proofs.lemmas.List.{append-nil}
 use Rattle.std.specs.Option.{option_to_list}
-use Rattle.mail_base.specs.Tags.{action_of}
 use Rattle.mail_base.specs.declared.tag.Tag.{Tag}
 use Rattle.imap_model.specs.CommandText.{parts_of}
 use Rattle.imap_model.specs.declared.command.Command.{Command}
@@ -15,19 +14,19 @@ use Rattle.imap_session.specs.Dialogue.Dialogue.{Asks, Ends, Lacks}
 use Rattle.imap_session.specs.Sent.{SentFront, joined}
 use Rattle.imap_session.specs.declared.fault.SessionFault.{SessionFault}
 use Rattle.play_driver.specs.Exchanges.{CameAll, Exchange}
-use Rattle.play_driver.specs.SendsOnce.{Sending, actions_sent, texts_of}
+use Rattle.play_driver.specs.SendsOnce.{Sending, place_of, places_sent, texts_of}
 
--- these texts were sent behind what had been sent, of commands of these actions
+-- these texts were sent behind what had been sent, of commands of these tries
 pub record SentMore (numbers old new : List ℕ) : Type 0 where
   pub sendings : List Sending
   pub is : new ≡ old ++ texts_of sendings
-  pub of : actions_sent sendings ≡ numbers
+  pub of : places_sent sendings ≡ numbers
 
 -- the same, the last ones maybe not to their end
 pub record SentSome (numbers old new : List ℕ) : Type 0 where
   pub sendings : List Sending
   pub is : SentFront (texts_of sendings) old new
-  pub of : actions_sent sendings ≡ numbers
+  pub of : places_sent sendings ≡ numbers
 
 -- ---- one behind the other
 
@@ -37,15 +36,15 @@ texts_join (s ∷ a) b =
     ap (λ (t : List ℕ). joined (take s.parts (parts_of s.tag s.command)) ++ t) (texts_join a b)
     ∙ sym (append_assoc (joined (take s.parts (parts_of s.tag s.command))) (texts_of a) (texts_of b))
 
-actions_join : (a b : List Sending) → actions_sent (a ++ b) ≡ actions_sent a ++ actions_sent b
-actions_join [] b = refl
-actions_join (s ∷ a) b =
-    ap (λ (t : List ℕ). option_to_list (action_of s.tag) ++ t) (actions_join a b)
-    ∙ sym (append_assoc (option_to_list (action_of s.tag)) (actions_sent a) (actions_sent b))
+places_join : (a b : List Sending) → places_sent (a ++ b) ≡ places_sent a ++ places_sent b
+places_join [] b = refl
+places_join (s ∷ a) b =
+    ap (λ (t : List ℕ). option_to_list (place_of s.tag) ++ t) (places_join a b)
+    ∙ sym (append_assoc (option_to_list (place_of s.tag)) (places_sent a) (places_sent b))
 
-joined_numbers : (a b : List Sending) (ns ms : List ℕ) → actions_sent a ≡ ns → actions_sent b ≡ ms → actions_sent (a ++ b) ≡ ns ++ ms
+joined_numbers : (a b : List Sending) (ns ms : List ℕ) → places_sent a ≡ ns → places_sent b ≡ ms → places_sent (a ++ b) ≡ ns ++ ms
 joined_numbers a b ns ms first second =
-    actions_join a b ∙ ap (λ (t : List ℕ). t ++ actions_sent b) first ∙ ap (λ (t : List ℕ). ns ++ t) second
+    places_join a b ∙ ap (λ (t : List ℕ). t ++ places_sent b) first ∙ ap (λ (t : List ℕ). ns ++ t) second
 
 pub more_then : (ns ms old mid new : List ℕ) → SentMore ns old mid → SentMore ms mid new → SentMore (ns ++ ms) old new
 more_then ns ms old mid new a b = record {
@@ -94,23 +93,23 @@ more_none old new same = record { sendings = []; is = same ∙ sym (append-nil o
 
 -- some parts of a text
 pub more_parts : (tag : Tag) (command : Command) (parts : ℕ) (old new : List ℕ) → new ≡ old ++ joined (take parts (parts_of tag command)) →
-    SentMore (option_to_list (action_of tag)) old new
+    SentMore (option_to_list (place_of tag)) old new
 more_parts tag command parts old new is = record {
   sendings = record { tag = tag; command = command; parts = parts } ∷ [];
   is = is ∙ ap (λ (t : List ℕ). old ++ t) (sym (append-nil (joined (take parts (parts_of tag command)))));
-  of = append-nil (option_to_list (action_of tag));
+  of = append-nil (option_to_list (place_of tag));
 }
 
 -- all of them
 pub more_whole : (tag : Tag) (command : Command) (old new : List ℕ) → new ≡ old ++ joined (parts_of tag command) →
-    SentMore (option_to_list (action_of tag)) old new
+    SentMore (option_to_list (place_of tag)) old new
 more_whole tag command old new is =
     more_parts tag command (length (parts_of tag command)) old new
     (is ∙ ap (λ (ps : List (List ℕ)). old ++ joined ps) (sym (take-length (parts_of tag command))))
 
 -- a text maybe not to its end
 pub some_front : (tag : Tag) (command : Command) (old new : List ℕ) → SentFront (joined (parts_of tag command)) old new →
-    SentSome (option_to_list (action_of tag)) old new
+    SentSome (option_to_list (place_of tag)) old new
 some_front tag command old new front =
     let ps = parts_of tag command in record {
       sendings = record { tag = tag; command = command; parts = length ps } ∷ [];
@@ -120,7 +119,7 @@ some_front tag command old new front =
             ∙ ap (λ (t : List ℕ). old ++ take front.n t)
             (ap joined (sym (take-length ps)) ∙ sym (append-nil (joined (take (length ps) ps))));
       };
-      of = append-nil (option_to_list (action_of tag));
+      of = append-nil (option_to_list (place_of tag));
     }
 
 -- ---- questions, which belong to no action

@@ -1,9 +1,12 @@
--- A run is short: with each SELECT eight less are left of the replies and records that it may have.
-use Rattle.action_queue.specs.Book.{Meaning}
-use Rattle.action_queue.specs.Queues.{due, due_action}
+-- A run is short: for each action and each mailbox it selects one mailbox at most.
+use Rattle.action_queue.specs.Book.{Meaning, after, cache_at}
+use Rattle.action_queue.specs.Queues.{change_first, change_queued, due, due_action, settled, settled_then, tried, tries_due, tries_of}
 use Rattle.action_queue.specs.declared.action.Action.{Action}
 use Rattle.action_queue.specs.declared.book.Known.{Known}
+use Rattle.action_queue.specs.declared.event.Event.{Event}
 use Rattle.action_queue.specs.declared.intent.Intent.{Intent}
+use Rattle.action_queue.specs.declared.outcome.Kind.{Kind}
+use Rattle.action_queue.specs.declared.outcome.Outcome.{Outcome}
 use Rattle.action_queue.specs.declared.queued.Queued.{Queued}
 use Rattle.imap_model.specs.declared.command.Command.{Command}
 use Rattle.mail_base.specs.declared.tag.Tag.{Tag}
@@ -11,29 +14,37 @@ use Rattle.playback.specs.declared.step.Step.{Step}
 use Rattle.play_driver.specs.Running.RunsTo.{rests, turns}
 use Rattle.play_driver.specs.Turning.Turns.{asks, fetches, holds, records, resets, selects}
 use Rattle.std.proofs.Common.{arith, inl, inr}
-use Rattle.playback.proofs.Falling.{left_at_first}
-use Rattle.play_driver.proofs.GatheredTaken.{selects_none}
+use Rattle.playback.proofs.Ranks.{at_most}
+use Rattle.playback.proofs.Recording.{put_length}
+use Rattle.playback.proofs.Resetting.{reset_told}
+use Rattle.play_driver.proofs.GatheredTaken.{chosen_keeps, selects_none}
 use Rattle.play_driver.proofs.TurnsFall.{left_less, left_no_more}
-use Rattle.play_driver.specs.Running.{IsShort, RunsBetween, StaysShort, held_of, learns_for, pending_in, selects_at, selects_by, selects_for, turns_left_at}
+use Rattle.play_driver.specs.Running.{IsShort, RunsBetween, StaysShort, held_of, learns_for, opens, pending_in, rest_of, selects_at, selects_by, selects_for, turns_left_at}
 use Rattle.play_driver.specs.declared.session.Held.{Held}
 use Rattle.store_core.specs.Holding.{Holding}
 use Rattle.store_core.specs.Mail.{mail}
-use Rattle.play_driver.specs.Turning.{IsAskedFor, Standing, Turns, need_at}
-use Rattle.playback.specs.Choosing.{begun_with}
-use Rattle.playback.specs.Left.{left, rank, rank_of, unsettled}
-use Rattle.playback.specs.Needs.{due_id, need_for, need_ids, need_learn, need_of, need_search, need_send, search_of, send_meant, send_of}
-use Rattle.playback.specs.Steps.{step_action, step_box, step_due, step_learn}
+use Rattle.play_driver.specs.Recording.{recorded}
+use Rattle.play_driver.specs.Turning.{IsAskedFor, Standing, Turns, need_at, tries_at}
+use Rattle.playback.specs.Allowed.{Records}
+use Rattle.playback.specs.Choosing.{begun_with, committed, counted}
+use Rattle.playback.specs.Left.{left, rank, rank_behind, rank_of, unsettled}
+use Rattle.playback.specs.Needs.{again, again_as, due_id, need_end, need_for, need_ids, need_learn, need_of, need_search, need_send, search_of, send_meant, send_of}
+use Rattle.playback.specs.Steps.{step_action, step_box, step_due, step_learn, step_of}
 use Rattle.playback.specs.declared.finding.Finding.{Finding}
 use Rattle.playback.specs.declared.finding.Resynced.{Resynced}
 use Rattle.playback.specs.declared.need.Need.{Need}
 use Rattle.playback.specs.declared.player.Player.{Player}
-use Rattle.std.proofs.Common.{List, None, Option, Some, ap, get_or, length, refl, subst, sym, ℕ, ◌+◌, ◌-◌, ◌<◌, ◌∙◌, ◌≡◌, ◌≤◌, ◌⊎◌}
-use Rattle.std.proofs.lemmas.Option.{slice_get_cases}
-use Rattle.std.specs.Prelude.{slice_get}
+use Rattle.std.proofs.Common.{Bool, List, None, Ok, Option, Some, [], ap, cond, false, get_or, length, refl, subst, suc, sym, true, ℕ, ◌+◌, ◌-◌, ◌*◌, ◌<◌, ◌∙◌, ◌∷◌, ◌≡◌, ◌≤◌, ◌⊎◌}
+use Rattle.std.proofs.lemmas.Bool.{cond-false, cond-true, le-ltb, lt-ltb, ltb-false, ltb-true}
+use Rattle.std.proofs.lemmas.Option.{same_Some, slice_get_cases}
+use Rattle.std.specs.Prelude.{nat_lt, slice_get}
 use Rattle.std.specs.declared.alloc.Global.{Global}
 use Rattle.action_queue.specs.declared.action.Action.TheVariants as actions
 use Rattle.playback.specs.declared.finding.Finding.TheVariants as findings
+use Rattle.action_queue.specs.declared.event.Event.TheVariants as events
 use Rattle.action_queue.specs.declared.intent.Intent.TheVariants as intents
+use Rattle.action_queue.specs.declared.outcome.Kind.TheVariants as kinds
+use Rattle.action_queue.specs.declared.outcome.Outcome.TheVariants as outcomes
 use Rattle.playback.specs.declared.need.Need.TheVariants as needs
 use Rattle.playback.specs.declared.step.Step.TheVariants as steps
 
@@ -85,6 +96,10 @@ send_one n (actions.Append other flags text id) (intents.Store name validity uid
 send_one n (actions.Append other flags text id) (intents.Shift from validity uid to) = (refl, refl)
 send_one n (actions.Append other flags text id) (intents.Put to validity uidnext) = (refl, refl)
 
+end_both : (n : ℕ) (outcome : Outcome) (o : Option ℕ) → (selects_for (need_end n outcome o) ≡ 0) × (learns_for (need_end n outcome o) ≡ 0)
+end_both n outcome None = (refl, refl)
+end_both n outcome (Some tries) = (refl, refl)
+
 meant_both : (n : ℕ) (action : Action) (pending : Option Intent) →
     (selects_for (send_meant n action pending) ≡ 0) × (learns_for (send_meant n action pending) ≡ 0)
 meant_both n action None = (refl, refl)
@@ -105,7 +120,7 @@ module _ (p : Player) (b : Meaning) where
   selects_or (steps.Search uidnext) = inl (search_both uidnext (due_action b.queue)).0
   selects_or steps.AskIds = inl (ids_both p.told).0
   selects_or (steps.Intend intent) = inl refl
-  selects_or (steps.Settle outcome) = inl refl
+  selects_or (steps.Settle outcome) = inl (end_both (due_id b) outcome (again (tries_due b.queue) outcome)).0
   selects_or steps.Send = inl (send_both (due_id b) (due_action b.queue) b.pending).0
   selects_or steps.Finished = inl refl
 
@@ -117,7 +132,7 @@ module _ (p : Player) (b : Meaning) where
   learns_none e (steps.Search uidnext) = (search_both uidnext (due_action b.queue)).1
   learns_none e steps.AskIds = (ids_both p.told).1
   learns_none e (steps.Intend intent) = refl
-  learns_none e (steps.Settle outcome) = refl
+  learns_none e (steps.Settle outcome) = (end_both (due_id b) outcome (again (tries_due b.queue) outcome)).1
   learns_none e steps.Send = (send_both (due_id b) (due_action b.queue) b.pending).1
   learns_none e steps.Finished = refl
 
@@ -129,9 +144,8 @@ module _ (p : Player) (b : Meaning) where
   pub learns_few : learns_for (need_of p b) ≤ pending_in p.learns
   learns_few = learns_by_told p.learns refl
 
-  -- what is still to be played or resynchronised
   abbrev Rest : ℕ
-  Rest = unsettled b.queue + (length b.boxes - p.resynced)
+  Rest = rest_of p b
 
   box_rests : (o : Option Known) → slice_get b.boxes p.resynced ≡ o → selects_for (need_for (step_box o) p b) ≤ Rest
   box_rests None e = omega arith
@@ -166,13 +180,211 @@ module _ (p : Player) (b : Meaning) where
   pub selects_one : SelectsOne (rank_of p b p.learns) (need_of p b)
   selects_one = selects_by_told p.learns refl
 
--- With what is needed next it is no less short.
+-- ---- how far the step that is due is from the end
+
+opens_by : (test : Bool) → cond test 1 0 ≤ 1
+opens_by true = omega arith
+opens_by false = omega arith
+
+opens_most : (ranked : ℕ) → opens ranked ≤ 1
+opens_most ranked = opens_by (nat_lt 6 ranked)
+
+opens_none : (ranked : ℕ) → ranked ≤ 6 → opens ranked ≡ 0
+opens_none ranked low = cond-false (nat_lt 6 ranked) 1 0 (le-ltb 6 ranked low)
+
+opens_one : (ranked : ℕ) → 6 < ranked → opens ranked ≡ 1
+opens_one ranked high = cond-true (nat_lt 6 ranked) 1 0 (lt-ltb 6 ranked high)
+
+opens_less : (low high : ℕ) → low ≤ high → opens low ≤ opens high
+opens_less low high less = by (nat_lt 6 low) refl
+  where
+    by : (test : Bool) → nat_lt 6 low ≡ test → opens low ≤ opens high
+    by true e = let h = ltb-true 6 low e in let one = opens_one high (omega (arith, h, less)) in omega (arith, one, opens_most low)
+    by false e = let none = opens_none low (ltb-false 6 low e) in omega (arith, none)
+
+behind_most : (p : Player) (b : Meaning) (o : Option Queued) → rank_behind p b o ≤ 8
+behind_most p b None = omega arith
+behind_most p b (Some q) = omega (arith, at_most (step_action p b q.action))
+
+rank_most : (p : Player) (b : Meaning) (o : Option Resynced) → rank_of p b o ≤ 8
+rank_most p b None = omega (arith, at_most (step_of p b))
+rank_most p b (Some told) = behind_most p b (due_action b.queue)
+
+-- ---- the tries of the action that is due, behind a record
+
+set_by : (k : ℕ) (x : Queued) (xs : List Queued) (o : Option Outcome) → x.outcome ≡ o → (q : Queued) →
+    slice_get (x ∷ xs) (settled_then o (due xs)) ≡ Some q →
+    ((y : Queued) → due_action xs ≡ Some y → tries_due (change_first (tried k) xs) ≡ k) →
+    tries_due (change_queued (tried k) x xs (change_first (tried k) xs) o) ≡ k
+set_by k x xs None e q there later = ap (λ (p : Option Outcome). tries_of (slice_get (tried k x ∷ xs) (settled_then p (due xs)))) e
+set_by k x xs (Some old) e q there later =
+    ap (λ (p : Option Outcome). tries_of (slice_get (x ∷ change_first (tried k) xs) (settled_then p (due (change_first (tried k) xs))))) e
+    ∙ later q there
+
+tries_set : (k : ℕ) (queue : List Queued) (q : Queued) → due_action queue ≡ Some q → tries_due (change_first (tried k) queue) ≡ k
+tries_set k [] q there = absurd cc
+tries_set k (x ∷ xs) q there = set_by k x xs x.outcome refl q there (tries_set k xs)
+
+further_by : (outcome : Outcome) (x : Queued) (xs : List Queued) (o : Option Outcome) → x.outcome ≡ o → (q : Queued) →
+    slice_get (x ∷ xs) (settled_then o (due xs)) ≡ Some q → ((y : Queued) → due_action xs ≡ Some y → due xs < due (change_first (settled outcome) xs)) →
+    settled_then o (due xs) < due (change_queued (settled outcome) x xs (change_first (settled outcome) xs) o)
+further_by outcome x xs None e q there later = omega arith
+further_by outcome x xs (Some old) e q there later =
+    let is : due (x ∷ change_first (settled outcome) xs) ≡ suc (due (change_first (settled outcome) xs)) =
+    ap (λ (p : Option Outcome). settled_then p (due (change_first (settled outcome) xs))) e in
+    omega (arith, is, later q there)
+
+due_further : (outcome : Outcome) (queue : List Queued) (q : Queued) → due_action queue ≡ Some q → due queue < due (change_first (settled outcome) queue)
+due_further outcome [] q there = absurd cc
+due_further outcome (x ∷ xs) q there = further_by outcome x xs x.outcome refl q there (due_further outcome xs)
+
+changed_long : (f : Queued → Queued) (x : Queued) (xs : List Queued) (o : Option Outcome) → length (change_first f xs) ≡ length xs →
+    length (change_queued f x xs (change_first f xs) o) ≡ suc (length xs)
+changed_long f x xs None later = refl
+changed_long f x xs (Some old) later = omega (arith, later)
+
+same_long : (f : Queued → Queued) (queue : List Queued) → length (change_first f queue) ≡ length queue
+same_long f [] = refl
+same_long f (x ∷ xs) = changed_long f x xs x.outcome (same_long f xs)
+
+again_by : (tries k : ℕ) (test : Bool) → cond test (Some (tries + 1)) None ≡ Some k → k ≡ tries + 1
+again_by tries k true is = sym (same_Some (tries + 1) k is)
+again_by tries k false is = absurd cc
+
+again_kind : (tries : ℕ) (kind : Kind) (k : ℕ) → again_as tries kind ≡ Some k → k ≡ tries + 1
+again_kind tries kinds.MessageGone k is = absurd cc
+again_kind tries kinds.AlreadySo k is = absurd cc
+again_kind tries (kinds.FlagsChanged m) k is = again_by tries k (nat_lt tries 2) is
+again_kind tries kinds.RefusedNo k is = absurd cc
+again_kind tries kinds.RefusedBad k is = absurd cc
+again_kind tries kinds.NotPermanent k is = absurd cc
+again_kind tries (kinds.TargetUnknown other) k is = absurd cc
+again_kind tries kinds.FoundSo k is = absurd cc
+again_kind tries (kinds.StoreUnsure m f) k is = absurd cc
+again_kind tries kinds.SourceGone k is = absurd cc
+again_kind tries kinds.GoneAfterLoss k is = absurd cc
+again_kind tries (kinds.Ambiguous u v) k is = absurd cc
+again_kind tries (kinds.ValidityChanged o n) k is = absurd cc
+again_kind tries (kinds.ResetAfterLoss o n) k is = absurd cc
+
+again_one : (tries : ℕ) (outcome : Outcome) (k : ℕ) → again tries outcome ≡ Some k → k ≡ tries + 1
+again_one tries (outcomes.Done place) k is = absurd cc
+again_one tries (outcomes.Conflict kind) k is = again_kind tries kind k is
+
+module _ (p : Player) (b : Meaning) where
+  -- as many tries were taken back, or one more, at the last step of the one before; or less is unsettled, with the mailboxes as they were
+  abbrev Stays : Event → Type 0
+  Stays event = (tries_due (after b event).queue ≡ tries_due b.queue)
+      ⊎ ((tries_due (after b event).queue ≡ tries_due b.queue + 1) × (rank_of p b p.learns ≡ 1))
+      ⊎ ((unsettled (after b event).queue < unsettled b.queue) × ((after b event).boxes ≡ b.boxes))
+
+  abbrev StaysFor : Need → Type 0
+  StaysFor need = (event : Event) → Records need event → Stays event
+
+  settled_tried : (outcome : Outcome) (n : ℕ) (q : Queued) → due_action b.queue ≡ Some q → Stays (events.Settle n outcome)
+  settled_tried outcome n q there =
+      inr (inr (
+        omega (arith, due_further outcome b.queue q there, same_long (settled outcome) b.queue, place_before b.queue (due b.queue) q there),
+        refl,
+      ))
+
+  ended : (ranked : rank_of p b p.learns ≡ 1) (q : Queued) → due_action b.queue ≡ Some q → (outcome : Outcome) (o : Option ℕ) →
+      again (tries_due b.queue) outcome ≡ o → StaysFor (need_end (due_id b) outcome o)
+  ended ranked q there outcome None is event x = subst Stays (sym x) (settled_tried outcome (due_id b) q there)
+  ended ranked q there outcome (Some k) is event x =
+      subst Stays (sym x) (inr (inl (tries_set k b.queue q there ∙ again_one (tries_due b.queue) outcome k is, ranked)))
+
+  learned : (o : Option Resynced) → StaysFor (need_learn o)
+  learned None event x = absurd x
+  learned (Some told) event x = subst Stays (sym x) (inl refl)
+
+  search_stays : (uidnext : ℕ) (o : Option Queued) → StaysFor (need_search uidnext o)
+  search_stays uidnext None event x = absurd x
+  search_stays uidnext (Some q) event x = by q.action x
+    where
+      by : (action : Action) → Records (search_of uidnext action) event → Stays event
+      by (actions.Flag target add flags) y = absurd y
+      by (actions.Move target to) y = absurd y
+      by (actions.Append to flags text id) y = absurd y
+
+  ids_stays : (told : Finding) → StaysFor (need_ids told)
+  ids_stays findings.Nothing event x = absurd x
+  ids_stays findings.NoRow event x = absurd x
+  ids_stays (findings.Row modseq so) event x = absurd x
+  ids_stays findings.Barred event x = absurd x
+  ids_stays (findings.Ended outcome) event x = absurd x
+  ids_stays (findings.Next validity uidnext) event x = absurd x
+  ids_stays (findings.Candidates uids) event x = absurd x
+  ids_stays (findings.Probed verdict) event x = absurd x
+
+  sent_stays : (n : ℕ) (action : Action) (intent : Intent) → StaysFor (send_of n action intent)
+  sent_stays n (actions.Flag target add flags) (intents.Store name validity uid modseq) event x = absurd x
+  sent_stays n (actions.Flag target add flags) (intents.Shift from validity uid to) event x = absurd x
+  sent_stays n (actions.Flag target add flags) (intents.Put to validity uidnext) event x = absurd x
+  sent_stays n (actions.Move target other) (intents.Store name validity uid modseq) event x = absurd x
+  sent_stays n (actions.Move target other) (intents.Shift from validity uid to) event x = absurd x
+  sent_stays n (actions.Move target other) (intents.Put to validity uidnext) event x = absurd x
+  sent_stays n (actions.Append other flags text id) (intents.Store name validity uid modseq) event x = absurd x
+  sent_stays n (actions.Append other flags text id) (intents.Shift from validity uid to) event x = absurd x
+  sent_stays n (actions.Append other flags text id) (intents.Put to validity uidnext) event x = absurd x
+
+  send_stays : (o : Option Queued) (pending : Option Intent) → StaysFor (need_send (due_id b) o pending)
+  send_stays None pending event x = absurd x
+  send_stays (Some q) None event x = absurd x
+  send_stays (Some q) (Some intent) event x = sent_stays (due_id b) q.action intent event x
+
+  step_stays : (step : Step) → step_of p b ≡ step → p.learns ≡ None → ((outcome : Outcome) → step ≡ steps.Settle outcome →
+      (q : Queued) × (due_action b.queue ≡ Some q)) → StaysFor (need_for step p b)
+  step_stays steps.Learn is none due_is event x = learned p.learns event x
+  step_stays (steps.Select name under) is none due_is event x = absurd x
+  step_stays (steps.AskRow uid) is none due_is event x = absurd x
+  step_stays (steps.Search uidnext) is none due_is event x = search_stays uidnext (due_action b.queue) event x
+  step_stays steps.AskIds is none due_is event x = ids_stays p.told event x
+  step_stays (steps.Intend intent) is none due_is event x = subst Stays (sym x) (inl refl)
+  step_stays (steps.Settle outcome) is none due_is event x =
+      let q = due_is outcome refl in
+      let ranked : rank_of p b p.learns ≡ 1 = ap (λ (o : Option Resynced). rank_of p b o) none ∙ ap rank is in
+      ended ranked q.0 q.1 outcome (again (tries_due b.queue) outcome) refl event x
+  step_stays steps.Send is none due_is event x = send_stays (due_action b.queue) b.pending event x
+  step_stays steps.Finished is none due_is event x = absurd x
+
+  box_settles : (o : Option Known) (outcome : Outcome) → step_box o ≡ steps.Settle outcome → ⊥
+  box_settles None outcome is = absurd cc
+  box_settles (Some known) outcome is = absurd cc
+
+  settles_due : (o : Option Queued) → due_action b.queue ≡ o → (outcome : Outcome) → step_due p b o ≡ steps.Settle outcome →
+      (q : Queued) × (due_action b.queue ≡ Some q)
+  settles_due None e outcome is = absurd (box_settles (slice_get b.boxes p.resynced) outcome is)
+  settles_due (Some q) e outcome is = (q, e)
+
+  told_stays : (o : Option Resynced) → p.learns ≡ o → StaysFor (need_of p b)
+  told_stays None e event x =
+      let step : step_of p b ≡ step_due p b (due_action b.queue) = ap (λ (o : Option Resynced). step_learn p b o) e in
+      step_stays (step_of p b) refl e (λ outcome is. settles_due (due_action b.queue) refl outcome (sym step ∙ is)) event x
+  told_stays (Some told) e event x =
+      let step : step_of p b ≡ steps.Learn = ap (λ (o : Option Resynced). step_learn p b o) e in
+      learned p.learns event (subst (λ (s : Step). Records (need_for s p b) event) step x)
+
+  pub records_stays : StaysFor (need_of p b)
+  records_stays = told_stays p.learns refl
+
+counted_by : (test : Bool) (count : ℕ) → count ≤ cond test (count + 1) count
+counted_by true count = omega arith
+counted_by false count = omega arith
+
+counted_more : (learns : Option Resynced) (o : Option Queued) (boxes count : ℕ) → count ≤ counted learns o boxes count
+counted_more None o boxes count = omega arith
+counted_more (Some told) None boxes count = counted_by (nat_lt count boxes) count
+counted_more (Some told) (Some q) boxes count = omega arith
+
+-- ---- with what is needed next it is no less short
+
 module _ (most chose learnt : ℕ) (p : Player) (b : Meaning) where
   few_free : StaysShort most chose learnt None p b → chose + selects_for (need_of p b) ≤ most
   few_free short = by (selects_one p b) where
     by : SelectsOne p b (rank_of p b p.learns) (need_of p b) → chose + selects_for (need_of p b) ≤ most
     by (inl none) = omega (arith, short.few, none)
-    by (inr one) = omega (arith, short.room, one.0, one.1, one.2)
+    by (inr one) = let far = opens_one (rank_of p b p.learns) (omega (arith, one.0)) in omega (arith, short.room, far, one.1, one.2)
 
   few_by : (held : Option Held) → StaysShort most chose learnt held p b → chose + selects_by held (need_of p b) ≤ most
   few_by None short = few_free short
@@ -192,6 +404,33 @@ select_ranked p b name needed = by (selects_one p b) where
   by (inl none) = absurd (let one : selects_for (need_of p b) ≡ 1 = ap selects_for needed in omega (arith, none, one))
   by (inr one) = one.0
 
+asked_learns : (need : Need) (tries count : ℕ) (tag : Tag) (command : Command) → IsAskedFor need tries count tag command → learns_for need ≡ 0
+asked_learns (needs.Select name) tries count tag command asked = absurd asked
+asked_learns (needs.Ask question) tries count tag command asked = refl
+asked_learns (needs.Commit event) tries count tag command asked = absurd asked
+asked_learns (needs.Settle n outcome) tries count tag command asked = absurd asked
+asked_learns (needs.Withdraw n k) tries count tag command asked = absurd asked
+asked_learns (needs.Send n sent) tries count tag command asked = refl
+asked_learns needs.Finished tries count tag command asked = absurd asked
+
+recorded_selects : (need : Need) (event : Event) → Records need event → selects_for need ≡ 0
+recorded_selects (needs.Select name) event x = absurd x
+recorded_selects (needs.Ask command) event x = absurd x
+recorded_selects (needs.Commit told) event x = refl
+recorded_selects (needs.Settle n outcome) event x = refl
+recorded_selects (needs.Withdraw n k) event x = refl
+recorded_selects (needs.Send n command) event x = absurd x
+recorded_selects needs.Finished event x = absurd x
+
+asked_selects : (need : Need) (tries count : ℕ) (tag : Tag) (command : Command) → IsAskedFor need tries count tag command → selects_for need ≡ 0
+asked_selects (needs.Select name) tries count tag command asked = absurd asked
+asked_selects (needs.Ask question) tries count tag command asked = refl
+asked_selects (needs.Commit event) tries count tag command asked = absurd asked
+asked_selects (needs.Settle n outcome) tries count tag command asked = absurd asked
+asked_selects (needs.Withdraw n k) tries count tag command asked = absurd asked
+asked_selects (needs.Send n sent) tries count tag command asked = refl
+asked_selects needs.Finished tries count tag command asked = absurd asked
+
 -- one turn more
 module _ (p q : Standing) (most chose learnt : ℕ) (falls : turns_left_at q < turns_left_at p)
     (short : StaysShort most chose learnt p.held p.player p.store.book) where
@@ -201,86 +440,198 @@ module _ (p q : Standing) (most chose learnt : ℕ) (falls : turns_left_at q < t
   few : chose + selects_at p ≤ most
   few = few_next most chose learnt p.player p.store.book p.held short
 
-  -- where no reply is held before and behind it
-  module _ (before : p.held ≡ None) (behind : q.held ≡ None) where
-    less : left q.player q.store.book < left p.player p.store.book
-    less = left_less p q behind falls
+  abbrev RankBefore : ℕ
+  RankBefore = rank_of p.player p.store.book p.player.learns
 
-    free : StaysShort most chose learnt None p.player p.store.book
-    free = subst (λ (o : Option Held). StaysShort most chose learnt o p.player p.store.book) before short
+  abbrev RankBehind : ℕ
+  RankBehind = rank_of q.player q.store.book q.player.learns
 
-    counts : selects_at p ≡ selects_for (need_at p)
-    counts = ap (λ (o : Option Held). selects_by o (need_at p)) before
+  abbrev RestBefore : ℕ
+  RestBefore = rest_of p.player p.store.book
 
-    by_once : learnt + learns_for (need_at p) + pending_in q.player.learns ≤ chose + selects_for (need_at p) → Few
-    by_once once = by_selects (selects_one p.player p.store.book) where
-      none_held : held_of q.held ≡ 0
-      none_held = ap held_of behind
+  abbrev RestBehind : ℕ
+  RestBehind = rest_of q.player q.store.book
 
-      by_selects : SelectsOne p.player p.store.book (rank_of p.player p.store.book p.player.learns) (need_at p) → Few
-      by_selects (inl none) =
-          record { room = omega (arith, free.room, less, none, counts, none_held); few = few; once = omega (arith, once, counts, none_held) }
-      by_selects (inr one) =
-          record { room = omega (arith, free.room, less, one.0, one.1, counts, none_held); few = few; once = omega (arith, once, counts, none_held) }
+  left_before : left p.player p.store.book ≡ RankBefore + 4 * (2 - tries_at p) + 16 * unsettled p.store.book.queue
+      + 16 * (length p.store.book.boxes - p.player.resynced)
+  left_before = refl
 
-  asked_learns : (need : Need) (count : ℕ) (tag : Tag) (command : Command) → IsAskedFor need count tag command → learns_for need ≡ 0
-  asked_learns (needs.Select name) count tag command asked = absurd asked
-  asked_learns (needs.Ask question) count tag command asked = refl
-  asked_learns (needs.Commit event) count tag command asked = absurd asked
-  asked_learns (needs.Settle n outcome) count tag command asked = absurd asked
-  asked_learns (needs.Send n sent) count tag command asked = refl
-  asked_learns needs.Finished count tag command asked = absurd asked
+  left_behind : left q.player q.store.book ≡ RankBehind + 4 * (2 - tries_at q) + 16 * unsettled q.store.book.queue
+      + 16 * (length q.store.book.boxes - q.player.resynced)
+  left_behind = refl
+
+  no_more : left q.player q.store.book ≤ left p.player p.store.book
+  no_more = left_no_more p q falls
+
+  most_before : RankBefore ≤ 8
+  most_before = rank_most p.player p.store.book p.player.learns
+
+  -- as many tries were taken back before, or one more, at the last step of the one before; or less is to be played or resynchronised
+  abbrev Narrows : Type 0
+  Narrows = (tries_at q ≡ tries_at p) ⊎ ((tries_at q ≡ tries_at p + 1) × (RankBefore ≡ 1)) ⊎ (RestBehind < RestBefore)
+
+  abbrev NoWider : Type 0
+  NoWider = RestBehind + opens RankBehind ≤ RestBefore + opens RankBefore
+
+  -- as much is, and the step is as near to the end
+  level : RestBehind ≡ RestBefore → tries_at q ≡ tries_at p → NoWider
+  level same tries =
+      let nearer = opens_less RankBehind RankBefore (omega (arith, no_more, left_before, left_behind, tries, same)) in
+      omega (arith, nearer, same)
+
+  module _ (fell : left q.player q.store.book < left p.player p.store.book) where
+    nearer_by : RestBehind ≡ RestBefore → Narrows → NoWider
+    nearer_by same (inl tries) = level same tries
+    nearer_by same (inr (inl (more, last))) =
+        let none = opens_none RankBehind (omega (arith, fell, left_before, left_behind, more, last, same)) in
+        omega (arith, none, same)
+    nearer_by same (inr (inr fewer)) = absurd (omega (arith, fewer, same))
+
+    narrower : Narrows → NoWider
+    narrower stays = by (nat_lt RestBehind RestBefore) refl
+      where
+        by : (test : Bool) → nat_lt RestBehind RestBefore ≡ test → NoWider
+        by true e = let fewer = ltb-true RestBehind RestBefore e in omega (arith, fewer, opens_most RankBehind)
+        by false e =
+            let not_fewer = ltb-false RestBehind RestBefore e in
+            nearer_by (omega (arith, not_fewer, fell, left_before, left_behind, most_before)) stays
+
+    -- a SELECT is taken
+    taken : RestBehind ≡ RestBefore → tries_at q ≡ tries_at p → RankBefore ≡ 7 → RestBehind + opens RankBehind ≤ RestBefore
+    taken same tries ranked =
+        let none = opens_none RankBehind (omega (arith, fell, left_before, left_behind, tries, ranked, same)) in
+        omega (arith, none, same)
+
+  -- where the store is the same, and as many mailboxes were resynchronised
+  tries_same : q.store ≡ p.store → tries_at q ≡ tries_at p
+  tries_same same = ap (λ (s : Holding mail). tries_due s.book.queue) same
+
+  rest_same : q.store ≡ p.store → q.player.resynced ≡ p.player.resynced → RestBehind ≡ RestBefore
+  rest_same same resynced =
+      let queue : unsettled q.store.book.queue ≡ unsettled p.store.book.queue = ap (λ (s : Holding mail). unsettled s.book.queue) same in
+      let boxes : length q.store.book.boxes ≡ length p.store.book.boxes = ap (λ (s : Holding mail). length s.book.boxes) same in
+      omega (arith, queue, boxes, resynced)
+
+  -- where no reply is held before and behind it, and none is selected
+  module _ (before : p.held ≡ None) (behind : q.held ≡ None) (none : selects_for (need_at p) ≡ 0) where
+    counts : selects_at p ≡ 0
+    counts = ap (λ (o : Option Held). selects_by o (need_at p)) before ∙ none
+
+    none_before : held_of p.held ≡ 0
+    none_before = ap held_of before
+
+    none_behind : held_of q.held ≡ 0
+    none_behind = ap held_of behind
+
+    goes : Narrows → learnt + learns_for (need_at p) + pending_in q.player.learns ≤ chose → Few
+    goes stays once =
+        let less = narrower (left_less p q behind falls) stays in
+        record {
+          room = omega (arith, short.room, less, counts, none_before, none_behind);
+          few = few;
+          once = omega (arith, once, counts, none_behind);
+        }
+
+  -- a record
+  narrows_by : (event : Event) → Records (need_at p) event →
+      q ≡ record p { store = recorded p.store event; player = committed p.player (after p.store.book event) } → Narrows
+  narrows_by event needed is = by (records_stays p.player p.store.book event needed)
+    where
+      tries_now : tries_at q ≡ tries_due (after p.store.book event).queue
+      tries_now = ap tries_at is
+
+      unsettled_now : unsettled q.store.book.queue ≡ unsettled (after p.store.book event).queue
+      unsettled_now = ap (λ (s : Standing). unsettled s.store.book.queue) is
+
+      boxes_now : length q.store.book.boxes ≡ length (after p.store.book event).boxes
+      boxes_now = ap (λ (s : Standing). length s.store.book.boxes) is
+
+      counted_now : p.player.resynced ≤ q.player.resynced
+      counted_now =
+          subst (λ (s : Standing). p.player.resynced ≤ s.player.resynced) (sym is)
+          (counted_more p.player.learns (due_action (after p.store.book event).queue) (length (after p.store.book event).boxes) p.player.resynced)
+
+      by : Stays p.player p.store.book event → Narrows
+      by (inl same) = inl (tries_now ∙ same)
+      by (inr (inl (more, last))) = inr (inl (tries_now ∙ more, last))
+      by (inr (inr (fewer, boxes))) =
+          let as_many : length (after p.store.book event).boxes ≡ length p.store.book.boxes = ap length boxes in
+          inr (inr (omega (arith, fewer, unsettled_now, boxes_now, as_many, counted_now)))
 
   pub stays_short : Turns p q → Few
   stays_short (records event resting needed is) =
       let none : pending_in q.player.learns ≡ 0 = ap (λ (s : Standing). pending_in s.player.learns) is in
-      by_once resting (ap (λ (s : Standing). s.held) is ∙ resting)
+      let behind : q.held ≡ None = ap (λ (s : Standing). s.held) is ∙ resting in
+      goes resting behind (recorded_selects (need_at p) event needed) (narrows_by event needed is)
       (omega (arith, short.once, learns_few p.player p.store.book, none))
   stays_short (selects name delta resting needed came chosen selected unheld same) =
-      let one : selects_for (need_at p) ≡ 1 = ap selects_for needed in
+      let one : selects_at p ≡ 1 = ap (λ (o : Option Held). selects_by o (need_at p)) resting ∙ ap selects_for needed in
       let no : learns_for (need_at p) ≡ 0 = ap learns_for needed in
-      by_once resting unheld (omega (arith, short.once, pending_most q.player.learns, one, no))
+      let none_before : held_of p.held ≡ 0 = ap held_of resting in
+      let none_behind : held_of q.held ≡ 0 = ap held_of unheld in
+      let ranked : RankBefore ≡ 7 = select_ranked p.player p.store.book name needed in
+      let far : opens RankBefore ≡ 1 = opens_one RankBefore (omega (arith, ranked)) in
+      let fell : left q.player q.store.book < left p.player p.store.book = left_less p q unheld falls in
+      let count = (chosen_keeps p.player q.player p.store.book (Ok delta) chosen).resynced in
+      let shut : RestBehind + opens RankBehind ≤ RestBefore = taken fell (rest_same same count) (tries_same same) ranked in
+      record {
+        room = omega (arith, short.room, shut, one, far, none_before, none_behind);
+        few = few;
+        once = omega (arith, short.once, no, one, none_before, none_behind, pending_most q.player.learns);
+      }
   stays_short (holds h r event resting needed came is tells reset permits selected here same player) =
       let one : selects_at p ≡ 1 = ap (λ (o : Option Held). selects_by o (need_at p)) resting ∙ ap selects_for needed in
       let no : learns_for (need_at p) ≡ 0 = ap learns_for needed in
       let none : held_of p.held ≡ 0 = ap held_of resting in
       let now : held_of q.held ≡ 1 = ap held_of here in
-      let left_same : left q.player q.store.book ≡ left p.player p.store.book =
-      ap (λ (x : Player). left x q.store.book) player ∙ ap (λ (s : Holding mail). left p.player s.book) same in
       let still : pending_in q.player.learns ≡ pending_in p.player.learns = ap (λ (x : Player). pending_in x.learns) player in
+      let less = level (rest_same same (ap (λ (x : Player). x.resynced) player)) (tries_same same) in
       record {
-        room = omega (arith, short.room, one, none, now, left_same);
+        room = omega (arith, short.room, less, one, none, now);
         few = few;
         once = omega (arith, short.once, one, no, still, none, now);
       }
   stays_short (resets h event here needed reset is) =
       let none : selects_at p ≡ 0 = ap (λ (o : Option Held). selects_by o (need_at p)) here in
       let no : learns_for (need_at p) ≡ 0 = ap learns_for needed in
-      let same : held_of q.held ≡ held_of p.held = ap (λ (s : Standing). held_of s.held) is in
+      let held : held_of q.held ≡ held_of p.held = ap (λ (s : Standing). held_of s.held) is in
       let still : pending_in q.player.learns ≡ pending_in p.player.learns = ap (λ (s : Standing). pending_in s.player.learns) is in
-      let no_more : left q.player q.store.book ≤ left p.player p.store.book = left_no_more p q falls in
+      let r = reset_told h.chosen.name (cache_at h.chosen.name p.store.book.boxes) h.told event reset in
+      let tries : tries_at q ≡ tries_at p =
+      ap tries_at is ∙ ap (λ (e : Event). tries_due (after p.store.book e).queue) r.is in
+      let queue : unsettled q.store.book.queue ≡ unsettled p.store.book.queue =
+      ap (λ (s : Standing). unsettled s.store.book.queue) is ∙ ap (λ (e : Event). unsettled (after p.store.book e).queue) r.is in
+      let boxes : length q.store.book.boxes ≡ length p.store.book.boxes =
+      ap (λ (s : Standing). length s.store.book.boxes) is ∙ ap (λ (e : Event). length (after p.store.book e).boxes) r.is
+      ∙ put_length h.chosen.name None p.store.book.boxes in
+      let count : q.player.resynced ≡ p.player.resynced = ap (λ (s : Standing). s.player.resynced) is in
+      let less = level (omega (arith, queue, boxes, count)) tries in
       record {
-        room = omega (arith, short.room, none, same, no_more);
+        room = omega (arith, short.room, less, none, held);
         few = few;
-        once = omega (arith, short.once, none, no, still, same);
+        once = omega (arith, short.once, none, no, still, held);
       }
   stays_short (fetches h delta here needed away came chosen selected permits unheld same) =
       let none : selects_at p ≡ 0 = ap (λ (o : Option Held). selects_by o (need_at p)) here in
       let no : learns_for (need_at p) ≡ 0 = ap learns_for needed in
       let one : held_of p.held ≡ 1 = ap held_of here in
       let gone : held_of q.held ≡ 0 = ap held_of unheld in
-      let ranked : rank_of p.player p.store.book p.player.learns ≡ 7 = select_ranked p.player p.store.book h.chosen.name needed in
+      let ranked : RankBefore ≡ 7 = select_ranked p.player p.store.book h.chosen.name needed in
+      let far : opens RankBefore ≡ 1 = opens_one RankBefore (omega (arith, ranked)) in
       let before : pending_in p.player.learns ≡ 0 = ap pending_in (selects_none p.player p.store.book h.chosen.name needed) in
-      let less : left q.player q.store.book < left p.player p.store.book = left_less p q unheld falls in
+      let fell : left q.player q.store.book < left p.player p.store.book = left_less p q unheld falls in
+      let count = (chosen_keeps p.player q.player p.store.book (Ok delta) chosen).resynced in
+      let shut : RestBehind + opens RankBehind ≤ RestBefore = taken fell (rest_same same count) (tries_same same) ranked in
       record {
-        room = omega (arith, short.room, none, one, gone, ranked, less);
+        room = omega (arith, short.room, shut, far, none, one, gone);
         few = few;
         once = omega (arith, short.once, none, no, before, one, gone, pending_most q.player.learns);
       }
   stays_short (asks tag command r resting needed asked heard selected permits unheld same) =
-      let no = asked_learns (need_at p) p.stage.count tag command needed in
+      let no = asked_learns (need_at p) (tries_at p) p.stage.count tag command needed in
       let still : pending_in q.player.learns ≡ pending_in p.player.learns = ap (λ (x : Player). pending_in x.learns) heard.is in
-      by_once resting unheld (omega (arith, short.once, no, still))
+      goes resting unheld (asked_selects (need_at p) (tries_at p) p.stage.count tag command needed) (inl (tries_same same))
+      (omega (arith, short.once, no, still))
 
 -- a run's turns, and one more
 pub runs_start : (p : Standing) → RunsBetween p p
@@ -296,7 +647,12 @@ runs_on p q r x turn falls = record {
 
 -- a run as it begins
 pub short_first : (alloc : Global) (b : Meaning) → StaysShort (unsettled b.queue + length b.boxes) 0 0 None (begun_with alloc b) b
-short_first alloc b = record { room = omega (arith, left_at_first alloc b); few = omega arith; once = omega arith }
+short_first alloc b =
+    record {
+      room = omega (arith, opens_most (rank_of (begun_with alloc b) b None));
+      few = omega arith;
+      once = omega arith;
+    }
 
 -- and as it ends
 pub short_last : (chose learnt : ℕ) (p : Standing) (b : Meaning) → StaysShort (unsettled b.queue + length b.boxes) chose learnt p.held p.player p.store.book →

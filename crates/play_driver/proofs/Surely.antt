@@ -1,6 +1,6 @@
 -- What is recorded with its reason ends surely.
 use Rattle.action_queue.specs.Book.{Meaning, after}
-use Rattle.action_queue.specs.Queues.{change_first, change_queued, due, settled, settled_then}
+use Rattle.action_queue.specs.Queues.{change_first, change_queued, due, settled, settled_then, tried, tries_due}
 use Rattle.action_queue.specs.declared.event.Event.{Event}
 use Rattle.action_queue.specs.declared.event.Event.TheVariants as events
 use Rattle.action_queue.specs.declared.outcome.Kind.{Kind}
@@ -20,7 +20,7 @@ use Rattle.playback.specs.Why.{WhyEvent, WhyKind, WhyOutcome, is_open}
 use Rattle.std.proofs.Common.{Bool, Err, IsErrOf, List, None, Ok, Option, Result, Some, ap, inl, inr, refl, subst, suc, sym, true, zero, ℕ, ◌∙◌, ◌∷◌, [], ◌≡◌, ◌⊎◌}
 use Rattle.std.proofs.lemmas.Bool.{and_parts, eqb-true}
 use Rattle.std.proofs.lemmas.Option.{same_Some}
-use Rattle.std.specs.Prelude.{is_some, slice_get, ◌==◌}
+use Rattle.std.specs.Prelude.{is_some, slice_get, ◌&&◌, ◌==◌}
 use Rattle.world_traits.specs.Moments.{Clock}
 
 -- an element of a queue in which the first unsettled one was changed: it was there, or it is the changed one
@@ -63,8 +63,9 @@ open_then (kinds.ResetAfterLoss o n) resumed b c unsure why = why.0.open_then
 
 was_due : (entry b : Meaning) → is_open entry b ≡ true → (due b.queue ≡ due entry.queue) × (is_some entry.pending ≡ true)
 was_due entry b opens =
-    let parts = and_parts (is_some entry.pending) (due entry.queue == due b.queue) opens in
-    (sym (eqb-true (due entry.queue) (due b.queue) parts.1), parts.0)
+    let parts = and_parts (is_some entry.pending) ((due entry.queue == due b.queue) && (tries_due entry.queue == tries_due b.queue)) opens in
+    let both = and_parts (due entry.queue == due b.queue) (tries_due entry.queue == tries_due b.queue) parts.1 in
+    (sym (eqb-true (due entry.queue) (due b.queue) both.0), parts.0)
 
 -- the action that is due is settled
 module _ (entry b : Meaning) (c : Course) (n : ℕ) (outcome : Outcome) (sure : EndSurely entry b) (why : WhyOutcome outcome (is_open entry b) b c)
@@ -80,6 +81,23 @@ module _ (entry b : Meaning) (c : Course) (n : ℕ) (outcome : Outcome) (sure : 
       (open_then kind (is_open entry b) b c unsure (subst (λ (o : Outcome). WhyOutcome o (is_open entry b) b c) same why)) in
       inr (at ∙ opens.0, opens.1)
 
+-- an action that ended stays as it was where a try of another is taken back
+ended_then : (tries : ℕ) (q : Queued) (qs : List Queued) (o : Option Outcome) → q.outcome ≡ o → (i : ℕ) (x : Queued) →
+    slice_get (change_queued (tried tries) q qs (change_first (tried tries) qs) o) i ≡ Some x → (out : Outcome) → x.outcome ≡ Some out →
+    ((j : ℕ) (y : Queued) → slice_get (change_first (tried tries) qs) j ≡ Some y → y.outcome ≡ Some out → slice_get qs j ≡ Some y) →
+    slice_get (q ∷ qs) i ≡ Some x
+ended_then tries q qs None e zero x there out is later =
+    let none : None ≡ Some out = sym e ∙ ap (λ (y : Queued). y.outcome) (same_Some (tried tries q) x there) ∙ is in absurd cc
+ended_then tries q qs None e (suc i) x there out is later = there
+ended_then tries q qs (Some old) e zero x there out is later = there
+ended_then tries q qs (Some old) e (suc i) x there out is later = later i x there is
+
+pub ended_there : (tries : ℕ) (queue : List Queued) (i : ℕ) (x : Queued) → slice_get (change_first (tried tries) queue) i ≡ Some x → (out : Outcome) →
+    x.outcome ≡ Some out → slice_get queue i ≡ Some x
+ended_there tries [] i x there out is = there
+ended_there tries (q ∷ qs) i x there out is =
+    ended_then tries q qs q.outcome refl i x there out is (λ j y here ended. ended_there tries qs j y here out ended)
+
 event_surely : (entry b : Meaning) (c : Course) (event : Event) → EndSurely entry b → IsPlayEvent event → WhyEvent event entry b c →
     EndSurely entry (after b event)
 event_surely entry b c (events.Begin names) sure of_play why = absurd of_play
@@ -90,7 +108,8 @@ event_surely entry b c (events.Settle id outcome) sure of_play why = λ i q kind
 event_surely entry b c (events.Learn name delta) sure of_play why = sure
 event_surely entry b c (events.Old id action outcome) sure of_play why = absurd of_play
 event_surely entry b c (events.Reset name kept told) sure of_play why = sure
-event_surely entry b c (events.Withdraw id tries) sure of_play why = absurd of_play
+event_surely entry b c (events.Withdraw id tries) sure of_play why = λ i q kind there is unsure.
+    sure i q kind (ended_there tries b.queue i q there (outcomes.Conflict kind) is) is unsure
 
 pub true_surely : (entry : Meaning) (made now : Clock) (b : Meaning) → IsTrueSince entry made now b → EndSurely entry b
 true_surely entry made now b enters = λ i q kind there is unsure. inl there

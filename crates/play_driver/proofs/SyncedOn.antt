@@ -2,10 +2,11 @@
 use Rattle.action_queue.proofs.Queueing.{settled_all}
 use Rattle.action_queue.specs.Book.{Meaning, after, cache_at, cache_of, known_at, learned, put_cache}
 use Rattle.action_queue.specs.Events.{IsLawful}
-use Rattle.action_queue.specs.Queues.{AllSettled, due, due_action}
+use Rattle.action_queue.specs.Queues.{AllSettled, change_first, change_queued, due, due_action, settled_then, tried}
 use Rattle.action_queue.specs.declared.book.Known.{Known}
 use Rattle.action_queue.specs.declared.event.Event.{Event}
 use Rattle.action_queue.specs.declared.intent.Intent.{Intent}
+use Rattle.action_queue.specs.declared.outcome.Outcome.{Outcome}
 use Rattle.action_queue.specs.declared.queued.Queued.{Queued}
 use Rattle.action_queue.specs.declared.rule.Rule.{Rule}
 use Rattle.mailbox_cache.specs.declared.cache.Cache.{Cache}
@@ -30,7 +31,7 @@ use Rattle.std.proofs.lemmas.Option.{none-some, same_Some, slice_get-map, slice_
 use Rattle.std.proofs.lemmas.Slice.Eq.{bytes_eq-Decides}
 use Rattle.play_driver.specs.declared.session.Held.{Held}
 use Rattle.std.specs.Option.{option_map}
-use Rattle.std.specs.Prelude.{bytes_eq, is_none, is_some, map, nat_lt, slice_get}
+use Rattle.std.specs.Prelude.{IsSome, bytes_eq, is_none, is_some, map, nat_lt, slice_get}
 use Rattle.store_core.specs.Mail.{mail}
 use Rattle.store_core.specs.Steps.{Firm}
 use Rattle.store_core.specs.Taking.{HasBooks, Takes}
@@ -246,6 +247,17 @@ intends_open p b intent none step settled =
     none_intended p b (slice_get b.boxes p.resynced) intent
     (sym (ap (step_due p b) (none_due b.queue settled)) ∙ sym (ap (step_learn p b) none) ∙ step)
 
+-- an action whose try is taken back isn't settled
+open_then : (k : ℕ) (x : Queued) (xs : List Queued) (o : Option Outcome) → x.outcome ≡ o → (q : Queued) →
+    slice_get (x ∷ xs) (settled_then o (due xs)) ≡ Some q → ((y : Queued) → due_action xs ≡ Some y → AllSettled (change_first (tried k) xs) → ⊥) →
+    AllSettled (change_queued (tried k) x xs (change_first (tried k) xs) o) → ⊥
+open_then k x xs None e q there later all = absurd (let some : IsSome {T = Outcome} None = subst IsSome e all.0 in cc)
+open_then k x xs (Some old) e q there later all = later q there all.1
+
+still_open : (k : ℕ) (queue : List Queued) (q : Queued) → due_action queue ≡ Some q → AllSettled (change_first (tried k) queue) → ⊥
+still_open k [] q there all = absurd cc
+still_open k (x ∷ xs) q there all = open_then k x xs x.outcome refl q there (still_open k xs) all
+
 -- So it goes on with the event that the player needs.
 pub synced_on : (start old new : Clock) (p : Player) (b : Meaning) (event : Event) → IsBeside p b → Records (need_of p b) event → IsLawful b event →
     Grows start old → Takes mail (Some b) event old new → HasBooks mail (Firm (Some (after b event))) new.now → IsSyncedSoFar start old None p b →
@@ -261,7 +273,9 @@ synced_on start old new p b event beside needed lawful first takes books so_far 
     by (inr (inl x)) = λ settled.
         synced_anew start old new p b beside first more event x.none x.queued x.there
         (record { book = after b event; books = books; settled = settled })
-    by (inr (inr x)) =
+    by (inr (inr (inr x))) = λ settled.
+        absurd (still_open x.next b.queue x.queued x.there (subst (λ (e : Event). AllSettled (after b e).queue) x.is settled))
+    by (inr (inr (inl x))) =
         subst (λ (e : Event). IsSyncedSoFar start new None (committed p (after b e)) (after b e)) (sym x.is)
         (λ settled. synced_more start old new p b beside first more x.told x.learns
         (learns_known b x.told.name x.told.delta (subst (IsLawful b) x.is lawful)) settled (so_far settled)

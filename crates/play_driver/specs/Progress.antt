@@ -36,7 +36,7 @@ IsPlayEvent (events.Settle id outcome) = Unit {0}
 IsPlayEvent (events.Learn name delta) = Unit {0}
 IsPlayEvent (events.Old id action outcome) = ⊥
 IsPlayEvent (events.Reset name kept told) = Unit {0}
-IsPlayEvent (events.Withdraw id tries) = ⊥
+IsPlayEvent (events.Withdraw id tries) = Unit {0}
 
 -- One book is the other, further on: it has the same mailboxes and the same actions, and each outcome that was there stands.
 pub record IsLater (b c : Meaning) : Type 0 where

@@ -20,7 +20,7 @@ recorded s event = record {
   book = after s.book event;
 }
 
--- an outcome is recorded without taking memory
+-- an outcome is recorded without taking memory, and that a try is taken back
 abbrev pub TakesMemory : Event → Type 0
 TakesMemory (events.Begin names) = Unit {0}
 TakesMemory (events.Accept id action) = Unit {0}
@@ -29,7 +29,7 @@ TakesMemory (events.Settle id outcome) = ⊥
 TakesMemory (events.Learn name delta) = Unit {0}
 TakesMemory (events.Old id action outcome) = Unit {0}
 TakesMemory (events.Reset name kept told) = Unit {0}
-TakesMemory (events.Withdraw id tries) = Unit {0}
+TakesMemory (events.Withdraw id tries) = ⊥
 
 -- Why an event isn't recorded: memory is wanting; or the disk failed; or the journal has no room for it.
 pub data NotRecorded (event : Event) (store : Holding mail) (fault : PlayFault) : Type 0 where

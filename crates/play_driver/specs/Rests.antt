@@ -2,6 +2,7 @@
 use Rattle.std.specs.Prelude.{◌≡◌, false, None, Result, IsErrOf}
 use Rattle.action_queue.specs.Book.{Meaning}
 use Rattle.imap_session.specs.Session.{Follows, Stands}
+use Rattle.journal_core.specs.Sides.{version_written}
 use Rattle.playback.specs.Needs.{IsBeside}
 use Rattle.playback.specs.Worlds.{name_of}
 use Rattle.playback.specs.declared.player.Player.{Player}
@@ -26,10 +27,11 @@ pub record Rests {Self : Type 0} (W : Ghosts Self) (at : Self) (player : Player)
   pub still : W.tells_files → Follows (W.link at).connection (feed_of session)
   pub held : HeldFits (held_in session) player book
 
--- The store has this book, or one further on. Where the disk didn't fail it is as it was left.
+-- The store has this book, or one further on. Where the disk didn't fail it is as it was left, on a journal of the version that is written.
 pub record Stored {Self T : Type 0} (W : Ghosts Self) (at : Self) (seen : Files) (b : Meaning) (store : Holding mail) (result : Result T PlayFault)
     : Type 0 where
   pub fold : IsFold store.book
   pub later : IsLater b store.book
   pub left : W.tells_files → (IsErrOf result faults.Disk → ⊥) → IsAsLeft mail store (W.clock at).now seen
   pub sound_still : (IsErrOf result faults.Disk → ⊥) → store.journal.failed ≡ false
+  pub written : (IsErrOf result faults.Disk → ⊥) → store.journal.version ≡ version_written

@@ -1,12 +1,12 @@
 -- A run's turns, one behind the other, and how many mailboxes it selects (this client's profile of RFC 4549, section 4.2).
-use Rattle.std.specs.Prelude.{◌≡◌, ◌≤◌, ◌<◌, ℕ, ◌+◌, ◌*◌, Option, Some, None, length}
+use Rattle.std.specs.Prelude.{◌≡◌, ◌≤◌, ◌<◌, ℕ, nat_lt, ◌+◌, ◌-◌, ◌*◌, Option, Some, None, if◌then◌else◌, length}
 use Rattle.std.specs.declared.alloc.Global.{Global}
 use Rattle.action_queue.specs.Book.{Meaning, cache_at}
 use Rattle.action_queue.specs.declared.event.Event.{Event}
 use Rattle.action_queue.specs.declared.event.Event.TheVariants as events
 use Rattle.mailbox_cache.specs.declared.cache.Cache.{Cache}
 use Rattle.playback.specs.Choosing.{begun_with}
-use Rattle.playback.specs.Left.{left, unsettled}
+use Rattle.playback.specs.Left.{left, rank_of, unsettled}
 use Rattle.playback.specs.declared.finding.Resynced.{Resynced}
 use Rattle.playback.specs.declared.need.Need.{Need}
 use Rattle.playback.specs.declared.need.Need.TheVariants as needs
@@ -26,6 +26,7 @@ selects_for (needs.Select name) = 1
 selects_for (needs.Ask command) = 0
 selects_for (needs.Commit event) = 0
 selects_for (needs.Settle n outcome) = 0
+selects_for (needs.Withdraw n tries) = 0
 selects_for (needs.Send n command) = 0
 selects_for needs.Finished = 0
 
@@ -54,6 +55,7 @@ learns_for (needs.Select name) = 0
 learns_for (needs.Ask command) = 0
 learns_for (needs.Commit event) = learns_by event
 learns_for (needs.Settle n outcome) = 0
+learns_for (needs.Withdraw n tries) = 0
 learns_for (needs.Send n command) = 0
 learns_for needs.Finished = 0
 
@@ -104,10 +106,18 @@ abbrev pub held_of : Option Held → ℕ
 held_of None = 0
 held_of (Some h) = 1
 
--- So it stays from turn to turn, where at first there were so many actions and mailboxes: with each SELECT eight less are left of the
--- replies and records that a run may have, of which those behind a reply that is held aren't taken yet.
+-- what is still to be played or resynchronised
+abbrev pub rest_of : Player → Meaning → ℕ
+rest_of p b = unsettled b.queue + (length b.boxes - p.resynced)
+
+-- whether a mailbox may still be selected for the first of it: where it isn't yet, its step is that far from the end
+abbrev pub opens : ℕ → ℕ
+opens ranked = if nat_lt 6 ranked then 1 else 0
+
+-- So it stays from turn to turn, where at first there were so many actions and mailboxes: for each of them one mailbox is selected at most, however
+-- often a try is taken back; where a reply is held it is selected for the first of what is left.
 pub record StaysShort (most selects learns : ℕ) (held : Option Held) (p : Player) (b : Meaning) : Type 0 where
-  pub room : 8 * selects + left p b ≤ 8 * most + 14 + 8 * held_of held
+  pub room : selects + rest_of p b + opens (rank_of p b p.learns) ≤ most + 1 + held_of held
   pub few : selects ≤ most
   pub once : learns + pending_in p.learns + held_of held ≤ selects
 

@@ -1,8 +1,8 @@
 -- One turn of playback: what is needed next is done, and what came of it is kept (this client's profile of RFC 4549, section 4.2).
-use Rattle.std.specs.Prelude.{◌≡◌, ℕ, Bool, true, List, Option, Some, None, is_some, Result, Ok}
+use Rattle.std.specs.Prelude.{◌≡◌, ◌≤◌, ℕ, Bool, true, List, Option, Some, None, is_some, Result, Ok}
 use Rattle.std.specs.List.{list_all}
 use Rattle.action_queue.specs.Book.{Meaning, after, cache_at}
-use Rattle.action_queue.specs.Queues.{due_action}
+use Rattle.action_queue.specs.Queues.{due_action, tries_due}
 use Rattle.action_queue.specs.declared.action.Action.{Action}
 use Rattle.action_queue.specs.declared.action.Action.TheVariants as actions
 use Rattle.action_queue.specs.declared.event.Event.{Event}
@@ -24,7 +24,7 @@ use Rattle.imap_session.specs.Sent.{SentFront, joined}
 use Rattle.imap_session.specs.declared.fault.SessionFault.{SessionFault}
 use Rattle.imap_session.specs.declared.permits.Permits.{Permits}
 use Rattle.mail_base.specs.declared.tag.Tag.{Tag}
-use Rattle.mail_base.specs.declared.tag.Tag.TheVariants as tags
+use Rattle.mail_base.specs.Tags.{try_tag}
 use Rattle.mailbox_cache.specs.declared.delta.Delta.{Delta}
 use Rattle.playback.specs.Allowed.{Records, WhyNotChosen}
 use Rattle.playback.specs.Choosing.{IsChosen, IsChosenFault, committed, reset_of}
@@ -74,20 +74,25 @@ standing_of link session store player = record {
 abbrev pub need_at : Standing → Need
 need_at p = need_of p.player p.store.book
 
+-- how many tries of the action that is due were taken back
+abbrev pub tries_at : Standing → ℕ
+tries_at p = tries_due p.store.book.queue
+
 -- a delta waits to be recorded; or this is needed
 abbrev pub IsNext : Option Need → Player → Meaning → Type 0
 IsNext None p b = is_some p.learns ≡ true
 IsNext (Some need) p b = need ≡ need_of p b
 
--- the need is this command, which is asked under this tag where so many questions were asked before: a question under their next number,
--- and an action's command under the action's
-abbrev pub IsAskedFor : Need → ℕ → Tag → Command → Type 0
-IsAskedFor (needs.Select name) count tag command = ⊥
-IsAskedFor (needs.Ask asked) count tag command = (command ≡ asked) × (tag ≡ next_tag count)
-IsAskedFor (needs.Commit event) count tag command = ⊥
-IsAskedFor (needs.Settle n outcome) count tag command = ⊥
-IsAskedFor (needs.Send n sent) count tag command = (command ≡ sent) × (tag ≡ tags.Play n)
-IsAskedFor needs.Finished count tag command = ⊥
+-- the need is this command, which is asked under this tag where so many tries of the action were taken back, and so many questions were asked
+-- before: a question under their next number, and an action's command under that of its try, of which there are three
+abbrev pub IsAskedFor : Need → ℕ → ℕ → Tag → Command → Type 0
+IsAskedFor (needs.Select name) tries count tag command = ⊥
+IsAskedFor (needs.Ask asked) tries count tag command = (command ≡ asked) × (tag ≡ next_tag count)
+IsAskedFor (needs.Commit event) tries count tag command = ⊥
+IsAskedFor (needs.Settle n outcome) tries count tag command = ⊥
+IsAskedFor (needs.Withdraw n k) tries count tag command = ⊥
+IsAskedFor (needs.Send n sent) tries count tag command = (command ≡ sent) × (tag ≡ try_tag n tries) × (tries ≤ 2)
+IsAskedFor needs.Finished tries count tag command = ⊥
 
 -- from one stage to another this command was sent under this tag, and these replies are all that came
 pub record AskedBetween (tag : Tag) (command : Command) (r : Replies) (p q : Stage) : Type 0 where
@@ -141,7 +146,7 @@ pub data Turns (p q : Standing) : Type 0 where
   fetches : (h : Held) (delta : Delta) → p.held ≡ Some h → need_at p ≡ needs.Select h.chosen.name → cache_at h.chosen.name p.store.book.boxes ≡ None →
       RowsCameOf h (Ok delta) p.stage q.stage → IsChosen p.player p.store.book (Ok delta) q.player →
       q.selected ≡ p.selected → q.permits ≡ p.permits → q.held ≡ None → q.store ≡ p.store → Turns p q
-  asks : (tag : Tag) (command : Command) (r : Replies) → p.held ≡ None → IsAskedFor (need_at p) p.stage.count tag command →
+  asks : (tag : Tag) (command : Command) (r : Replies) → p.held ≡ None → IsAskedFor (need_at p) (tries_at p) p.stage.count tag command →
       AskedBetween tag command r p.stage q.stage →
       IsHeard p.player p.store.book (permits_due p.permits (due_action p.store.book.queue)) r q.player →
       q.selected ≡ p.selected → q.permits ≡ p.permits → q.held ≡ None → q.store ≡ p.store → Turns p q
@@ -166,9 +171,9 @@ pub data TurnFails (p : Standing) (link : LinkState) (fault : PlayFault) : Type 
       need_at p ≡ needs.Select h.chosen.name → RowsCameOf h told p.stage q →
       q.link ≡ link → IsChosenFault p.player p.store.book told unheard → WhyNotChosen unheard told p.player p.store.book →
       fault ≡ of_unheard h.chosen.name unheard → TurnFails p link fault
-  not_answered : (tag : Tag) (command : Command) (f : SessionFault) → IsAskedFor (need_at p) p.stage.count tag command →
+  not_answered : (tag : Tag) (command : Command) (f : SessionFault) → IsAskedFor (need_at p) (tries_at p) p.stage.count tag command →
       fault ≡ of_session f → NotAnswered tag command p.stage link f → TurnFails p link fault
   not_heard : (tag : Tag) (command : Command) (r : Replies) (q : Stage) (unheard : Unheard) (name : List ℕ) →
-      p.selected ≡ Some name → IsAskedFor (need_at p) p.stage.count tag command → AskedBetween tag command r p.stage q → q.link ≡ link →
+      p.selected ≡ Some name → IsAskedFor (need_at p) (tries_at p) p.stage.count tag command → AskedBetween tag command r p.stage q → q.link ≡ link →
       IsHeardFault p.player p.store.book (permits_due p.permits (due_action p.store.book.queue)) r unheard →
       fault ≡ of_unheard name unheard → TurnFails p link fault

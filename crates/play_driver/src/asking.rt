@@ -1,7 +1,7 @@
 //! A question, or the command of an action, is asked, and the player takes its reply.
 
 ghost use Rattle.std.specs.Prelude.{is_some, true, ◌≡◌, ◌<◌, ◌+◌, None, Some, IfOk};
-ghost use Rattle.action_queue.specs.Queues.{due_action};
+ghost use Rattle.action_queue.specs.Queues.{due_action, tries_due};
 ghost use Rattle.playback.specs.Left.{left};
 ghost use Rattle.playback.specs.Needs.{need_of};
 ghost use Rattle.store_core.specs.Fold.{IsFold};
@@ -40,7 +40,7 @@ pub(crate) fn ask<W: World>(
     tag: Tag,
     command: &Command,
 ) -> Result<Session, PlayFault>
-    requires needed { IsAskedFor (need_of player.old store.now.book) (count_of session)
+    requires needed { IsAskedFor (need_of player.old store.now.book) (tries_due store.now.book.queue) (count_of session)
         tag command.now }
     requires resting { held_in session ≡ None }
     requires fold { IsFold store.now.book }

@@ -18,11 +18,7 @@ use world_traits::{Clocked, Link};
 
 /// Makes a connection, reads its greeting, logs the user in and enables QRESYNC. The faults are those of the session's calls;
 /// after one the connection isn't used again.
-pub(crate) fn enter<L: Link>(
-    alloc: Global,
-    link: &mut L,
-    account: &Account,
-) -> Result<Ready, SessionFault>
+pub fn enter<L: Link>(alloc: Global, link: &mut L, account: &Account) -> Result<Ready, SessionFault>
     ensures enters { Enters L.Clocked account.now link.old link.new result }
     ensures opened { L.tells_server
         → OnOk result (OpensFrom (L.clock link.old) (L.clock link.new)) }

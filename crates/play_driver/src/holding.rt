@@ -3,6 +3,7 @@
 
 ghost use Rattle.std.specs.Prelude.{◌≡◌, ◌<◌, ◌+◌, None, Ok, Some, IfOk, IsErr, IsErrOf, IsTrue, OnOk};
 ghost use Rattle.action_queue.specs.Book.{cache_at};
+ghost use Rattle.journal_core.specs.Sides.{version_written};
 ghost use Rattle.playback.specs.Choosing.{reset_of};
 ghost use Rattle.store_core.specs.Fold.{IsFold};
 ghost use Rattle.store_core.specs.Holding.{IsAsLeft};
@@ -41,6 +42,7 @@ pub(crate) fn resume<W: World>(
     requires fold { IsFold store.old.book }
     requires rests { Rests W.Clocked world.old player.old store.old.book (sessions.Held held) }
     requires room { held.chosen.conversation.count + 2 < 4294967295 }
+    requires written { store.old.journal.version ≡ version_written }
     requires sound { IsTrue store.old.journal.failed → ⊥ }
     requires left { W.tells_files
         → IsAsLeft mail store.old (W.clock world.old).now (W.seen world.old) }
@@ -77,6 +79,7 @@ fn reset<W: World>(
         held.told ≡ Some event }
     requires fold { IsFold store.old.book }
     requires rests { Rests W.Clocked world.old player.now store.old.book (sessions.Held held) }
+    requires written { store.old.journal.version ≡ version_written }
     requires sound { IsTrue store.old.journal.failed → ⊥ }
     requires left { W.tells_files
         → IsAsLeft mail store.old (W.clock world.old).now (W.seen world.old) }
@@ -94,8 +97,6 @@ fn reset<W: World>(
     ensures rests { IfOk result (Rests W.Clocked world.new player.now store.new.book) }
     ensures stored { Stored W.Clocked world.new (W.seen world.new) store.old.book store.new result }
 {
-    // A store's journal is of the version that is written, by whose rules the event may come.
-    let _version = store.version();
     match enter_event(alloc, store, world, event) {
         Ok(()) => Ok(Session::Held(held)),
         Err(fault) => {

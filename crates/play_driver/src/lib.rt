@@ -19,6 +19,7 @@ mod selecting;
 mod session;
 mod turning;
 
+pub use entering::enter;
 pub use fault::{PlayFault, Why};
 pub use laws::{
     Related, Steady, a_server_may_serve, books_go_on, calls_keep_relations, calls_stay_joined,

@@ -2,6 +2,7 @@
 
 ghost use Rattle.std.specs.Prelude.{◌≡◌, ◌↔◌, ◌<◌, ◌+◌, ◌*◌, IfOk, IsErrOf, IsTrue, OnOk, Some};
 ghost use Rattle.action_queue.specs.Queues.{AllSettled};
+ghost use Rattle.journal_core.specs.Sides.{version_written};
 ghost use Rattle.playback.specs.Kept.{Kept};
 ghost use Rattle.play_driver.specs.Running.{turns_left};
 ghost use Rattle.playback.specs.declared.need.Need.TheVariants as needs;
@@ -49,7 +50,7 @@ use world_traits::{Clocked, Disk, Link, World};
 /// came is no reply, lacks what the server owes, or tells a lower HIGHESTMODSEQ than the cache has, or a lower UIDVALIDITY than the
 /// cache, or an action's message or intent (RFC 9051, section 2.3.1.1); `Lacking` where the server lacks a thing that this client
 /// needs; `Limit` where a limit is passed; `Disk` where the disk failed: then what was to be recorded last is there or not, and the
-/// store isn't used again; `Memory`. To record an outcome takes no memory.
+/// store isn't used again; `Memory`. To record an outcome, or that a try is taken back, takes no memory.
 pub fn play<W: World>(
     alloc: Global,
     store: &mut Store,
@@ -57,6 +58,7 @@ pub fn play<W: World>(
     world: &mut W,
 ) -> Result<Played, PlayFault>
     requires fold { IsFold store.old.book }
+    requires written { store.old.journal.version ≡ version_written }
     requires sound { IsTrue store.old.journal.failed → ⊥ }
     requires left { W.tells_files
         → IsAsLeft mail store.old (W.clock world.old).now (W.seen world.old) }
@@ -120,6 +122,7 @@ fn play_on<W: World>(
     requires rests { Rests W.Clocked world.old player.old store.old.book session }
     requires room { count_of session
         + 2 * turns_left (held_in session) player.old store.old.book + 3 < 4294967295 }
+    requires written { store.old.journal.version ≡ version_written }
     requires sound { IsTrue store.old.journal.failed → ⊥ }
     requires left { W.tells_files
         → IsAsLeft mail store.old (W.clock world.old).now (W.seen world.old) }

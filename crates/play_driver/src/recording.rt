@@ -3,6 +3,7 @@
 ghost use Rattle.std.specs.Prelude.{IfOk, ◌+◌, ◌≡◌, ◌<◌, Some, Ok, IsErr, IsErrOf, IsTrue, None, OnOk, false, is_some, true};
 ghost use Rattle.action_queue.specs.Writable.{IsWritable};
 ghost use Rattle.journal_core.specs.OneSide.{EachOneSide};
+ghost use Rattle.journal_core.specs.Sides.{version_written};
 ghost use Rattle.playback.specs.Allowed.{Records};
 ghost use Rattle.playback.specs.Left.{left};
 ghost use Rattle.playback.specs.Needs.{need_of};
@@ -30,7 +31,7 @@ use store_core::{CommitFault, Store};
 use world_traits::{Clocked, Disk, Link, World};
 
 /// Records the event that the player needs: on the disk, and then in the book; and the player goes on behind it. An outcome is
-/// recorded without taking memory. Its clauses are those of `turn`.
+/// recorded without taking memory, and that a try is taken back. Its clauses are those of `turn`.
 ///
 /// `Limit` where the journal has no room for it; `Memory`. Then nothing has changed. After `Disk` the event is on the disk or not, and
 /// the store isn't used again.
@@ -47,6 +48,7 @@ pub(crate) fn record<W: World>(
     requires fold { IsFold store.old.book }
     requires rests { Rests W.Clocked world.old player.old store.old.book session }
     requires room { count_of session + 2 < 4294967295 }
+    requires written { store.old.journal.version ≡ version_written }
     requires sound { IsTrue store.old.journal.failed → ⊥ }
     requires left { W.tells_files
         → IsAsLeft mail store.old (W.clock world.old).now (W.seen world.old) }
@@ -64,8 +66,6 @@ pub(crate) fn record<W: World>(
     ensures rests { IfOk result (Rests W.Clocked world.new player.new store.new.book) }
     ensures stored { Stored W.Clocked world.new (W.seen world.new) store.old.book store.new result }
 {
-    // A store's journal is of the version that is written, by whose rules the event may come.
-    let _version = store.version();
     enter_event(alloc, store, world, event)?;
     player.committed(store.book());
     Ok(session)
@@ -85,6 +85,7 @@ pub(crate) fn learn<W: World>(
     requires fold { IsFold store.old.book }
     requires rests { Rests W.Clocked world.old player.old store.old.book session }
     requires room { count_of session + 2 < 4294967295 }
+    requires written { store.old.journal.version ≡ version_written }
     requires sound { IsTrue store.old.journal.failed → ⊥ }
     requires left { W.tells_files
         → IsAsLeft mail store.old (W.clock world.old).now (W.seen world.old) }
@@ -102,8 +103,6 @@ pub(crate) fn learn<W: World>(
     ensures rests { IfOk result (Rests W.Clocked world.new player.new store.new.book) }
     ensures stored { Stored W.Clocked world.new (W.seen world.new) store.old.book store.new result }
 {
-    // A store's journal is of the version that is written, by whose rules the event may come.
-    let _version = store.version();
     let told = player.learn(store.book());
     enter_event(alloc, store, world, told)?;
     Ok(session)
@@ -119,6 +118,7 @@ pub(crate) fn enter_event<D: Disk>(
     requires lawful { MayCome store.old.journal.version (Some store.old.book) event }
     requires writable { IsWritable event }
     requires fresh { IsOld event → ⊥ }
+    requires written { store.old.journal.version ≡ version_written }
     requires sound { IsTrue store.old.journal.failed → ⊥ }
     requires left { D.tells_files
         → IsAsLeft mail store.old (D.clock disk.old).now (D.seen disk.old) }
@@ -138,6 +138,7 @@ pub(crate) fn enter_event<D: Disk>(
 {
     match event {
         Event::Settle { id, outcome } => store.settle(disk, id, outcome),
+        Event::Withdraw { id, tries } => store.withdraw(disk, id, tries),
         event => store.commit(alloc, disk, event),
     }
 }

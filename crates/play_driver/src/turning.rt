@@ -4,6 +4,7 @@ ghost use Rattle.std.specs.Prelude.{◌≡◌, ◌≢◌, ◌<◌, ◌+◌, IfOk
 ghost use Rattle.action_queue.specs.Book.{meaning};
 ghost use Rattle.action_queue.specs.declared.event.Event.{Event};
 ghost use Rattle.imap_session.specs.Dialogue.{next_tag};
+ghost use Rattle.journal_core.specs.Sides.{version_written};
 ghost use Rattle.playback.specs.Left.{left};
 ghost use Rattle.playback.specs.Needs.{IsFinished, NeedsNoMemory, need_of};
 ghost use Rattle.playback.specs.declared.need.Need.TheVariants as needs;
@@ -66,6 +67,7 @@ pub(crate) fn turn<W: World>(
     requires fold { IsFold store.old.book }
     requires rests { Rests W.Clocked world.old player.old store.old.book session }
     requires room { count_of session + 2 < 4294967295 }
+    requires written { store.old.journal.version ≡ version_written }
     requires sound { IsTrue store.old.journal.failed → ⊥ }
     requires left { W.tells_files
         → IsAsLeft mail store.old (W.clock world.old).now (W.seen world.old) }
@@ -117,6 +119,7 @@ fn act<W: World>(
     requires fold { IsFold store.old.book }
     requires rests { Rests W.Clocked world.old player.old store.old.book session }
     requires room { count_of session + 2 < 4294967295 }
+    requires written { store.old.journal.version ≡ version_written }
     requires sound { IsTrue store.old.journal.failed → ⊥ }
     requires left { W.tells_files
         → IsAsLeft mail store.old (W.clock world.old).now (W.seen world.old) }
@@ -155,6 +158,7 @@ fn meet<W: World>(
     requires fold { IsFold store.old.book }
     requires rests { Rests W.Clocked world.old player.old store.old.book session }
     requires room { count_of session + 2 < 4294967295 }
+    requires written { store.old.journal.version ≡ version_written }
     requires sound { IsTrue store.old.journal.failed → ⊥ }
     requires left { W.tells_files
         → IsAsLeft mail store.old (W.clock world.old).now (W.seen world.old) }
@@ -183,14 +187,14 @@ fn meet<W: World>(
             let event = Event::Settle { id, outcome };
             record(alloc, session, store, player, world, event)
         }
-        Need::Send(id, command) => ask(
-            session,
-            store,
-            player,
-            world,
-            Tag::Play(id.number()),
-            &command,
-        ),
+        Need::Withdraw(id, tries) => {
+            let event = Event::Withdraw { id, tries };
+            record(alloc, session, store, player, world, event)
+        }
+        Need::Send(id, command) => {
+            let tag = Tag::of_try(id.number(), store.book().tries_due());
+            ask(session, store, player, world, tag, &command)
+        }
         Need::Finished => unreachable!(),
     }
 }

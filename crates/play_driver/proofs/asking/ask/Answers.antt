@@ -1,6 +1,6 @@
 use Rattle.std.proofs.Common.{Bool, Err, None, Option, Some, ap, refl, rules, subst, sym, ◌<◌, ◌≡◌, ◌∙◌}
 use Rattle.action_queue.specs.Book.{Meaning}
-use Rattle.action_queue.specs.Queues.{due_action}
+use Rattle.action_queue.specs.Queues.{due_action, tries_due}
 use Rattle.imap_session.specs.declared.permits.Permits.{Permits}
 use Rattle.playback.specs.Allowed.{IsFair, IsReply}
 use Rattle.playback.specs.Kept.{KeptBook}
@@ -43,28 +43,28 @@ chosen_in-chosen-requires-clause-there g c =
 pub ask-requires-clause-asked : goal.ask-requires-clause-asked
 ask-requires-clause-asked g c =
     let b = c.args.store.now.book in
-    let needed = subst (λ (x : Session). IsAskedFor (need_of c.args.player.now b) (count_of x) c.args.tag c.args.command.now)
+    let needed = subst (λ (x : Session). IsAskedFor (need_of c.args.player.now b) (tries_due b.queue) (count_of x) c.args.tag c.args.command.now)
     c.chosen_in-chosen.ensures c.requires.needed in
     let lawful = lawful_fold c.args.player.now b c.requires.fold c.requires.rests.beside in
-    (askable (need_of c.args.player.now b) c.args.player.now b c.chosen_in-chosen.result.conversation.count c.args.tag c.args.command.now
+    (askable (need_of c.args.player.now b) c.args.player.now b (tries_due b.queue) c.chosen_in-chosen.result.conversation.count c.args.tag c.args.command.now
     needed lawful).asked
 
 pub ask-requires-clause-tagged : goal.ask-requires-clause-tagged
 ask-requires-clause-tagged g c =
     let b = c.args.store.now.book in
-    let needed = subst (λ (x : Session). IsAskedFor (need_of c.args.player.now b) (count_of x) c.args.tag c.args.command.now)
+    let needed = subst (λ (x : Session). IsAskedFor (need_of c.args.player.now b) (tries_due b.queue) (count_of x) c.args.tag c.args.command.now)
     c.chosen_in-chosen.ensures c.requires.needed in
     let lawful = lawful_fold c.args.player.now b c.requires.fold c.requires.rests.beside in
-    (askable (need_of c.args.player.now b) c.args.player.now b c.chosen_in-chosen.result.conversation.count c.args.tag c.args.command.now
+    (askable (need_of c.args.player.now b) c.args.player.now b (tries_due b.queue) c.chosen_in-chosen.result.conversation.count c.args.tag c.args.command.now
     needed lawful).tagged
 
 pub ask-requires-clause-carried : goal.ask-requires-clause-carried
 ask-requires-clause-carried g c =
     let b = c.args.store.now.book in
-    let needed = subst (λ (x : Session). IsAskedFor (need_of c.args.player.now b) (count_of x) c.args.tag c.args.command.now)
+    let needed = subst (λ (x : Session). IsAskedFor (need_of c.args.player.now b) (tries_due b.queue) (count_of x) c.args.tag c.args.command.now)
     c.chosen_in-chosen.ensures c.requires.needed in
     let lawful = lawful_fold c.args.player.now b c.requires.fold c.requires.rests.beside in
-    (askable (need_of c.args.player.now b) c.args.player.now b c.chosen_in-chosen.result.conversation.count c.args.tag c.args.command.now
+    (askable (need_of c.args.player.now b) c.args.player.now b (tries_due b.queue) c.chosen_in-chosen.result.conversation.count c.args.tag c.args.command.now
     needed lawful).carried
 
 -- it wasn't answered
@@ -73,7 +73,7 @@ returns-in_err-answer-clause-goes_on g c =
     let b = c.args.store.now.book in
     let is = c.chosen_in-chosen.ensures in
     let rests = subst (Rests g.W.Clocked c.args.world.now c.args.player.now b) is c.requires.rests in
-    let needed = subst (λ (x : Session). IsAskedFor (need_of c.args.player.now b) (count_of x) c.args.tag c.args.command.now) is c.requires.needed in
+    let needed = subst (λ (x : Session). IsAskedFor (need_of c.args.player.now b) (tries_due b.queue) (count_of x) c.args.tag c.args.command.now) is c.requires.needed in
     let lawful = lawful_fold c.args.player.now b c.requires.fold c.requires.rests.beside in
     goes_over g.W.Clocked c.args.world.now c.ask.new.link c.args.session c.args.player.now c.args.store.now _
     c.requires.rests c.requires.left c.ask.ensures.talks.files _ _
@@ -108,7 +108,7 @@ returns-in_err-answer-clause-takes g c =
     let b = c.args.store.now.book in
     let is = c.chosen_in-chosen.ensures in
     let rests = subst (Rests g.W.Clocked c.args.world.now c.args.player.now b) is c.requires.rests in
-    let needed = subst (λ (x : Session). IsAskedFor (need_of c.args.player.now b) (count_of x) c.args.tag c.args.command.now) is c.requires.needed in
+    let needed = subst (λ (x : Session). IsAskedFor (need_of c.args.player.now b) (tries_due b.queue) (count_of x) c.args.tag c.args.command.now) is c.requires.needed in
     let lawful = lawful_fold c.args.player.now b c.requires.fold c.requires.rests.beside in
     record {
       turns = search rules;
@@ -133,7 +133,7 @@ returns-in_err-answer-clause-excuses g c =
     let b = c.args.store.now.book in
     let is = c.chosen_in-chosen.ensures in
     let rests = subst (Rests g.W.Clocked c.args.world.now c.args.player.now b) is c.requires.rests in
-    let needed = subst (λ (x : Session). IsAskedFor (need_of c.args.player.now b) (count_of x) c.args.tag c.args.command.now) is c.requires.needed in
+    let needed = subst (λ (x : Session). IsAskedFor (need_of c.args.player.now b) (tries_due b.queue) (count_of x) c.args.tag c.args.command.now) is c.requires.needed in
     let lawful = lawful_fold c.args.player.now b c.requires.fold c.requires.rests.beside in
     record {
       faultless = λ t made kept known fair fault is.
@@ -152,7 +152,7 @@ returns-in-Ok-clause-goes_on g c =
     let b = c.args.store.now.book in
     let is = c.chosen_in-chosen.ensures in
     let rests = subst (Rests g.W.Clocked c.args.world.now c.args.player.now b) is c.requires.rests in
-    let needed = subst (λ (x : Session). IsAskedFor (need_of c.args.player.now b) (count_of x) c.args.tag c.args.command.now) is c.requires.needed in
+    let needed = subst (λ (x : Session). IsAskedFor (need_of c.args.player.now b) (tries_due b.queue) (count_of x) c.args.tag c.args.command.now) is c.requires.needed in
     let lawful = lawful_fold c.args.player.now b c.requires.fold c.requires.rests.beside in
     let permits : c.permits_due-permits.result ≡ permits_due c.chosen_in-chosen.result.permits (due_action b.queue) =
     c.permits_due-permits.ensures ∙ ap (λ (x : Meaning). permits_due c.in_ok-answer.answer.0.permits (due_action x.queue)) c.book-book.ensures
@@ -216,7 +216,7 @@ returns-in-Ok-clause-takes g c =
     let b = c.args.store.now.book in
     let is = c.chosen_in-chosen.ensures in
     let rests = subst (Rests g.W.Clocked c.args.world.now c.args.player.now b) is c.requires.rests in
-    let needed = subst (λ (x : Session). IsAskedFor (need_of c.args.player.now b) (count_of x) c.args.tag c.args.command.now) is c.requires.needed in
+    let needed = subst (λ (x : Session). IsAskedFor (need_of c.args.player.now b) (tries_due b.queue) (count_of x) c.args.tag c.args.command.now) is c.requires.needed in
     let lawful = lawful_fold c.args.player.now b c.requires.fold c.requires.rests.beside in
     let permits : c.permits_due-permits.result ≡ permits_due c.chosen_in-chosen.result.permits (due_action b.queue) =
     c.permits_due-permits.ensures ∙ ap (λ (x : Meaning). permits_due c.in_ok-answer.answer.0.permits (due_action x.queue)) c.book-book.ensures
@@ -244,11 +244,11 @@ returns-in-Ok-clause-takes g c =
       same = search rules;
       stays = search rules;
       kept = search rules;
-      entered = λ entry e. record { same = ap (λ (p : Player). p.resumed) only ∙ e.same; further = e.further; pending = e.pending };
+      entered = λ entry e. record { same = ap (λ (p : Player). p.resumed) only ∙ e.same; further = e.further; tries = e.tries; pending = e.pending };
       falls = falls_free (held_in c.args.session) c.requires.resting c.args.player.now c.heard.new.self b b
           (subst (λ (x : Meaning). IsSound x → Awaits (need_of c.args.player.now x) → left c.heard.new.self x < left c.args.player.now x)
           c.book-book.ensures c.in-Ok.ensures.falls (fold_sound b c.requires.fold)
-          (asked_awaits (need_of c.args.player.now b) _ c.args.tag c.args.command.now c.requires.needed));
+          (asked_awaits (need_of c.args.player.now b) _ _ c.args.tag c.args.command.now c.requires.needed));
       counted = search rules;
     }
 
@@ -275,7 +275,7 @@ returns-in-Err-clause-goes_on g c =
     let b = c.args.store.now.book in
     let is = c.chosen_in-chosen.ensures in
     let rests = subst (Rests g.W.Clocked c.args.world.now c.args.player.now b) is c.requires.rests in
-    let needed = subst (λ (x : Session). IsAskedFor (need_of c.args.player.now b) (count_of x) c.args.tag c.args.command.now) is c.requires.needed in
+    let needed = subst (λ (x : Session). IsAskedFor (need_of c.args.player.now b) (tries_due b.queue) (count_of x) c.args.tag c.args.command.now) is c.requires.needed in
     let lawful = lawful_fold c.args.player.now b c.requires.fold c.requires.rests.beside in
     goes_over g.W.Clocked c.args.world.now c.ask.new.link c.args.session c.args.player.now c.args.store.now _
     c.requires.rests c.requires.left c.ask.ensures.talks.files _ _
@@ -310,7 +310,7 @@ returns-in-Err-clause-takes g c =
     let b = c.args.store.now.book in
     let is = c.chosen_in-chosen.ensures in
     let rests = subst (Rests g.W.Clocked c.args.world.now c.args.player.now b) is c.requires.rests in
-    let needed = subst (λ (x : Session). IsAskedFor (need_of c.args.player.now b) (count_of x) c.args.tag c.args.command.now) is c.requires.needed in
+    let needed = subst (λ (x : Session). IsAskedFor (need_of c.args.player.now b) (tries_due b.queue) (count_of x) c.args.tag c.args.command.now) is c.requires.needed in
     let lawful = lawful_fold c.args.player.now b c.requires.fold c.requires.rests.beside in
     let permits : c.permits_due-permits.result ≡ permits_due c.chosen_in-chosen.result.permits (due_action b.queue) =
     c.permits_due-permits.ensures ∙ ap (λ (x : Meaning). permits_due c.in_ok-answer.answer.0.permits (due_action x.queue)) c.book-book.ensures
@@ -347,7 +347,7 @@ returns-in-Err-clause-excuses g c =
     let b = c.args.store.now.book in
     let is = c.chosen_in-chosen.ensures in
     let rests = subst (Rests g.W.Clocked c.args.world.now c.args.player.now b) is c.requires.rests in
-    let needed = subst (λ (x : Session). IsAskedFor (need_of c.args.player.now b) (count_of x) c.args.tag c.args.command.now) is c.requires.needed in
+    let needed = subst (λ (x : Session). IsAskedFor (need_of c.args.player.now b) (tries_due b.queue) (count_of x) c.args.tag c.args.command.now) is c.requires.needed in
     let lawful = lawful_fold c.args.player.now b c.requires.fold c.requires.rests.beside in
     record {
       faultless = λ t made here known fair fault is_err.

@@ -1,4 +1,4 @@
-use Rattle.std.proofs.Common.{Some, ap, refl, rules, subst, sym, ◌≡◌}
+use Rattle.std.proofs.Common.{Some, ap, refl, rules, subst, sym, ◌≡◌, ◌∙◌}
 use Rattle.action_queue.specs.Book.{Meaning, after}
 use Rattle.store_core.specs.Fold.{IsFold, follows}
 use Rattle.store_core.specs.Holding.{Holding}
@@ -25,8 +25,7 @@ use Rattle.play_driver.proofs.holding.reset.Goals as goal
 pub enter_event-requires-clause-lawful : goal.enter_event-requires-clause-lawful
 enter_event-requires-clause-lawful g c =
     let s = c.args.store.now in
-    may_come_ready s.journal.version c.version-version.ensures.written s.book c.args.event (reset_plays c.args.held s.book c.args.event c.requires.due)
-    (reset_comes c.args.held s.book c.args.event c.requires.due)
+    may_come_ready s.journal.version c.requires.written s.book c.args.event (reset_comes c.args.held s.book c.args.event c.requires.due)
 
 pub enter_event-requires-clause-writable : goal.enter_event-requires-clause-writable
 enter_event-requires-clause-writable g c = (reset_comes c.args.held c.args.store.now.book c.args.event c.requires.due).writable
@@ -38,7 +37,7 @@ enter_event-requires-clause-fresh g c = play_new c.args.event (reset_plays c.arg
 pub returns-in-Err-clause-goes_on : goal.returns-in-Err-clause-goes_on
 returns-in-Err-clause-goes_on g c =
     goes_reset g.W.Clocked c.args.world.now c.enter_event.new.disk c.args.held c.args.player.now c.args.store.now c.args.event _
-    c.version-version.ensures.written c.requires.rests c.requires.due c.requires.left c.enter_event.ensures.takes _ _ (search rules)
+    c.requires.written c.requires.rests c.requires.due c.requires.left c.enter_event.ensures.takes _ _ (search rules)
     c.enter_event.ensures.each_one_side c.enter_event.ensures.accuses.link
 
 pub returns-in-Err-clause-reasons : goal.returns-in-Err-clause-reasons
@@ -59,7 +58,7 @@ returns-in-Err-clause-reasons g c = record {
           at = g.W.Clocked.clock c.args.world.now;
           so_far = truly;
           truly = truly_reset g.W.Clocked c.args.world.now c.enter_event.new.disk c.args.held c.args.player.now c.args.store.now c.args.event _
-              c.version-version.ensures.written c.requires.rests c.requires.due c.requires.left c.enter_event.ensures.takes t made entry kept known;
+              c.requires.written c.requires.rests c.requires.due c.requires.left c.enter_event.ensures.takes t made entry kept known;
           takes = c.enter_event.ensures.takes (g.W.Clocked.server_with_files t);
         }),
   );
@@ -74,6 +73,9 @@ returns-in-Err-clause-stored g c = record {
       left_kept g.W.Clocked.clock g.W.Disk.seen c.args.store.now c.enter_event.new.store c.args.world.now c.enter_event.new.disk still.0 still.1
       (c.requires.left t);
   sound_still = search rules;
+  written = λ not.
+      let still = c.enter_event.ensures.kept (search rules) (λ is. not (search rules)) in
+      ap (λ (t : Holding mail). t.journal.version) still.0 ∙ c.requires.written;
 }
 
 pub returns-in-Err-clause-takes : goal.returns-in-Err-clause-takes
@@ -107,7 +109,7 @@ returns-in-Ok-clause-goes_on g c =
     let s = c.args.store.now in
     let is : c.enter_event.new.store.book ≡ after s.book c.args.event = ap (λ (t : Holding mail). t.book) c.in-Ok.ensures.value in
     goes_reset g.W.Clocked c.args.world.now c.enter_event.new.disk c.args.held c.args.player.now s c.args.event _
-    c.version-version.ensures.written c.requires.rests c.requires.due c.requires.left c.enter_event.ensures.takes c.enter_event.new.store.book _
+    c.requires.written c.requires.rests c.requires.due c.requires.left c.enter_event.ensures.takes c.enter_event.new.store.book _
     (λ t made stands known later.
     subst (λ (b : Meaning). KnownAt made (g.W.Clocked.clock c.enter_event.new.disk) c.args.held.chosen.permits (Some c.args.held) c.args.player.now b)
     (sym is) later)
@@ -130,7 +132,7 @@ returns-in-Ok-clause-reasons g c = record {
   truly = λ t made entry kept known others entered truly not.
       true_more c.args.store.now c.enter_event.new.store c.args.event c.in-Ok.ensures.value entry made _ _ truly
       (truly_reset g.W.Clocked c.args.world.now c.enter_event.new.disk c.args.held c.args.player.now c.args.store.now c.args.event _
-      c.version-version.ensures.written c.requires.rests c.requires.due c.requires.left c.enter_event.ensures.takes t made entry kept known)
+      c.requires.written c.requires.rests c.requires.due c.requires.left c.enter_event.ensures.takes t made entry kept known)
       (c.enter_event.ensures.takes (g.W.Clocked.server_with_files t));
   stopped = search rules;
 }
@@ -179,4 +181,5 @@ returns-in-Ok-clause-stored g c =
       later = subst (IsLater s.book) (sym is) (later_event s.book event (reset_plays c.args.held s.book event c.requires.due));
       left = λ t not. c.in-Ok.ensures.left t;
       sound_still = search rules;
+      written = λ not. ap (λ (t : Holding mail). t.journal.version) c.in-Ok.ensures.value ∙ c.requires.written;
     }

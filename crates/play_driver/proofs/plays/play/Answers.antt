@@ -72,6 +72,7 @@ returns-in_err-ready-clause-stored g c = record {
       left_there mail AnyStep c.args.store.now (g.W.Clocked.clock c.args.world.now) (g.W.Clocked.clock c.enter.new.link) _ _ (c.requires.left t)
       (c.enter.ensures.enters.files t) (g.met.W.Disk.seen_is c.enter.new.link t);
   sound_still = search rules;
+  written = λ no_disk. c.requires.written;
 }
 
 pub returns-in_err-ready-clause-why : goal.returns-in_err-ready-clause-why
@@ -172,6 +173,7 @@ returns-in_err-last-clause-stored g c = record {
   later = search rules;
   left = λ t no_disk. c.play_on.ensures.stored.left t (λ is. no_disk (search rules));
   sound_still = search rules;
+  written = λ no_disk. c.play_on.ensures.stored.written (λ is. no_disk (search rules));
 }
 
 pub returns-in_err-last-clause-why : goal.returns-in_err-last-clause-why
@@ -297,6 +299,7 @@ returns-in_err-leave-clause-stored g c = record {
       (c.leave.ensures.talks.files t)
       (g.met.W.Disk.seen_is c.leave.new.link t);
   sound_still = search rules;
+  written = λ no_disk. c.play_on.ensures.stored.written (ok_no_err c.play_on.result c.in_ok-last.last _ c.in_ok-last.was);
 }
 
 pub returns-in_err-leave-clause-complete : goal.returns-in_err-leave-clause-complete
@@ -424,4 +427,5 @@ returns-clause-stored g c = record {
       (c.leave.ensures.talks.files t)
       (g.met.W.Disk.seen_is c.leave.new.link t);
   sound_still = search rules;
+  written = λ no_disk. c.play_on.ensures.stored.written (ok_no_err c.play_on.result c.in_ok-last.last _ c.in_ok-last.was);
 }

@@ -24,6 +24,7 @@ loop-at-init g c = record {
   fold = c.requires.fold;
   rests = c.requires.rests;
   room = c.requires.room;
+  written = c.requires.written;
   sound = c.requires.sound;
   left = c.requires.left;
   progress = λ t. progress_start c.args.store.now.book (g.W.Clocked.clock c.args.world.now);
@@ -115,6 +116,7 @@ returns-then-is_finished-clause-stored g c = record {
   later = search rules;
   left = λ t no_disk. c.loop-at.invariant.left t;
   sound_still = λ no_disk. is_sound c.loop-at.store.journal.failed c.loop-at.invariant.sound;
+  written = λ no_disk. c.loop-at.invariant.written;
 }
 
 pub returns-then-is_finished-clause-reasons : goal.returns-then-is_finished-clause-reasons
@@ -182,6 +184,7 @@ returns-in_err-at-clause-stored g c = record {
   later = later_then c.args.store.now.book c.loop-at.store.book c.turn.new.store.book c.loop-at.invariant.later c.turn.ensures.stored.later;
   left = λ t no_disk. c.turn.ensures.stored.left t (λ is. no_disk (search rules));
   sound_still = λ no_disk. c.turn.ensures.stored.sound_still (λ is. no_disk (search rules));
+  written = λ no_disk. c.turn.ensures.stored.written (λ is. no_disk (search rules));
 }
 
 pub returns-in_err-at-clause-reasons : goal.returns-in_err-at-clause-reasons
@@ -240,6 +243,7 @@ loop-at-preserved g c = record {
   fold = c.turn.ensures.stored.fold;
   rests = c.in_ok-at.ensures.rests;
   room = omega (arith, c.loop-at.invariant.room, c.in_ok-at.ensures.takes.counted, c.in_ok-at.ensures.takes.falls);
+  written = c.turn.ensures.stored.written (λ is. ok_no_err c.turn.result c.in_ok-at.at _ c.in_ok-at.was is);
   sound = search rules;
   left = search rules;
   progress = λ t.

@@ -2,6 +2,7 @@
 use Rattle.std.proofs.Common.{◌≡◌, ◌≤◌, ◌<◌, ◌+◌, ◌*◌, IsTrue}
 use Rattle.action_queue.specs.Book.{Meaning}
 use Rattle.journal_core.specs.OneSide.{EachOneSide}
+use Rattle.journal_core.specs.Sides.{version_written}
 use Rattle.playback.specs.Choosing.{IsEntered}
 use Rattle.playback.specs.Kept.{Kept}
 use Rattle.store_core.specs.Fold.{IsFold}
@@ -29,6 +30,7 @@ invariant-loop-at g l = record {
   fold : IsFold l.store.book;
   rests : Rests g.W.Clocked l.world l.player l.store.book l.at;
   room : count_of l.at + 2 * turns_left (held_in l.at) l.player l.store.book + 3 < 4294967295;
+  written : l.store.journal.version ≡ version_written;
   sound : IsTrue l.store.journal.failed → ⊥;
   left : g.W.Clocked.tells_files → IsAsLeft mail l.store (g.W.Clocked.clock l.world).now (g.W.Disk.seen l.world);
   progress : g.W.Clocked.tells_files → Progresses l.fn.store.book (g.W.Clocked.clock l.fn.world) (g.W.Clocked.clock l.world);

@@ -34,7 +34,7 @@ use Rattle.play_driver.proofs.recording.learn.Goals as goal
 pub enter_event-requires-clause-lawful : goal.enter_event-requires-clause-lawful
 enter_event-requires-clause-lawful g c =
     let s = c.args.store.now in
-    may_come s.journal.version c.version-version.ensures.written c.args.player.now s.book c.learn-told.result c.requires.fold c.requires.rests.beside (learns_event c.args.player.now c.args.store.now.book _ c.learn-told.result c.book.ensures c.learn-told.ensures.value)
+    may_come s.journal.version c.requires.written c.args.player.now s.book c.learn-told.result c.requires.fold c.requires.rests.beside (learns_event c.args.player.now c.args.store.now.book _ c.learn-told.result c.book.ensures c.learn-told.ensures.value)
 
 pub enter_event-requires-clause-writable : goal.enter_event-requires-clause-writable
 enter_event-requires-clause-writable g c =
@@ -47,7 +47,7 @@ enter_event-requires-clause-fresh g c = never_old c.args.player.now c.args.store
 pub returns-in_err-enter_event-clause-goes_on : goal.returns-in_err-enter_event-clause-goes_on
 returns-in_err-enter_event-clause-goes_on g c =
     goes_recorded g.W.Clocked c.args.world.now c.enter_event.new.disk c.args.session c.args.player.now c.args.store.now c.learn-told.result _
-    c.requires.fold c.version-version.ensures.written c.requires.rests c.requires.resting (learns_event c.args.player.now c.args.store.now.book _ c.learn-told.result c.book.ensures c.learn-told.ensures.value) c.requires.left c.enter_event.ensures.takes _ _ _ (search rules)
+    c.requires.fold c.requires.written c.requires.rests c.requires.resting (learns_event c.args.player.now c.args.store.now.book _ c.learn-told.result c.book.ensures c.learn-told.ensures.value) c.requires.left c.enter_event.ensures.takes _ _ _ (search rules)
     c.enter_event.ensures.each_one_side c.enter_event.ensures.accuses.link
 
 pub returns-in_err-enter_event-clause-reasons : goal.returns-in_err-enter_event-clause-reasons
@@ -68,7 +68,7 @@ returns-in_err-enter_event-clause-reasons g c = record {
           at = g.W.Clocked.clock c.args.world.now;
           so_far = truly;
           truly = truly_recorded g.W.Clocked c.args.world.now c.enter_event.new.disk c.args.session c.args.player.now c.args.store.now c.learn-told.result _
-              c.requires.fold c.version-version.ensures.written c.requires.rests c.requires.resting (learns_event c.args.player.now c.args.store.now.book _ c.learn-told.result c.book.ensures c.learn-told.ensures.value) c.requires.left c.enter_event.ensures.takes t made entry kept known entered;
+              c.requires.fold c.requires.written c.requires.rests c.requires.resting (learns_event c.args.player.now c.args.store.now.book _ c.learn-told.result c.book.ensures c.learn-told.ensures.value) c.requires.left c.enter_event.ensures.takes t made entry kept known entered;
           takes = c.enter_event.ensures.takes (g.W.Clocked.server_with_files t);
         }),
   );
@@ -83,6 +83,9 @@ returns-in_err-enter_event-clause-stored g c = record {
       left_kept g.W.Clocked.clock g.W.Disk.seen c.args.store.now c.enter_event.new.store c.args.world.now c.enter_event.new.disk still.0 still.1
       (c.requires.left t);
   sound_still = search rules;
+  written = λ not.
+      let still = c.enter_event.ensures.kept (search rules) (λ is. not (search rules)) in
+      ap (λ (t : Holding mail). t.journal.version) still.0 ∙ c.requires.written;
 }
 
 pub returns-in_err-enter_event-clause-takes : goal.returns-in_err-enter_event-clause-takes
@@ -119,12 +122,12 @@ returns-clause-goes_on g c =
     let is : c.enter_event.new.store.book ≡ after s.book event = ap (λ (t : Holding mail). t.book) c.in_ok-enter_event.ensures.value in
     let goes = learned_goes p c.learn-told.new.self s.book _ event c.book.ensures c.learn-told.ensures.goes in
     goes_recorded g.W.Clocked c.args.world.now c.enter_event.new.disk c.args.session p s event _
-    c.requires.fold c.version-version.ensures.written c.requires.rests c.requires.resting (learns_event c.args.player.now c.args.store.now.book _ c.learn-told.result c.book.ensures c.learn-told.ensures.value) c.requires.left c.enter_event.ensures.takes c.learn-told.new.self c.enter_event.new.store.book _
-    (λ t made stands known. then_rested g.W.Clocked c.args.world.now c.enter_event.new.disk c.args.session p s event _ c.requires.fold c.version-version.ensures.written c.requires.rests c.requires.resting (learns_event c.args.player.now c.args.store.now.book _ c.learn-told.result c.book.ensures c.learn-told.ensures.value) c.requires.left c.enter_event.ensures.takes made c.learn-told.new.self c.enter_event.new.store.book
+    c.requires.fold c.requires.written c.requires.rests c.requires.resting (learns_event c.args.player.now c.args.store.now.book _ c.learn-told.result c.book.ensures c.learn-told.ensures.value) c.requires.left c.enter_event.ensures.takes c.learn-told.new.self c.enter_event.new.store.book _
+    (λ t made stands known. then_rested g.W.Clocked c.args.world.now c.enter_event.new.disk c.args.session p s event _ c.requires.fold c.requires.written c.requires.rests c.requires.resting (learns_event c.args.player.now c.args.store.now.book _ c.learn-told.result c.book.ensures c.learn-told.ensures.value) c.requires.left c.enter_event.ensures.takes made c.learn-told.new.self c.enter_event.new.store.book
     (known_then p c.learn-told.new.self s.book c.enter_event.new.store.book event is (goes ∙ ap (committed p) (sym is))
     made _ _ (known_law.records p s.book event s.journal.version _ made _ _ stands
-    (rested g.W.Clocked c.args.world.now c.enter_event.new.disk c.args.session p s event _ c.requires.fold c.version-version.ensures.written c.requires.rests c.requires.resting (learns_event c.args.player.now c.args.store.now.book _ c.learn-told.result c.book.ensures c.learn-told.ensures.value) c.requires.left c.enter_event.ensures.takes made known) (learns_event c.args.player.now c.args.store.now.book _ c.learn-told.result c.book.ensures c.learn-told.ensures.value)
-    (may_come s.journal.version c.version-version.ensures.written p s.book event c.requires.fold c.requires.rests.beside (learns_event c.args.player.now c.args.store.now.book _ c.learn-told.result c.book.ensures c.learn-told.ensures.value))
+    (rested g.W.Clocked c.args.world.now c.enter_event.new.disk c.args.session p s event _ c.requires.fold c.requires.written c.requires.rests c.requires.resting (learns_event c.args.player.now c.args.store.now.book _ c.learn-told.result c.book.ensures c.learn-told.ensures.value) c.requires.left c.enter_event.ensures.takes made known) (learns_event c.args.player.now c.args.store.now.book _ c.learn-told.result c.book.ensures c.learn-told.ensures.value)
+    (may_come s.journal.version c.requires.written p s.book event c.requires.fold c.requires.rests.beside (learns_event c.args.player.now c.args.store.now.book _ c.learn-told.result c.book.ensures c.learn-told.ensures.value))
     (c.enter_event.ensures.takes (g.W.Clocked.server_with_files t)))))
     c.enter_event.ensures.each_one_side c.enter_event.ensures.accuses.link
 
@@ -142,7 +145,7 @@ returns-clause-synced g c = λ t made start first kept known fair so_far.
     let books =
     subst (λ (b : Meaning). HasBooks mail (Firm (Some b)) new.now) is
     (firm_left c.enter_event.new.store new _ (c.in_ok-enter_event.ensures.left files)) in
-    synced_rested g.W.Clocked c.args.world.now c.enter_event.new.disk c.args.session p s event _ c.requires.fold c.version-version.ensures.written c.requires.rests c.requires.resting (learns_event c.args.player.now c.args.store.now.book _ c.learn-told.result c.book.ensures c.learn-told.ensures.value) c.requires.left c.enter_event.ensures.takes start c.learn-told.new.self c.enter_event.new.store.book
+    synced_rested g.W.Clocked c.args.world.now c.enter_event.new.disk c.args.session p s event _ c.requires.fold c.requires.written c.requires.rests c.requires.resting (learns_event c.args.player.now c.args.store.now.book _ c.learn-told.result c.book.ensures c.learn-told.ensures.value) c.requires.left c.enter_event.ensures.takes start c.learn-told.new.self c.enter_event.new.store.book
     (λ so_free. synced_then p c.learn-told.new.self s.book c.enter_event.new.store.book event is (goes ∙ ap (committed p) (sym is)) start new
     (synced_on start old new p s.book event c.requires.rests.beside (learns_event c.args.player.now c.args.store.now.book _ c.learn-told.result c.book.ensures c.learn-told.ensures.value) lawful first (c.enter_event.ensures.takes files) books so_free)) so_far
 
@@ -151,7 +154,7 @@ returns-clause-reasons g c = record {
   truly = λ t made entry kept known others entered truly not.
       true_more c.args.store.now c.enter_event.new.store c.learn-told.result c.in_ok-enter_event.ensures.value entry made _ _ truly
       (truly_recorded g.W.Clocked c.args.world.now c.enter_event.new.disk c.args.session c.args.player.now c.args.store.now c.learn-told.result _
-      c.requires.fold c.version-version.ensures.written c.requires.rests c.requires.resting (learns_event c.args.player.now c.args.store.now.book _ c.learn-told.result c.book.ensures c.learn-told.ensures.value) c.requires.left c.enter_event.ensures.takes t made entry kept known entered)
+      c.requires.fold c.requires.written c.requires.rests c.requires.resting (learns_event c.args.player.now c.args.store.now.book _ c.learn-told.result c.book.ensures c.learn-told.ensures.value) c.requires.left c.enter_event.ensures.takes t made entry kept known entered)
       (c.enter_event.ensures.takes (g.W.Clocked.server_with_files t));
   stopped = search rules;
 }
@@ -214,4 +217,5 @@ returns-clause-stored g c =
       later = subst (IsLater s.book) (sym is) (later_event s.book event (of_playback p s.book event (learns_event c.args.player.now c.args.store.now.book _ c.learn-told.result c.book.ensures c.learn-told.ensures.value)));
       left = λ t not. c.in_ok-enter_event.ensures.left t;
       sound_still = search rules;
+      written = λ not. ap (λ (t : Holding mail). t.journal.version) c.in_ok-enter_event.ensures.value ∙ c.requires.written;
     }

@@ -32,7 +32,7 @@ use Rattle.play_driver.proofs.recording.record.Goals as goal
 pub enter_event-requires-clause-lawful : goal.enter_event-requires-clause-lawful
 enter_event-requires-clause-lawful g c =
     let s = c.args.store.now in
-    may_come s.journal.version c.version-version.ensures.written c.args.player.now s.book c.args.event c.requires.fold c.requires.rests.beside c.requires.needed
+    may_come s.journal.version c.requires.written c.args.player.now s.book c.args.event c.requires.fold c.requires.rests.beside c.requires.needed
 
 pub enter_event-requires-clause-writable : goal.enter_event-requires-clause-writable
 enter_event-requires-clause-writable g c =
@@ -45,7 +45,7 @@ enter_event-requires-clause-fresh g c = never_old c.args.player.now c.args.store
 pub returns-in_err-enter_event-clause-goes_on : goal.returns-in_err-enter_event-clause-goes_on
 returns-in_err-enter_event-clause-goes_on g c =
     goes_recorded g.W.Clocked c.args.world.now c.enter_event.new.disk c.args.session c.args.player.now c.args.store.now c.args.event _
-    c.requires.fold c.version-version.ensures.written c.requires.rests c.requires.resting c.requires.needed c.requires.left c.enter_event.ensures.takes _ _ _ (search rules)
+    c.requires.fold c.requires.written c.requires.rests c.requires.resting c.requires.needed c.requires.left c.enter_event.ensures.takes _ _ _ (search rules)
     c.enter_event.ensures.each_one_side c.enter_event.ensures.accuses.link
 
 pub returns-in_err-enter_event-clause-reasons : goal.returns-in_err-enter_event-clause-reasons
@@ -66,7 +66,7 @@ returns-in_err-enter_event-clause-reasons g c = record {
           at = g.W.Clocked.clock c.args.world.now;
           so_far = truly;
           truly = truly_recorded g.W.Clocked c.args.world.now c.enter_event.new.disk c.args.session c.args.player.now c.args.store.now c.args.event _
-              c.requires.fold c.version-version.ensures.written c.requires.rests c.requires.resting c.requires.needed c.requires.left c.enter_event.ensures.takes t made entry kept known entered;
+              c.requires.fold c.requires.written c.requires.rests c.requires.resting c.requires.needed c.requires.left c.enter_event.ensures.takes t made entry kept known entered;
           takes = c.enter_event.ensures.takes (g.W.Clocked.server_with_files t);
         }),
   );
@@ -81,6 +81,9 @@ returns-in_err-enter_event-clause-stored g c = record {
       left_kept g.W.Clocked.clock g.W.Disk.seen c.args.store.now c.enter_event.new.store c.args.world.now c.enter_event.new.disk still.0 still.1
       (c.requires.left t);
   sound_still = search rules;
+  written = λ not.
+      let still = c.enter_event.ensures.kept (search rules) (λ is. not (search rules)) in
+      ap (λ (t : Holding mail). t.journal.version) still.0 ∙ c.requires.written;
 }
 
 pub returns-in_err-enter_event-clause-takes : goal.returns-in_err-enter_event-clause-takes
@@ -117,12 +120,12 @@ returns-clause-goes_on g c =
     let is : c.enter_event.new.store.book ≡ after s.book event = ap (λ (t : Holding mail). t.book) c.in_ok-enter_event.ensures.value in
     let goes : c.committed.new.self ≡ committed p (meaning c.book.result.now) = c.committed.ensures.value in
     goes_recorded g.W.Clocked c.args.world.now c.enter_event.new.disk c.args.session p s event _
-    c.requires.fold c.version-version.ensures.written c.requires.rests c.requires.resting c.requires.needed c.requires.left c.enter_event.ensures.takes c.committed.new.self c.enter_event.new.store.book _
-    (λ t made stands known. then_rested g.W.Clocked c.args.world.now c.enter_event.new.disk c.args.session p s event _ c.requires.fold c.version-version.ensures.written c.requires.rests c.requires.resting c.requires.needed c.requires.left c.enter_event.ensures.takes made c.committed.new.self c.enter_event.new.store.book
+    c.requires.fold c.requires.written c.requires.rests c.requires.resting c.requires.needed c.requires.left c.enter_event.ensures.takes c.committed.new.self c.enter_event.new.store.book _
+    (λ t made stands known. then_rested g.W.Clocked c.args.world.now c.enter_event.new.disk c.args.session p s event _ c.requires.fold c.requires.written c.requires.rests c.requires.resting c.requires.needed c.requires.left c.enter_event.ensures.takes made c.committed.new.self c.enter_event.new.store.book
     (known_then p c.committed.new.self s.book c.enter_event.new.store.book event is (goes ∙ ap (committed p) c.book.ensures)
     made _ _ (known_law.records p s.book event s.journal.version _ made _ _ stands
-    (rested g.W.Clocked c.args.world.now c.enter_event.new.disk c.args.session p s event _ c.requires.fold c.version-version.ensures.written c.requires.rests c.requires.resting c.requires.needed c.requires.left c.enter_event.ensures.takes made known) c.requires.needed
-    (may_come s.journal.version c.version-version.ensures.written p s.book event c.requires.fold c.requires.rests.beside c.requires.needed)
+    (rested g.W.Clocked c.args.world.now c.enter_event.new.disk c.args.session p s event _ c.requires.fold c.requires.written c.requires.rests c.requires.resting c.requires.needed c.requires.left c.enter_event.ensures.takes made known) c.requires.needed
+    (may_come s.journal.version c.requires.written p s.book event c.requires.fold c.requires.rests.beside c.requires.needed)
     (c.enter_event.ensures.takes (g.W.Clocked.server_with_files t)))))
     c.enter_event.ensures.each_one_side c.enter_event.ensures.accuses.link
 
@@ -140,7 +143,7 @@ returns-clause-synced g c = λ t made start first kept known fair so_far.
     let books =
     subst (λ (b : Meaning). HasBooks mail (Firm (Some b)) new.now) is
     (firm_left c.enter_event.new.store new _ (c.in_ok-enter_event.ensures.left files)) in
-    synced_rested g.W.Clocked c.args.world.now c.enter_event.new.disk c.args.session p s event _ c.requires.fold c.version-version.ensures.written c.requires.rests c.requires.resting c.requires.needed c.requires.left c.enter_event.ensures.takes start c.committed.new.self c.enter_event.new.store.book
+    synced_rested g.W.Clocked c.args.world.now c.enter_event.new.disk c.args.session p s event _ c.requires.fold c.requires.written c.requires.rests c.requires.resting c.requires.needed c.requires.left c.enter_event.ensures.takes start c.committed.new.self c.enter_event.new.store.book
     (λ so_free. synced_then p c.committed.new.self s.book c.enter_event.new.store.book event is (goes ∙ ap (committed p) c.book.ensures) start new
     (synced_on start old new p s.book event c.requires.rests.beside c.requires.needed lawful first (c.enter_event.ensures.takes files) books so_free)) so_far
 
@@ -149,7 +152,7 @@ returns-clause-reasons g c = record {
   truly = λ t made entry kept known others entered truly not.
       true_more c.args.store.now c.enter_event.new.store c.args.event c.in_ok-enter_event.ensures.value entry made _ _ truly
       (truly_recorded g.W.Clocked c.args.world.now c.enter_event.new.disk c.args.session c.args.player.now c.args.store.now c.args.event _
-      c.requires.fold c.version-version.ensures.written c.requires.rests c.requires.resting c.requires.needed c.requires.left c.enter_event.ensures.takes t made entry kept known entered)
+      c.requires.fold c.requires.written c.requires.rests c.requires.resting c.requires.needed c.requires.left c.enter_event.ensures.takes t made entry kept known entered)
       (c.enter_event.ensures.takes (g.W.Clocked.server_with_files t));
   stopped = search rules;
 }
@@ -202,4 +205,5 @@ returns-clause-stored g c =
       later = subst (IsLater s.book) (sym is) (later_event s.book event (of_playback p s.book event c.requires.needed));
       left = λ t not. c.in_ok-enter_event.ensures.left t;
       sound_still = search rules;
+      written = λ not. ap (λ (t : Holding mail). t.journal.version) c.in_ok-enter_event.ensures.value ∙ c.requires.written;
     }

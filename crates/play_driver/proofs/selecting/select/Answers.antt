@@ -307,7 +307,7 @@ returns-in-Ok-clause-takes g c =
       same = search rules;
       stays = search rules;
       kept = search rules;
-      entered = λ entry e. record { same = stays.resumed ∙ e.same; further = e.further; pending = e.pending };
+      entered = λ entry e. record { same = stays.resumed ∙ e.same; further = e.further; tries = e.tries; pending = e.pending };
       falls = falls_free (held_in c.args.session) c.requires.resting c.args.player.now c.chosen.new.self c.args.store.now.book c.args.store.now.book
           (subst (λ (x : Meaning). (name : List ℕ) → IsSound x → need_of c.args.player.now x ≡ needs.Select name →
           left c.chosen.new.self x < left c.args.player.now x) c.book-book.ensures c.in-Ok.ensures.falls
