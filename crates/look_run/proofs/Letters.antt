@@ -29,6 +29,7 @@ letter_ends n k (Err refusals.Already) s = absurd s
 letter_ends n k (Err (refusals.Reason reason)) s = absurd s
 letter_ends n k (Err refusals.Actions) s = absurd s
 letter_ends n k (Err (refusals.Full end)) s = absurd s
+letter_ends n k (Err refusals.Generation) s = absurd s
 
 -- what became of a look, of which this is the ending
 module _ (look : Look) (k : Course) (s : Status) (x : List ℕ) where
@@ -56,6 +57,7 @@ disk_back refusals.Already is = absurd cc
 disk_back (refusals.Reason reason) is = absurd cc
 disk_back refusals.Actions is = absurd cc
 disk_back (refusals.Full end) is = absurd cc
+disk_back refusals.Generation is = absurd cc
 
 no_words : (x : Refusal) → status_of_refusal x ≡ status.Words → ⊥
 no_words refusals.Disk is = absurd cc
@@ -66,6 +68,7 @@ no_words refusals.Already is = absurd cc
 no_words (refusals.Reason reason) is = absurd cc
 no_words refusals.Actions is = absurd cc
 no_words (refusals.Full end) is = absurd cc
+no_words refusals.Generation is = absurd cc
 
 no_output : (x : Refusal) → status_of_refusal x ≡ status.Output → ⊥
 no_output refusals.Disk is = absurd cc
@@ -76,6 +79,7 @@ no_output refusals.Already is = absurd cc
 no_output (refusals.Reason reason) is = absurd cc
 no_output refusals.Actions is = absurd cc
 no_output (refusals.Full end) is = absurd cc
+no_output refusals.Generation is = absurd cc
 
 no_reason : (x : Refusal) → IsOfReading x → status_of_refusal x ≡ status.Reason → ⊥
 no_reason refusals.Disk reading is = absurd cc
@@ -86,6 +90,7 @@ no_reason refusals.Already reading is = absurd cc
 no_reason (refusals.Reason reason) reading is = absurd reading
 no_reason refusals.Actions reading is = absurd cc
 no_reason (refusals.Full end) reading is = absurd cc
+no_reason refusals.Generation reading is = absurd cc
 
 -- of a history
 module _ (r : Result (List ℕ) Refusal) (s : Status) (said : s ≡ status_of r) where

@@ -40,7 +40,7 @@ use Rattle.journal_core.specs.declared.version.Version.{Version}
 use Rattle.mail_top.specs.Actions.{Becomes, keys_of, next_id, accepts, target_in}
 use Rattle.mail_top.specs.Reading.{Awaits, MessageRead}
 use Rattle.mail_top.specs.Reasons.{IsFree, is_absent, is_bad_flag, open_len, one_if_open}
-use Rattle.mail_top.specs.Weighing.{Admits, Weighed, FlagsAsked, HasNumber, Received}
+use Rattle.mail_top.specs.Weighing.{Admits, Weighed, FlagsAsked, Received}
 use Rattle.mail_top.specs.Words.{Addition, Wanted, Flag, Move, Append, HasFewFlags}
 use Rattle.mail_top.specs.declared.reason.Reason.TheVariants as reasons
 use Rattle.mail_top.specs.declared.refusal.Refusal.{Refusal}
@@ -79,6 +79,7 @@ module _ (addition : Addition) (input : List ℕ) (b : Meaning) where
   append_refused refusals.Already f = absurd f
   append_refused (refusals.NotAJournal why) f = absurd f
   append_refused (refusals.Full end) f = absurd f
+  append_refused refusals.Generation f = absurd f
 
   module _ (keys : List (List ℕ)) (received : Received addition input b (Ok keys)) where
     pub append_awaits : Awaits (Append addition input) b
@@ -101,43 +102,29 @@ module _ (addition : Addition) (input : List ℕ) (b : Meaning) where
     append_read refusals.Already f = absurd f
     append_read (refusals.NotAJournal why) f = absurd f
     append_read (refusals.Full end) f = absurd f
+    append_read refusals.Generation f = absurd f
 
     module _ (both : List ℕ × List ℕ) (message : MessageRead input (Ok both)) where
       append_free : IsFree (Append addition input) b
       append_free = (λ lacks. lacks both.1 message.3, (not_so _ message.2, (not_so _ message.1, received.0)))
 
-      -- a queue that has too many
-      pub append_number : (refusal : Refusal) → HasNumber b.queue (Err refusal) → Weighed (Append addition input) b (Err refusal)
-      append_number refusals.Actions f = (append_free, f)
-      append_number (refusals.Reason reason) f = absurd f
-      append_number refusals.Memory f = absurd f
-      append_number refusals.Input f = absurd f
-      append_number refusals.Disk f = absurd f
-      append_number refusals.Already f = absurd f
-      append_number (refusals.NotAJournal why) f = absurd f
-      append_number (refusals.Full end) f = absurd f
-
-      -- and none of these
-      pub append_admits : (id : ℕ) → HasNumber b.queue (Ok id) →
-          Admits (Append addition input) b id (actions.Append addition.to keys both.0 both.1)
-      append_admits id n = record {
-        free = append_free;
-        few = n.0;
-        number = n.1;
-        is = record {
+      -- and the message is taken
+      append_taken : Weighed (Append addition input) b (Ok (actions.Append addition.to keys both.0 both.1))
+      append_taken = (
+        append_free,
+        record {
           id = both.1;
           has = message.3;
           is =
               ap (λ (ks : List (List ℕ)). actions.Append addition.to ks both.0 both.1) received.1
               ∙ ap (λ (text : List ℕ). actions.Append addition.to (keys_of addition.flags) text both.1) message.0;
-        };
-      }
+        },
+      )
 
       -- the same for a copy of the name
-      pub append_named : (id : ℕ) (name : List ℕ) → name ≡ addition.to → HasNumber b.queue (Ok id) →
-          Admits (Append addition input) b id (actions.Append name keys both.0 both.1)
-      append_named id name same n =
-          subst (λ (to : List ℕ). Admits (Append addition input) b id (actions.Append to keys both.0 both.1)) (sym same) (append_admits id n)
+      pub append_named : (name : List ℕ) → name ≡ addition.to → Weighed (Append addition input) b (Ok (actions.Append name keys both.0 both.1))
+      append_named name same =
+          subst (λ (to : List ℕ). Weighed (Append addition input) b (Ok (actions.Append to keys both.0 both.1))) (sym same) append_taken
 
 -- what has no target is a UID, and there is no cache
 pub no_target : (name : List ℕ) (o : Option Cache) (id : Ident) → target_in name o id ≡ None → (uid : ℕ) × (id ≡ ident.Real uid) × (o ≡ None)
@@ -229,7 +216,7 @@ may_accept v wanted b id action t =
     (same_number (next_id b)) (known_action wanted b action t.free t.is) (good_action wanted b action t.free t.is) (below MAX_ACTIONS (length b.queue) t.few)
 
 -- a refusal that is handed on
-module _ (wanted : Wanted) (b : Meaning) (r : Result (ℕ × Action) Refusal) where
+module _ (wanted : Wanted) (b : Meaning) (r : Result Action Refusal) where
   pub handed : (x : Refusal) → IsErrAnd r (λ refusal. refusal ≡ x) → Weighed wanted b (Err x) → Weighed wanted b r
   handed x given w = subst (Weighed wanted b) (sym (raised r x given)) w
 

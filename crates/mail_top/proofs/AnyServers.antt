@@ -18,6 +18,7 @@ use Rattle.play_driver.specs.Joining.{AnyTwo}
 use Rattle.play_driver.specs.SendsOnce.{SendsOnce}
 use Rattle.mail_top.specs.Actions.{accepts}
 use Rattle.mail_top.specs.AnyServer.{HoldsOn, IsWhole, StandsAny, StaysWhole}
+use Rattle.mail_top.specs.Readying.{LeavesBook, LeavesRead}
 use Rattle.mail_top.specs.Leaving.{IsAdding, IsPlayingRead, KeepsStep, LosesNone, MayBeLeft}
 use Rattle.mail_top.specs.Showing.{OnlyReads}
 use Rattle.mail_top.specs.Words.{Wanted, Act, Play}
@@ -63,8 +64,14 @@ module _ (entry : Moment) (seen : Files) (was : IsWhole entry) where
   playing_whole : (m : Moment) → IsPlayingRead seen m → IsWhole m
   playing_whole m p = record { each = λ files h. let held = p.playing.each files h in record { book = held.book; holds = held.holds } }
 
+  book_whole : (m : Moment) → LeavesBook seen m → IsWhole m
+  book_whole m b = record { each = λ files h. record { book = b.book; holds = b.leaves.each.each files h } }
+
+  read_whole : (m : Moment) → LeavesRead entry seen m → IsWhole m
+  read_whole m left = ⊎_elim (within_whole m) (book_whole m) left
+
   act_left : (wanted : Wanted) (m : Moment) → MayBeLeft (Act wanted) entry seen m → IsWhole m
-  act_left wanted m left = ⊎_elim (within_whole m) (adding_whole wanted m) left
+  act_left wanted m left = ⊎_elim (read_whole m) (adding_whole wanted m) left
 
   play_left : (m : Moment) → MayBeLeft Play entry seen m → IsWhole m
   play_left m left = ⊎_elim (within_whole m) (playing_whole m) left

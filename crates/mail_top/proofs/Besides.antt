@@ -116,6 +116,7 @@ disk_refusal (Err (refusals.NotAJournal why)) is = absurd cc
 disk_refusal (Err (refusals.Reason reason)) is = absurd cc
 disk_refusal (Err refusals.Actions) is = absurd cc
 disk_refusal (Err (refusals.Full end)) is = absurd cc
+disk_refusal (Err refusals.Generation) is = absurd cc
 
 -- a link that stayed has as many faults
 pub same_count : (k l : LinkState) → l ≡ k → k.faults ≤ l.faults

@@ -1,19 +1,21 @@
 -- What each status says follows from what became of the command; and a lawful command ends well.
-use Rattle.std.proofs.Common.{◌≡◌, ◌⊎◌, inl, inr, ⊎_elim, ℕ, ◌≤◌, List, length, refl, sym, ◌∙◌, ap, subst, arith}
+use Rattle.std.proofs.Common.{◌≡◌, ◌⊎◌, inl, inr, ⊎_elim, ℕ, ◌+◌, ◌≤◌, List, length, refl, sym, ◌∙◌, ap, subst, arith}
 use Rattle.std.specs.Prelude.{◌↔◌, true}
 use Rattle.mail_base.specs.declared.limits.TheConstants.{MAX_ACTIONS}
 use Rattle.mail_base.specs.Account.{Credentials}
+use Rattle.mail_base.specs.Bodies.{frame_of}
 use Rattle.mail_base.specs.declared.status.Status.{Status}
 use Rattle.mail_base.specs.declared.status.Status.TheVariants as status
 use Rattle.world_traits.specs.Files.{Files, file_of}
 use Rattle.journal_core.specs.Creating.{IsTaken, IsUnbegun}
-use Rattle.journal_core.specs.Records.{records}
 use Rattle.journal_core.specs.Reading.{AnyWrong}
+use Rattle.journal_core.specs.declared.version.Version.{Version}
 use Rattle.journal_core.proofs.Choice.{open_head}
-use Rattle.journal_core.proofs.Unique.{one_book}
+use Rattle.journal_core.proofs.Unique.{one_book, one_version}
 use Rattle.action_queue.specs.Book.{Meaning}
 use Rattle.action_queue.specs.Rules.{is_unknown}
 use Rattle.action_queue.specs.declared.event.Event.{Event}
+use Rattle.record_codec.specs.Bodies.{body_of}
 use Rattle.store_core.specs.Mail.{mail}
 use Rattle.store_core.specs.Books.{HasBook}
 use Rattle.store_core.proofs.Folding.{one_held}
@@ -21,19 +23,22 @@ use Rattle.store_core.proofs.MailBook.{one_mail_event}
 use Rattle.store_core.proofs.Wholeness.{never_both}
 use Rattle.mail_top.specs.Ending.{Ends, EndsInit, EndsAct, EndsRows, EndsPlay, EndsShown, EndsRequest, IsDone, IsTakable, IsListable}
 use Rattle.mail_top.specs.Runs.{AreBook}
-use Rattle.mail_top.specs.Saying.{SaysRefused, SaysUnknown, SaysFull, PassesPlace}
+use Rattle.mail_top.specs.Saying.{SaysRefused, SaysUnknown, SaysFull, PassesLimit, PassesPlace, PassesTakeover}
 use Rattle.mail_top.specs.Actions.{Becomes, accepts}
 use Rattle.conflict_report.specs.QueueLines.{queue_text}
 use Rattle.conflict_report.specs.ReportLines.{report_text}
 use Rattle.mail_top.specs.CompletePlay.{IsPlayed, IsTheServers}
-use Rattle.mail_top.specs.Course.{Course, end_behind}
+use Rattle.mail_top.specs.Course.{Course, end_behind, end_written}
 use Rattle.mail_top.specs.Played.{CameThrough}
 use Rattle.mail_top.specs.Printing.{IsSaid}
 use Rattle.mail_top.specs.Reasons.{IsFirst, Stops}
 use Rattle.conflict_report.specs.StatusLines.{limit_actions}
+use Rattle.mail_top.specs.Takeover.{IsNotTakenAs}
 use Rattle.mail_top.specs.Words.{Wanted, Request, Init, Act, Rows, Queue, Report, Play, Asks, AsksNothing}
 use Rattle.mail_top.specs.declared.reason.Reason.{Reason}
 use Rattle.mail_top.specs.declared.reason.Reason.TheVariants as reasons
+use Rattle.mail_top.specs.declared.refusal.Refusal.{Refusal}
+use Rattle.mail_top.proofs.Takeovers.{same_generation}
 use Rattle.mail_top.proofs.Wording.{one_request}
 
 -- a failed output says as much of a request as a printed text
@@ -114,9 +119,24 @@ module _ (files : Files) (b c : Meaning) (holds : HasBook mail b files) (held : 
   same_book : b ≡ c
   same_book = one_held mail one_mail_event files b c holds held
 
+  same_version : holds.version ≡ held.version
+  same_version = one_version holds.version held.version holds.bodies held.bodies files holds.holds held.holds
+
   same_end : (e : Event) → end_behind holds e ≡ end_behind held e
-  same_end e = let same = one_book holds.version held.version holds.bodies held.bodies files holds.holds held.holds in
-      omega (arith, ap (λ (l : List (List ℕ)). length (records l)) same)
+  same_end e =
+      let bodies = one_book holds.version held.version holds.bodies held.bodies files holds.holds held.holds in
+      ap (λ (v : Version). end_written v holds.bodies b + length (frame_of (body_of e))) same_version
+      ∙ ap (λ (l : List (List ℕ)). end_written held.version l b + length (frame_of (body_of e))) bodies
+      ∙ ap (λ (x : Meaning). end_written held.version held.bodies x + length (frame_of (body_of e))) same_book
+
+  -- it is taken over, or it isn't, whichever way it is held
+  taken_same : (x : Refusal) → IsNotTakenAs holds.version holds.holds.generation b x → IsNotTakenAs held.version held.holds.generation c x
+  taken_same x why =
+      let generation = same_generation holds.holds.side held.holds.side holds.version held.version holds.holds.generation held.holds.generation files
+      holds.holds.present held.holds.present in
+      subst (λ (y : Meaning). IsNotTakenAs held.version held.holds.generation y x) same_book
+      (subst (λ (g : ℕ). IsNotTakenAs held.version g b x) generation
+      (subst (λ (v : Version). IsNotTakenAs v holds.holds.generation b x) same_version why))
 
 -- the request of an end is the one that is asked for
 pub ended_as : (account : Credentials) (words : List (List ℕ)) (input : List ℕ) (k : Course) (r : Status) (text : List ℕ) (request : Request) →
@@ -153,13 +173,19 @@ module _ (k : Course) (wanted : Wanted) (t : IsTakable wanted k.seen) where
       ap (λ (c : Meaning). end_behind holds (accepts c p.action)) same in
       omega (arith, p.past, fits, there, here)
 
-  never_full : (text : List ℕ) → SaysFull wanted k text → ⊥
-  never_full text s = by_limit s.past
+  never_past : (text : List ℕ) (b : Meaning) → PassesLimit wanted k b text → ⊥
+  never_past text b s = by_limit s.past
     where
-      by_limit : ((MAX_ACTIONS ≤ length s.book.queue) × (text ≡ limit_actions)) ⊎ PassesPlace wanted k s.book s.stays.holds text → ⊥
+      by_limit : ((MAX_ACTIONS ≤ length b.queue) × (text ≡ limit_actions)) ⊎ PassesPlace wanted k b s.stays.holds text → ⊥
       by_limit (inl many) =
-          let same = same_book k.seen s.book t.book s.stays.holds t.holds in omega (arith, many.0, t.few, ap (λ (b : Meaning). length b.queue) same)
-      by_limit (inr long) = never_long text s.book s.stays.holds long
+          let same = same_book k.seen b t.book s.stays.holds t.holds in omega (arith, many.0, t.few, ap (λ (x : Meaning). length x.queue) same)
+      by_limit (inr long) = never_long text b s.stays.holds long
+
+  never_full : (text : List ℕ) → SaysFull wanted k text → ⊥
+  never_full text s =
+      ⊎_elim (λ (past : PassesLimit wanted k s.book text). never_past text s.book past)
+      (λ (older : PassesTakeover k s.book text).
+      t.taken older.refusal older.is_limit (taken_same k.seen s.book t.book older.stays.holds t.holds older.refusal older.limit)) s.past
 
   act_done : (r : Status) (text : List ℕ) → EndsAct wanted k r text → (r ≡ status.Disk → ⊥) → (r ≡ status.Output → ⊥) → (r ≡ status.Input → ⊥) → IsDone r
   act_done status.Done text ends no_disk no_output no_input = inl refl

@@ -101,6 +101,7 @@ done_action (Err (refusals.NotAJournal why)) P is came = absurd is
 done_action (Err (refusals.Reason reason)) P is came = absurd is
 done_action (Err refusals.Actions) P is came = absurd is
 done_action (Err (refusals.Full end)) P is came = absurd is
+done_action (Err refusals.Generation) P is came = absurd is
 
 pub action_done : {T : Type 0} (r : Result T Refusal) (s : Status) (P : Type 0) → s ≡ status_of r → CameThrough s → OnOk r P → P
 action_done r s P status_is is came = done_action r P (subst CameThrough status_is is) came
@@ -116,6 +117,7 @@ input_refusal (Err (refusals.NotAJournal why)) is = absurd cc
 input_refusal (Err (refusals.Reason reason)) is = absurd cc
 input_refusal (Err refusals.Actions) is = absurd cc
 input_refusal (Err (refusals.Full end)) is = absurd cc
+input_refusal (Err refusals.Generation) is = absurd cc
 
 pub input_failed : {T : Type 0} (r : Result T Refusal) (s : Status) → s ≡ status_of r → s ≡ status.Input → r ≡ Err refusals.Input
 input_failed r s status_is is = input_refusal r (sym status_is ∙ is)

@@ -51,6 +51,7 @@ unread input refusals.Disk r = absurd r
 unread input refusals.Already r = absurd r
 unread input (refusals.NotAJournal why) r = absurd r
 unread input (refusals.Full end) r = absurd r
+unread input refusals.Generation r = absurd r
 
 pub unread_message : (input : List ℕ) (o : Result (List ℕ) Refusal) (r : Result (List ℕ × List ℕ) Refusal) (x : Refusal) → o ≡ Err x →
     IsErrAnd r (λ refusal. refusal ≡ x) → InputRead input o → MessageRead input r
@@ -70,6 +71,7 @@ unidentified input text refusals.Disk same fits clean i = absurd i
 unidentified input text refusals.Already same fits clean i = absurd i
 unidentified input text (refusals.NotAJournal why) same fits clean i = absurd i
 unidentified input text (refusals.Full end) same fits clean i = absurd i
+unidentified input text refusals.Generation same fits clean i = absurd i
 
 pub unidentified_message : (input text : List ℕ) (o : Result (List ℕ) Refusal) (r : Result (List ℕ × List ℕ) Refusal) (x : Refusal) → o ≡ Err x →
     IsErrAnd r (λ refusal. refusal ≡ x) → text ≡ crlf_of input → is_large input ≡ false → has_zero input ≡ false → Identified text o → MessageRead input r

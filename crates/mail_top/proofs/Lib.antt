@@ -22,6 +22,7 @@ pub mod Renewals
 pub mod Repeated
 pub mod Sayings
 pub mod Showings
+pub mod Takeovers
 pub mod TrueOutcomes
 pub mod TrueRuns
 pub mod Wording

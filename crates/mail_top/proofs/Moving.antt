@@ -18,7 +18,7 @@ use Rattle.store_core.specs.Mail.{mail, MayCome}
 use Rattle.store_core.specs.Books.{HasBook, HoldsBook}
 use Rattle.store_core.specs.HeldActions.{KeepsActions}
 use Rattle.store_core.specs.Steps.{Firm, Begun}
-use Rattle.store_core.specs.Taking.{ChoosesStep, IsTaking, Takes, BeginsBehind}
+use Rattle.store_core.specs.Taking.{ChoosesStep, HasBooks, IsTaking, Takes, BeginsBehind}
 use Rattle.mail_top.specs.Actions.{accepts, next_id}
 use Rattle.mail_top.specs.Course.{end_behind}
 use Rattle.mail_top.specs.Leaving.{MayBeLeft, OnTheWay, IsDue, StaysOutside, KeepsStep, WordsKeep, RequestStep, WordsStep, KeepsOn, GoesOnBy}
@@ -54,6 +54,12 @@ chooses_step request m n s = record {
 
 pub chooses_steps : (request : Request) (k l : Clock) → Since Any (ChoosesStep mail) k l → Since Any (RequestStep request) k l
 chooses_steps request k l s = since_weaker Any Any (ChoosesStep mail) (RequestStep request) (λ m p. p) (λ m n step. chooses_step request m n step) k l s
+
+-- and those of a book that is told anew
+pub anew_steps : (request : Request) (b : Meaning) (k l : Clock) → Since (HasBooks mail (Firm (Some b))) (ChoosesStep mail) k l →
+    Since Any (RequestStep request) k l
+anew_steps request b k l s = since_weaker (HasBooks mail (Firm (Some b))) Any (ChoosesStep mail) (RequestStep request)
+    (λ m p. tt) (λ m n step. chooses_step request m n step) k l s
 
 -- a step by exact phases of an event that is due
 module _ (request : Request) (v : Version) (b : Option Meaning) (e : Event) (may : MayCome v b e) (due : IsDue request b e) (m n : Moment)
@@ -129,7 +135,14 @@ module _ (wanted : Wanted) (seen : Files) where
   -- the moments of an opening
   pub opens_adding : (entry : Moment) (k l : Clock) → Since (Within entry) KeepsActions k l →
       Since (MayBeLeft (Act wanted) entry seen) (KeepsStep (Act wanted)) k l
-  opens_adding entry k l s = keeps_steps (Act wanted) (Within entry) (MayBeLeft (Act wanted) entry seen) (λ m w. inl w) k l s
+  opens_adding entry k l s = keeps_steps (Act wanted) (Within entry) (MayBeLeft (Act wanted) entry seen) (λ m w. inl (inl w)) k l s
+
+  -- those of a book that is told anew
+  pub anew_adding : (entry : Moment) (b : Meaning) → HasBook mail b seen → (k l : Clock) → Since (HasBooks mail (Firm (Some b))) KeepsActions k l →
+      Since (MayBeLeft (Act wanted) entry seen) (KeepsStep (Act wanted)) k l
+  anew_adding entry b holds k l s =
+      keeps_steps (Act wanted) (HasBooks mail (Firm (Some b))) (MayBeLeft (Act wanted) entry seen)
+      (λ m here. inl (inr (record { book = b; holds = holds; leaves = here }))) k l s
 
   -- and those of the action
   pub takes_adding : (entry : Moment) (b : Meaning) (action : Action) → (holds : HasBook mail b seen) → Admits wanted b (next_id b) action →
@@ -153,7 +166,7 @@ left_now request seen k l start s =
 -- at entry a stop leaves what it leaves
 pub left_start : (request : Request) (seen : Files) (m : Moment) → MayBeLeft request m seen m
 left_start (Init names) seen m = inl (within_self m)
-left_start (Act wanted) seen m = inl (within_self m)
+left_start (Act wanted) seen m = inl (inl (within_self m))
 left_start (Rows name) seen m = within_self m
 left_start Queue seen m = within_self m
 left_start Report seen m = within_self m

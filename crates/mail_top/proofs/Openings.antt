@@ -4,6 +4,7 @@ use Rattle.std.proofs.Common.{◌∙◌, ap}
 use Rattle.std.proofs.Common.{subst, arith}
 use Rattle.std.specs.Prelude.{slice_get}
 use Rattle.std.specs.Result.{IsErrAnd}
+use Rattle.mail_base.specs.declared.limits.TheConstants.{MAX_ACTIONS}
 use Rattle.mail_base.specs.Lines.{accepted, error_disk, error_memory, limit_journal}
 use Rattle.mail_base.specs.declared.status.Status.{Status}
 use Rattle.mail_base.specs.declared.status.Status.TheVariants as status
@@ -18,14 +19,12 @@ use Rattle.journal_core.proofs.HeldBodies.{still_holds}
 use Rattle.action_queue.specs.Book.{Meaning, after}
 use Rattle.action_queue.specs.Queues.{accepted as queued}
 use Rattle.action_queue.specs.declared.action.Action.{Action}
-use Rattle.action_queue.specs.declared.event.Event.{Event}
 use Rattle.action_queue.specs.declared.queued.Queued.{Queued}
 use Rattle.store_core.specs.Mail.{mail}
 use Rattle.store_core.specs.Books.{HasBook}
 use Rattle.store_core.specs.Broken.{IsBroken}
 use Rattle.store_core.specs.HeldActions.{IsHeld}
 use Rattle.store_core.specs.Holding.{Holding, IsAsLeft}
-use Rattle.store_core.specs.Room.{end_after}
 use Rattle.store_core.specs.Steps.{Firm}
 use Rattle.store_core.specs.Taking.{HasBooks}
 use Rattle.store_core.specs.declared.fault.StoreFault.{StoreFault}
@@ -33,15 +32,15 @@ use Rattle.store_core.specs.declared.fault.StoreFault.TheVariants as stores
 use Rattle.store_core.specs.declared.fault.CommitFault.{CommitFault}
 use Rattle.store_core.specs.declared.fault.CommitFault.TheVariants as commits
 use Rattle.store_core.proofs.Choosing.{only_left}
-use Rattle.journal_core.proofs.UpTo.{up_to_here}
 use Rattle.mail_top.specs.Ending.{EndsAct}
-use Rattle.mail_top.specs.Saying.{SaysMemory, SaysBroken, SaysAccepted}
+use Rattle.mail_top.specs.Saying.{PassesPlace, SaysMemory, SaysBroken, SaysAccepted}
 use Rattle.mail_top.specs.Telling.{line_of, status_of, text_of, status_of_refusal, text_of_refusal}
-use Rattle.mail_top.specs.Actions.{accepts}
-use Rattle.mail_top.specs.Course.{Course, Stays, end_behind}
+use Rattle.mail_top.specs.Actions.{Becomes, accepts}
+use Rattle.mail_top.specs.Course.{Course, Stays, StaysWritten, end_behind}
 use Rattle.mail_top.specs.Faults.{of_store, of_commit}
 use Rattle.mail_top.specs.Leaving.{MayBeLeft}
-use Rattle.mail_top.specs.Weighing.{Admits, Weighed}
+use Rattle.mail_top.specs.Reasons.{IsFree}
+use Rattle.mail_top.specs.Weighing.{Admits, HasNumber, Weighed}
 use Rattle.mail_top.specs.Words.{Wanted, Act}
 use Rattle.mail_top.specs.declared.refusal.Refusal.{Refusal}
 use Rattle.mail_top.specs.declared.refusal.Refusal.TheVariants as refusals
@@ -78,7 +77,6 @@ module _ (E : Status → List ℕ → Type 0) (k : Course) (on_memory : SaysMemo
 abbrev pub opened_book : (store : Holding mail) (m : Moment) (seen files : Files) → IsAsLeft mail store m seen → seen ≡ files → HasBook mail store.book files
 opened_book store m seen files left same = record {
   version = store.journal.version;
-  written = left.written;
   bodies = left.bodies;
   holds = subst (Holds store.journal.version left.bodies) same (still_holds store.journal left.bodies m seen left.still left.all_read);
   make = left.make;
@@ -91,11 +89,6 @@ opened_stays k store left same = record {
   leaves = only_left mail store k.new.now k.seen_after left;
   reads = same;
 }
-
--- where the journal ends with an event more
-pub end_is : (store : Holding mail) (m : Moment) (seen files : Files) (left : IsAsLeft mail store m seen) (same : seen ≡ files) (e : Event) →
-    end_behind (opened_book store m seen files left same) e ≡ end_after e store
-end_is store m seen files left same e = omega (arith, (up_to_here left.bodies store.journal m seen left.still).there)
 
 -- an action stands behind the others
 last_there : (qs : List Queued) (q : Queued) → slice_get (qs ++ q ∷ []) (length qs) ≡ Some q
@@ -117,12 +110,13 @@ module _ (wanted : Wanted) (k : Course) (b : Meaning) (within : Within k.old.now
   pub weighed_ends : (x : Refusal) → Weighed wanted b (Err x) → EndsAct wanted k (status_of_refusal x) (text_of_refusal x)
   weighed_ends (refusals.Reason reason) w = record { book = b; stays = stays; reason = reason; is = w; text_is = refl }
   weighed_ends refusals.Input w = record { book = b; stays = stays; awaits = w; text_is = refl }
-  weighed_ends refusals.Actions w = record { book = b; stays = stays; free = w.0; past = inl (w.1, refl) }
-  weighed_ends refusals.Memory w = record { keeps = record { leaves = within; reads = stays.reads }; text_is = refl }
+  weighed_ends refusals.Actions w = absurd w
+  weighed_ends refusals.Memory w = inl (record { keeps = record { leaves = within; reads = stays.reads }; text_is = refl })
   weighed_ends refusals.Disk w = absurd w
   weighed_ends refusals.Already w = absurd w
   weighed_ends (refusals.NotAJournal why) w = absurd w
   weighed_ends (refusals.Full end) w = absurd w
+  weighed_ends refusals.Generation w = absurd w
 
 -- the action was recorded
 pub recorded : (wanted : Wanted) (k : Course) (b : Meaning) (id : ℕ) (action : Action) (holds : HasBook mail b k.seen) → Admits wanted b id action →
@@ -156,13 +150,19 @@ module _ {S T : Type 0} (o : Result S StoreFault) (r : Result T Refusal) (x : St
 
   pub unopened_act : (wanted : Wanted) → EndsAct wanted k (status_of r) (text_of told r)
   unopened_act wanted = subst (λ (q : Result T Refusal). EndsAct wanted k (status_of q) (text_of told q)) (sym (raised r (of_store x) given))
-      (unopened (EndsAct wanted k) k (λ s. s) (λ w. record { leaves = inl w; text_is = refl }) (λ why s. s) x within
+      (unopened (EndsAct wanted k) k (λ s. inl s) (λ w. record { leaves = inl (inl w); text_is = refl }) (λ why s. s) x within
       (λ other. reads (λ is. other (back is))) (λ is. only.0 (at stores.Already is)) (λ end wanted is. only.1 end wanted (at (stores.Full end wanted) is))
       (λ why is. broken why (at (stores.NotAJournal why) is)))
 
+-- so it is told by a result that hands a refusal on
+pub act_told : {T : Type 0} (wanted : Wanted) (k : Course) (told : T → List ℕ) (r : Result T Refusal) (x : Refusal) → IsErrAnd r (λ refusal. refusal ≡ x) →
+    EndsAct wanted k (status_of_refusal x) (text_of_refusal x) → EndsAct wanted k (status_of r) (text_of told r)
+act_told {T} wanted k told r x given ends =
+    subst (λ (q : Result T Refusal). EndsAct wanted k (status_of q) (text_of told q)) (sym (raised r x given)) ends
+
 -- At a result that handed on what the book says of an action.
 pub weighed_act : {T : Type 0} (wanted : Wanted) (k : Course) (b : Meaning) (within : Within k.old.now k.new.now) (stays : Stays k b) (told : T → List ℕ)
-    (w : Result (ℕ × Action) Refusal) (r : Result T Refusal) (x : Refusal) → w ≡ Err x → IsErrAnd r (λ refusal. refusal ≡ x) → Weighed wanted b w →
+    (w : Result Action Refusal) (r : Result T Refusal) (x : Refusal) → w ≡ Err x → IsErrAnd r (λ refusal. refusal ≡ x) → Weighed wanted b w →
     EndsAct wanted k (status_of r) (text_of told r)
 weighed_act {T} wanted k b within stays told w r x was given weighs =
     subst (λ (q : Result T Refusal). EndsAct wanted k (status_of q) (text_of told q)) (sym (raised r x given))
@@ -172,29 +172,68 @@ weighed_act {T} wanted k b within stays told w r x was given weighs =
 -- another all is as it was.
 module _ {S T : Type 0} (wanted : Wanted) (k : Course) (told : T → List ℕ) (o : Result S CommitFault) (r : Result T Refusal) (x : CommitFault) (was : o ≡ Err x)
     (given : IsErrAnd r (λ refusal. refusal ≡ of_commit x)) (leaves : MayBeLeft (Act wanted) k.old.now k.seen k.new.now) where
-  pub unrecorded_act : (b : Meaning) (id : ℕ) (action : Action) → Admits wanted b id action →
+  pub unrecorded_act : (b : Meaning) (action : Action) → IsFree wanted b → length b.queue < MAX_ACTIONS → Becomes wanted b action →
       (holds : HasBook mail b k.seen) →
-      ((o ≡ Err commits.Disk → ⊥) → Within k.old.now k.new.now × HasBooks mail (Firm (Some b)) k.new.now × (k.seen_after ≡ k.seen)) →
-      ((end wanted : ℕ) → o ≡ Err (commits.Full end wanted) →
-      (max_accepted < end_behind holds (accepts b action)) × (wanted ≡ told_end (end_behind holds (accepts b action)))) →
+      ((o ≡ Err commits.Disk → ⊥) → (s : StaysWritten k b) × (s.holds ≡ holds)) →
+      ((end place : ℕ) → o ≡ Err (commits.Full end place) →
+      (max_accepted < end_behind holds (accepts b action)) × (place ≡ told_end (end_behind holds (accepts b action)))) →
       EndsAct wanted k (status_of r) (text_of told r)
-  unrecorded_act b id action takes holds kept full =
+  unrecorded_act b action free few becomes holds kept full =
       subst (λ (q : Result T Refusal). EndsAct wanted k (status_of q) (text_of told q)) (sym (raised r (of_commit x) given)) (by_fault x was)
     where
       by_fault : (y : CommitFault) → o ≡ Err y → EndsAct wanted k (status_of_refusal (of_commit y)) (text_of_refusal (of_commit y))
       by_fault commits.Disk is = record { leaves = leaves; text_is = refl }
       by_fault commits.Memory is =
           let all = kept (λ e. let never : Err commits.Memory ≡ Err commits.Disk = sym is ∙ e in cc) in
-          record { keeps = record { leaves = all.0; reads = all.2 }; text_is = refl }
-      by_fault (commits.Full end wanted) is =
-          let all = kept (λ e. let never : Err (commits.Full end wanted) ≡ Err commits.Disk = sym is ∙ e in cc) in
-          let past = full end wanted is in record {
+          inr (record { book = b; stays = all.0; text_is = refl })
+      by_fault (commits.Full end place) is =
+          let all = kept (λ e. let never : Err (commits.Full end place) ≡ Err commits.Disk = sym is ∙ e in cc) in
+          let past = full end place is in
+          record {
             book = b;
-            stays = record { holds = holds; leaves = all.1; reads = all.2 };
-            free = takes.free;
-            past =
-                inr (record { few = takes.few; action = action; is = takes.is; past = past.0; text_is = ap limit_journal past.1 });
+            free = free;
+            past = inl (record {
+              stays = all.0;
+              past = inr (subst (λ (h : HasBook mail b k.seen). PassesPlace wanted k b h (limit_journal place)) (sym all.1)
+                  (record { few = few; action = action; is = becomes; past = past.0; text_is = ap limit_journal past.1 }));
+            });
           }
+
+-- The queue would have too many actions.
+module _ (wanted : Wanted) (k : Course) (b : Meaning) (free : IsFree wanted b) (stays : StaysWritten k b) where
+  full_ends : (x : Refusal) → HasNumber b.queue (Err x) → EndsAct wanted k (status_of_refusal x) (text_of_refusal x)
+  full_ends refusals.Actions n = record { book = b; free = free; past = inl (record { stays = stays; past = inl (n, refl) }) }
+  full_ends (refusals.Reason reason) n = absurd n
+  full_ends refusals.Memory n = absurd n
+  full_ends refusals.Input n = absurd n
+  full_ends refusals.Disk n = absurd n
+  full_ends refusals.Already n = absurd n
+  full_ends (refusals.NotAJournal why) n = absurd n
+  full_ends (refusals.Full end) n = absurd n
+  full_ends refusals.Generation n = absurd n
+
+  pub full_act : {T : Type 0} (told : T → List ℕ) (o : Result ℕ Refusal) (r : Result T Refusal) (x : Refusal) → o ≡ Err x →
+      IsErrAnd r (λ refusal. refusal ≡ x) → HasNumber b.queue o → EndsAct wanted k (status_of r) (text_of told r)
+  full_act {T} told o r x was given number =
+      subst (λ (q : Result T Refusal). EndsAct wanted k (status_of q) (text_of told q)) (sym (raised r x given))
+      (full_ends x (subst (HasNumber b.queue) was number))
+
+-- A number isn't wanting for another cause.
+module _ {T : Type 0} (queue : List Queued) (o : Result ℕ Refusal) (r : Result T Refusal) (x : Refusal) (was : o ≡ Err x)
+    (given : IsErrAnd r (λ refusal. refusal ≡ x)) (number : HasNumber queue o) where
+  numbered : (y : Refusal) → r ≡ Err y → HasNumber queue (Err y)
+  numbered y is =
+      let same : x ≡ y = cc (raised r x given, is) in
+      subst (λ (z : Refusal). HasNumber queue (Err z)) same (subst (HasNumber queue) was number)
+
+  pub number_disk : r ≡ Err refusals.Disk → ⊥
+  number_disk is = numbered refusals.Disk is
+
+  pub number_input : r ≡ Err refusals.Input → ⊥
+  number_input is = numbered refusals.Input is
+
+  pub number_already : r ≡ Err refusals.Already → ⊥
+  number_already is = numbered refusals.Already is
 
 -- which fault of a part it was
 store_disk_back : (x : StoreFault) → of_store x ≡ refusals.Disk → x ≡ stores.Disk
@@ -266,7 +305,7 @@ module _ {S T : Type 0} (o : Result S CommitFault) (r : Result T Refusal) (x : C
   commit_already is = let same : of_commit x ≡ refusals.Already = cc (raised r (of_commit x) given, is) in commit_already_back x same
 
 -- what the book says of an action is no fault of the disk
-module _ {T : Type 0} (wanted : Wanted) (b : Meaning) (w : Result (ℕ × Action) Refusal) (r : Result T Refusal) (x : Refusal) (was : w ≡ Err x)
+module _ {T : Type 0} (wanted : Wanted) (b : Meaning) (w : Result Action Refusal) (r : Result T Refusal) (x : Refusal) (was : w ≡ Err x)
     (given : IsErrAnd r (λ refusal. refusal ≡ x)) (weighs : Weighed wanted b w) where
   pub weighed_disk : r ≡ Err refusals.Disk → ⊥
   weighed_disk is =
@@ -278,7 +317,15 @@ module _ {T : Type 0} (wanted : Wanted) (b : Meaning) (w : Result (ℕ × Action
       let same : x ≡ refusals.Already = cc (raised r x given, is) in
       subst (λ (y : Refusal). Weighed wanted b (Err y)) same (subst (Weighed wanted b) was weighs)
 
--- an input that failed is handed on
+-- a refusal is handed on as it is
+module _ {S T : Type 0} (w : Result S Refusal) (r : Result T Refusal) (x : Refusal) (was : w ≡ Err x) (given : IsErrAnd r (λ refusal. refusal ≡ x)) where
+  pub handed_back : (y : Refusal) → r ≡ Err y → w ≡ Err y
+  handed_back y is = let same : x ≡ y = cc (raised r x given, is) in was ∙ ap (λ (z : Refusal). Err z) same
+
+  pub handed_on : (y : Refusal) → w ≡ Err y → r ≡ Err y
+  handed_on y is = let same : x ≡ y = cc (was, is) in raised r x given ∙ ap (λ (z : Refusal). Err z) same
+
+-- and so is an input that failed
 pub weighed_input : {S T : Type 0} (w : Result S Refusal) (r : Result T Refusal) (x : Refusal) → w ≡ Err x → IsErrAnd r (λ refusal. refusal ≡ x) →
     r ≡ Err refusals.Input → w ≡ Err refusals.Input
-weighed_input w r x was given is = let same : x ≡ refusals.Input = cc (raised r x given, is) in was ∙ ap (λ (y : Refusal). Err y) same
+weighed_input w r x was given is = handed_back w r x was given refusals.Input is

@@ -12,8 +12,6 @@ use Rattle.action_queue.specs.Book.{Meaning}
 use Rattle.store_core.specs.Books.{HasBook}
 use Rattle.store_core.specs.HeldActions.{KeepsActions}
 use Rattle.store_core.specs.Mail.{mail}
-use Rattle.store_core.specs.declared.fault.StoreFault.{StoreFault}
-use Rattle.store_core.specs.declared.fault.StoreFault.TheVariants as stores
 use Rattle.store_core.proofs.MailBook.{one_mail_event}
 use Rattle.store_core.proofs.Folding.{one_held}
 use Rattle.play_driver.specs.Faults.{ComesAnyway}
@@ -27,8 +25,9 @@ use Rattle.play_driver.specs.declared.played.Played.{Played}
 use Rattle.play_driver.proofs.Longer.{in_order}
 use Rattle.play_driver.proofs.Parts.{grows, grows_start, since_second}
 use Rattle.mail_top.specs.CompletePlay.{HasEachBox, IsTheServers}
-use Rattle.mail_top.specs.Faults.{of_store}
 use Rattle.mail_top.specs.Telling.{status_of_conflicts, status_of_fault, status_of_play, status_of_refusal}
+use Rattle.mail_top.specs.declared.refusal.Refusal.{Refusal}
+use Rattle.mail_top.specs.declared.refusal.Refusal.TheVariants as refusals
 use Rattle.mail_top.specs.declared.unfinished.Unfinished.{Unfinished}
 use Rattle.mail_top.specs.declared.unfinished.Unfinished.TheVariants as ends
 use Rattle.mail_top.proofs.Sayings.{ended_by}
@@ -75,20 +74,24 @@ fault_serves (faults.BadReply why) comes bad = comes
 fault_serves (faults.Lacking what) comes bad = comes
 fault_serves (faults.Limit which number) comes bad = bad
 
-store_serves : (x : StoreFault) → IsTheServers (status_of_refusal (of_store x)) → ⊥
-store_serves stores.Memory bad = bad
-store_serves stores.Disk bad = bad
-store_serves stores.Already bad = bad
-store_serves (stores.Full end wanted) bad = bad
-store_serves (stores.NotAJournal why) bad = bad
+refusal_serves : (x : Refusal) → IsTheServers (status_of_refusal x) → ⊥
+refusal_serves refusals.Disk bad = bad
+refusal_serves refusals.Memory bad = bad
+refusal_serves refusals.Input bad = bad
+refusal_serves refusals.Already bad = bad
+refusal_serves (refusals.NotAJournal why) bad = bad
+refusal_serves (refusals.Reason reason) bad = bad
+refusal_serves refusals.Actions bad = bad
+refusal_serves (refusals.Full end) bad = bad
+refusal_serves refusals.Generation bad = bad
 
 conflicts_serve : (n : ℕ) → IsTheServers (status_of_conflicts n) → ⊥
 conflicts_serve zero bad = bad
 conflicts_serve (suc n) bad = bad
 
 module _ (r : Result Played Unfinished) where
-  pub opening_serves : (x : StoreFault) → IsErrAnd r (λ end. end ≡ ends.Unopened x) → IsTheServers (status_of_play r) → ⊥
-  opening_serves x given bad = store_serves x (subst (λ (s : Result Played Unfinished). IsTheServers (status_of_play s)) (ended_by r (ends.Unopened x) given) bad)
+  pub opening_serves : (x : Refusal) → IsErrAnd r (λ end. end ≡ ends.Unopened x) → IsTheServers (status_of_play r) → ⊥
+  opening_serves x given bad = refusal_serves x (subst (λ (s : Result Played Unfinished). IsTheServers (status_of_play s)) (ended_by r (ends.Unopened x) given) bad)
 
   pub run_serves : (x : PlayFault) → IsErrAnd r (λ end. end ≡ ends.Stopped x) → ComesAnyway x → IsTheServers (status_of_play r) → ⊥
   run_serves x given comes bad =

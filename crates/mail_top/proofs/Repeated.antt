@@ -134,7 +134,10 @@ module _ (words : List (List ℕ)) (input : List ℕ) (seen : Files) (entry : Mo
   left_ready (Init names) m (inr images) = record {
     each = λ files h. ⊎_elim (λ none. inl none) (λ (b : HasBook mail (begun names) files). inr (book_as (begun names) files b)) (images.each files h);
   }
-  left_ready (Act wanted) m (inl w) = within_ready m w
+  left_ready (Act wanted) m (inl (inl w)) = within_ready m w
+  left_ready (Act wanted) m (inl (inr left)) = record {
+    each = λ files h. inr (book_as left.book files (left.leaves.each.each files h));
+  }
   left_ready (Act wanted) m (inr a) = record {
     each = λ files h. ⊎_elim (λ (b : HasBook mail a.book files). inr (book_as a.book files b))
         (λ (b : HasBook mail (after a.book (accepts a.book a.action)) files). inr (book_as (after a.book (accepts a.book a.action)) files b))
@@ -320,7 +323,7 @@ play_names names b (events.Settle id outcome) of_play has = has
 play_names names b (events.Learn name delta) of_play has = put_names name (Some (learned (cache_at name b.boxes) delta)) b.boxes ∙ has
 play_names names b (events.Old id action outcome) of_play has = absurd of_play
 play_names names b (events.Reset name kept told) of_play has = put_names name None b.boxes ∙ has
-play_names names b (events.Withdraw id tries) of_play has = absurd of_play
+play_names names b (events.Withdraw id tries) of_play has = has
 
 -- an event that may be begun behind a book leaves its mailboxes
 names_stay : (names : List (List ℕ)) (request : Request) (b : Option Meaning) (e : Event) → IsDue request b e → HasNames names b →

@@ -11,8 +11,6 @@ use Rattle.action_queue.specs.declared.event.Event.{Event}
 use Rattle.store_core.specs.Mail.{mail}
 use Rattle.store_core.specs.Holding.{Holding, IsAsLeft}
 use Rattle.store_core.specs.Taking.{IsTaking}
-use Rattle.store_core.specs.declared.fault.StoreFault.{StoreFault}
-use Rattle.store_core.specs.declared.fault.StoreFault.TheVariants as stores
 use Rattle.store_core.proofs.Choosing.{only_left}
 use Rattle.play_driver.specs.Counted.{played_since}
 use Rattle.play_driver.specs.Playing.{Plays, EndsEarly}
@@ -22,11 +20,11 @@ use Rattle.play_driver.specs.declared.fault.PlayFault.TheVariants as faults
 use Rattle.play_driver.specs.declared.fault.Why.{Why}
 use Rattle.play_driver.specs.declared.fault.Why.TheVariants as whys
 use Rattle.play_driver.specs.declared.played.Played.{Played}
-use Rattle.mail_top.specs.Course.{Course}
+use Rattle.mail_top.specs.Course.{Course, OnFiles}
 use Rattle.mail_top.specs.Ending.{EndsPlay, EndsRequest}
-use Rattle.mail_top.specs.Faults.{of_store}
 use Rattle.mail_top.specs.Played.{CameThrough, SaysPlayed, SaysStopped}
-use Rattle.mail_top.specs.Readying.{IsOpened, IsUnready}
+use Rattle.mail_top.specs.Readying.{IsLeftOlder, IsOpened, IsUnready}
+use Rattle.mail_top.specs.Saying.{SaysOlder}
 use Rattle.mail_top.specs.Telling.{TellsNoPlace, status_of, status_of_refusal, status_of_fault, text_of_fault, text_of_refusal}
 use Rattle.mail_top.specs.Telling.{status_of_conflicts, status_of_play, text_of_play}
 use Rattle.mail_top.specs.Words.{Wanted, Request, Init, Act, Rows, Queue, Report, Play}
@@ -47,31 +45,50 @@ pub by_result : (account : Credentials) (k : Course) (r s : Result Played Unfini
 by_result account k r s is says = subst (λ (q : Result Played Unfinished). EndsPlay account k (status_of_play q) (text_of_play q)) (sym is) says
 
 -- the journal isn't ready
-pub unready_play : {S : Type 0} (account : Credentials) (k : Course) (o : Result S StoreFault) (r : Result Played Unfinished) (x : StoreFault) → o ≡ Err x →
+module _ (account : Credentials) (k : Course) (link : k.link_after ≡ k.link) (outside : k.new.now.outside ≡ k.old.now.outside) where
+  older_play : (y : Refusal) → IsLeftOlder k y → status_of_refusal y ≡ status.Limit → OnFiles k (SaysOlder k (text_of_refusal y))
+  older_play y u is = record {
+    link = link;
+    outside = outside;
+    says = record {
+      book = u.book;
+      past = record { stays = u.stays; refusal = y; limit = u.limit; is_limit = is; text_is = refl };
+    };
+  }
+
+  by_refusal : (y : Refusal) → IsUnready k y → EndsPlay account k (status_of_refusal y) (text_of_refusal y)
+  by_refusal refusals.Memory u = inl (record { link = link; outside = outside; says = record { keeps = u; text_is = refl } })
+  by_refusal refusals.Disk u = inl (record { link = link; outside = outside; says = record { leaves = u; text_is = refl } })
+  by_refusal (refusals.NotAJournal why) u = record {
+    link = link;
+    outside = outside;
+    says = record { keeps = u.0; why = why; broken = u.1; text_is = refl };
+  }
+  by_refusal (refusals.Full end) u = inl (older_play (refusals.Full end) u refl)
+  by_refusal refusals.Generation u = inl (older_play refusals.Generation u refl)
+  by_refusal refusals.Input u = absurd u
+  by_refusal refusals.Already u = absurd u
+  by_refusal (refusals.Reason reason) u = absurd u
+  by_refusal refusals.Actions u = absurd u
+
+pub unready_play : {S : Type 0} (account : Credentials) (k : Course) (o : Result S Refusal) (r : Result Played Unfinished) (x : Refusal) → o ≡ Err x →
     IsErrAnd r (λ end. end ≡ ends.Unopened x) → k.link_after ≡ k.link → k.new.now.outside ≡ k.old.now.outside → IsUnready k x →
     EndsPlay account k (status_of_play r) (text_of_play r)
 unready_play account k o r x was given link outside unready =
-    by_result account k r (Err (ends.Unopened x)) (ended_by r (ends.Unopened x) given) (by_store x unready)
-  where
-    by_store : (y : StoreFault) → IsUnready k y → EndsPlay account k (status_of_refusal (of_store y)) (text_of_refusal (of_store y))
-    by_store stores.Memory u = inl (record { link = link; outside = outside; says = record { keeps = u; text_is = refl } })
-    by_store stores.Disk u = inl (record { link = link; outside = outside; says = record { leaves = u; text_is = refl } })
-    by_store stores.Already u = absurd u
-    by_store (stores.Full end wanted) u = absurd u
-    by_store (stores.NotAJournal why) u = record {
-      link = link;
-      outside = outside;
-      says = record { keeps = u.0; why = why; broken = u.1; text_is = refl };
-    }
+    by_result account k r (Err (ends.Unopened x)) (ended_by r (ends.Unopened x) given) (by_refusal account k link outside x unready)
 
 -- unless the disk failed the files read as before
-pub unready_reads : {S : Type 0} (k : Course) (o : Result S StoreFault) (x : StoreFault) → o ≡ Err x → IsUnready k x → (o ≡ Err stores.Disk → ⊥) →
+pub unready_reads : {S : Type 0} (k : Course) (o : Result S Refusal) (x : Refusal) → o ≡ Err x → IsUnready k x → (o ≡ Err refusals.Disk → ⊥) →
     k.seen_after ≡ k.seen
-unready_reads k o stores.Memory was u other = u.reads
-unready_reads k o stores.Disk was u other = absurd (other was)
-unready_reads k o stores.Already was u other = absurd u
-unready_reads k o (stores.Full end wanted) was u other = absurd u
-unready_reads k o (stores.NotAJournal why) was u other = u.0.reads
+unready_reads k o refusals.Memory was u other = u.reads
+unready_reads k o refusals.Disk was u other = absurd (other was)
+unready_reads k o (refusals.NotAJournal why) was u other = u.0.reads
+unready_reads k o (refusals.Full end) was u other = u.stays.reads
+unready_reads k o refusals.Generation was u other = u.stays.reads
+unready_reads k o refusals.Input was u other = absurd u
+unready_reads k o refusals.Already was u other = absurd u
+unready_reads k o (refusals.Reason reason) was u other = absurd u
+unready_reads k o refusals.Actions was u other = absurd u
 
 -- the run came to its end
 module _ (account : Credentials) (k : Course) (opened store : Holding mail) (p : Played) (read : IsOpened k.old.now k.seen opened)
@@ -108,7 +125,7 @@ module _ (account : Credentials) (k : Course) where
   by_fault (faults.Refused line) s = s
   by_fault (faults.BadReply why) s = s
   by_fault (faults.Lacking what) s = s
-  by_fault (faults.Limit which number) s = s
+  by_fault (faults.Limit which number) s = inr s
 
   pub stopped_play : {T : Type 0} (opened store : Holding mail) (o : Result T PlayFault) (r : Result Played Unfinished) (x : PlayFault) → o ≡ Err x →
       IsErrAnd r (λ end. end ≡ ends.Stopped x) → IsOpened k.old.now k.seen opened → IsLater opened.book store.book →
@@ -133,27 +150,61 @@ module _ (account : Credentials) (k : Course) where
         text_is = refl;
       }))
 
--- which fault it was by its status
-disk_store : (x : StoreFault) → status_of_refusal (of_store x) ≡ status.Disk → x ≡ stores.Disk
-disk_store stores.Memory is = absurd cc
-disk_store stores.Disk is = refl
-disk_store stores.Already is = absurd cc
-disk_store (stores.Full end wanted) is = absurd cc
-disk_store (stores.NotAJournal why) is = absurd cc
+-- which refusal or fault it was by its status
+disk_refusal : (x : Refusal) → status_of_refusal x ≡ status.Disk → x ≡ refusals.Disk
+disk_refusal refusals.Disk is = refl
+disk_refusal refusals.Memory is = absurd cc
+disk_refusal refusals.Input is = absurd cc
+disk_refusal refusals.Already is = absurd cc
+disk_refusal (refusals.NotAJournal why) is = absurd cc
+disk_refusal (refusals.Reason reason) is = absurd cc
+disk_refusal refusals.Actions is = absurd cc
+disk_refusal (refusals.Full end) is = absurd cc
+disk_refusal refusals.Generation is = absurd cc
 
-link_store : (x : StoreFault) → status_of_refusal (of_store x) ≡ status.Link → ⊥
-link_store stores.Memory is = absurd cc
-link_store stores.Disk is = absurd cc
-link_store stores.Already is = absurd cc
-link_store (stores.Full end wanted) is = absurd cc
-link_store (stores.NotAJournal why) is = absurd cc
+input_refusal : (x : Refusal) → status_of_refusal x ≡ status.Input → x ≡ refusals.Input
+input_refusal refusals.Disk is = absurd cc
+input_refusal refusals.Memory is = absurd cc
+input_refusal refusals.Input is = refl
+input_refusal refusals.Already is = absurd cc
+input_refusal (refusals.NotAJournal why) is = absurd cc
+input_refusal (refusals.Reason reason) is = absurd cc
+input_refusal refusals.Actions is = absurd cc
+input_refusal (refusals.Full end) is = absurd cc
+input_refusal refusals.Generation is = absurd cc
 
-reply_store : (x : StoreFault) → status_of_refusal (of_store x) ≡ status.Reply → ⊥
-reply_store stores.Memory is = absurd cc
-reply_store stores.Disk is = absurd cc
-reply_store stores.Already is = absurd cc
-reply_store (stores.Full end wanted) is = absurd cc
-reply_store (stores.NotAJournal why) is = absurd cc
+reply_refusal : {T : Type 0} (r : Result T Refusal) → status_of r ≡ status.Reply → ⊥
+reply_refusal (Ok x) is = absurd cc
+reply_refusal (Err refusals.Disk) is = absurd cc
+reply_refusal (Err refusals.Memory) is = absurd cc
+reply_refusal (Err refusals.Input) is = absurd cc
+reply_refusal (Err refusals.Already) is = absurd cc
+reply_refusal (Err (refusals.NotAJournal why)) is = absurd cc
+reply_refusal (Err (refusals.Reason reason)) is = absurd cc
+reply_refusal (Err refusals.Actions) is = absurd cc
+reply_refusal (Err (refusals.Full end)) is = absurd cc
+reply_refusal (Err refusals.Generation) is = absurd cc
+
+link_refusal : {T : Type 0} (r : Result T Refusal) → status_of r ≡ status.Link → ⊥
+link_refusal (Ok x) is = absurd cc
+link_refusal (Err refusals.Disk) is = absurd cc
+link_refusal (Err refusals.Memory) is = absurd cc
+link_refusal (Err refusals.Input) is = absurd cc
+link_refusal (Err refusals.Already) is = absurd cc
+link_refusal (Err (refusals.NotAJournal why)) is = absurd cc
+link_refusal (Err (refusals.Reason reason)) is = absurd cc
+link_refusal (Err refusals.Actions) is = absurd cc
+link_refusal (Err (refusals.Full end)) is = absurd cc
+link_refusal (Err refusals.Generation) is = absurd cc
+
+input_fault : (x : PlayFault) → status_of_fault x ≡ status.Input → ⊥
+input_fault faults.Memory is = absurd cc
+input_fault faults.Disk is = absurd cc
+input_fault faults.Link is = absurd cc
+input_fault (faults.Refused line) is = absurd cc
+input_fault (faults.BadReply why) is = absurd cc
+input_fault (faults.Lacking what) is = absurd cc
+input_fault (faults.Limit which number) is = absurd cc
 
 disk_fault : (x : PlayFault) → status_of_fault x ≡ status.Disk → x ≡ faults.Disk
 disk_fault faults.Memory is = absurd cc
@@ -182,24 +233,27 @@ reply_fault (faults.BadReply why) never is = never why refl
 reply_fault (faults.Lacking what) never is = absurd cc
 reply_fault (faults.Limit which number) never is = absurd cc
 
-module _ {S : Type 0} (o : Result S StoreFault) (r : Result Played Unfinished) (x : StoreFault) (was : o ≡ Err x)
+module _ {S : Type 0} (o : Result S Refusal) (r : Result Played Unfinished) (x : Refusal) (was : o ≡ Err x)
     (given : IsErrAnd r (λ end. end ≡ ends.Unopened x)) where
-  of_opening : (t : Status) → status_of_play r ≡ t → status_of_refusal (of_store x) ≡ t
+  of_opening : (t : Status) → status_of_play r ≡ t → status_of_refusal x ≡ t
   of_opening t is = ap status_of_play (sym (ended_by r (ends.Unopened x) given)) ∙ is
 
-  pub opening_disk : status_of_play r ≡ status.Disk → o ≡ Err stores.Disk
-  opening_disk is = was ∙ ap (λ (f : StoreFault). Err f) (disk_store x (of_opening status.Disk is))
+  pub opening_disk : status_of_play r ≡ status.Disk → o ≡ Err refusals.Disk
+  opening_disk is = was ∙ ap (λ (f : Refusal). Err f) (disk_refusal x (of_opening status.Disk is))
 
-  pub opening_failed : o ≡ Err stores.Disk → status_of_play r ≡ status.Disk
+  pub opening_failed : o ≡ Err refusals.Disk → status_of_play r ≡ status.Disk
   opening_failed is =
-      let same : x ≡ stores.Disk = cc (was, is) in
-      ap status_of_play (ended_by r (ends.Unopened x) given) ∙ ap (λ (f : StoreFault). status_of_refusal (of_store f)) same
+      let same : x ≡ refusals.Disk = cc (was, is) in
+      ap status_of_play (ended_by r (ends.Unopened x) given) ∙ ap status_of_refusal same
+
+  pub opening_input : status_of_play r ≡ status.Input → o ≡ Err refusals.Input
+  opening_input is = was ∙ ap (λ (f : Refusal). Err f) (input_refusal x (of_opening status.Input is))
 
   pub opening_link : status_of_play r ≡ status.Link → ⊥
-  opening_link is = link_store x (of_opening status.Link is)
+  opening_link is = link_refusal {T = ℕ} (Err x) (of_opening status.Link is)
 
   pub opening_reply : status_of_play r ≡ status.Reply → ⊥
-  opening_reply is = reply_store x (of_opening status.Reply is)
+  opening_reply is = reply_refusal {T = ℕ} (Err x) (of_opening status.Reply is)
 
 module _ {S : Type 0} (o : Result S PlayFault) (r : Result Played Unfinished) (x : PlayFault) (was : o ≡ Err x)
     (given : IsErrAnd r (λ end. end ≡ ends.Stopped x)) where
@@ -212,6 +266,9 @@ module _ {S : Type 0} (o : Result S PlayFault) (r : Result Played Unfinished) (x
   pub run_failed : o ≡ Err faults.Disk → status_of_play r ≡ status.Disk
   run_failed is =
       let same : x ≡ faults.Disk = cc (was, is) in ap status_of_play (ended_by r (ends.Stopped x) given) ∙ ap status_of_fault same
+
+  pub run_input : status_of_play r ≡ status.Input → ⊥
+  run_input is = input_fault x (of_run status.Input is)
 
   pub run_lost : o ≡ Err faults.Link → status_of_play r ≡ status.Link
   run_lost is =
@@ -247,7 +304,7 @@ other_done (suc n) t is done conflicts = conflicts (sym is)
 no_place : (r : Result Played Unfinished) → ((at : ℕ) → r ≡ Err (ends.Stopped (faults.BadReply (whys.At at))) → ⊥) → status_of_play r ≡ status.Reply →
     TellsNoPlace (text_of_play r)
 no_place (Ok p) honest is = absurd (other_done p.conflicts status.Reply is (λ e. cc e) (λ e. cc e))
-no_place (Err (ends.Unopened x)) honest is = absurd (reply_store x is)
+no_place (Err (ends.Unopened x)) honest is = absurd (reply_refusal {T = ℕ} (Err x) is)
 no_place (Err (ends.Stopped x)) honest is =
     why_told x (λ at same. honest at (ap (λ (f : PlayFault). Err (ends.Stopped f)) same)) is
 
@@ -256,28 +313,6 @@ pub no_place_told : (r : Result Played Unfinished) (s : Status) (text : List ℕ
 no_place_told r s text status_is text_is honest is = subst TellsNoPlace (sym text_is) (no_place r honest (sym status_is ∙ is))
 
 -- a command that works with the files alone ends with no status of the link
-reply_refusal : {T : Type 0} (r : Result T Refusal) → status_of r ≡ status.Reply → ⊥
-reply_refusal (Ok x) is = absurd cc
-reply_refusal (Err refusals.Disk) is = absurd cc
-reply_refusal (Err refusals.Memory) is = absurd cc
-reply_refusal (Err refusals.Input) is = absurd cc
-reply_refusal (Err refusals.Already) is = absurd cc
-reply_refusal (Err (refusals.NotAJournal why)) is = absurd cc
-reply_refusal (Err (refusals.Reason reason)) is = absurd cc
-reply_refusal (Err refusals.Actions) is = absurd cc
-reply_refusal (Err (refusals.Full end)) is = absurd cc
-
-link_refusal : {T : Type 0} (r : Result T Refusal) → status_of r ≡ status.Link → ⊥
-link_refusal (Ok x) is = absurd cc
-link_refusal (Err refusals.Disk) is = absurd cc
-link_refusal (Err refusals.Memory) is = absurd cc
-link_refusal (Err refusals.Input) is = absurd cc
-link_refusal (Err refusals.Already) is = absurd cc
-link_refusal (Err (refusals.NotAJournal why)) is = absurd cc
-link_refusal (Err (refusals.Reason reason)) is = absurd cc
-link_refusal (Err refusals.Actions) is = absurd cc
-link_refusal (Err (refusals.Full end)) is = absurd cc
-
 pub no_reply : {T : Type 0} (r : Result T Refusal) (s : Status) → s ≡ status_of r → s ≡ status.Reply → ⊥
 no_reply r s status_is is = reply_refusal r (sym status_is ∙ is)
 
@@ -313,19 +348,26 @@ played_disk p is = other_done p.conflicts status.Disk is (λ e. cc e) (λ e. cc 
 pub played_link : (p : Played) → status_of_play (Ok p) ≡ status.Link → ⊥
 played_link p is = other_done p.conflicts status.Link is (λ e. cc e) (λ e. cc e)
 
+pub played_input : (p : Played) → status_of_play (Ok p) ≡ status.Input → ⊥
+played_input p is = other_done p.conflicts status.Input is (λ e. cc e) (λ e. cc e)
+
 pub played_reply : (p : Played) → status_of_play (Ok p) ≡ status.Reply → ⊥
 played_reply p is = other_done p.conflicts status.Reply is (λ e. cc e) (λ e. cc e)
 
 -- what holds of each status that comes of `play` holds of its ending's
 module _ (P : Status → Type 0) (done : P status.Done) (conflicts : P status.Conflicts) (memory : P status.Memory) (disk : P status.Disk)
     (journal : P status.Journal) (limit : P status.Limit) (link : P status.Link) (refused : P status.Refused) (reply : P status.Reply)
-    (lacking : P status.Lacking) where
-  at_store : (x : StoreFault) → P (status_of_refusal (of_store x))
-  at_store stores.Memory = memory
-  at_store stores.Disk = disk
-  at_store stores.Already = journal
-  at_store (stores.Full end wanted) = limit
-  at_store (stores.NotAJournal why) = journal
+    (lacking : P status.Lacking) (input : P status.Input) (reason : P status.Reason) where
+  at_refusal : (x : Refusal) → P (status_of_refusal x)
+  at_refusal refusals.Memory = memory
+  at_refusal refusals.Disk = disk
+  at_refusal refusals.Input = input
+  at_refusal refusals.Already = journal
+  at_refusal (refusals.NotAJournal why) = journal
+  at_refusal (refusals.Reason which) = reason
+  at_refusal refusals.Actions = limit
+  at_refusal (refusals.Full end) = limit
+  at_refusal refusals.Generation = limit
 
   at_fault : (x : PlayFault) → P (status_of_fault x)
   at_fault faults.Memory = memory
@@ -342,7 +384,7 @@ module _ (P : Status → Type 0) (done : P status.Done) (conflicts : P status.Co
 
   at_end : (r : Result Played Unfinished) → P (status_of_play r)
   at_end (Ok p) = at_conflicts p.conflicts
-  at_end (Err (ends.Unopened x)) = at_store x
+  at_end (Err (ends.Unopened x)) = at_refusal x
   at_end (Err (ends.Stopped x)) = at_fault x
 
   pub of_play : (r : Result Played Unfinished) (s : Status) → s ≡ status_of_play r → P s
@@ -351,25 +393,24 @@ module _ (P : Status → Type 0) (done : P status.Done) (conflicts : P status.Co
 pub play_prints : (r : Result Played Unfinished) (s : Status) → s ≡ status_of_play r → s ≡ status.Output → ⊥
 play_prints r s = of_play (λ (t : Status). t ≡ status.Output → ⊥)
     (λ e. cc e) (λ e. cc e) (λ e. cc e) (λ e. cc e) (λ e. cc e) (λ e. cc e)
-    (λ e. cc e) (λ e. cc e) (λ e. cc e) (λ e. cc e) r s
+    (λ e. cc e) (λ e. cc e) (λ e. cc e) (λ e. cc e) (λ e. cc e) (λ e. cc e) r s
 
 pub play_asked : (r : Result Played Unfinished) (s : Status) → s ≡ status_of_play r → s ≡ status.Words → ⊥
 play_asked r s = of_play (λ (t : Status). t ≡ status.Words → ⊥)
     (λ e. cc e) (λ e. cc e) (λ e. cc e) (λ e. cc e) (λ e. cc e) (λ e. cc e)
-    (λ e. cc e) (λ e. cc e) (λ e. cc e) (λ e. cc e) r s
-
-pub play_reads : (r : Result Played Unfinished) (s : Status) → s ≡ status_of_play r → s ≡ status.Input → ⊥
-play_reads r s = of_play (λ (t : Status). t ≡ status.Input → ⊥)
-    (λ e. cc e) (λ e. cc e) (λ e. cc e) (λ e. cc e) (λ e. cc e) (λ e. cc e)
-    (λ e. cc e) (λ e. cc e) (λ e. cc e) (λ e. cc e) r s
+    (λ e. cc e) (λ e. cc e) (λ e. cc e) (λ e. cc e) (λ e. cc e) (λ e. cc e) r s
 
 -- a run whose status says so came to its end
-through_store : (x : StoreFault) → CameThrough (status_of_refusal (of_store x)) → ⊥
-through_store stores.Memory is = is
-through_store stores.Disk is = is
-through_store stores.Already is = is
-through_store (stores.Full end wanted) is = is
-through_store (stores.NotAJournal why) is = is
+through_refusal : (x : Refusal) → CameThrough (status_of_refusal x) → ⊥
+through_refusal refusals.Disk is = is
+through_refusal refusals.Memory is = is
+through_refusal refusals.Input is = is
+through_refusal refusals.Already is = is
+through_refusal (refusals.NotAJournal why) is = is
+through_refusal (refusals.Reason reason) is = is
+through_refusal refusals.Actions is = is
+through_refusal (refusals.Full end) is = is
+through_refusal refusals.Generation is = is
 
 through_fault : (x : PlayFault) → CameThrough (status_of_fault x) → ⊥
 through_fault faults.Memory is = is
@@ -382,7 +423,7 @@ through_fault (faults.Limit which number) is = is
 
 through_ok : (r : Result Played Unfinished) (P : Type 0) → CameThrough (status_of_play r) → OnOk r P → P
 through_ok (Ok p) P is came = came
-through_ok (Err (ends.Unopened x)) P is came = absurd (through_store x is)
+through_ok (Err (ends.Unopened x)) P is came = absurd (through_refusal x is)
 through_ok (Err (ends.Stopped x)) P is came = absurd (through_fault x is)
 
 pub came_through : (r : Result Played Unfinished) (s : Status) (P : Type 0) → s ≡ status_of_play r → CameThrough s → OnOk r P → P

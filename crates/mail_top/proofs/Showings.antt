@@ -79,6 +79,7 @@ showing_ends shown k (Err refusals.Already) s = absurd s
 showing_ends shown k (Err (refusals.Reason reason)) s = absurd s
 showing_ends shown k (Err refusals.Actions) s = absurd s
 showing_ends shown k (Err (refusals.Full end)) s = absurd s
+showing_ends shown k (Err refusals.Generation) s = absurd s
 
 -- a mailbox that isn't one of the book's
 pub unlisted_ends : (name : List ℕ) (k : Course) (shown : Option (List ℕ)) → shown ≡ None → Shows (ShowsRows name) k shown →

@@ -28,7 +28,7 @@ use Rattle.play_driver.specs.Progress.{IsPlayEvent}
 use Rattle.play_driver.specs.Questioning.{RunStep}
 use Rattle.play_driver.specs.TrueRecords.{IsTrueSince, TrueEvent}
 use Rattle.play_driver.specs.TrueRecords.IsTrueSince.{enters, records, rests}
-use Rattle.play_driver.proofs.Surely.{changed_at}
+use Rattle.play_driver.proofs.Surely.{changed_at, ended_there}
 use Rattle.play_driver.proofs.Parts.{grows, grows_then, since_first}
 use Rattle.mail_top.specs.Actions.{accepts}
 use Rattle.mail_top.specs.Connecting.{SameOutside}
@@ -92,7 +92,12 @@ module _ (place : ℕ) (outcome : Outcome) where
   event_ends entry b made now (events.Old id action other) so_far of_play truly new before ended = absurd of_play
   event_ends entry b made now (events.Reset name kept told) so_far of_play truly new before ended =
       inl (record { queued = ended.queued; there = ended.there; ended = ended.ended })
-  event_ends entry b made now (events.Withdraw id tries) so_far of_play truly new before ended = absurd of_play
+  event_ends entry b made now (events.Withdraw id tries) so_far of_play truly new before ended =
+      inl (record {
+        queued = ended.queued;
+        there = ended_there tries b.queue place ended.queued ended.there outcome ended.ended;
+        ended = ended.ended;
+      })
 
   longer : (entry : Meaning) (made now new : Clock) → Grows now new → EndsSince place outcome entry made now → EndsSince place outcome entry made new
   longer entry made now new more e = record {
@@ -203,7 +208,7 @@ module _ (place : ℕ) (outcome : Outcome) where
           ⊎_elim (λ (unbegun : IsUnbegun files). absurd (not_both files b unbegun holds))
           (λ (is : HasBook mail (begun names) files). absurd (none_ended (begun names) refl (same_book files b (begun names) holds is ended)))
           (taking.each files leaves)
-      by_request (Act wanted) asks (inl w) = inl (by_within w)
+      by_request (Act wanted) asks (inl w) = inl (by_read w)
       by_request (Act wanted) asks (inr adds) =
           ⊎_elim (λ (is : HasBook mail adds.book files). inl (by_seen adds.book adds.holds (same_book files b adds.book holds is ended)))
           (λ (is : HasBook mail (after adds.book (accepts adds.book adds.action)) files).

@@ -1,4 +1,4 @@
--- What is so of a run whatever the server sends: the journal stays whole, and no action's command is sent twice.
+-- What is so of a run whatever the server sends: the journal stays whole, and of each try of an action one command is sent at most.
 use Rattle.std.specs.Prelude.{ℕ, Option}
 use Rattle.world_traits.specs.Files.{Files}
 use Rattle.world_traits.specs.Moments.{Moment, Clock, Images, Since}

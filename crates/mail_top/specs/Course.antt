@@ -1,14 +1,18 @@
 -- What a command finds on the disk and of the link, and what it leaves there.
-use Rattle.std.specs.Prelude.{◌≡◌, ℕ, ◌+◌, length, Some}
+use Rattle.std.specs.Prelude.{◌≡◌, ℕ, ◌+◌, List, length, Some}
 use Rattle.world_traits.specs.Files.{Files}
 use Rattle.world_traits.specs.LinkState.{LinkState}
 use Rattle.world_traits.specs.Moments.{Clock, Within}
 use Rattle.world_traits.specs.declared.clocked.Clocked.{Ghosts}
 use Rattle.mail_base.specs.Bodies.{frame_of}
 use Rattle.journal_core.specs.Records.{records}
+use Rattle.journal_core.specs.Sides.{version_written}
+use Rattle.journal_core.specs.declared.version.Version.{Version}
+use Rattle.journal_core.specs.declared.version.Version.TheVariants.{First, Second}
 use Rattle.action_queue.specs.Book.{Meaning}
 use Rattle.action_queue.specs.declared.event.Event.{Event}
 use Rattle.record_codec.specs.Bodies.{body_of}
+use Rattle.record_codec.specs.Restated.{restated_end}
 use Rattle.store_core.specs.Mail.{mail}
 use Rattle.store_core.specs.Books.{HasBook}
 use Rattle.store_core.specs.Steps.{Firm}
@@ -51,6 +55,20 @@ pub record OnFiles (k : Course) (Says : Type 0) : Type 0 where
   pub outside : k.new.now.outside ≡ k.old.now.outside
   pub says : Says
 
--- where the journal that holds a book would end with an event's record behind the others: behind the next closed gate
+-- The files as read hold this book, and from now on each stop leaves it. They read as before, where its journal was of the version that is
+-- written; and else they hold it in that version now.
+pub record StaysWritten (k : Course) (b : Meaning) : Type 0 where
+  pub holds : HasBook mail b k.seen
+  pub leaves : HasBooks mail (Firm (Some b)) k.new.now
+  pub reads : holds.version ≡ version_written → k.seen_after ≡ k.seen
+  pub after : HasBook mail b k.seen_after
+  pub written : after.version ≡ version_written
+
+-- where the journal that is written to ends: behind these bodies, or, where they are of an older version, behind those that tell the book anew
+abbrev pub end_written : Version → List (List ℕ) → Meaning → ℕ
+end_written First bodies b = restated_end b
+end_written Second bodies b = 14 + length (records bodies)
+
+-- where it would end with an event's record behind the others: behind the next closed gate
 abbrev pub end_behind : {b : Meaning} {files : Files} → HasBook mail b files → Event → ℕ
-end_behind holds event = 14 + length (records holds.bodies) + length (frame_of (body_of event))
+end_behind {b} holds event = end_written holds.version holds.bodies b + length (frame_of (body_of event))

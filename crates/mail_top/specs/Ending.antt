@@ -23,7 +23,10 @@ use Rattle.mail_top.specs.Played.{SaysPlayed, SaysStopped}
 use Rattle.mail_top.specs.Readying.{LeavesRead}
 use Rattle.mail_top.specs.Reasons.{IsFree}
 use Rattle.mail_top.specs.Saying.{SaysReady, SaysTaken, SaysAccepted, SaysRows, SaysUnknown, SaysShown, SaysBroken, SaysRefused, SaysUnread}
-use Rattle.mail_top.specs.Saying.{SaysFull, SaysMemory, SaysDisk}
+use Rattle.mail_top.specs.Saying.{SaysFull, SaysMemory, SaysMemoryBehind, SaysOlder, SaysDisk}
+use Rattle.mail_top.specs.Takeover.{IsNotTakenAs}
+use Rattle.mail_top.specs.Telling.{status_of_refusal}
+use Rattle.mail_top.specs.declared.refusal.Refusal.{Refusal}
 use Rattle.mail_top.specs.Words.{Wanted, Request, Init, Act, Rows, Queue, Report, Play, Asks, AsksNothing}
 
 -- What each status says of `init BOX ..`. The others don't come.
@@ -52,7 +55,7 @@ EndsAct wanted k status.Output text = SaysAccepted wanted k text
 EndsAct wanted k status.Disk text = SaysDisk (MayBeLeft (Act wanted) k.old.now k.seen k.new.now) text
 EndsAct wanted k status.Journal text = SaysBroken k text
 EndsAct wanted k status.Reason text = SaysRefused wanted k text
-EndsAct wanted k status.Memory text = SaysMemory k text
+EndsAct wanted k status.Memory text = SaysMemory k text ⊎ SaysMemoryBehind k text
 EndsAct wanted k status.Limit text = SaysFull wanted k text
 EndsAct wanted k status.Input text = SaysUnread wanted k text
 EndsAct wanted k status.Words text = ⊥
@@ -115,7 +118,7 @@ EndsPlay account k status.Reply text = SaysStopped account k status.Reply text
 EndsPlay account k status.Lacking text = SaysStopped account k status.Lacking text
 EndsPlay account k status.Journal text = OnFiles k (SaysBroken k text)
 EndsPlay account k status.Memory text = OnFiles k (SaysMemory k text) ⊎ SaysStopped account k status.Memory text
-EndsPlay account k status.Limit text = SaysStopped account k status.Limit text
+EndsPlay account k status.Limit text = OnFiles k (SaysOlder k text) ⊎ SaysStopped account k status.Limit text
 EndsPlay account k status.Validity text = ⊥
 EndsPlay account k status.Words text = ⊥
 EndsPlay account k status.Reason text = ⊥
@@ -153,11 +156,12 @@ Ends account words input k s text = SaysWords words k s text ⊎ SaysRequest acc
 abbrev pub IsDone : Status → Type 0
 IsDone s = (s ≡ status.Done) ⊎ (s ≡ status.Memory)
 
--- The files hold a book that takes the action: no reason is against it, and with it neither the queue nor the journal passes a
--- limit.
+-- The files hold a book that takes the action: no reason is against it, a journal of an older version can be taken over, and with the action neither
+-- the queue nor the journal passes a limit.
 pub record IsTakable (wanted : Wanted) (seen : Files) : Type 0 where
   pub book : Meaning
   pub holds : HasBook mail book seen
+  pub taken : (refusal : Refusal) → status_of_refusal refusal ≡ status.Limit → IsNotTakenAs holds.version holds.holds.generation book refusal → ⊥
   pub free : IsFree wanted book
   pub few : length book.queue < MAX_ACTIONS
   pub room : (action : Action) → Becomes wanted book action → end_behind holds (accepts book action) ≤ max_accepted

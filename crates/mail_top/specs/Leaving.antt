@@ -18,6 +18,7 @@ use Rattle.store_core.specs.Taking.{HasBooks, IsTaking, IsCreating}
 use Rattle.play_driver.specs.Progress.{IsPlayEvent, IsPlaying}
 use Rattle.mail_top.specs.Actions.{next_id, accepts}
 use Rattle.mail_top.specs.Course.{end_behind}
+use Rattle.mail_top.specs.Readying.{LeavesRead}
 use Rattle.mail_top.specs.Weighing.{Admits}
 use Rattle.mail_top.specs.Words.{Wanted, Request, Init, Act, Rows, Queue, Report, Play, Asks}
 
@@ -38,10 +39,11 @@ pub record IsPlayingRead (seen : Files) (m : Moment) : Type 0 where
   pub playing : IsPlaying book m
 
 -- What a stop leaves while this is carried out: what a stop at entry could have left; or no journal, or the book of the names
--- that are asked for; or the book that was read, with the action that is asked for or without it, or further on.
+-- that are asked for; or the book that was read, also while its journal is taken over, with the action that is asked for or without it, or further
+-- on.
 abbrev pub MayBeLeft : Request → Moment → Files → Moment → Type 0
 MayBeLeft (Init names) entry seen m = IsCreating mail (events.Begin names) entry m
-MayBeLeft (Act wanted) entry seen m = Within entry m ⊎ IsAdding wanted seen m
+MayBeLeft (Act wanted) entry seen m = LeavesRead entry seen m ⊎ IsAdding wanted seen m
 MayBeLeft (Rows name) entry seen m = Within entry m
 MayBeLeft Queue entry seen m = Within entry m
 MayBeLeft Report entry seen m = Within entry m

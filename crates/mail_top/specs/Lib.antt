@@ -28,6 +28,7 @@ pub mod Saying
 pub mod Showing
 pub mod SurePlay
 pub mod Telling
+pub mod Takeover
 pub mod Texts
 pub mod TruePlay
 pub mod TrueRuns

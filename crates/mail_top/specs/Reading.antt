@@ -73,6 +73,7 @@ InputRead input (Err refusals.Disk) = ⊥
 InputRead input (Err refusals.Already) = ⊥
 InputRead input (Err (refusals.NotAJournal why)) = ⊥
 InputRead input (Err (refusals.Full end)) = ⊥
+InputRead input (Err refusals.Generation) = ⊥
 
 -- The text's Message-ID, or that it has none; or memory is wanting.
 abbrev pub Identified : List ℕ → Result (List ℕ) Refusal → Type 0
@@ -85,6 +86,7 @@ Identified text (Err refusals.Disk) = ⊥
 Identified text (Err refusals.Already) = ⊥
 Identified text (Err (refusals.NotAJournal why)) = ⊥
 Identified text (Err (refusals.Full end)) = ⊥
+Identified text (Err refusals.Generation) = ⊥
 
 -- what speaks against the message that an input gives
 abbrev pub StopsMessage : List ℕ → Reason → Type 0
@@ -110,6 +112,7 @@ MessageRead input (Err refusals.Disk) = ⊥
 MessageRead input (Err refusals.Already) = ⊥
 MessageRead input (Err (refusals.NotAJournal why)) = ⊥
 MessageRead input (Err (refusals.Full end)) = ⊥
+MessageRead input (Err refusals.Generation) = ⊥
 
 -- what a program takes words for is an append
 abbrev pub IsAppend : Asked → Type 0

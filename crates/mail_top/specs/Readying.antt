@@ -1,6 +1,6 @@
--- A journal is made ready for playback: it is opened, and where it grew long, its book is told anew on the journal's other side (this
--- client's profile of RFC 4549, section 4.2).
-use Rattle.std.specs.Prelude.{◌≡◌, ◌⊎◌, ℕ, ◌*◌, ◌-◌, ◌^◌, ◌≤◌, ◌<◌, Some}
+-- A journal is made ready for playback: it is opened, and where it is of an older version, or grew long, its book is told anew on the journal's
+-- other side (this client's profile of RFC 4549, section 4.2).
+use Rattle.std.specs.Prelude.{◌≡◌, ◌≢◌, ◌⊎◌, ℕ, ◌*◌, ◌-◌, ◌^◌, ◌≤◌, ◌<◌, Some}
 use Rattle.world_traits.specs.Files.{Files}
 use Rattle.world_traits.specs.Links.{Any}
 use Rattle.world_traits.specs.Moments.{Moment, Clock, Images, OneSideAtRest, Since, Within}
@@ -8,6 +8,7 @@ use Rattle.journal_core.specs.Appending.{end_with}
 use Rattle.journal_core.specs.Creating.{end_of}
 use Rattle.journal_core.specs.OneSide.{EachOneSide}
 use Rattle.journal_core.specs.Limits.{max_side}
+use Rattle.journal_core.specs.Sides.{version_written}
 use Rattle.action_queue.specs.Book.{Meaning}
 use Rattle.record_codec.specs.Restated.{restated_end}
 use Rattle.store_core.specs.Anew.{told_on}
@@ -18,10 +19,11 @@ use Rattle.store_core.specs.HeldActions.{KeepsActions}
 use Rattle.store_core.specs.Holding.{Holding, IsAsLeft}
 use Rattle.store_core.specs.Steps.{Books, Firm}
 use Rattle.store_core.specs.Taking.{HasBooks, ChoosesStep}
-use Rattle.store_core.specs.declared.fault.StoreFault.{StoreFault}
-use Rattle.store_core.specs.declared.fault.StoreFault.TheVariants as stores
-use Rattle.mail_top.specs.Course.{Course, Keeps}
+use Rattle.mail_top.specs.Course.{Course, Keeps, Stays}
 use Rattle.mail_top.specs.KeptNow.{IsKeptNow}
+use Rattle.mail_top.specs.Takeover.{IsNotTakenAs}
+use Rattle.mail_top.specs.declared.refusal.Refusal.{Refusal}
+use Rattle.mail_top.specs.declared.refusal.Refusal.TheVariants as refusals
 
 -- A journal that ends here, in this generation, with this book, is told anew: it ends past 4,096 bytes, a generation is to come, and told
 -- anew it takes at most half of them, and fits a side. (No journal that this client writes ends past what fits a side.)
@@ -31,15 +33,19 @@ pub record IsLong (end generation : ℕ) (book : Meaning) : Type 0 where
   pub half : 2 * restated_end book ≤ end
   pub fits : restated_end book ≤ max_side
 
--- the files hold such a journal
+-- the files hold such a journal, or one of another version than the one that is written
 pub record IsTurnDue (files : Files) : Type 0 where
   pub book : Meaning
   pub holds : HasBook mail book files
-  pub is_long : IsLong (end_of holds.bodies) holds.holds.generation book
+  pub due : (holds.version ≢ version_written) ⊎ IsLong (end_of holds.bodies) holds.holds.generation book
 
--- a store's journal is one
+-- a store's journal is long
+abbrev pub IsLongFor : Holding mail → Type 0
+IsLongFor store = IsLong (end_with 0 store.journal) store.journal.generation store.book
+
+-- or it is of another version
 abbrev pub IsDueFor : Holding mail → Type 0
-IsDueFor store = IsLong (end_with 0 store.journal) store.journal.generation store.book
+IsDueFor store = (store.journal.version ≢ version_written) ⊎ IsLongFor store
 
 -- no stop leaves such a journal
 abbrev pub NoTurnDue : Moment → Type 0
@@ -91,10 +97,21 @@ pub record IsOpened (entry : Moment) (seen : Files) (store : Holding mail) : Typ
   pub ready : NoTurnDue at
   pub how : IsJustOpened entry at seen files ⊎ IsToldAnew seen store
 
--- Why it isn't ready: memory is wanting, or the disk failed; or the files hold no book. Unless the disk failed they are as before.
-abbrev pub IsUnready : Course → StoreFault → Type 0
-IsUnready k stores.Memory = Keeps k
-IsUnready k stores.Disk = LeavesRead k.old.now k.seen k.new.now
-IsUnready k stores.Already = ⊥
-IsUnready k (stores.Full end wanted) = ⊥
-IsUnready k (stores.NotAJournal why) = Keeps k × IsBroken mail why k.seen
+-- The files as read hold a book that isn't taken over for this limit, and a stop leaves it.
+pub record IsLeftOlder (k : Course) (refusal : Refusal) : Type 0 where
+  pub book : Meaning
+  pub stays : Stays k book
+  pub limit : IsNotTakenAs stays.holds.version stays.holds.holds.generation book refusal
+
+-- Why it isn't ready: memory is wanting, or the disk failed; or the files hold no book, or one of an older version that isn't taken over. Unless
+-- the disk failed they are as before.
+abbrev pub IsUnready : Course → Refusal → Type 0
+IsUnready k refusals.Memory = Keeps k
+IsUnready k refusals.Disk = LeavesRead k.old.now k.seen k.new.now
+IsUnready k (refusals.NotAJournal why) = Keeps k × IsBroken mail why k.seen
+IsUnready k (refusals.Full end) = IsLeftOlder k (refusals.Full end)
+IsUnready k refusals.Generation = IsLeftOlder k refusals.Generation
+IsUnready k refusals.Input = ⊥
+IsUnready k refusals.Already = ⊥
+IsUnready k (refusals.Reason reason) = ⊥
+IsUnready k refusals.Actions = ⊥

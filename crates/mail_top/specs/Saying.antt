@@ -19,12 +19,15 @@ use Rattle.store_core.specs.Taking.{HasBooks}
 use Rattle.conflict_report.specs.StatusLines.{error_input, limit_actions}
 use Rattle.local_view.specs.Listing.{view}
 use Rattle.mail_top.specs.Actions.{Becomes, next_id, accepts}
-use Rattle.mail_top.specs.Course.{Course, Keeps, Stays, end_behind}
+use Rattle.mail_top.specs.Course.{Course, Keeps, Stays, StaysWritten, end_behind}
 use Rattle.mail_top.specs.Reading.{Awaits}
 use Rattle.mail_top.specs.Reasons.{IsFirst, IsFree}
-use Rattle.mail_top.specs.Telling.{line_of}
+use Rattle.mail_top.specs.Takeover.{IsNotTakenAs}
+use Rattle.mail_top.specs.Telling.{line_of, status_of_refusal, text_of_refusal}
 use Rattle.mail_top.specs.Texts.{refused, rows_text}
 use Rattle.mail_top.specs.Words.{Wanted}
+use Rattle.mail_top.specs.declared.refusal.Refusal.{Refusal}
+use Rattle.mail_base.specs.declared.status.Status.TheVariants as status
 use Rattle.mail_top.specs.declared.reason.Reason.{Reason}
 use Rattle.mail_top.specs.declared.reason.Reason.TheVariants as reasons
 
@@ -96,7 +99,7 @@ pub record SaysUnread (wanted : Wanted) (k : Course) (text : List ℕ) : Type 0 
   pub awaits : Awaits wanted book
   pub text_is : text ≡ error_input
 
--- with the action the journal would end at the text's place, past its limit
+-- with the action the journal that is written to would end at the text's place, past its limit
 pub record PassesPlace (wanted : Wanted) (k : Course) (book : Meaning) (holds : HasBook mail book k.seen) (text : List ℕ) : Type 0 where
   pub few : length book.queue < MAX_ACTIONS
   pub action : Action
@@ -104,13 +107,35 @@ pub record PassesPlace (wanted : Wanted) (k : Course) (book : Meaning) (holds : 
   pub past : max_accepted < end_behind holds (accepts book action)
   pub text_is : text ≡ limit_journal (told_end (end_behind holds (accepts book action)))
 
--- The files as read hold a book that no reason keeps from taking the action; but the queue would have too many actions, or
--- else the journal would be too long.
+-- the queue would have too many actions, or else the journal would be too long; then a journal of an older version was taken over
+pub record PassesLimit (wanted : Wanted) (k : Course) (book : Meaning) (text : List ℕ) : Type 0 where
+  pub stays : StaysWritten k book
+  pub past : ((MAX_ACTIONS ≤ length book.queue) × (text ≡ limit_actions)) ⊎ PassesPlace wanted k book stays.holds text
+
+-- the journal is of an older version, and isn't taken over for this limit
+pub record PassesTakeover (k : Course) (book : Meaning) (text : List ℕ) : Type 0 where
+  pub stays : Stays k book
+  pub refusal : Refusal
+  pub limit : IsNotTakenAs stays.holds.version stays.holds.holds.generation book refusal
+  pub is_limit : status_of_refusal refusal ≡ status.Limit
+  pub text_is : text ≡ text_of_refusal refusal
+
+-- The files as read hold a book that no reason keeps from taking the action; but a limit does.
 pub record SaysFull (wanted : Wanted) (k : Course) (text : List ℕ) : Type 0 where
   pub book : Meaning
-  pub stays : Stays k book
   pub free : IsFree wanted book
-  pub past : ((MAX_ACTIONS ≤ length book.queue) × (text ≡ limit_actions)) ⊎ PassesPlace wanted k book stays.holds text
+  pub past : PassesLimit wanted k book text ⊎ PassesTakeover k book text
+
+-- the same of a run: the journal that it found isn't taken over
+pub record SaysOlder (k : Course) (text : List ℕ) : Type 0 where
+  pub book : Meaning
+  pub past : PassesTakeover k book text
+
+-- memory is wanting, maybe behind a journal that was taken over
+pub record SaysMemoryBehind (k : Course) (text : List ℕ) : Type 0 where
+  pub book : Meaning
+  pub stays : StaysWritten k book
+  pub text_is : text ≡ error_memory
 
 -- memory is wanting
 pub record SaysMemory (k : Course) (text : List ℕ) : Type 0 where

@@ -36,6 +36,7 @@ EndsShowing Fits k (Err refusals.Already) = ⊥
 EndsShowing Fits k (Err (refusals.Reason reason)) = ⊥
 EndsShowing Fits k (Err refusals.Actions) = ⊥
 EndsShowing Fits k (Err (refusals.Full end)) = ⊥
+EndsShowing Fits k (Err refusals.Generation) = ⊥
 
 -- the refusals of a journal that is only read
 abbrev pub IsOfReading : Refusal → Type 0
@@ -47,6 +48,7 @@ IsOfReading refusals.Already = ⊥
 IsOfReading (refusals.Reason reason) = ⊥
 IsOfReading refusals.Actions = ⊥
 IsOfReading (refusals.Full end) = ⊥
+IsOfReading refusals.Generation = ⊥
 
 -- Nothing is written: at each moment a stop leaves what one at the start could have left; no step loses an action that all images
 -- hold, nor changes what isn't on the disk. Where one side was at rest, one is so at the end and at each moment, and from each

@@ -11,7 +11,7 @@ use Rattle.play_driver.specs.declared.fault.PlayFault.TheVariants as faults
 use Rattle.play_driver.specs.declared.fault.Why.{Why}
 use Rattle.play_driver.specs.declared.fault.Why.TheVariants as whys
 use Rattle.play_driver.specs.declared.played.Played.{Played}
-use Rattle.mail_top.specs.Faults.{of_store}
+use Rattle.imap_model.specs.declared.limit.Limit.TheVariants as limits
 use Rattle.conflict_report.specs.StatusLines.{limit_actions, played, error_input, error_link, error_refused, error_reply_at, error_reply_lacks}
 use Rattle.conflict_report.specs.StatusLines.{error_reply_modseq, error_reply_validity, error_lacking, error_limit}
 use Rattle.mail_top.specs.Texts.{refused}
@@ -46,10 +46,15 @@ status_of_refusal (refusals.NotAJournal why) = status.Journal
 status_of_refusal (refusals.Reason reason) = status.Reason
 status_of_refusal refusals.Actions = status.Limit
 status_of_refusal (refusals.Full end) = status.Limit
+status_of_refusal refusals.Generation = status.Limit
 
 abbrev pub status_of : {T : Type 0} → Result T Refusal → Status
 status_of (Ok done) = status.Done
 status_of (Err refusal) = status_of_refusal refusal
+
+-- no generation is left in which a journal of an older version is taken over
+abbrev pub limit_generation : List ℕ
+limit_generation = error_limit limits.Generation 4294967296
 
 -- and its text
 abbrev pub text_of_refusal : Refusal → List ℕ
@@ -61,6 +66,7 @@ text_of_refusal (refusals.NotAJournal why) = line_of why
 text_of_refusal (refusals.Reason reason) = refused reason
 text_of_refusal refusals.Actions = limit_actions
 text_of_refusal (refusals.Full end) = limit_journal end
+text_of_refusal refusals.Generation = limit_generation
 
 abbrev pub text_of : {T : Type 0} → (T → List ℕ) → Result T Refusal → List ℕ
 text_of told (Ok done) = told done
@@ -100,13 +106,13 @@ status_of_conflicts (suc n) = status.Conflicts
 -- the status of what became of `play`
 abbrev pub status_of_play : Result Played Unfinished → Status
 status_of_play (Ok done) = status_of_conflicts done.conflicts
-status_of_play (Err (ends.Unopened store)) = status_of_refusal (of_store store)
+status_of_play (Err (ends.Unopened refusal)) = status_of_refusal refusal
 status_of_play (Err (ends.Stopped fault)) = status_of_fault fault
 
 -- and its text
 abbrev pub text_of_play : Result Played Unfinished → List ℕ
 text_of_play (Ok done) = played done.settled done.conflicts
-text_of_play (Err (ends.Unopened store)) = text_of_refusal (of_store store)
+text_of_play (Err (ends.Unopened refusal)) = text_of_refusal refusal
 text_of_play (Err (ends.Stopped fault)) = text_of_fault fault
 
 -- the text tells what is wrong with a reply, and no place in the bytes that came

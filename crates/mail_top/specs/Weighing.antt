@@ -25,18 +25,19 @@ pub record Admits (wanted : Wanted) (b : Meaning) (id : ℕ) (action : Action) :
   pub number : id ≡ next_id b
   pub is : Becomes wanted b action
 
--- It takes an action, or a reason is the first against it, or else it has too many actions. Or the input fails, where none of the
+-- No reason speaks against the action, and it becomes this one; or a reason is the first against it. Or the input fails, where none of the
 -- reasons that are looked for at once speaks against it; or memory is wanting.
-abbrev pub Weighed : Wanted → Meaning → Result (ℕ × Action) Refusal → Type 0
-Weighed wanted b (Ok both) = Admits wanted b both.0 both.1
+abbrev pub Weighed : Wanted → Meaning → Result Action Refusal → Type 0
+Weighed wanted b (Ok action) = IsFree wanted b × Becomes wanted b action
 Weighed wanted b (Err (refusals.Reason reason)) = IsFirst wanted b reason
 Weighed wanted b (Err refusals.Input) = Awaits wanted b
-Weighed wanted b (Err refusals.Actions) = IsFree wanted b × (MAX_ACTIONS ≤ length b.queue)
+Weighed wanted b (Err refusals.Actions) = ⊥
 Weighed wanted b (Err refusals.Memory) = ⊤
 Weighed wanted b (Err refusals.Disk) = ⊥
 Weighed wanted b (Err refusals.Already) = ⊥
 Weighed wanted b (Err (refusals.NotAJournal why)) = ⊥
 Weighed wanted b (Err (refusals.Full end)) = ⊥
+Weighed wanted b (Err refusals.Generation) = ⊥
 
 -- The message is in the view of the mailbox, and this is its target.
 pub record IsThere (name : List ℕ) (id : Ident) (b : Meaning) (target : Target) : Type 0 where
@@ -62,6 +63,7 @@ Found name id b (Err refusals.Disk) = ⊥
 Found name id b (Err refusals.Already) = ⊥
 Found name id b (Err (refusals.NotAJournal why)) = ⊥
 Found name id b (Err (refusals.Full end)) = ⊥
+Found name id b (Err refusals.Generation) = ⊥
 
 -- these are the keys of the flags, all of which a user may ask for; or one of them isn't such; or memory is wanting
 abbrev pub FlagsAsked : List (List ℕ) → Result (List (List ℕ)) FlagFault → Type 0
@@ -82,6 +84,7 @@ HasNumber queue (Err refusals.Disk) = ⊥
 HasNumber queue (Err refusals.Already) = ⊥
 HasNumber queue (Err (refusals.NotAJournal why)) = ⊥
 HasNumber queue (Err (refusals.Full end)) = ⊥
+HasNumber queue (Err refusals.Generation) = ⊥
 
 -- The keys of a new message's flags, where none of the reasons that are looked for at once speaks against it; or the first of them;
 -- or memory is wanting.
@@ -95,3 +98,4 @@ Received addition input b (Err refusals.Disk) = ⊥
 Received addition input b (Err refusals.Already) = ⊥
 Received addition input b (Err (refusals.NotAJournal why)) = ⊥
 Received addition input b (Err (refusals.Full end)) = ⊥
+Received addition input b (Err refusals.Generation) = ⊥

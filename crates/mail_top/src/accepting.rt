@@ -11,7 +11,8 @@ ghost use Rattle.mail_top.specs.Telling.{status_of, text_of};
 ghost use Rattle.mail_top.specs.Words.{HasFewFlags, wanted_of};
 ghost use Rattle.mail_top.specs.declared.refusal.Refusal.TheVariants as refusals;
 
-use crate::weighing::weighed;
+use crate::takeover::take_over;
+use crate::weighing::{next_id, weighed};
 use crate::{AskedAction, Refusal};
 use action_queue::Event;
 use std::alloc::Global;
@@ -21,7 +22,8 @@ use world_traits::{Clocked, Disk, Source};
 /// Accepts an action: its record is on the disk before its number is told.
 ///
 /// The files are synced and read; where they hold no book, or one that speaks against the action or has no room for it, they
-/// stay as they are. The input is read for an append alone, and only where no reason speaks against it that the book can tell.
+/// stay as they are; but a journal of an older version is taken over where no reason speaks against the action, also where a limit
+/// then does. The input is read for an append alone, and only where no reason speaks against it that the book can tell.
 /// Memory is taken before the first write. After `Disk` the record may be there, or not.
 pub fn accept<D: Disk, I: Source>(
     alloc: Global,
@@ -64,8 +66,10 @@ pub fn accept<D: Disk, I: Source>(
     ensures never { IsErrOf result refusals.Already → ⊥ }
 {
     let mut store = Store::open(alloc, disk)?;
-    let taken = weighed(alloc, store.book(), input, asked)?;
-    let (id, action) = taken;
+    let action = weighed(alloc, store.book(), input, asked)?;
+    take_over(alloc, disk, &mut store)?;
+    let book = store.book();
+    let id = next_id(&book.queue)?;
     store.commit(alloc, disk, Event::Accept { id, action })?;
     Ok(id.number())
 }

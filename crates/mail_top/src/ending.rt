@@ -79,7 +79,7 @@ pub fn ending_of_play(played: Result<Played, Unfinished>) -> Ending
             status: status_of_conflicts(played.conflicts),
             text: Printed::Told(Told::played(played.settled, played.conflicts)),
         },
-        Err(Unfinished::Unopened(fault)) => ending_of_refusal(Refusal::from(fault)),
+        Err(Unfinished::Unopened(refusal)) => ending_of_refusal(refusal),
         Err(Unfinished::Stopped(fault)) => Ending {
             status: status_of_fault(&fault),
             text: text_of_fault(&fault),
@@ -144,6 +144,10 @@ pub fn ending_of_refusal(refusal: Refusal) -> Ending
             Printed::Told(Told::error_limit(Limit::Actions, 1_000_001)),
         ),
         Refusal::Full { end } => (Status::Limit, Printed::Line(Line::limit_journal(end))),
+        Refusal::Generation => (
+            Status::Limit,
+            Printed::Told(Told::error_limit(Limit::Generation, 4_294_967_296)),
+        ),
     };
     Ending { status, text }
 }

@@ -18,12 +18,13 @@ mod running;
 mod runs;
 mod showing;
 mod shows;
+mod takeover;
 mod unfinished;
 mod weighing;
 mod words;
 
 pub use arguments::{ident_of, is_addition};
-pub use ending::{Ending, ending_of_refusal, ending_of_text, ending_of_words, say};
+pub use ending::{Ending, ending_of_play, ending_of_refusal, ending_of_text, ending_of_words, say};
 pub use input::MAX_INPUT;
 pub use names::{MAX_NAMES, are_names, names_in};
 pub use printed::Printed;

@@ -1,6 +1,7 @@
 //! The actions are played back, and each cache becomes the server's.
 
-ghost use Rattle.std.specs.Prelude.{⊤};
+ghost use Rattle.std.specs.Prelude.{◌≡◌, ⊤};
+ghost use Rattle.mail_base.specs.declared.status.Status.TheVariants as status;
 ghost use Rattle.mail_top.specs.BesideServer.{BesideServer};
 ghost use Rattle.mail_top.specs.Causing.{HasCauses};
 ghost use Rattle.mail_top.specs.Course.{course_of};
@@ -20,7 +21,8 @@ use world_traits::{Clocked, Disk, Link, World};
 /// Plays the book's actions back, and makes each of its caches the server's.
 ///
 /// The files are synced and read; where they hold no book they stay as they are, and the link isn't called. Before it is, the book
-/// is told anew on the journal's other side where its records grew long. The connection is left as it ended.
+/// is told anew on the journal's other side where that is of an older version, or where its records grew long. The connection is
+/// left as it ended.
 pub fn play<W: World>(alloc: Global, account: &Account, world: &mut W) -> Result<Played, Unfinished>
     // What became of it, as its status says it.
     ensures ends { W.tells_files → EndsPlay account.now (course_of W.Clocked W.seen world.old world.new)
@@ -35,6 +37,7 @@ pub fn play<W: World>(alloc: Global, account: &Account, world: &mut W) -> Result
     ensures server { BesideServer W.Clocked W.seen ⊤ world.old world.new (status_of_play result)
         (text_of_play result) }
     ensures causes { HasCauses W.Clocked world.old world.new (status_of_play result) }
+    ensures unread { status_of_play result ≡ status.Input → ⊥ }
 {
     let mut store = made_ready(alloc, world)?;
     let played = play_run(alloc, &mut store, account, world)?;

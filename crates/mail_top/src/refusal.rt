@@ -36,6 +36,9 @@ pub enum Refusal {
     /// The journal would end at this place, past its limit.
     #[error("a full journal")]
     Full { end: u64 },
+    /// The journal is of an older version, and no generation is left in which it is taken over.
+    #[error("no generation is left")]
+    Generation,
 }
 
 impl From<StoreFault> for Refusal {

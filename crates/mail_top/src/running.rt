@@ -155,7 +155,7 @@ pub fn run<W: World, I: Source, S: Sink>(
     ensures sides { W.tells_files → KeepsOneSide (W.clock world.old) (W.clock world.new) }
 
     // Whatever a server sends: where each image held a lawful book at entry, each does at every moment, with the actions and the outcomes
-    // that all images held then; and no action's command is sent twice. Nothing is asked of the server or of others.
+    // that all images held then; and of each try of an action one command is sent at most. Nothing is asked of the server or of others.
     ensures any_server { W.tells_files → StandsAny W.Clocked world.old world.new }
 
     // Up to each moment to which others were fair: each moment is kept, and joined to the one before it by one step of the book beside

@@ -1,25 +1,25 @@
 //! Why `play` didn't come to its end.
 
+use crate::Refusal;
 use play_driver::PlayFault;
-use store_core::StoreFault;
 
 /// Why `play` didn't come to its end.
 #[derive(Drop)]
 pub enum Unfinished {
     /// The journal isn't opened, or its book isn't told anew.
-    Unopened(StoreFault),
+    Unopened(Refusal),
     /// The run ended early.
     Stopped(PlayFault),
 }
 
-impl From<StoreFault> for Unfinished {
+impl From<Refusal> for Unfinished {
     ghost use Rattle.std.specs.Prelude.{◌≡◌};
     ghost use Rattle.mail_top.specs.declared.unfinished.Unfinished.TheVariants as ends;
 
-    ghost from_gives = { λ fault end. end ≡ ends.Unopened fault };
+    ghost from_gives = { λ refusal end. end ≡ ends.Unopened refusal };
 
-    fn from(fault: StoreFault) -> Unfinished {
-        Unfinished::Unopened(fault)
+    fn from(refusal: Refusal) -> Unfinished {
+        Unfinished::Unopened(refusal)
     }
 }
 

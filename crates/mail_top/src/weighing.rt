@@ -28,8 +28,7 @@ use world_traits::Source;
 /// The most flags of one command (this client's profile).
 pub const MAX_ASKED: usize = 32;
 
-/// The action that a book takes for what is asked for, with its number; or the first reason against it, or the limit that it
-/// passes.
+/// The action that a book takes for what is asked for; or the first reason against it.
 ///
 /// The input is read for an append alone, and only where no reason speaks against it that the book can tell.
 pub fn weighed<I: Source>(
@@ -37,10 +36,10 @@ pub fn weighed<I: Source>(
     book: &Book,
     input: &mut I,
     asked: &AskedAction<'_>,
-) -> Result<(ActionId, Action), Refusal>
+) -> Result<Action, Refusal>
     requires { HasFewFlags (wanted_of asked.now []) }
     ensures value { (given : List ℕ) × IsInput I.tells (I.rest input.old) given × Weighed (wanted_of asked.now given) (meaning book.now) result }
-    ensures writable { IfOk result (λ both. IsWritableAction both.1) }
+    ensures writable { IfOk result IsWritableAction }
     ensures read { (input.new ≡ input.old) ⊎ Awaits (wanted_of asked.now []) (meaning book.now) }
     ensures taken { I.tells → TakesFront (I.rest input.old) (I.rest input.new) }
     ensures whole { I.tells → IsAppendAsked asked.now → OnOk result (I.rest input.new ≡ []) }
@@ -56,36 +55,26 @@ pub fn weighed<I: Source>(
 }
 
 // A change of a message's flags.
-fn flag_weighed(
-    alloc: Global,
-    book: &Book,
-    asked: &AskedFlags<'_>,
-) -> Result<(ActionId, Action), Refusal>
+fn flag_weighed(alloc: Global, book: &Book, asked: &AskedFlags<'_>) -> Result<Action, Refusal>
     requires { HasFewFlags (Flag (change_of asked.now)) }
     ensures value { Weighed (Flag (change_of asked.now)) (meaning book.now) result }
-    ensures writable { IfOk result (λ both. IsWritableAction both.1) }
+    ensures writable { IfOk result IsWritableAction }
     ensures never { IsErrOf result refusals.Input → ⊥ }
 {
     let target = found(alloc, book, &asked.name, asked.id)?;
     let flags = keys_of(alloc, asked.flags)?;
     has_room(&book.queue)?;
-    let id = next_id(&book.queue)?;
-    let action = Action::Flag {
+    Ok(Action::Flag {
         target,
         add: asked.add,
         flags,
-    };
-    Ok((id, action))
+    })
 }
 
 // A move of a message.
-fn move_weighed(
-    alloc: Global,
-    book: &Book,
-    asked: &AskedMove,
-) -> Result<(ActionId, Action), Refusal>
+fn move_weighed(alloc: Global, book: &Book, asked: &AskedMove) -> Result<Action, Refusal>
     ensures value { Weighed (Move (transfer_of asked.now)) (meaning book.now) result }
-    ensures writable { IfOk result (λ both. IsWritableAction both.1) }
+    ensures writable { IfOk result IsWritableAction }
     ensures never { IsErrOf result refusals.Input → ⊥ }
 {
     is_known(book, &asked.name)?;
@@ -95,9 +84,8 @@ fn move_weighed(
         return Err(Refusal::from(Reason::SameMailbox));
     }
     has_room(&book.queue)?;
-    let id = next_id(&book.queue)?;
     let to = asked.to.copy();
-    Ok((id, Action::Move { target, to }))
+    Ok(Action::Move { target, to })
 }
 
 // A new message.
@@ -106,11 +94,11 @@ fn append_weighed<I: Source>(
     book: &Book,
     input: &mut I,
     asked: &AskedAppend<'_>,
-) -> Result<(ActionId, Action), Refusal>
+) -> Result<Action, Refusal>
     requires { HasFewFlags (Append (addition_of asked.now) []) }
     ensures value { (given : List ℕ) × IsInput I.tells (I.rest input.old) given
         × Weighed (Append (addition_of asked.now) given) (meaning book.now) result }
-    ensures writable { IfOk result (λ both. IsWritableAction both.1) }
+    ensures writable { IfOk result IsWritableAction }
     ensures read { (input.new ≡ input.old) ⊎ Awaits (Append (addition_of asked.now) []) (meaning book.now) }
     ensures taken { I.tells → TakesFront (I.rest input.old) (I.rest input.new) }
     ensures whole { I.tells → OnOk result (I.rest input.new ≡ []) }
@@ -120,14 +108,12 @@ fn append_weighed<I: Source>(
 {
     let flags = flags_received(alloc, book, asked)?;
     let (text, identifier) = message(alloc, input)?;
-    let id = next_id(&book.queue)?;
-    let action = Action::Append {
+    Ok(Action::Append {
         to: asked.to.copy(),
         flags,
         text,
         id: identifier,
-    };
-    Ok((id, action))
+    })
 }
 
 // The flags of a new message, where no reason speaks against it that the book can tell.
@@ -220,8 +206,8 @@ fn has_room(queue: &Queue) -> Result<(), Reason>
     Ok(())
 }
 
-// The number of the next action, where the queue takes one more.
-fn next_id(queue: &Queue) -> Result<ActionId, Refusal>
+/// The number of the next action, where the queue takes one more.
+pub fn next_id(queue: &Queue) -> Result<ActionId, Refusal>
     ensures { HasNumber queue.now.items result }
 {
     if queue.len() >= MAX_ACTIONS {

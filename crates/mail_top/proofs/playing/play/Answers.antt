@@ -14,9 +14,9 @@ use Rattle.mail_top.proofs.PlaySteps.{play_synced, surely_played, surely_unopene
 use Rattle.mail_top.proofs.Moving.{chooses_steps}
 use Rattle.mail_top.proofs.PlayServed.{boxes_behind, opening_serves, played_serves, run_serves, same_peer, serving_behind}
 use Rattle.mail_top.proofs.Openings.{never_err, opened_book, rose_later}
-use Rattle.mail_top.proofs.Sayings.{unready_play, unready_reads, played_play, played_disk, played_link, stopped_play}
-use Rattle.mail_top.proofs.Sayings.{no_place_told, opening_disk, opening_failed, opening_link, opening_reply, run_disk, run_failed, run_honest, run_link}
-use Rattle.mail_top.proofs.Sayings.{run_lost, run_reply, played_reply, stopped_early}
+use Rattle.mail_top.proofs.Sayings.{unready_play, unready_reads, played_play, played_disk, played_input, played_link, stopped_play}
+use Rattle.mail_top.proofs.Sayings.{no_place_told, opening_disk, opening_failed, opening_input, opening_link, opening_reply, run_disk, run_failed, run_honest, run_input}
+use Rattle.mail_top.proofs.Sayings.{run_link, run_lost, run_reply, played_reply, stopped_early}
 use Rattle.mail_top.proofs.playing.play.Goals as goal
 
 pub returns-in_err-store-clause-ends : goal.returns-in_err-store-clause-ends
@@ -68,6 +68,9 @@ returns-in_err-store-clause-causes g c = record {
   disk_unfailed = λ other. c.made_ready.ensures.blames.unfailed (λ is. other (opening_failed _ _ _ c.in_err-store.was c.from_residual.ensures.1 is));
   link_unfailed = λ other. ap (λ (s : LinkState). s.faults) c.made_ready.ensures.blames.link;
 }
+
+pub returns-in_err-store-clause-unread : goal.returns-in_err-store-clause-unread
+returns-in_err-store-clause-unread g c is = c.made_ready.ensures.never (opening_input _ _ _ c.in_err-store.was c.from_residual.ensures.1 is)
 
 pub returns-in_err-played-clause-ends : goal.returns-in_err-played-clause-ends
 returns-in_err-played-clause-ends g c tells =
@@ -181,6 +184,9 @@ returns-in_err-played-clause-causes g c = record {
       ∙ ap (λ (s : LinkState). s.faults) c.made_ready.ensures.blames.link;
 }
 
+pub returns-in_err-played-clause-unread : goal.returns-in_err-played-clause-unread
+returns-in_err-played-clause-unread g c is = run_input _ _ _ c.in_err-played.was c.from_residual-in_err-played.ensures.1 is
+
 pub returns-clause-ends : goal.returns-clause-ends
 returns-clause-ends g c tells =
     played_play c.args.account.now _ _ _ _ (c.in_ok-store.ensures.opened tells)
@@ -266,3 +272,6 @@ returns-clause-causes g c = record {
   disk_unfailed = λ other. c.in_ok-played.ensures.accuses.disk_unfailed (never_err _ _) ∙ c.in_ok-store.ensures.blames.unfailed (never_err _ _);
   link_unfailed = λ other. c.in_ok-played.ensures.accuses.link_unfailed (never_err _ _) ∙ ap (λ (s : LinkState). s.faults) c.made_ready.ensures.blames.link;
 }
+
+pub returns-clause-unread : goal.returns-clause-unread
+returns-clause-unread g c is = played_input c.in_ok-played.played is

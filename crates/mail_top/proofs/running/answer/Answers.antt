@@ -10,7 +10,7 @@ use Rattle.mail_top.proofs.Besides.{apart, causes_as, handed, input_unread, read
 use Rattle.mail_top.proofs.Goings.{went_so, went_init, went_act, went_rows, went_queue, went_report, went_play, few_with, action_done, input_failed}
 use Rattle.mail_top.proofs.Joinings.{init_records, action_records}
 use Rattle.mail_top.proofs.Sayings.{never_init, never_act}
-use Rattle.mail_top.proofs.Sayings.{no_reply, play_prints, play_asked, play_reads}
+use Rattle.mail_top.proofs.Sayings.{no_reply, play_prints, play_asked}
 use Rattle.mail_top.proofs.Showings.{showing_ends}
 use Rattle.mail_top.proofs.running.answer.Goals as goal
 
@@ -219,7 +219,7 @@ returns-in-Play-clause-causes g c = causes_as g.W.Clocked _ _ _ _ c.ending_of_pl
 
 pub returns-in-Play-clause-reads : goal.returns-in-Play-clause-reads
 returns-in-Play-clause-reads g c =
-    input_unread g.I.Source _ _ _ _ _ (λ append. subst IsAppend c.in-Play.is append) (λ is. play_reads _ _ c.ending_of_play.ensures.status is)
+    input_unread g.I.Source _ _ _ _ _ (λ append. subst IsAppend c.in-Play.is append) (λ is. c.play.ensures.unread (sym c.ending_of_play.ensures.status ∙ is))
 
 pub returns-in-Play-clause-server : goal.returns-in-Play-clause-server
 returns-in-Play-clause-server g c =
