@@ -1,7 +1,7 @@
 """What each command but `play` does with the journal, call by call (docs/JOURNAL.md, "Counted"), and what it prints."""
 from typing import Iterable, List, Tuple
 
-from .journal import MAGIC, Book, begin, body_of, event_of, journal, record, u32
+from .journal import MAGIC, MAGIC_1, Book, begin, body_of, event_of, journal, record, u32
 from .words import Ident, crlf_of, keys, looked_at, may_be_asked, message_id
 from .world import Fault, World
 
@@ -16,7 +16,7 @@ def is_up(text: bytes) -> bool:
 
 def is_other(text: bytes) -> bool:
     """Whether a file with an open head gate isn't a journal's."""
-    return is_up(text) and (text[1:9] != MAGIC or text[9:13] == bytes(4))
+    return is_up(text) and (text[1:9] not in (MAGIC_1, MAGIC) or text[9:13] == bytes(4))
 
 
 def generation_of(text: bytes) -> int:
@@ -39,6 +39,7 @@ class Store:
         if left == right:
             raise Fault(9, 'error journal generations' if left else 'error journal none')
         self.side, self.generation = int(left < right), max(left, right)
+        self.is_first = sides[self.side][1:9] == MAGIC_1
         events = self.read(sides[self.side])
         for _ in range(4 if len(events) == 1 else 5):
             world.read()
@@ -52,7 +53,7 @@ class Store:
             body = text[at + 5:at + 5 + size]
             is_whole = len(body) == size and len(text) > at + 5 + size
             event = event_of(body) if is_whole else None
-            if event is None or (event[0] == 'begin') != (not events):
+            if event is None or (event[0] == 'begin') != (not events) or not self.may_come(event, events):
                 raise Fault(9, 'error journal record %d' % at)
             events.append(event)
             at += 5 + size
@@ -60,6 +61,10 @@ class Store:
             raise Fault(9, 'error journal record %d' % at)
         self.gate = at
         return events
+
+    def may_come(self, event: tuple, events: List[tuple]) -> bool:
+        """Whether the event may come behind these. Of the rules those are looked at that speak of tries."""
+        return event[0] != 'withdraw' or (not self.is_first and Book(events).may_withdraw(*event[1:]))
 
     def commit(self, event: tuple) -> None:
         """Writes a record and the closed gate behind it, and then opens the gate in front of it."""
@@ -80,13 +85,25 @@ class Store:
         end = self.gate + 1
         return end > SHORT and self.generation < LAST and 2 * len(journal(*self.bodies())) <= end
 
-    def make_ready(self) -> None:
-        if self.is_turn_due():
-            bodies = self.bodies()
-            self.turn(bodies)
-            self.side, self.generation, self.gate = 1 - self.side, self.generation + 1, len(journal(*bodies)) - 1
+    def take_over(self) -> None:
+        """A journal of the first version is told anew in the second one, before something is added to it."""
+        if self.is_first:
+            if self.generation == LAST:
+                raise Fault(14, 'error limit generation %d' % (LAST + 1))
+            self.turn()
 
-    def turn(self, bodies: List[bytes]) -> None:
+    def make_ready(self) -> None:
+        self.take_over()
+        if self.is_turn_due():
+            self.turn()
+
+    def turn(self) -> None:
+        """Goes on on the other side, on which the book is told anew."""
+        bodies = self.bodies()
+        self.set_up(bodies)
+        self.side, self.generation, self.gate, self.is_first = 1 - self.side, self.generation + 1, len(journal(*bodies)) - 1, False
+
+    def set_up(self, bodies: List[bytes]) -> None:
         """Sets up the other side: short records are held back and written together, and the head gate is opened last."""
         world, side = self.world, 1 - self.side
         world.read()
@@ -165,6 +182,7 @@ def weigh(store: Store, flags: Iterable[str] = ()) -> None:
 
 
 def take(store: Store, action: tuple) -> List[str]:
+    store.take_over()
     number = len(store.book.queue) + 1
     store.commit(('accept', number, action))
     return ['accepted %d' % number]

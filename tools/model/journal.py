@@ -1,8 +1,8 @@
 """Events as bytes and back (docs/JOURNAL.md), and the book that they make.
 
 An event is a tuple: ('begin', names), ('accept', number, action), ('intend', number, intent), ('settle', number, outcome),
-('learn', mailbox, whole, validity, highest, uidnext, gone, rows), a row being (uid, modseq, flags), ('reset', mailbox, kept, told), or
-('old', number, action, outcome).
+('learn', mailbox, whole, validity, highest, uidnext, gone, rows), a row being (uid, modseq, flags), ('reset', mailbox, kept, told),
+('withdraw', number, tries), or ('old', number, action, outcome).
 An action is ('flag', target, sign, flags), ('move', target, to) or ('append', to, flags, text), a target
 ('real', mailbox, validity, uid) or ('dummy', number).
 An intent is ('store', mailbox, validity, uid, modseq), ('shift', mailbox, validity, uid, to) or ('put', to, validity, uidnext).
@@ -13,7 +13,8 @@ from typing import Dict, Iterable, List, Optional, Tuple
 
 from .words import Ident, keys, message_id, name_of, ranges_of
 
-MAGIC = b'ODMAILJ1'
+# The words of the two versions of a journal. What is written is of the second one.
+MAGIC_1, MAGIC = b'ODMAILJ1', b'ODMAILJ2'
 HEAD = b'\x01' + MAGIC + (1).to_bytes(4, 'big')
 # How many rows are told at once where a book is told anew.
 ROWS_AT_ONCE = 1000
@@ -23,6 +24,11 @@ KIND_NAMES = ('message-gone already-so flags-changed refused-no refused-bad not-
               'gone-after-loss ambiguous validity-changed reset-after-loss').split()
 # The kinds that say that nothing was changed.
 NOTHING = (1, 2, 3, 4, 5, 6, 7, 13)
+
+
+def tags_of(number: int) -> List[str]:
+    """Those of an action's three tries, as `history` prints them."""
+    return ['P%d' % number, 'P%dR2' % number, 'P%dR3' % number]
 
 
 def u16(number: int) -> bytes:
@@ -118,7 +124,12 @@ def reset(box: str, kept: int, told: int) -> bytes:
     return b'R' + named(box) + u32(kept) + u32(told)
 
 
-BODIES = dict(begin=lambda names: begin(*names), accept=accept, intend=intend, settle=settle, learn=learn, reset=reset, old=old)
+def withdraw(number: int, tries: int) -> bytes:
+    return b'W' + u32(number) + bytes([tries])
+
+
+BODIES = dict(begin=lambda names: begin(*names), accept=accept, intend=intend, settle=settle, learn=learn, reset=reset, withdraw=withdraw,
+              old=old)
 
 
 def body_of(event: tuple) -> bytes:
@@ -129,9 +140,9 @@ def record(body: bytes) -> bytes:
     return u32(len(body)) + body
 
 
-def journal(*bodies: bytes, generation: int = 1) -> bytes:
+def journal(*bodies: bytes, generation: int = 1, magic: bytes = MAGIC) -> bytes:
     """A whole file: the head, each record behind its open gate, and a closed gate."""
-    return b'\x01' + MAGIC + u32(generation) + b''.join(b'\x01' + record(body) for body in bodies) + b'\x00'
+    return b'\x01' + magic + u32(generation) + b''.join(b'\x01' + record(body) for body in bodies) + b'\x00'
 
 
 class Cut(Exception):
@@ -209,6 +220,8 @@ class Body:
             return self.learned()
         if letter == b'R':
             return ('reset', self.name(), self.num(), self.num())
+        if letter == b'W':
+            return ('withdraw', self.num(), self.num(1))
         return None
 
 
@@ -222,13 +235,15 @@ def event_of(body: bytes) -> Optional[tuple]:
 
 
 class Book:
-    """What the events of a journal come to: caches by mailbox, actions with their outcomes, and the intent that is pending."""
+    """What the events of a journal come to: caches by mailbox, actions with their outcomes, the intent that is pending, and how many tries of
+    the first unsettled action were taken back."""
 
     def __init__(self, events: Iterable[tuple]):
         self.boxes: Dict[str, Optional[dict]] = {}
         self.queue: List[tuple] = []
         self.outcomes: List[Optional[tuple]] = []
         self.pending: Optional[tuple] = None
+        self.tries = 0
         for event in events:
             self.take(event)
 
@@ -243,7 +258,9 @@ class Book:
             self.pending = event[2]
         elif kind == 'settle':
             self.outcomes[event[1] - 1] = event[2]
-            self.pending = None
+            self.pending, self.tries = None, 0
+        elif kind == 'withdraw':
+            self.pending, self.tries = None, event[2]
         elif kind == 'old':
             self.queue.append(event[2])
             self.outcomes.append(event[3])
@@ -251,6 +268,13 @@ class Book:
             self.learned(*event[1:])
         elif kind == 'reset':
             self.boxes[event[1]] = None
+
+    def may_withdraw(self, number: int, tries: int) -> bool:
+        """Whether a record may say that so many tries of an action were taken back."""
+        waiting = self.unsettled()
+        if waiting[:1] != [number] or self.queue[number - 1][0] != 'flag' or tries not in (1, 2):
+            return False
+        return tries == self.tries + 1 if self.pending else self.tries == 0
 
     def learned(self, name: str, whole: int, validity: int, highest: int, uidnext: int, gone: List[int], rows: List[tuple]) -> None:
         kept = {} if whole else dict(self.boxes[name]['rows'])
@@ -271,6 +295,8 @@ class Book:
                     events.append(('learn', name, int(at == 0), *numbers, [], rows[at:at + ROWS_AT_ONCE]))
         for number, (action, outcome) in enumerate(zip(self.queue, self.outcomes), 1):
             events.append(('old', number, action, outcome) if outcome else ('accept', number, action))
+        if self.tries:
+            events.append(('withdraw', self.unsettled()[0], self.tries))
         if self.pending:
             events.append(('intend', self.unsettled()[0], self.pending))
         return events

@@ -7,11 +7,14 @@ import base64
 from typing import Any, Callable, List, Optional, Tuple, Union
 
 from .commands import Store
+from .journal import tags_of
 from .words import astring, fields, flag_text, keys, login_parts, message_id, set_text
 from .world import Fault, World
 
 (GONE, SO, CHANGED, NO, BAD, BARRED, UNKNOWN, FOUND_SO, UNSURE, SOURCE_GONE, GONE_LATER, AMBIGUOUS, RENEWED, RENEWED_LATER) = range(1, 15)
 ROW = '(UID FLAGS MODSEQ)'
+# How many times a change of flags is tried at most.
+TRIES = 3
 
 
 def conflict(kind: int, *numbers: int) -> tuple:
@@ -146,6 +149,10 @@ class Run:
     def intend(self, number: int, intent: tuple) -> None:
         self.store.commit(('intend', number, intent))
 
+    def tag(self, number: int) -> str:
+        """That of an action's try."""
+        return tags_of(number)[self.book.tries]
+
     # A change of flags, on condition of a mod-sequence.
 
     def flag(self, number: int, target: tuple, sign: str, flags: List[str]) -> tuple:
@@ -156,6 +163,15 @@ class Run:
         renewed = self.be_in(name, validity)
         if renewed:
             return renewed
+        while True:
+            outcome = self.try_flag(number, name, validity, uid, sign, asked)
+            if outcome[:2] != ('conflict', CHANGED) or self.book.tries == TRIES - 1:
+                return outcome
+            # The STORE had no effect: it is taken back, and the next one has the mod-sequence that the row has then.
+            self.store.commit(('withdraw', number, self.book.tries + 1))
+            self.resumed = False
+
+    def try_flag(self, number: int, name: str, validity: int, uid: int, sign: str, asked: List[str]) -> tuple:
         row = self.row(uid)
         reason = self.why_not(row, sign, asked)
         if reason:
@@ -201,10 +217,10 @@ class Run:
                 return 'changed'
             there = set(message['flags'])
             flags = there | set(asked) if sign == '+' else there - set(asked)
-            rule = self.world.change('set', name, uid, *sorted(flags, key=str.encode), author='P%d' % number)
+            rule = self.world.change('set', name, uid, *sorted(flags, key=str.encode), author=self.tag(number))
             return 'no' if rule else 'done'
         text = 'UID STORE %d (UNCHANGEDSINCE %d) %sFLAGS (%s)' % (uid, mark, sign, flag_text(asked))
-        return self.command('P%d' % number, text, carried=carried)
+        return self.command(self.tag(number), text, carried=carried)
 
     # A move.
 
@@ -229,9 +245,9 @@ class Run:
             if self.world.box(name).at(uid) is None:
                 return None
             new = box.uidnext
-            rule = self.world.change('shift', name, uid, to, new, author='P%d' % number)
+            rule = self.world.change('shift', name, uid, to, new, author=self.tag(number))
             return 'no' if rule else ('done', box.validity, new)
-        came = self.command('P%d' % number, 'UID MOVE %d %s' % (uid, astring(to)), carried=carried)
+        came = self.command(self.tag(number), 'UID MOVE %d %s' % (uid, astring(to)), carried=carried)
         if came is None:
             return gone
         return conflict(NO) if came == 'no' else came
@@ -261,10 +277,10 @@ class Run:
             if box is None:
                 return 'no'
             new = box.uidnext
-            rule = self.world.change('add', to, new, text, *keys(flags), author='P%d' % number)
+            rule = self.world.change('add', to, new, text, *keys(flags), author=self.tag(number))
             return 'no' if rule else ('done', box.validity, new)
         front = 'APPEND %s (%s) {%d}' % (astring(to), flag_text(keys(flags)), len(text))
-        came = self.command('P%d' % number, front, text + b'\r\n', carried=carried, refused=self.world.refused == to)
+        came = self.command(self.tag(number), front, text + b'\r\n', carried=carried, refused=self.world.refused == to)
         if came == 'no':
             return conflict(NO)
         if self.world.is_muted:

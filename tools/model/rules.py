@@ -125,7 +125,7 @@ class Cache:
 
 class Action:
     def __init__(self, kind: Optional[str], **fields: Any):
-        self.kind, self.outcome = kind, None
+        self.kind, self.outcome, self.tries = kind, None, 0
         self.__dict__.update(fields)
 
 
@@ -294,7 +294,8 @@ class Run:
         yield Need(f'intend {number} {intent}')
         self.book.intent = intent
 
-    # A change of flags, on condition of a mod-sequence.
+    # A change of flags, on condition of a mod-sequence. Where another changed the message first the try is taken back, twice at most, and
+    # the action begins anew at the row of its message.
 
     def flag(self, number: int, action: Action) -> Steps:
         target = self.resolve(action.target)
@@ -304,6 +305,16 @@ class Run:
         ended = yield from self.be_in(name, validity)
         if ended:
             return ended
+        while True:
+            outcome = yield from self.try_flag(number, action, target)
+            if not outcome.startswith('flags-changed ') or action.tries == 2:
+                return outcome
+            action.tries += 1
+            yield Need(f'withdraw {number} {action.tries}')
+            self.book.intent, self.open = None, False
+
+    def try_flag(self, number: int, action: Action, target: tuple) -> Steps:
+        name, validity, uid = target
         row, barred = yield from self.ask_row(uid)
         if self.open:
             mark = int(self.book.intent.split()[-1])
@@ -321,7 +332,7 @@ class Run:
             mark = row.modseq
             yield from self.intend(number, f'store {name} {validity} {uid} {mark}')
         sign = '+' if action.add else '-'
-        tag = f'P{number}'
+        tag = f'P{number}' + (f'R{action.tries + 1}' if action.tries else '')
         reply = yield Need(f'{tag} UID STORE {uid} (UNCHANGEDSINCE {mark}) {sign}FLAGS ({flag_text(keys(action.flags))})', tag)
         if reply.code and reply.code.name == 'MODIFIED' and uid in reply.code.rest[0]:
             return f'flags-changed {mark}'

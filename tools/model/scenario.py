@@ -1,14 +1,14 @@
 """The lines of a scenario (docs/SCENARIOS.md), and what each is to print."""
 from typing import Iterable, List, Tuple, Union
 
-from . import commands
+from . import commands, texts
 from .playing import play
 from .server import Box
-from .words import asked, hexed, keys, name_of, word, words
+from .words import asked, hexed, keys, name_of, read_by, word, words
 from .world import Fault, World
 
 COMMANDS = dict(init=commands.init, flag=commands.flag, move=commands.move, append=commands.append, list=commands.list_rows,
-                queue=commands.queue, report=commands.report, play=play)
+                queue=commands.queue, report=commands.report, play=play, fetch=texts.fetch, show=texts.show, dates=texts.dates)
 
 
 class Scenario:
@@ -92,6 +92,10 @@ class Scenario:
         self.line('source %d' % number)
         self.world.source_fails.add(number)
 
+    def shelf(self, number: int) -> None:
+        self.line('shelf %d' % number)
+        self.world.shelf_fails.add(number)
+
     def input(self, text: bytes) -> None:
         self.line('input ' + word(text))
         self.world.input = text
@@ -127,7 +131,7 @@ class Scenario:
 
     def run(self, *command: str) -> int:
         """A run, by the model. It gives the status."""
-        world, what = self.world, asked(command)
+        world, what = self.world, asked(command) or read_by(command)
         try:
             printed, status = (COMMANDS[what[0]](world, *what[1:]), 0) if what else (['error words'], 2)
         except Fault as fault:
@@ -162,6 +166,10 @@ class Scenario:
     def files(self) -> None:
         left, right = self.world.files
         self.line('files', 'left ' + hexed(left.seen), 'right ' + hexed(right.seen))
+
+    def texts(self) -> None:
+        kept = reversed(list(self.world.texts.items()))
+        self.line('shelf', *['text %s %d %d %s' % (word(name), validity, uid, word(text)) for (name, validity, uid), text in kept])
 
     def moments(self) -> None:
         self.line('moments', str(self.world.moments))

@@ -79,6 +79,16 @@ def looked_at(command: Iterable[str]) -> Optional[tuple]:
     return None
 
 
+def read_by(command: Iterable[str]) -> Optional[tuple]:
+    """What the words ask for of a text, or None where they are none of `fetch BOX ID`, `show BOX ID` and `dates BOX`."""
+    verb, *rest = list(command) or [None]
+    if verb in ('fetch', 'show') and len(rest) == 2 and is_box(rest[0]) and number_of(rest[1]):
+        return (verb, name_of(rest[0]), number_of(rest[1]))
+    if verb == 'dates' and len(rest) == 1 and is_box(rest[0]):
+        return (verb, name_of(rest[0]))
+    return None
+
+
 # Flags.
 
 SPELLED = {'\\answered': '\\Answered', '\\flagged': '\\Flagged', '\\deleted': '\\Deleted', '\\seen': '\\Seen', '\\draft': '\\Draft'}

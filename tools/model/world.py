@@ -4,6 +4,9 @@ from typing import Any, Callable, Dict, Iterable, List, Optional, Tuple
 from .server import Box, Server
 from .words import name_of
 
+# What a text is kept under: the mailbox, its UIDVALIDITY and the UID.
+Key = Tuple[str, int, int]
+
 
 class Fault(Exception):
     """A run ends here, with this status and line."""
@@ -76,13 +79,16 @@ class World(Server):
         self.waiting: Optional[Callable[[], Any]] = None
         self.waits_in: Optional[str] = None
         self.moments = 1
-        # How many calls of link and disk the last run made that called the link.
-        self.counts = (0, 0)
-        self.link_calls = self.disk_calls = 0
+        # The texts that are kept, in the order in which they were put.
+        self.texts: Dict[Key, bytes] = {}
+        # How many calls of link and disk the last run made that called the link; and how many the last run made.
+        self.counts, self.last_calls = (0, 0), 0
+        self.calls = self.link_calls = self.disk_calls = 0
         self.plan()
 
     def plan(self) -> None:
         """Forgets what was to go wrong, and counts calls anew."""
+        self.last_calls = self.calls
         if self.link_calls:
             self.counts = (self.link_calls, self.disk_calls)
         self.fails: set = set()
@@ -91,8 +97,9 @@ class World(Server):
         self.stop: Optional[int] = None
         self.sink_fails: set = set()
         self.source_fails: set = set()
+        self.shelf_fails: set = set()
         self.input = b''
-        self.calls = self.disk_calls = self.link_calls = 0
+        self.shelf_calls = self.calls = self.disk_calls = self.link_calls = 0
 
     def change(self, *change, author: str = 'other') -> Optional[int]:
         if change[0] == 'reset' and self.is_held(change[1]):
@@ -152,6 +159,22 @@ class World(Server):
         if self.source_fails & ({1, 2} if self.input else {1}):
             raise Fault(13, 'error input')
         return self.input
+
+    # Calls of the shelf, at which no stop looks.
+
+    def shelf_call(self) -> None:
+        self.shelf_calls += 1
+        if self.shelf_calls in self.shelf_fails:
+            raise Fault(16, 'error shelf')
+
+    def put_text(self, key: Key, text: bytes) -> None:
+        self.shelf_call()
+        self.texts.pop(key, None)
+        self.texts[key] = text
+
+    def kept_text(self, key: Key) -> Optional[bytes]:
+        self.shelf_call()
+        return self.texts.get(key)
 
     # Calls of the link.
 

@@ -35,6 +35,8 @@ def select(validity, uidnext, highest, *others, exists=2):
 INBOX, ARCHIVE = select(5, 44, 715), select(9, 7, 300, exists=0)
 ALL = Reply([row(40, '\\Seen', 700)])
 SEEN, PLAIN, NONE = Reply([row(42, '\\Seen', 716)]), Reply([row(42, '', 715)]), Reply()
+# A STORE that had no effect, and the row as another left it.
+LATE, OTHER = Reply(code=Code('MODIFIED', [42])), Reply([row(42, '\\Flagged', 717)])
 
 # What stands in front of a completion.
 ROWS = [
@@ -142,8 +144,8 @@ def known():
 KNOWN = ['learn INBOX whole 5 44 715 ; 40 700 \\Seen ; 42 715', 'learn Archive whole 9 7 300']
 
 
-def with_action(kind, intent=None, add=True, new=False):
-    """A book with one action, and perhaps with an intent of an earlier run; and the lines that make it."""
+def with_action(kind, intent=None, add=True, new=False, tries=0):
+    """A book with one action, and perhaps with tries that were taken back and an intent of an earlier run; and the lines that make it."""
     book, lines = (Book(), []) if new else (known(), list(KNOWN))
     if kind == 'flag':
         book.actions = [Action('flag', target=('INBOX', 5, 42), add=add, flags=('\\Seen',))]
@@ -154,6 +156,9 @@ def with_action(kind, intent=None, add=True, new=False):
     if kind == 'append':
         book.actions = [Action('append', to='Archive', flags=(), id=ID)]
         lines.append(f'accept append Archive "{ID}"')
+    if tries:
+        book.actions[0].tries = tries
+        lines += [line for turn in range(1, tries + 1) for line in [f'intend {STORE}', f'withdraw {turn}']]
     if intent:
         book.intent = intent
         lines.append(f'intend {intent}')
@@ -174,6 +179,19 @@ STATES = [
     ('an added flag: the row', lambda: with_action('flag'), [INBOX], questions()),
     ('an added flag that the mailbox does not keep: the row', lambda: with_action('flag'), [INBOX], questions(barred=True)),
     ('an added flag: the STORE', lambda: with_action('flag'), [INBOX, PLAIN], answers(ROWS[:12])),
+    ('an added flag, and a STORE that had no effect: the row', lambda: with_action('flag'), [INBOX, PLAIN, LATE], questions()),
+    ('an added flag that is not kept, and a STORE that had no effect: the row', lambda: with_action('flag'), [INBOX, PLAIN, LATE],
+        questions(barred=True)),
+    ('an added flag: the second STORE', lambda: with_action('flag'), [INBOX, PLAIN, LATE, OTHER], answers(ROWS[:12])),
+    ('an added flag: the third STORE', lambda: with_action('flag'), [INBOX, PLAIN, LATE, OTHER, LATE, PLAIN], answers(ROWS[:3])),
+    ('an added flag, of which an earlier run took a try back: the SELECT', lambda: with_action('flag', tries=1), [], selects(5, 44, 715)),
+    ('an added flag, of which an earlier run took two tries back: the STORE', lambda: with_action('flag', tries=2), [INBOX, OTHER],
+        answers(ROWS[:3])),
+    ('an added flag behind a lost second STORE: the row', lambda: with_action('flag', STORE, tries=1), [INBOX], questions()),
+    ('an added flag: the second STORE that is sent again', lambda: with_action('flag', STORE, tries=1), [INBOX, PLAIN], answers(ROWS[:3])),
+    ('an added flag: the third STORE that is sent again', lambda: with_action('flag', STORE, tries=2), [INBOX, PLAIN], answers(ROWS[:3])),
+    ('an added flag: the second STORE behind a lost one', lambda: with_action('flag', STORE), [INBOX, PLAIN, LATE, OTHER],
+        answers(ROWS[:3])),
     ('an added flag behind a lost STORE: the row', lambda: with_action('flag', STORE), [INBOX], questions()),
     ('an added flag that is not kept, behind a lost STORE: the row', lambda: with_action('flag', STORE), [INBOX], questions(barred=True)),
     ('an added flag: the STORE that is sent again', lambda: with_action('flag', STORE), [INBOX, PLAIN], answers(ROWS[:12])),

@@ -4,7 +4,7 @@ import sys
 
 # The package of plain models stands beside this folder.
 sys.path.insert(0, str(pathlib.Path(__file__).resolve().parent.parent))
-from model.journal import accept, begin, body_of, event_of, intend, journal, keys, learn, real, settle  # noqa: E402
+from model.journal import accept, begin, body_of, event_of, intend, journal, keys, learn, real, settle, withdraw  # noqa: E402
 from model.scenario import Cases, Scenario  # noqa: E402
 
 # The worked server: two mailboxes, two messages; and the records that tell of it.
@@ -32,9 +32,9 @@ LOSSES = ['nothing', 'part 1', 'part 7', 'all', 'waits done', 'waits dropped']
 def check_bytes() -> None:
     """Compares what the model writes with bytes that were worked out by hand from docs/JOURNAL.md."""
     by_hand = [
-        (BEGUN, '014f444d41494c4a31000000010100000010420205494e424f58074172636869766500'),
+        (BEGUN, '014f444d41494c4a32000000010100000010420205494e424f58074172636869766500'),
         (ACCEPTED, '4100000001465205494e424f58000000050000002a2b0001055c7365656e'),
-        (BOTH_LEARNED, '014f444d41494c4a31000000010100000010420205494e424f58074172636869766501000000424c05494e424f580100000005'
+        (BOTH_LEARNED, '014f444d41494c4a32000000010100000010420205494e424f58074172636869766501000000424c05494e424f580100000005'
                        '00000000000002cb0000002c00000000000000020000002800000000000002bc0001055c7365656e0000002a00000000000002cb'
                        '000001000000224c07417263686976650100000009000000000000012c00000007000000000000000000'),
         (accept(1, MOVED), '41000000014d5205494e424f58000000050000002a0741726368697665'),
@@ -42,6 +42,7 @@ def check_bytes() -> None:
         (settle(1, ('done', 9, 7)), '530000000144010000000900000007'),
         (settle(2, ('done',)), '53000000024400'),
         (settle(1, ('conflict', 9, [715, 722])), '5300000001430900000000000002cb00000000000002d2'),
+        (withdraw(1, 1), '570000000101'),
     ]
     for told, wanted in by_hand:
         assert told.hex() == wanted, (told.hex(), wanted)
@@ -55,7 +56,7 @@ def check_reading() -> None:
     events += [('intend', 1, ('store', 'INBOX', 5, 42, 715)), ('intend', 1, ('shift', 'INBOX', 5, 42, 'Archive')),
                ('intend', 3, ('put', 'Archive', 9, 7))]
     events += [('settle', 1, ('done', 9, 7)), ('settle', 2, ('done',)), ('settle', 1, ('conflict', 9, [715, 722])),
-               ('settle', 1, ('conflict', 12, [7, 8]))]
+               ('settle', 1, ('conflict', 12, [7, 8])), ('withdraw', 1, 2)]
     for event in events:
         assert event_of(body_of(event)) == event, event
 

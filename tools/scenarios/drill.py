@@ -11,6 +11,7 @@ import sys
 
 from common import Scenario
 from model.commands import Store
+from model.journal import tags_of
 from model.world import draws
 
 LOSSES = ['nothing', 'part 10', 'all']
@@ -73,7 +74,7 @@ class Drill:
     def line(self):
         world = self.s.world
         book = Store(world).book
-        deeds = [sum(author == 'P%d' % n for author, *_ in world.history) for n in range(1, len(book.queue) + 1)]
+        deeds = [sum(author in tags_of(n) for author, *_ in world.history) for n in range(1, len(book.queue) + 1)]
         assert len(book.queue) == self.accepted and all(author != 'other' for author, *_ in world.history)
         settled = sum(o is not None for o in book.outcomes)
         missing = sum(d != 1 and not (o and o[0] == 'conflict') for d, o in zip(deeds, book.outcomes))

@@ -6,7 +6,7 @@ usage: tools/scenarios/gen.py FOLDER    (crates/mail_scenario, or a copy of it, 
 import sys
 
 from common import ACCEPTED, BEGUN, BOTH_LEARNED, M40, OFFERS, SEEN, WORKED, Scenario, begin, journal, keys
-from model.journal import HEAD, named, u32
+from model.journal import HEAD, MAGIC, named, u32
 from model.server import Box
 from model.world import World
 
@@ -193,7 +193,7 @@ def no_journals(s: Scenario) -> None:
         s.stand()
         s.run('flag', 'INBOX', '42', '+', '\\Seen')
         s.lists('INBOX')
-        if left[1:9] != b'ODMAILJ1':
+        if left[1:9] != MAGIC:
             s.run('init', 'INBOX')
         s.files()
     s.gap()
@@ -294,6 +294,36 @@ def stops(s: Scenario) -> None:
             s.run('flag', 'INBOX', '40', '+', '\\Draft')
 
 
+def kept_texts(s: Scenario) -> None:
+    s.gap()
+    s.note('Kept texts stand beside the world, and stay over a restart. `shelf` shows each once, the one that was put last first.')
+    dated = b'Message-ID: <m42@x>\r\nDate: Tue, 1 Dec 2026 09:00:00 +0000\r\n\r\n'
+    s.server(OFFERS, [('INBOX', 5, 44, 715, [(40, 700, M40 + b'forty'), (42, 715, dated)], [])])
+    s.shelf(2**64 - 1)
+    s.stand()
+    s.texts()
+    for command in ['init INBOX', 'play', 'show INBOX 42']:
+        s.run(*command.split())
+    s.shelf(1)
+    s.run('fetch', 'INBOX', '42')
+    s.texts()
+    s.run('fetch', 'INBOX', '42')
+    s.run('fetch', 'INBOX', '40')
+    s.texts()
+    s.run('fetch', 'inbox', '42')
+    s.restart(0)
+    s.texts()
+    s.shelf(1)
+    s.run('show', 'INBOX', '40')
+    s.run('show', 'INBOX', '40')
+    s.shelf(2)
+    s.run('dates', 'INBOX')
+    s.run('dates', 'INBOX')
+    s.note('These three words alone pick `read_run`; it has no other.')
+    for command in ['fetch INBOX', 'show INBOX 042', 'dates', 'fetched INBOX 40']:
+        s.run(*command.split())
+
+
 def tally(folder: str) -> str:
     """What the program counts at its end: the lines of all cases, with those in front of the first case once for each."""
     count = lambda text: sum(1 for line in text.split('\n')[1:] if line and line[0] not in ' #')
@@ -315,7 +345,7 @@ def write(name: str, text: str) -> None:
         file.write(text)
 
 
-MAKERS = [language, changes_by_others, plans, scripted, inits, flags, no_journals, odd_words, faults, failing_calls, stops]
+MAKERS = [language, changes_by_others, plans, scripted, inits, flags, no_journals, odd_words, faults, failing_calls, stops, kept_texts]
 
 
 def main(folder: str) -> None:

@@ -11,7 +11,7 @@ from common import (ARCHIVE_LEARNED, INBOX_LEARNED, LOSSES, OFFERS, T, WORKED, C
                     keys, over, without_head, worked_server)
 from gen_words import TEXTS
 from model.commands import Store
-from model.journal import NOTHING, Book
+from model.journal import NOTHING, Book, tags_of
 from model.words import message_id
 from model.world import Fault, World
 
@@ -209,7 +209,7 @@ class Draw(random.Random):
         s.lists(*NAMES)
         book, deeds = Store(World((), (), *(file.seen for file in s.world.files))).book, [author for author, *_ in s.world.history]
         for n, outcome in enumerate(book.outcomes, 1):
-            count = deeds.count('P%d' % n)
+            count = sum(deeds.count(tag) for tag in tags_of(n))
             assert count <= 1, (n, deeds)
             if outcome:
                 assert count == 1 if outcome[0] == 'done' else count == 0 or outcome[1] not in NOTHING, (n, outcome, deeds)

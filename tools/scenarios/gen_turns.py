@@ -70,7 +70,7 @@ def twenty_plays(c: Cases) -> None:
         assert number not in ENDS or len(left) == ENDS[number], (number, len(left))
         assert right == b''
         s.plays('played 1 conflicts 0')
-    assert head_of(s.world.files[1].seen) == '014f444d41494c4a3100000002'
+    assert head_of(s.world.files[1].seen) == '014f444d41494c4a3200000002'
     s.says('list INBOX', '40 700 \\seen', '42 735')
     s.says('report')
     add(c, 'twenty plays of one flag: the last one tells the journal anew', s.ends(), *[done()] * TURNS_AT[0])

@@ -17,7 +17,7 @@ fn play_case(alloc: Global, names: &Names<'_>, lines: &[Line<'_>]) -> Result<u64
     }
 }
 
-// `text BEGUN = "\x01ODMAILJ1"`: the later lines of the file know the name.
+// `text BEGUN = "\x01ODMAILJ2"`: the later lines of the file know the name.
 fn name<'a>(names: &mut Names<'a>, line: &'a str) -> Result<(), Fault> {
     let (_, rest) = split(line, "text ")?;
     let (name, text) = split(rest, " = ")?;

@@ -175,6 +175,7 @@ fn append_on(
         Ok(()) => owned(alloc, "done"),
         Err(Unappended::Unread(Unread::Long)) => Err(Fault::Form),
         Err(Unappended::Unread(Unread::Fault(fault))) => fault_text(alloc, fault),
+        Err(Unappended::Older) => owned(alloc, "older"),
         Err(Unappended::Unwritten(AppendFault::Disk)) => owned(alloc, "disk"),
         Err(Unappended::Unwritten(AppendFault::Full { end, wanted })) => {
             Ok(format!(in alloc; "full {end} wanted {wanted}")?)

@@ -8,7 +8,7 @@ ghost use Rattle.journal_core.specs.Creating.{NoneEmpty};
 use crate::bodies::place_text;
 use crate::texts::owned;
 use case_files::Fault;
-use journal_core::{AppendFault, CreateFault, Journal, OpenFault, TurnFault};
+use journal_core::{AppendFault, CreateFault, Journal, OpenFault, TurnFault, WRITTEN};
 use mail_base::Bytes;
 use std::alloc::{AllocError, Global};
 use world_traits::Disk;
@@ -46,11 +46,13 @@ pub enum Unread {
     Fault(OpenFault),
 }
 
-/// Why a record isn't appended: the journal isn't read, or it isn't written.
+/// Why a record isn't appended: the journal isn't read, it is of an older version, or the record isn't written.
 #[derive(Clone, Copy, Drop)]
 pub enum Unappended {
     /// The journal isn't read to its end.
     Unread(Unread),
+    /// The journal is of an older version than the one that is written.
+    Older,
     /// The record isn't written.
     Unwritten(AppendFault),
 }
@@ -122,10 +124,13 @@ pub fn append<D: Disk>(
         Ok(journal) => journal,
         Err(unread) => return Err(Unappended::Unread(unread)),
     };
-    match journal.append(disk, frame, limit) {
-        Ok(()) => Ok(()),
-        Err(fault) => Err(Unappended::Unwritten(fault)),
+    if journal.version() == WRITTEN {
+        return match journal.append(disk, frame, limit) {
+            Ok(()) => Ok(()),
+            Err(fault) => Err(Unappended::Unwritten(fault)),
+        };
     }
+    Err(Unappended::Older)
 }
 
 /// Goes on on the other side with these bodies.

@@ -3,6 +3,7 @@
 ghost use Rattle.std.specs.Prelude.{◌≡◌, IfSome, false};
 ghost use Rattle.action_queue.specs.Events.{AreNames};
 ghost use Rattle.action_queue.specs.Writable.{IsWritable};
+ghost use Rattle.journal_core.specs.Sides.{version_written};
 ghost use Rattle.store_core.specs.Mail.{mail};
 ghost use Rattle.store_core.specs.Holding.{IsAsLeft};
 
@@ -10,6 +11,7 @@ use crate::bodies::place_text;
 use crate::texts::owned;
 use action_queue::{Book, Event, Known, Outcome};
 use case_files::Fault;
+use journal_core::WRITTEN;
 use mail_base::{ActionId, BoxName, List};
 use record_codec::decode;
 use std::alloc::Global;
@@ -25,6 +27,8 @@ pub enum Recorded {
     NoEvent,
     /// The event breaks a rule.
     Unlawful,
+    /// The journal is of an older version than the one that is written.
+    Older,
     /// There is no store.
     NoStore(StoreFault),
     /// The store didn't record it.
@@ -63,6 +67,7 @@ fn names_of(alloc: Global, begin: &[u8]) -> Option<List<BoxName>>
 
 // Settles an action, where that is lawful.
 fn settle<D: Disk>(disk: &mut D, store: &mut Store, id: &ActionId, outcome: &Outcome) -> Recorded
+    requires written { store.old.journal.version ≡ version_written }
     requires sound { store.old.journal.failed ≡ false }
     requires still { D.tells_files → IsAsLeft mail store.old (D.clock disk.old).now (D.seen disk.old) }
 {
@@ -76,8 +81,22 @@ fn settle<D: Disk>(disk: &mut D, store: &mut Store, id: &ActionId, outcome: &Out
     of_commit(store.settle(disk, *id, *outcome))
 }
 
+// Takes the command of an action back, where that is lawful.
+fn withdraw<D: Disk>(disk: &mut D, store: &mut Store, id: &ActionId, tries: u8) -> Recorded
+    requires written { store.old.journal.version ≡ version_written }
+    requires sound { store.old.journal.failed ≡ false }
+    requires still { D.tells_files → IsAsLeft mail store.old (D.clock disk.old).now (D.seen disk.old) }
+{
+    let event = Event::Withdraw { id: *id, tries };
+    if store.allows(&event).is_some() {
+        return Recorded::Unlawful;
+    }
+    of_commit(store.withdraw(disk, *id, tries))
+}
+
 // Records an event, where it is lawful. An action that ended is recorded by a turn alone.
 fn commit<D: Disk>(alloc: Global, disk: &mut D, store: &mut Store, event: Event) -> Recorded
+    requires written { store.old.journal.version ≡ version_written }
     requires writable { IsWritable event }
     requires sound { store.old.journal.failed ≡ false }
     requires still { D.tells_files → IsAsLeft mail store.old (D.clock disk.old).now (D.seen disk.old) }
@@ -91,8 +110,9 @@ fn commit<D: Disk>(alloc: Global, disk: &mut D, store: &mut Store, event: Event)
     of_commit(store.commit(alloc, disk, event))
 }
 
-// Settles an action, or records another event.
+// Settles an action, takes its command back, or records another event.
 fn put<D: Disk>(alloc: Global, disk: &mut D, store: &mut Store, event: Event) -> Recorded
+    requires written { store.old.journal.version ≡ version_written }
     requires writable { IsWritable event }
     requires sound { store.old.journal.failed ≡ false }
     requires still { D.tells_files → IsAsLeft mail store.old (D.clock disk.old).now (D.seen disk.old) }
@@ -100,7 +120,22 @@ fn put<D: Disk>(alloc: Global, disk: &mut D, store: &mut Store, event: Event) ->
     if let Event::Settle { id, outcome } = &event {
         return settle(disk, store, id, outcome);
     }
+    if let Event::Withdraw { id, tries } = &event {
+        return withdraw(disk, store, id, *tries);
+    }
     commit(alloc, disk, store, event)
+}
+
+// The same on a store that was opened: to a journal of an older version nothing is added.
+fn put_opened<D: Disk>(alloc: Global, disk: &mut D, store: &mut Store, event: Event) -> Recorded
+    requires writable { IsWritable event }
+    requires sound { store.old.journal.failed ≡ false }
+    requires still { D.tells_files → IsAsLeft mail store.old (D.clock disk.old).now (D.seen disk.old) }
+{
+    if store.version() == WRITTEN {
+        return put(alloc, disk, store, event);
+    }
+    Recorded::Older
 }
 
 /// Opens a store, and records the event of a body.
@@ -112,7 +147,7 @@ pub fn record<D: Disk>(alloc: Global, disk: &mut D, body: &[u8]) -> Recorded {
         Ok(store) => store,
         Err(fault) => return Recorded::NoStore(fault),
     };
-    put(alloc, disk, &mut store, event)
+    put_opened(alloc, disk, &mut store, event)
 }
 
 /// Opens a store, and tells its book anew on the journal's other side.
@@ -158,7 +193,7 @@ pub fn init_and_record<D: Disk>(
         Ok(store) => store,
         Err(fault) => return Recorded::NoStore(fault),
     };
-    put(alloc, disk, &mut store, event)
+    put_opened(alloc, disk, &mut store, event)
 }
 
 // Why there is no store, as a text.
@@ -187,6 +222,7 @@ pub fn recorded_text(alloc: Global, what: Recorded) -> Result<String, Fault> {
         Recorded::Done => owned(alloc, "done"),
         Recorded::NoEvent => Err(Fault::Form),
         Recorded::Unlawful => owned(alloc, "unlawful"),
+        Recorded::Older => owned(alloc, "older"),
         Recorded::NoStore(fault) => store_text(alloc, fault),
         Recorded::Unwritten(fault) => commit_text(alloc, fault),
         Recorded::Last => owned(alloc, "last"),

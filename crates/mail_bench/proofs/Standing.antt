@@ -12,7 +12,6 @@ use Rattle.mail_bench.specs.Settled.{HoldTheSame}
 left_holds : (store : Holding mail) (m : Moment) (seen : Files) → IsAsLeft mail store m seen → HasBook mail store.book seen
 left_holds store m seen left = record {
   version = store.journal.version;
-  written = left.written;
   bodies = left.bodies;
   holds = still_holds store.journal left.bodies m seen left.still left.all_read;
   make = left.make;

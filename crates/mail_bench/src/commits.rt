@@ -2,11 +2,13 @@
 
 ghost use Rattle.std.specs.Prelude.{◌≡◌, ◌≤◌, false, OnOk};
 ghost use Rattle.world_traits.specs.Memory.{state_of};
+ghost use Rattle.journal_core.specs.Sides.{version_written};
 ghost use Rattle.store_core.specs.Mail.{mail};
 ghost use Rattle.store_core.specs.Holding.{IsAsLeft};
 ghost use Rattle.mail_bench.specs.Names.{name_of_told};
 
 use crate::records::{ROWS, learned};
+use journal_core::WRITTEN;
 use mail_base::Status;
 use record_codec::{RecordFault, decode};
 use std::alloc::{AllocError, Global};
@@ -51,7 +53,10 @@ pub(crate) fn commit_often(alloc: Global, told: Told, times: u32) -> Result<(), 
     let file = mailbox(alloc).map_err(wanting)?;
     let mut disk = MemDisk::new(file, Vec::new(alloc));
     let mut store = Store::open(alloc, &mut disk).map_err(unopened)?;
-    commit_all(alloc, &mut store, &mut disk, &body, times)
+    if store.version() == WRITTEN {
+        return commit_all(alloc, &mut store, &mut disk, &body, times);
+    }
+    Err(Status::Journal)
 }
 
 // Commits the event of a body so often.
@@ -62,6 +67,7 @@ fn commit_all(
     body: &[u8],
     times: u32,
 ) -> Result<(), Status>
+    requires written { store.old.journal.version ≡ version_written }
     requires sound { store.old.journal.failed ≡ false }
     requires still { IsAsLeft mail store.old (state_of disk.old).clock.now (state_of disk.old).files }
 {
@@ -73,8 +79,10 @@ fn commit_all(
 
 // Commits the event of a body.
 fn commit(alloc: Global, store: &mut Store, disk: &mut MemDisk, body: &[u8]) -> Result<(), Status>
+    requires written { store.old.journal.version ≡ version_written }
     requires sound { store.old.journal.failed ≡ false }
     requires still { IsAsLeft mail store.old (state_of disk.old).clock.now (state_of disk.old).files }
+    ensures written_still { OnOk result (store.new.journal.version ≡ version_written) }
     ensures sound_still { OnOk result (store.new.journal.failed ≡ false) }
     ensures done { OnOk result (IsAsLeft mail store.new (state_of disk.new).clock.now (state_of disk.new).files) }
 {
@@ -93,7 +101,7 @@ fn mailbox(alloc: Global) -> Result<Vec<u8>, AllocError> {
     let first = learned(alloc, 1, ROWS)?;
     let mut file = Vec::new(alloc);
     file.extend_from_slice(
-        b"\x01ODMAILJ1\x00\x00\x00\x01\x01\x00\x00\x00\x10B\x02\x05INBOX\x07Archive\x01",
+        b"\x01ODMAILJ2\x00\x00\x00\x01\x01\x00\x00\x00\x10B\x02\x05INBOX\x07Archive\x01",
     )?;
     file.extend_from_slice(&(first.len() as u32).to_be_bytes())?;
     file.extend_from_slice(&first)?;

@@ -58,7 +58,7 @@ pub fn journal(alloc: Global, actions: u32) -> Result<Vec<u8>, AllocError>
     let later = learned(alloc, 0)?;
     let mut file = Vec::with_capacity(alloc, 35 + ROUND as usize * actions as usize)?;
     file.extend_from_slice(
-        b"\x01ODMAILJ1\x00\x00\x00\x01\x01\x00\x00\x00\x10B\x02\x05INBOX\x07Archive",
+        b"\x01ODMAILJ2\x00\x00\x00\x01\x01\x00\x00\x00\x10B\x02\x05INBOX\x07Archive",
     )?;
     for before in 0..actions {
         file.extend_from_slice(if before == 0 { &first } else { &later })?;

@@ -61,7 +61,7 @@ names_stay b (events.Settle id outcome) s w permitted = (later_event b (events.S
 names_stay b (events.Learn name delta) s w permitted = (later_event b (events.Learn name delta) tt).names
 names_stay b (events.Old id action outcome) s w permitted = absurd permitted
 names_stay b (events.Reset name kept told) s w permitted = (later_event b (events.Reset name kept told) tt).names
-names_stay b (events.Withdraw id tries) s w permitted = absurd permitted
+names_stay b (events.Withdraw id tries) s w permitted = (later_event b (events.Withdraw id tries) tt).names
 
 fit_event : (version : Version) (b : Option Meaning) (event : Event) (s : Server) (w : Option Waiting) → MayCome version b event →
     Permits b event s w → BothFit b s w → BothFit (Some (next_book b event)) s w

@@ -82,7 +82,8 @@ module _ (b : Meaning) (account : Credentials) (k : Course) (playing : IsPlaying
   play_leaves status.Journal text says = fewer says.says.keeps.leaves
   play_leaves status.Memory text (inl wants) = fewer wants.says.keeps.leaves
   play_leaves status.Memory text (inr stopped) = on_stopped status.Memory text stopped
-  play_leaves status.Limit text says = on_stopped status.Limit text says
+  play_leaves status.Limit text (inl older) = on_read (inr (record { book = older.says.book; holds = older.says.past.stays.holds; leaves = older.says.past.stays.leaves }))
+  play_leaves status.Limit text (inr stopped) = on_stopped status.Limit text stopped
   play_leaves status.Words text says = absurd says
   play_leaves status.Reason text says = absurd says
   play_leaves status.Input text says = absurd says

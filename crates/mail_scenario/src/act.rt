@@ -28,6 +28,8 @@ pub enum Act {
     Image { moment: u64, pick: u64 },
     /// Shows how many moments there are.
     Moments,
+    /// Shows each kept text.
+    ShowTexts,
 }
 
 /// The act of these words.

@@ -39,6 +39,7 @@ enum Kind {
     Mishap,
     Input,
     ShowFiles,
+    ShowTexts,
     Act,
 }
 
@@ -57,11 +58,13 @@ pub fn line_of(alloc: Global, words: &[Bytes]) -> Result<Line, LineFault> {
         Kind::Mishap => Ok(Line::Mishap(mishap_of(alloc, verb, rest)?)),
         Kind::Input => Ok(Line::Input(input_of(alloc, rest)?)),
         Kind::ShowFiles => Ok(Line::Act(Act::ShowFiles)),
+        Kind::ShowTexts => Ok(Line::Act(Act::ShowTexts)),
         Kind::Act => Ok(Line::Act(act_of(alloc, verb, rest)?)),
     }
 }
 
-// The kind of a line that begins with this word. `world`, `muted` and `scripted` stand alone; `files` alone shows the files.
+// The kind of a line that begins with this word. `world`, `muted` and `scripted` stand alone; `files` alone shows the files, and `shelf` the
+// kept texts.
 fn kind_of(verb: &[u8], is_alone: bool) -> Result<Kind, LineFault> {
     match verb {
         b"server" => Ok(Kind::Server),
@@ -69,9 +72,10 @@ fn kind_of(verb: &[u8], is_alone: bool) -> Result<Kind, LineFault> {
         b"muted" if is_alone => Ok(Kind::Muted),
         b"scripted" if is_alone => Ok(Kind::Scripted),
         b"world" | b"muted" | b"scripted" => Err(LineFault::Unfit),
-        b"disk" | b"link" | b"other" | b"stop" | b"source" | b"sink" => Ok(Kind::Mishap),
-        b"input" => Ok(Kind::Input),
         b"files" if is_alone => Ok(Kind::ShowFiles),
+        b"shelf" if is_alone => Ok(Kind::ShowTexts),
+        b"disk" | b"link" | b"other" | b"stop" | b"source" | b"sink" | b"shelf" => Ok(Kind::Mishap),
+        b"input" => Ok(Kind::Input),
         b"mailbox"
         | b"message"
         | b"gone"

@@ -19,7 +19,7 @@ pub fn look(world: &mut AnyWorld, act: &Act, page: &mut Page) -> Result<(), Line
         Act::ShowFiles => show_files(page, world),
         Act::Image { moment, pick } => show_image(page, world, *moment, *pick),
         Act::Moments => show_moments(page, world),
-        Act::Run(_) | Act::Restart(_) => Err(LineFault::Unfit),
+        Act::Run(_) | Act::Restart(_) | Act::ShowTexts => Err(LineFault::Unfit),
     }
 }
 

@@ -23,13 +23,15 @@ pub enum Mishap {
     Source(u64),
     /// The writing of this number fails.
     Sink(u64),
+    /// The call of the shelf of this number fails.
+    Shelf(u64),
 }
 
 impl Mishap {
-    /// Whether it is one of the input or of the output.
-    pub fn is_of_streams(&self) -> bool {
+    /// Whether it is one of the input, of the output or of the shelf.
+    pub fn is_beside_world(&self) -> bool {
         match self {
-            Mishap::Source(_) | Mishap::Sink(_) => true,
+            Mishap::Source(_) | Mishap::Sink(_) | Mishap::Shelf(_) => true,
             Mishap::Disk(_) | Mishap::Link(_, _) | Mishap::Other(_, _) | Mishap::Stop(_) => false,
         }
     }
@@ -58,6 +60,7 @@ fn numbered(verb: &[u8], which: &[u8]) -> Result<Mishap, LineFault> {
         b"stop" => Ok(Mishap::Stop(number(which)?)),
         b"source" => Ok(Mishap::Source(count(which)?)),
         b"sink" => Ok(Mishap::Sink(count(which)?)),
+        b"shelf" => Ok(Mishap::Shelf(count(which)?)),
         _ => Err(LineFault::Unfit),
     }
 }

@@ -12,6 +12,7 @@ pub struct NextRun {
     pub plan: Plan,
     pub source_fails: Vec<u64>,
     pub sink_fails: Vec<u64>,
+    pub shelf_fails: Vec<u64>,
 }
 
 /// A plan by which nothing goes wrong.
@@ -32,6 +33,7 @@ impl NextRun {
             plan: no_plan(alloc),
             source_fails: Vec::new(alloc),
             sink_fails: Vec::new(alloc),
+            shelf_fails: Vec::new(alloc),
         }
     }
 
@@ -48,6 +50,7 @@ impl NextRun {
             Mishap::Stop(calls) => self.plan.stop_after = Some(calls),
             Mishap::Source(call) => self.source_fails.push(call)?,
             Mishap::Sink(call) => self.sink_fails.push(call)?,
+            Mishap::Shelf(call) => self.shelf_fails.push(call)?,
         }
         Ok(())
     }
@@ -57,5 +60,6 @@ impl NextRun {
         self.plan = no_plan(alloc);
         self.source_fails = Vec::new(alloc);
         self.sink_fails = Vec::new(alloc);
+        self.shelf_fails = Vec::new(alloc);
     }
 }

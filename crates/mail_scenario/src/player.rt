@@ -10,6 +10,7 @@ use crate::page::Page;
 use crate::runs::run_in;
 use crate::setting::Setting;
 use crate::setup::Setup;
+use crate::shows::show_texts;
 use crate::stand::Stand;
 use crate::words::words_of;
 use mail_base::Words;
@@ -108,7 +109,7 @@ impl Player {
         Ok(())
     }
 
-    // Only the input and the output of a run over a world without a plan fail by one.
+    // Of a run over a world without a plan the input, the output and the shelf alone fail by one.
     fn plan(&mut self, mishap: Mishap) -> Result<(), LineFault> {
         if !self.is_plan(&mishap) {
             return Err(LineFault::Unfit);
@@ -119,7 +120,7 @@ impl Player {
 
     fn is_plan(&self, mishap: &Mishap) -> bool {
         match &self.stand {
-            Some(stand) => stand.world.world().has_plan() || mishap.is_of_streams(),
+            Some(stand) => stand.world.world().has_plan() || mishap.is_beside_world(),
             None => self.setup.is_some(),
         }
     }
@@ -136,6 +137,7 @@ impl Player {
         match act {
             Act::Run(words) => self.run(words, page),
             Act::Restart(pick) => self.restart(*pick),
+            Act::ShowTexts => self.show_texts(page),
             _ => self.look(act, page),
         }
     }
@@ -156,6 +158,13 @@ impl Player {
         let stand = Box::into_inner(stand).restarted(pick, no_plan(self.alloc))?;
         self.stand = Some(Box::new(self.alloc, stand)?);
         Ok(())
+    }
+
+    fn show_texts(&self, page: &mut Page) -> Result<(), LineFault> {
+        match &self.stand {
+            Some(stand) => Ok(show_texts(page, stand.shelf.texts())?),
+            None => Err(LineFault::Unfit),
+        }
     }
 
     fn look(&mut self, act: &Act, page: &mut Page) -> Result<(), LineFault> {

@@ -1,4 +1,4 @@
-//! One call of the top call, and what is shown of it.
+//! One call of a top call, and what is shown of it.
 
 use crate::any_world::AnyWorld;
 use crate::fault::LineFault;
@@ -6,12 +6,13 @@ use crate::muted_run::run_muted;
 use crate::next_run::{NextRun, no_plan};
 use crate::page::Page;
 use crate::stand::Stand;
+use body_cache::read_run;
 use mail_base::Status;
 use mail_top::run;
 use std::alloc::{AllocError, Global};
 use world_traits::{FaultySink, FaultySource, Link};
 
-/// Runs the top call in a world, whose server and files may go wrong by the plan, and shows what came of it.
+/// Runs the top call that the words pick in a world, whose server and files may go wrong by the plan, and shows what came of it.
 pub fn run_in(
     stand: &mut Stand,
     words: &[String],
@@ -23,20 +24,52 @@ pub fn run_in(
         plan,
         source_fails,
         sink_fails,
+        shelf_fails,
     } = next;
     let mut input = FaultySource::new(input, source_fails);
     let mut out = FaultySink::new(page.alloc(), sink_fails);
     stand.world.begin_run(plan);
+    stand.shelf.plan(shelf_fails);
     let status = called(page.alloc(), words, stand, &mut input, &mut out);
     stand.world.end_run(no_plan(page.alloc()));
-    if stand.world.world().refused() > 0 {
+    if stand.world.world().refused() > 0 || stand.shelf.refused() > 0 {
         return Err(LineFault::Memory);
     }
     show_run(page, words, status, &out)
 }
 
-// The top call, without its clauses but at a muted server, whose connection is closed here.
+// The top call that the first word picks, as in the program.
 fn called(
+    alloc: Global,
+    words: &[String],
+    stand: &mut Stand,
+    input: &mut FaultySource,
+    out: &mut FaultySink,
+) -> Status {
+    if is_reading(words) {
+        read_run(
+            alloc,
+            words,
+            &stand.account,
+            &mut stand.world,
+            &mut stand.shelf,
+            out,
+        )
+    } else {
+        played(alloc, words, stand, input, out)
+    }
+}
+
+// Whether the words ask for a text, or for what is kept of it.
+fn is_reading(words: &[String]) -> bool {
+    match words.first() {
+        Some(first) => matches!(first.as_str(), "fetch" | "show" | "dates"),
+        None => false,
+    }
+}
+
+// The top call, without its clauses but at a muted server, whose connection is closed here.
+fn played(
     alloc: Global,
     words: &[String],
     stand: &mut Stand,

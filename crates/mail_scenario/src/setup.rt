@@ -106,7 +106,7 @@ impl Setup {
         } = self;
         let server = server_of(alloc, offers, boxes, permitted, refused)?;
         let world = world_of(alloc, server, files)?;
-        Ok(Stand::new(world, account))
+        Ok(Stand::new(alloc, world, account))
     }
 
     /// The world of the server, which is muted, and of the files, and who logs in.
@@ -122,7 +122,7 @@ impl Setup {
         } = self;
         let server = server_of(alloc, offers, boxes, permitted, refused)?;
         let world = MutedWorld::new(alloc, server, files)?;
-        Ok(Stand::new(AnyWorld::Muted(world), account))
+        Ok(Stand::new(alloc, AnyWorld::Muted(world), account))
     }
 
     /// The world of the files and the script, and who logs in.
@@ -137,7 +137,7 @@ impl Setup {
             script,
         } = self;
         let world = script_of(alloc, files, script)?;
-        Ok(Stand::new(world, account))
+        Ok(Stand::new(alloc, world, account))
     }
 }
 

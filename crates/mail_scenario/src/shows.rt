@@ -4,6 +4,7 @@ use crate::any_world::AnyWorld;
 use crate::fault::LineFault;
 use crate::foreign::{put_change, put_flags};
 use crate::page::Page;
+use body_cache::KeptText;
 use imap_model::{Author, Deed, Gone, Mailbox, Message, Server};
 use mail_base::{BoxName, Tag};
 use std::alloc::{AllocError, Global};
@@ -113,6 +114,33 @@ pub fn show_files(page: &mut Page, world: &mut AnyWorld) -> Result<(), LineFault
     let right = whole_file(page.alloc(), world, Side::Right)?;
     put_files(page, &left, &right)?;
     Ok(())
+}
+
+/// Shows each kept text with its key, the one that was put last in front.
+pub fn show_texts(page: &mut Page, texts: &[KeptText]) -> Result<(), AllocError> {
+    for (place, kept) in texts.iter().enumerate() {
+        if !is_replaced(texts, place, kept) {
+            put_text(page, kept)?;
+        }
+    }
+    Ok(())
+}
+
+// Whether another text of its key stands in front of this place.
+fn is_replaced(texts: &[KeptText], place: usize, kept: &KeptText) -> bool {
+    match texts.get(..place) {
+        Some(front) => front.iter().any(|other| other.key.is_same(&kept.key)),
+        None => false,
+    }
+}
+
+fn put_text(page: &mut Page, kept: &KeptText) -> Result<(), AllocError> {
+    page.put(b"text")?;
+    page.word(kept.key.name.as_bytes())?;
+    page.number(u64::from(kept.key.validity.number()))?;
+    page.number(u64::from(kept.key.uid.number()))?;
+    page.word(kept.text.as_slice())?;
+    page.end_line()
 }
 
 // What a file reads as. Between runs there is no plan, and no call fails but for want of memory.

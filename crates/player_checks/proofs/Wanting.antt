@@ -18,6 +18,7 @@ box_of (needs.Select name) = name
 box_of (needs.Ask command) = []
 box_of (needs.Commit event) = []
 box_of (needs.Settle n outcome) = []
+box_of (needs.Withdraw n tries) = []
 box_of (needs.Send n command) = []
 box_of needs.Finished = []
 

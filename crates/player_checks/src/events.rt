@@ -1,5 +1,5 @@
-//! The events of a book, as words: `accept flag INBOX 5 42 + \Seen`, `intend store INBOX 5 42 715`, `settle done 9 12` and
-//! `learn INBOX whole 5 44 715`. What is intended or settled is the action that is due.
+//! The events of a book, as words: `accept flag INBOX 5 42 + \Seen`, `intend store INBOX 5 42 715`, `settle done 9 12`,
+//! `withdraw 1` and `learn INBOX whole 5 44 715`. What is intended, settled or withdrawn is the action that is due.
 
 use crate::deltas::{delta, put_delta};
 use crate::outcomes::{outcome, put_outcome};
@@ -31,6 +31,7 @@ fn event(input: &mut Input, book: &Book) -> Result<Event, CaseFault> {
         "accept" => accept(input, book),
         "intend" => intend(input, book),
         "settle" => settle(input, book),
+        "withdraw" => withdraw(input, book),
         "learn" => learn(input),
         _ => Err(CaseFault::WrongInput),
     }
@@ -62,6 +63,17 @@ fn settle(input: &mut Input, book: &Book) -> Result<Event, CaseFault> {
     let outcome = outcome(input)?;
     let id = due(book)?;
     Ok(Event::Settle { id, outcome })
+}
+
+// How many tries were taken back then.
+fn withdraw(input: &mut Input, book: &Book) -> Result<Event, CaseFault> {
+    let tries = match input.word()? {
+        "1" => 1,
+        "2" => 2,
+        _ => return Err(CaseFault::WrongInput),
+    };
+    let id = due(book)?;
+    Ok(Event::Withdraw { id, tries })
 }
 
 fn learn(input: &mut Input) -> Result<Event, CaseFault> {
@@ -208,8 +220,14 @@ pub fn put_event(answer: &mut Answer, event: &Event) -> Result<(), CaseFault> {
             put_validity(answer, *kept)?;
             put_validity(answer, *told)
         }
-        Event::Withdraw { .. } => answer.word("withdraw"),
+        Event::Withdraw { id, tries } => put_withdrawal(answer, *id, *tries),
     }
+}
+
+/// Adds that a try is taken back: the number of the action, and how many tries were then.
+pub fn put_withdrawal(answer: &mut Answer, id: ActionId, tries: u8) -> Result<(), CaseFault> {
+    put_numbered(answer, "withdraw", id)?;
+    answer.number(u64::from(tries))
 }
 
 /// Adds a word and the number of an action.

@@ -27,7 +27,7 @@ pub fn begun(alloc: Global) -> Result<Book, CaseFault> {
 
 /// Enters an event, where it may come next and has a record, and says whether it may.
 pub fn enter(alloc: Global, book: &mut Book, event: Event) -> Result<bool, AllocError> {
-    if !is_writable(alloc, &event)? || book.allows(&event, Version::First).is_some() {
+    if !is_writable(alloc, &event)? || book.allows(&event, Version::Second).is_some() {
         return Ok(false);
     }
     let ready = book.prepare(event)?;
@@ -44,6 +44,15 @@ pub fn settle(book: &mut Book, id: &ActionId, outcome: &Outcome) -> bool {
     true
 }
 
+/// Takes the action's try back, where that may come now, and says whether it may.
+pub fn withdraw(book: &mut Book, id: ActionId, tries: u8) -> bool {
+    if !may_withdraw(book, id, tries) {
+        return false;
+    }
+    book.withdraw(id, tries);
+    true
+}
+
 // Whether the action may end so now.
 fn may_end(book: &Book, id: &ActionId, outcome: &Outcome) -> bool
     ensures { IsTrue result → IsLawful (meaning book.now) (events.Settle id.now outcome.now) }
@@ -52,5 +61,13 @@ fn may_end(book: &Book, id: &ActionId, outcome: &Outcome) -> bool
         id: *id,
         outcome: *outcome,
     };
-    book.allows(&event, Version::First).is_none()
+    book.allows(&event, Version::Second).is_none()
+}
+
+// Whether the action's try may be taken back now.
+fn may_withdraw(book: &Book, id: ActionId, tries: u8) -> bool
+    ensures { IsTrue result → IsLawful (meaning book.now) (events.Withdraw id tries) }
+{
+    let event = Event::Withdraw { id, tries };
+    book.allows(&event, Version::Second).is_none()
 }

@@ -3,7 +3,7 @@
 use crate::ear::Ear;
 use crate::events::{event_of, put_event};
 use crate::faults::put_fault;
-use crate::held::{enter, settle};
+use crate::held::{enter, settle, withdraw};
 use crate::lines::{Kind, kind_of};
 use crate::needs::{is_learn, put_need};
 use crate::telling::{choose, outdated, wants_rows};
@@ -144,7 +144,7 @@ impl Play {
 
     fn need_next(&mut self, book: &mut Book, wanted: &str) -> Result<(), Fault> {
         let need = self.next(book)?;
-        self.compare(&need, wanted)?;
+        self.compare(&need, book.tries_due(), wanted)?;
         if self.is_moved(&need)? {
             drop(need);
             return self.move_out(book, wanted);
@@ -212,10 +212,10 @@ impl Play {
         }
     }
 
-    // The need is the wanted one.
-    fn compare(&mut self, need: &Need, wanted: &str) -> Result<(), Fault> {
+    // The need is the wanted one, behind this many tries of the action that is due.
+    fn compare(&mut self, need: &Need, tries: u8, wanted: &str) -> Result<(), Fault> {
         self.compared = self.compared.saturating_add(1);
-        match shown_need(self.alloc, need) {
+        match shown_need(self.alloc, need, tries) {
             Ok(told) => same_text(self.alloc, wanted, told.as_str()),
             Err(fault) => Err(fault_of(fault)),
         }
@@ -225,6 +225,7 @@ impl Play {
         match need {
             Need::Commit(event) => self.commit(book, event, text),
             Need::Settle(id, outcome) => self.conclude(book, &id, &outcome, text),
+            Need::Withdraw(id, tries) => self.take_back(book, id, tries, text),
             other => self.owe(owed_by(&other)),
         }
     }
@@ -250,6 +251,21 @@ impl Play {
         text: &str,
     ) -> Result<(), Fault> {
         if !settle(book, id, outcome) {
+            return Err(unlawful(self.alloc, text));
+        }
+        self.committed(book);
+        Ok(())
+    }
+
+    // Takes a try back, which must be lawful.
+    fn take_back(
+        &mut self,
+        book: &mut Book,
+        id: ActionId,
+        tries: u8,
+        text: &str,
+    ) -> Result<(), Fault> {
+        if !withdraw(book, id, tries) {
             return Err(unlawful(self.alloc, text));
         }
         self.committed(book);
@@ -416,7 +432,9 @@ fn owed_by(need: &Need) -> Owed {
     match need {
         Need::Select(_) => Owed::Mailbox,
         Need::Ask(_) | Need::Send(_, _) => Owed::Reply,
-        Need::Commit(_) | Need::Settle(_, _) | Need::Finished => Owed::Nothing,
+        Need::Commit(_) | Need::Settle(_, _) | Need::Withdraw(_, _) | Need::Finished => {
+            Owed::Nothing
+        }
     }
 }
 
@@ -440,9 +458,9 @@ fn unlawful(alloc: Global, text: &str) -> Fault {
     differs(alloc, b"an event that may come", text.as_bytes())
 }
 
-fn shown_need(alloc: Global, need: &Need) -> Result<Answer, CaseFault> {
+fn shown_need(alloc: Global, need: &Need, tries: u8) -> Result<Answer, CaseFault> {
     let mut answer = Answer::new(alloc);
-    put_need(alloc, &mut answer, need)?;
+    put_need(alloc, &mut answer, need, tries)?;
     Ok(answer)
 }
 
