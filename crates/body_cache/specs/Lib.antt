@@ -1,0 +1,19 @@
+-- The definitions that this crate's contracts cite.
+pub mod Asking
+pub mod Carrying
+pub mod Causing
+pub mod Completing
+pub mod Dates
+pub mod Ending
+pub mod Fetched
+pub mod Fetching
+pub mod Finding
+pub mod HasText
+pub mod Keys
+pub mod Lines
+pub mod MemTexts
+pub mod NoDeeds
+pub mod Shelf
+pub mod Telling
+pub mod TextFound
+pub mod Words
