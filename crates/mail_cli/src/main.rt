@@ -10,6 +10,7 @@ mod top_calls;
 ghost use Rattle.std.specs.Prelude.{◌≡◌, ◌⊎◌, option_map, string_bytes};
 ghost use Rattle.mail_base.specs.declared.status.Status.TheVariants as statuses;
 
+use body_cache::{DirShelf, read_run};
 use look_run::look_run;
 use mail_base::{Line, Status};
 use mail_top::run;
@@ -17,10 +18,11 @@ use notices::{IN_USE, NO_NULL, SEE_HELP, notice_for};
 use settings::WordsFault;
 use std::alloc::AllocError;
 use std::fmt::Display;
-use std::fs::{File, Files};
+use std::fs::{DirBuilder, File, Files};
 use std::io;
 use std::io::Eprint;
 use std::net::{Net, TcpStream};
+use std::os::unix::fs::DirBuilderExt;
 use std::process::ExitCode;
 use std::rt::Env;
 use std::time::Clock;
@@ -28,6 +30,9 @@ use streams::{InputSource, OutputSink};
 use top_calls::{TopCall, only_reads, top_call};
 use world_real::{RealWorld, StandardNumbers};
 use world_traits::{Link, Sink};
+
+// What the folder of the kept texts may be used by.
+const OWNER_ALONE: u32 = 0o700;
 
 fn main(rt: HostRuntime) -> ExitCode {
     // Before any file is opened, so that none gets the number of a closed stream. They are held up to the end.
@@ -98,6 +103,12 @@ where
     let status = match call {
         TopCall::Run => run(alloc, words, &account, &mut input, &mut world, &mut out),
         TopCall::Look => look_run(alloc, words, &mut world, &mut out),
+        TopCall::Read => {
+            let texts = settings::texts_folder(rt, &folder)?;
+            make_folder(rt, &texts);
+            let mut shelf = DirShelf::new(rt, as_text(&texts));
+            read_run(alloc, words, &account, &mut world, &mut shelf, &mut out)
+        }
     };
     world.close();
     if world.is_in_use() {
@@ -112,6 +123,15 @@ where
     }
     print_reason(rt, world.disk_trouble());
     Ok(status)
+}
+
+// Makes a folder for its owner alone, where it isn't there. Where it can't be made, the first call that makes a file there fails.
+fn make_folder<R: Files>(rt: &R, path: &Option<String>) {
+    if let Some(path) = path {
+        let mut making = DirBuilder::new();
+        making.mode(OWNER_ALONE);
+        let _ = making.create(rt, path.as_str());
+    }
 }
 
 // Prints why a command failed on standard error, where there is a reason.

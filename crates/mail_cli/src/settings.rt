@@ -76,6 +76,17 @@ pub fn folder<R: Env + AllocGlobal>(rt: &R) -> Result<Option<String>, AllocError
     }
 }
 
+/// The folder of the kept texts in this one.
+pub fn texts_folder<R: AllocGlobal>(
+    rt: &R,
+    folder: &Option<String>,
+) -> Result<Option<String>, AllocError> {
+    let Some(folder) = folder else {
+        return Ok(None);
+    };
+    Ok(Some(format!(in rt.alloc(); "{folder}/bodies")?))
+}
+
 /// The server of MAIL_SERVER as `HOST:PORT`, or `localhost:143` where there is none. `None` where it isn't UTF-8, which is no
 /// server's name.
 pub fn server<R: Env + AllocGlobal>(rt: &R) -> Result<Option<String>, AllocError> {

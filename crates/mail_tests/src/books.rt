@@ -40,7 +40,7 @@ fn new_book(alloc: Global) -> Option<Book> {
 
 // Enters an event, or tells the first rule that it breaks.
 fn enter(book: &mut Book, event: Event) -> Result<Option<Rule>, AllocError> {
-    if let Some(rule) = book.allows(&event, Version::First) {
+    if let Some(rule) = book.allows(&event, Version::Second) {
         return Ok(Some(rule));
     }
     let ready = book.prepare(event)?;

@@ -17,6 +17,8 @@ mod real_peers;
 #[cfg(test)]
 mod real_run;
 #[cfg(test)]
+mod real_shelf;
+#[cfg(test)]
 mod response_copies;
 #[cfg(test)]
 mod server_copies;
