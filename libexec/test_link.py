@@ -382,7 +382,7 @@ class Sessions(Case):
 
     def test_a_plus_before_all_is_out_is_no_answer(self) -> None:
         nobody: Any = None
-        session = link_module().Session(nobody, nobody, nobody, Log(None, False, False, None), nobody)
+        session = link_module().Session(nobody, nobody, nobody, Log(None, False, False, None), nobody, False)
         session.mark = Mark(self.folder)
         session.has_catenate = True
         for said, heard in ((b"P1 APPEND a () {9}\r\n", b"+ go\r\n"), (b"123456789\r\n", b"+ early\r\n")):
@@ -572,15 +572,17 @@ class Sessions(Case):
         self.assertEqual(server.end(), "reset")
 
     def test_usr1_waits_for_the_answer(self) -> None:
-        tried, program, server = self.join()
-        program.say(b"C4 NOOP\r\n")
-        server.hear(9)
-        tried.process.send_signal(signal.SIGUSR1)
-        self.assertTrue(server.hears_nothing(1.0))
-        server.say(b"* 1 EXISTS\r\nC4 OK\r\n")
-        self.assertEqual(program.hear(99), b"* 1 EXISTS\r\nC4 OK\r\n")
-        self.assertEqual(server.end(), "reset")
-        self.assertEqual(tried.ended()[0], 3)
+        for tag in (b"C4", b"P1R2"):
+            with self.subTest(tag):
+                tried, program, server = self.join()
+                program.say(tag + b" NOOP\r\n")
+                server.hear(len(tag) + 7)
+                tried.process.send_signal(signal.SIGUSR1)
+                self.assertTrue(server.hears_nothing(1.0))
+                server.say(b"* 1 EXISTS\r\n" + tag + b" OK\r\n")
+                self.assertEqual(program.hear(99), b"* 1 EXISTS\r\n" + tag + b" OK\r\n")
+                self.assertEqual(server.end(), "reset")
+                self.assertEqual(tried.ended()[0], 3)
 
     def test_usr1_waits_for_a_letter(self) -> None:
         tried, program, server = self.join()
@@ -738,13 +740,15 @@ class Sessions(Case):
 
     def test_progress(self) -> None:
         tried, program, server = self.join("--progress", "--actions", "2")
-        for tag in (b"P1", b"P2"):
+        for tag in (b"P1", b"P1R2", b"P1R3", b"P2"):
             self.ask(program, server, tag + b" UID MOVE 1 a\r\n", tag + b" OK done\r\n")
             time.sleep(0.5)
         self.ask(program, server, b"C9 LOGOUT\r\n", b"* BYE bye\r\n")
         assert tried.process.stderr
         said = os.read(tried.process.stderr.fileno(), 1_000).decode()
         self.assertIn("\r1 of 2 actions, 0 KB", said)
+        self.assertIn("\r2 of 2 actions, 0 KB", said)
+        self.assertNotIn("3 of 2", said)
         self.assertTrue(said.endswith(" \r"), f"the line of progress still stands when the program may print: {said!r}")
         program.link.close()
         self.assertEqual(tried.ended(), (0, ""))

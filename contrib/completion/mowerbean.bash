@@ -10,6 +10,17 @@ _mowerbean_ids() {
     lines=$(mowerbean -q "${_mowerbean_front[@]}" list "$box" 2>/dev/null </dev/null) && cut -d ' ' -f 1 <<<"$lines"
 }
 
+# Those of them that are on the server.
+_mowerbean_uids() {
+    _mowerbean_ids "$1" | grep -v '^d'
+}
+
+# Those of them whose texts were fetched.
+_mowerbean_kept() {
+    local lines box=${1//[\\\'\"]/}
+    lines=$(mowerbean -q "${_mowerbean_front[@]}" dates "$box" 2>/dev/null </dev/null) && cut -d ' ' -f 1 <<<"$lines"
+}
+
 # The numbers of the messages that history has. No word in front of an action is a verb.
 _mowerbean_letters() {
     mowerbean -q "${_mowerbean_front[@]}" history 2>/dev/null </dev/null |
@@ -39,13 +50,20 @@ _mowerbean_accounts() {
 
 # The words that may stand after these ones of the line, options left out.
 _mowerbean_next() {
+    case ${COMP_WORDS[COMP_CWORD]}:${1-} in
+        -*:list) words=(--long) && return ;;
+        -*:fetch | -*:read) words=(--retry --retry-for --trace) && return ;;
+    esac
     case $#:${1-} in
-        0:*) words=(account init play list flag move append queue report history letter help --help --version -a -A -q -v -w -h -V) ;;
+        0:*) words=(account init play list fetch show read dates flag move append queue report history letter help --help --version -a -A -q -v -w -h -V) ;;
         *:play) words=(--retry --retry-for --then --trace --moved) ;;
         *:report) words=(--new --long) ;;
-        1:help) words=(account init play list flag move append queue report history letter) ;;
+        1:help) words=(account init play list fetch show read dates flag move append queue report history letter) ;;
         1:letter) mapfile -t words < <(_mowerbean_letters) ;;
-        1:list | 1:flag | 1:move | 1:append | 3:move) mapfile -t words < <(_mowerbean_boxes) ;;
+        1:list | 1:fetch | 1:show | 1:read | 1:dates | 1:flag | 1:move | 1:append | 3:move) mapfile -t words < <(_mowerbean_boxes) ;;
+        2:fetch) mapfile -t words < <(echo new && _mowerbean_uids "$2") ;;
+        [3-9]:fetch | 2:read) mapfile -t words < <(_mowerbean_uids "$2") ;;
+        2:show) mapfile -t words < <(_mowerbean_kept "$2") ;;
         2:flag | 2:move) mapfile -t words < <(_mowerbean_ids "$2") ;;
         3:flag) words=(+ -) ;;
         [4-9]:flag | [2-9]:append) words=(seen flagged answered deleted draft '\Seen' '\Flagged' '\Answered' '\Deleted' '\Draft') ;;

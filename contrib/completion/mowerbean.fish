@@ -56,6 +56,19 @@ function __mowerbean_ids
     string replace -r ' ' \t -- $lines
 end
 
+# Those of them that are on the server.
+function __mowerbean_uids
+    __mowerbean_ids | string match -v 'd*'
+end
+
+# Those of them whose texts were fetched.
+function __mowerbean_kept
+    set -l words (__mowerbean_words)
+    set -l front (__mowerbean_front)
+    set -l lines (mowerbean -q $front dates $words[2] 2>/dev/null </dev/null); or return
+    string replace -r ' .*' '' -- $lines
+end
+
 # The numbers of the messages that history has. No word in front of an action is a verb.
 function __mowerbean_letters
     set -l front (__mowerbean_front)
@@ -66,21 +79,26 @@ end
 complete -c mowerbean -f
 complete -c mowerbean -s A -d 'take all accounts'
 complete -c mowerbean -s q -d 'explain no status'
-complete -c mowerbean -s v -d 'print what is said, for play'
+complete -c mowerbean -s v -d 'print what is said, for play and fetch'
 complete -c mowerbean -s w -x -d 'wait for a play, for flag, move and append'
 complete -c mowerbean -s a -x -a '(for file in (__mowerbean_configs)/*.conf; basename $file .conf; end)' -d account
 complete -c mowerbean -n '__mowerbean_at 0 ""' -s h -l help -d 'print the help'
 complete -c mowerbean -n '__mowerbean_at 0 ""' -s V -l version -d 'print the version'
-complete -c mowerbean -n '__mowerbean_at 0 ""' -a 'account init play list flag move append queue report history letter help'
-complete -c mowerbean -n '__mowerbean_at 1 help' -a 'account init play list flag move append queue report history letter'
-complete -c mowerbean -n '__mowerbean_behind 1 play' -l retry -x -d 'play again up to so many times'
-complete -c mowerbean -n '__mowerbean_behind 1 play' -l retry-for -x -d 'play again for so long, as 20m'
+complete -c mowerbean -n '__mowerbean_at 0 ""' -a 'account init play list fetch show read dates flag move append queue report history letter help'
+complete -c mowerbean -n '__mowerbean_at 1 help' -a 'account init play list fetch show read dates flag move append queue report history letter'
+complete -c mowerbean -n '__mowerbean_behind 1 play fetch read' -l retry -x -d 'again up to so many times'
+complete -c mowerbean -n '__mowerbean_behind 1 play fetch read' -l retry-for -x -d 'again for so long, as 20m'
 complete -c mowerbean -n '__mowerbean_behind 1 play' -l then -x -d 'run this where something came'
-complete -c mowerbean -n '__mowerbean_behind 1 play' -l trace -r -d 'keep what is said in a file'
+complete -c mowerbean -n '__mowerbean_behind 1 play fetch read' -l trace -r -d 'keep what is said in a file'
 complete -c mowerbean -n '__mowerbean_behind 1 play' -l moved -d 'the account has another server or user'
 complete -c mowerbean -n '__mowerbean_behind 1 report' -l long -d 'what was asked for, and a sentence'
 complete -c mowerbean -n '__mowerbean_behind 1 report' -l new -d 'what no report has shown'
-complete -c mowerbean -n '__mowerbean_at 1 list flag move append' -a '(__mowerbean_boxes)'
+complete -c mowerbean -n '__mowerbean_behind 1 list' -l long -d 'dates, senders and subjects of the texts that were fetched'
+complete -c mowerbean -n '__mowerbean_at 1 list fetch show read dates flag move append' -a '(__mowerbean_boxes)'
+complete -c mowerbean -n '__mowerbean_at 2 fetch' -a new
+complete -c mowerbean -n '__mowerbean_behind 2 fetch' -a '(__mowerbean_uids)'
+complete -c mowerbean -n '__mowerbean_at 2 read' -a '(__mowerbean_uids)'
+complete -c mowerbean -n '__mowerbean_at 2 show' -a '(__mowerbean_kept)'
 complete -c mowerbean -n '__mowerbean_at 3 move' -a '(__mowerbean_boxes)'
 complete -c mowerbean -n '__mowerbean_at 1 letter' -a '(__mowerbean_letters)'
 complete -c mowerbean -n '__mowerbean_at 2 flag move' -a '(__mowerbean_ids)'

@@ -20,14 +20,15 @@ find_wrong() {
     wrong=''
     case ${1-} in
         init) wrong_boxes "$@" ;;
-        list) wrong_count 1 1 BOX "$@" || wrong_box "$2" ;;
         flag) wrong_flags "$@" ;;
         move) wrong_count 3 3 'BOX ID BOX' "$@" || wrong_box "$2" || wrong_id "$3" || wrong_box "$4" ;;
         append) wrong_count 1 $((MOST_WORDS + 1)) BOX "$@" || wrong_box "$2" ;;
         letter) wrong_count 1 1 N "$@" || wrong_number "$2" ;;
+        show) wrong_count 2 2 'BOX ID' "$@" || wrong_box "$2" || wrong_uid "$3" ;;
+        dates) wrong_count 1 1 BOX "$@" || wrong_box "$2" ;;
         queue | history) wrong_count 0 0 '' "$@" ;;
         account) wrong_count 0 1 NAME "$@" ;;
-        play | report | --help | --version) ;;
+        play | report | list | fetch | read | --help | --version) ;;
         *) wrong="no such command: $(printable "${1-}")" ;;
     esac
 }
@@ -108,6 +109,35 @@ wrong_id() {
         *) as_number "${1#d}" 4294967295 && return 1 ;;
     esac
     wrong="$(printable "$1") is no ID, which is a UID, or d and an action's number, as list shows it"
+}
+
+# A message that is on the server has its text there. That of a dN is a letter that waits.
+wrong_uid() {
+    case $1 in
+        '' | 0* | *[!0-9]*) ;;
+        *) as_number "$1" 4294967295 && return 1 ;;
+    esac
+    wrong="$(printable "$1") is no UID of a message on the server, as list shows it"
+    case $1 in
+        d*) wrong="$wrong: the letter of action ${1#d} is shown by mowerbean letter ${1#d}" ;;
+    esac
+}
+
+# Several messages may be asked for, or all that are new.
+wrong_fetch() {
+    wrong=''
+    if [ $# -lt 2 ]; then
+        wrong_count 2 2 'BOX ID' fetch "$@"
+        return
+    fi
+    wrong_box "$1" && return
+    shift
+    if [ "$*" = new ]; then
+        return
+    fi
+    for word in "$@"; do
+        wrong_uid "$word" && return
+    done
 }
 
 wrong_number() {
@@ -200,7 +230,7 @@ name_boxes() {
     has_boxes || return 0
     case $1:$# in
         move:4) set -- "$2" "$4" ;;
-        flag:* | append:* | list:*) set -- "$2" ;;
+        flag:* | append:* | list:* | fetch:* | show:* | read:* | dates:*) set -- "$2" ;;
         *) return ;;
     esac
     boxes=$newline$(print_boxes)$newline missing='' all=''

@@ -1,8 +1,8 @@
 # The journal's folder: one run at a time, the files beside the journal, and whether a file there is one of init's.
 # shellcheck shell=sh disable=SC2034,SC2154  # it shares its settings with mowerbean, which reads this file
 
-# The journal's magic word, ODMAILJ1, which follows its first byte.
-MAGIC=4f444d41494c4a31
+# The front of the journal's magic words, ODMAILJ1 and ODMAILJ2, which follow its first byte.
+MAGIC=4f444d41494c4a
 
 # Makes the journal's folder, for its owner alone. Where it can't be made the program says what is wrong.
 make_folder() {
@@ -115,7 +115,7 @@ counts() {
     fi
     head=$(bytes 0 14 <"$1")
     case $head in
-        01"$MAGIC"*) [ "${#head}" -eq 28 ] ;;
+        01"$MAGIC"3[12]*) [ "${#head}" -eq 28 ] ;;
         *) return 1 ;;
     esac
 }
@@ -134,11 +134,12 @@ left_by_init() {
         *) return 1 ;;
     esac
     magic=$MAGIC
-    while [ -n "$head" ] && [ "${head%"${head#??}"}" = "${magic%"${magic#??}"}" ]; do
+    while [ -n "$magic" ] && [ "${head%"${head#??}"}" = "${magic%"${magic#??}"}" ]; do
         head=${head#??} magic=${magic#??}
     done
-    case $head in
-        *[!0]*) return 1 ;;
+    case $magic$head in
+        3[12]) ;;
+        *) case $head in *[!0]*) return 1 ;; esac ;;
     esac
     ! lost_its_first_byte "$1"
 }
@@ -146,7 +147,10 @@ left_by_init() {
 # Whether this is a journal but for its first byte. A closed first byte is what a stop inside init leaves, unless a record stands
 # after the first one.
 lost_its_first_byte() {
-    [ "$(bytes 1 8 <"$1")" = "$MAGIC" ] || return 1
+    case $(bytes 1 8 <"$1") in
+        "$MAGIC"3[12]) ;;
+        *) return 1 ;;
+    esac
     case $(bytes 0 1 <"$1") in
         01) return 1 ;;
         00) ;;

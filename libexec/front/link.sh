@@ -44,7 +44,10 @@ start_link() {
     [ -z "$session_time" ] || set -- "$@" --time "$session_time"
     [ -z "$trace" ] || set -- "$@" --trace "$trace"
     [ -z "$verbose" ] || set -- "$@" --verbose
-    if [ -z "$quiet" ] && [ -t 2 ]; then
+    [ -z "$is_reading" ] || set -- "$@" --reading
+    if [ -n "$is_reading" ]; then
+        :
+    elif [ -z "$quiet" ] && [ -t 2 ]; then
         set -- "$@" --progress --actions "$(actions)"
     elif [ -n "$verbose" ]; then
         set -- "$@" --actions "$(actions)"

@@ -187,7 +187,7 @@ signalled() {
 # Starts the program in the background, alone with the password. Without link it ends with this script, where the system can do that:
 # setpriv then becomes the program.
 start_program() {
-    set -- "$program" play
+    set -- "$program" "$@"
     if [ -z "$with_link" ] && setpriv --pdeathsig TERM true 2>/dev/null; then
         set -- setpriv --pdeathsig TERM "$@"
     fi
@@ -211,19 +211,20 @@ start_program() {
     [ -z "$stopped" ] || pass_on TERM "$program_pid"
 }
 
-# Lets the program play to its end, and link after it. $link_status is that of link. $status is the program's, if it was started.
+# Lets the program carry these words out to its end, and link after it. $link_status is that of link. $status is the program's, if it was
+# started.
 play_to_the_end() {
     under_way=yes status='' link_status=0 port=''
     if [ -n "$with_link" ]; then
         start_link
     fi
     if [ -z "$asked$stopped" ] && { [ -n "$port" ] || [ -z "$with_link" ]; }; then
-        start_program
+        start_program "$@"
         await "$program_pid"
         status=$ended program_pid=''
         # Link still waits for the program, if that ended before it connected. With these statuses it did connect, or tried to.
         case $status in
-            [014-7]) ;;
+            [014-8]) ;;
             *) pass_on USR2 "$link_pid" ;;
         esac
     fi
@@ -267,7 +268,7 @@ play_once() {
         forget_server
         no_mark
     }
-    play_to_the_end
+    play_to_the_end play
     take_status
     forget_server
     case $status in

@@ -5,8 +5,8 @@ help_all() {
     cat <<'TEXT'
 usage: mowerbean [-a ACCOUNT] [-q] COMMAND ..
 
-A mail client for people behind a poor link. All commands but account and play work
-without a network.
+A mail client for people behind a poor link. All commands but account, play, fetch and
+read work without a network.
 
   account [NAME]          asks for an account, tries its server, and writes its file
                             mowerbean account
@@ -14,8 +14,17 @@ without a network.
                             mowerbean init INBOX Archive
   play [--retry-for TIME] plays what waits on the server, and fetches what is new
                             mowerbean play
-  list BOX                shows a mailbox: ID, mod-sequence and flags of each message
+  list [--long] BOX       shows a mailbox: ID, mod-sequence and flags of each message;
+                          or with date, sender and subject of each that was fetched
                             mowerbean list INBOX
+  fetch BOX ID ..         gets the texts of messages, to be read without a network
+                            mowerbean fetch INBOX new
+  show BOX ID             shows a text that was fetched
+                            mowerbean show INBOX 42
+  read BOX ID             shows a text, and gets it first where it isn't here yet
+                            mowerbean read INBOX 42
+  dates BOX               prints the date of each message whose text is here
+                            mowerbean dates INBOX
   flag BOX ID + FLAG ..   the message is to have the flags (with - to be without them)
                             mowerbean flag INBOX 42 + flagged
   move BOX ID BOX         the message is to go to the second mailbox
@@ -42,7 +51,7 @@ list shows it. FLAG is seen, flagged, answered, draft, deleted, or a keyword.
   -A           play, list, queue, report and history for all accounts, one after another
   -q           leaves out the line that explains a status on a terminal
   -w SECONDS   flag, move and append wait as long for a play under way (else 60)
-  -v           play prints each command, its answer and how far it is on standard error
+  -v           play, fetch and read print each command and its answer on standard error
 
 Options stand before the command or after it; after -- there are none. Without -a the
 variables MAIL_DIR, MAIL_SERVER, MAIL_USER, MAIL_PASSWORD, MAIL_PAUSE and MAIL_TIME decide
@@ -100,13 +109,53 @@ Ctrl-C lets the command under way end first, so that a message isn't cut off aft
 last byte. A second one stops at once.
 TEXT
         list) cat <<'TEXT' ;;
-mowerbean list BOX
+mowerbean list [--long] BOX
 
 Prints a line for each message of the mailbox: its ID, its mod-sequence and its flags, as
 it will be after the waiting actions. A message that one of these makes is named d and
 the action's number, and has - in place of a mod-sequence. It works beside a play.
 
   mowerbean list INBOX          prints `42 715 \seen`, say
+
+With --long it is for reading: of each message whose text was fetched the date, the sender
+and the subject, cut at the terminal's width; of the others the ID and the flags alone.
+TEXT
+        fetch) cat <<'TEXT' ;;
+mowerbean fetch [--retry-for TIME] [--retry N] [--trace FILE] BOX ID ..
+mowerbean fetch [--retry-for TIME] [--retry N] [--trace FILE] BOX new
+
+Gets the texts of messages from the server and keeps them, so that show can show them
+without a network. `new` is each message that list shows and that has no text here yet.
+It prints `kept N` with the number of bytes; of several messages the ID stands before it.
+What was kept before a connection is lost stays. Nothing is changed on the server: no
+message becomes \seen.
+
+  mowerbean fetch INBOX 42      prints `kept 1234`, say
+  mowerbean fetch INBOX new
+TEXT
+        show) cat <<'TEXT' ;;
+mowerbean show BOX ID
+
+Shows the text of a message that was fetched: byte for byte, but on a terminal, where what
+isn't a letter is shown as ?, and PAGER has it, if that is set. It works beside a play.
+
+  mowerbean show INBOX 42
+  mowerbean show INBOX 42 > message.eml
+TEXT
+        read) cat <<'TEXT' ;;
+mowerbean read [--retry-for TIME] [--retry N] BOX ID
+
+Shows the text of a message, as show does. Where it isn't here it is fetched first.
+
+  mowerbean read INBOX 42
+TEXT
+        dates) cat <<'TEXT' ;;
+mowerbean dates BOX
+
+Prints of each message of the mailbox whose text was fetched the ID, and the seconds since
+1970 that its one Date field says; or - where there is not one that can be read.
+
+  mowerbean dates INBOX         prints `42 1057049557`, say
 TEXT
         flag) cat <<'TEXT' ;;
 mowerbean flag BOX ID + FLAG ..
@@ -191,12 +240,14 @@ meaning() {
         5) echo 'the server refused, as its line says. What was accepted is kept: a password, or a mailbox that is not there?' ;;
         6) echo "the server's answer was not as IMAP has it. What was accepted is kept: see TROUBLESHOOTING by the printed line" ;;
         7) echo 'the server or the mailbox lacks what is needed. What was accepted is kept: see SERVERS' ;;
+        8) echo 'the mailbox was made anew on the server. Nothing was kept: play first, and then fetch again' ;;
         9) echo 'there is no journal here, or it cannot be used. Nothing was written: mowerbean init makes one, or see TROUBLESHOOTING' ;;
         10) echo 'refused, for the printed reason. Nothing was written, and what was accepted before is kept' ;;
         11) echo 'out of memory. What was accepted before is kept: try again' ;;
         12) echo 'the output could not be written, but the command is done: look at mowerbean queue before you repeat it' ;;
         13) echo 'standard input could not be read. Nothing was written: give the message again' ;;
         14) echo 'a limit is passed. What was accepted is kept: see LIMITS' ;;
+        16) echo 'the kept texts in the folder bodies could not be read or written. What was kept before of other messages stays: look at the disk' ;;
         *) echo 'the run was stopped. What was accepted is kept: run it again' ;;
     esac
 }
@@ -216,6 +267,8 @@ explain() {
         say "the folder $folder is not there: mowerbean init makes it. Nothing was done"
     elif [ "$1" -eq 4 ] && [ "$link_status" -eq 4 ]; then
         say "the account's server is wrong, or its certificate, as the line says. What was accepted is kept: look at tls=, starttls=, server= or cafile="
+    elif [ "$1" -eq 4 ] && [ -n "$is_reading" ]; then
+        say 'no connection, or it was lost. What was kept stays: fetch again, and it goes on from there'
     elif [ "$1" -eq 4 ] && [ -n "$asked" ]; then
         say 'ended after the command that was under way. What was accepted is kept: play again, and it goes on from there'
     else

@@ -149,7 +149,8 @@ foreign_files() {
 an empty file|
 a stop of its own|\000
 a stop inside the magic word|\000ODM
-a stop behind the magic word|\000ODMAILJ1\000\000\000\001
+a stop behind the magic word|\000ODMAILJ2\000\000\000\001
+a stop of an earlier program behind its word|\000ODMAILJ1\000\000\000\001
 zeros|\000\000\000\000\000\000\000\000\000\000\000\000\000\000\000\000
 zeros behind a front of the word|\000ODMA\000\000\000\000\000
 CASES
@@ -166,9 +167,10 @@ CASES
     done <<'CASES'
 notes|my notes, of which there is no other copy\n
 a short file with an open head|\001ODM
-another word|\000ODMAILJ2
-a word behind zeros|\000\000DMAILJ1
-a damaged journal|XODMAILJ1\000\000\000\001\001
+another word|\000ODMAILJ3
+a word behind zeros|\000\000DMAILJ2
+a damaged journal|XODMAILJ2\000\000\000\001\001
+a damaged journal of an earlier program|XODMAILJ1\000\000\000\001\001
 CASES
     damaged_journal
     two_files

@@ -28,6 +28,9 @@ actions = [
 ]
 bodies += [body_of(("accept", number, action)) for number, (action, _, _) in enumerate(actions, 1)]
 for number, (_, intent, outcome) in enumerate(actions, 1):
+    # A flag change ends as flags-changed (3) at its third try.
+    for tries in (1, 2) if outcome and outcome[:2] == ("conflict", 3) else ():
+        bodies += [body_of(("intend", number, intent)), body_of(("withdraw", number, tries))]
     bodies += [body_of(event) for event in (("intend", number, intent), ("settle", number, outcome)) if event[2]]
 sys.stdout.buffer.write(journal(*bodies))
 PYTHON

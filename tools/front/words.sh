@@ -118,7 +118,7 @@ flag Archive 4294967296 + y|4294967296 is no ID
 flag Archive 42 y|y is no SIGN
 move INBOX 42|BOX is missing: mowerbean move BOX ID BOX
 move INBOX 42 Sent Items|Items is one word too many
-list|BOX is missing: mowerbean list BOX
+list|BOX is missing: mowerbean list [--long] BOX
 list INBOX Archive|Archive is one word too many
 list Entwürfe|it can have ASCII characters alone
 list 'a"b'|none of " \ & * %
