@@ -6,7 +6,7 @@ import base64
 import contextlib
 import enum
 import re
-from typing import Dict, Iterator, List, NamedTuple, Optional
+from typing import Dict, Iterator, List, NamedTuple, Optional, Tuple
 
 LINE_LIMIT = 65_536  # A line is read up to here; what is longer is handed on unread.
 HEADER_LIMIT = 32  # The octets at a line's end in which a literal's size can stand.
@@ -21,7 +21,7 @@ SECRETS, SECRET_LEAST, SECRET_MOST = 16, 4, 1_024  # How many hidden words are k
 
 PRINTABLE = bytes(octet if 32 <= octet < 127 else ord("?") for octet in range(256))
 LITERAL = re.compile(rb"\{([0-9]{1,18})(\+?)\}\r\n\Z")
-COMMAND = re.compile(rb"([A-Z][0-9]{1,18}) ((?:UID )?[A-Z]+)(?=[ \r\n])")
+COMMAND = re.compile(rb"([A-Z][0-9]{1,18}(?:R[23])?) ((?:UID )?[A-Z]+)(?=[ \r\n])")
 CAPABILITIES = re.compile(rb"(?:\* CAPABILITY |\S+ [A-Z]+ +\[CAPABILITY )([^\]\r\n]*)", re.IGNORECASE)
 
 
@@ -259,6 +259,12 @@ class Watch:
             raise Ended(Status.LINE, f"the line is too slow: {few} bytes in {long:.0f} seconds")
 
 
+def place_of(tag: bytes) -> Tuple[int, int]:
+    """The number in a tag, which for an action's command is the action's, and which try of the action it is."""
+    number, _, turn = tag[1:].partition(b"R")
+    return int(number), int(turn or b"1")
+
+
 class Secrets:
     """Whether what the program sends is hidden: from a log-in on until it was answered and the next command begins.
 
@@ -267,16 +273,16 @@ class Secrets:
 
     def __init__(self) -> None:
         self.is_hidden = self.is_answered = False
-        self.highest: Dict[bytes, int] = {}  # Of each letter that tags begin with.
+        self.highest: Dict[bytes, Tuple[int, int]] = {}  # Of each letter that tags begin with.
         self.kept: List[bytes] = []
 
     def begin(self, tag: bytes, verb: bytes) -> None:
         """A line looks like the beginning of a command."""
-        letter, number = tag[:1], int(tag[1:])
-        is_new = number > self.highest.get(letter, -1)
-        if self.is_hidden and self.is_answered and is_new:
+        letter, place = tag[:1], place_of(tag)
+        highest = self.highest.get(letter, (-1, 0))
+        if self.is_hidden and self.is_answered and place > highest:
             self.is_hidden = False
-        self.highest[letter] = max(number, self.highest.get(letter, -1))
+        self.highest[letter] = max(place, highest)
         if verb in (b"LOGIN", b"AUTHENTICATE"):
             self.is_hidden, self.is_answered = True, False
 

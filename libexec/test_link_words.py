@@ -215,6 +215,15 @@ class Hidden(unittest.TestCase):
         self.assertEqual(self.said(secrets, b"C3 CAPABILITY\r\n"), b"C3 CAPABILITY\r\n")
         self.assertEqual(secrets.heard(b"* OK ann\r\n"), b"* OK ann\r\n")
 
+    def test_each_try_of_an_action_is_a_command(self) -> None:
+        secrets = Secrets()
+        for before, after in ((b"P1", b"P1R2"), (b"P1R2", b"P1R3"), (b"P1R3", b"P2")):
+            self.said(secrets, before + b" LOGIN ann secret\r\n")
+            secrets.is_answered = True
+            self.assertEqual(self.said(secrets, before + b" NOOP\r\n"), b"[hidden]")
+            self.assertEqual(self.said(secrets, after + b" NOOP\r\n"), after + b" NOOP\r\n")
+        self.assertIsNone(link_words.COMMAND.match(b"P1R4 NOOP\r\n"))
+
     def test_login(self) -> None:
         secrets = Secrets()
         self.assertEqual(self.said(secrets, b'C2 LOGIN ann "s3cr3t"\r\n'), b"C2 LOGIN [hidden]")

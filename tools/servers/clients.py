@@ -57,6 +57,20 @@ class Other:
         # None: no flags and no date are given.
         self.done(self.link.append(quoted(name), None, None, text))  # type: ignore[arg-type]
 
+    def put_exactly(self, name: str, text: bytes) -> bool:
+        """Puts just these bytes into a mailbox (RFC 7888), which a server may refuse."""
+        self.link.send(f"A1 APPEND {quoted(name)} {{{len(text)}+}}\r\n".encode() + text + b"\r\n")
+        line = self.link.readline()
+        while line and not line.startswith(b"A1 "):
+            line = self.link.readline()
+        return line.startswith(b"A1 OK")
+
+    def text(self, name: str, uid: str) -> bytes:
+        """The text of a message, as the server tells it."""
+        self.select(name, readonly=True)
+        found: bytes = self.uid("FETCH", uid, "(BODY.PEEK[])")[0][1]
+        return found
+
     def having(self, name: str, ident: str) -> int:
         """How many messages of a mailbox have this Message-ID."""
         self.select(name, readonly=True)
@@ -116,12 +130,17 @@ class Program:
 
     def say(self, *words: str, under: Sequence[str] = (), given: bytes = b"") -> Said:
         """What the program prints for these words and this input, and its status. It may run under another one."""
+        told, status = self.tell(*words, under=under, given=given)
+        return told.decode(errors="replace"), status
+
+    def tell(self, *words: str, under: Sequence[str] = (), given: bytes = b"") -> Tuple[bytes, Optional[int]]:
+        """The same, byte for byte."""
         line = [*under, str(self.program), *words]
         try:
             ran = subprocess.run(line, env=self.environment, input=given, stdout=subprocess.PIPE, stderr=subprocess.DEVNULL, timeout=600)
         except subprocess.TimeoutExpired:
-            return "nothing in 600 seconds", None
-        return ran.stdout.decode(errors="replace"), ran.returncode
+            return b"nothing in 600 seconds", None
+        return ran.stdout, ran.returncode
 
 
 class Alone:

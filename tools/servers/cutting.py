@@ -10,7 +10,7 @@ import contextlib
 import re
 import socket
 import threading
-from typing import List, Optional, Tuple
+from typing import Callable, List, Optional, Tuple
 
 Address = Tuple[str, int]
 Cut = Tuple[str, str, str]
@@ -122,6 +122,7 @@ class Session:
         words = line.rstrip(b"\r\n").split(b" ", 2)
         self.tag, self.verb = words[0], words[1].upper() if len(words) > 1 else b""
         self.relay.tags.append(self.tag.decode(errors="replace"))
+        self.relay.before(self.relay.tags[-1])
         if self.is_at("out", "before"):
             raise LineIsCut
 
@@ -153,6 +154,8 @@ class Relay:
     def __init__(self, server: Address, cut: Optional[Cut] = None) -> None:
         self.server, self.cut = server, cut
         self.tags: List[str] = []
+        # What happens before a command of this tag is handed on.
+        self.before: Callable[[str], None] = lambda tag: None
         self.socket = socket.create_server(("127.0.0.1", 0))
         self.port: int = self.socket.getsockname()[1]
 

@@ -11,6 +11,11 @@ from typing import Callable, Counter, Dict, Iterable, List, NamedTuple, Optional
 SYSTEM = r"\Answered \Flagged \Deleted \Seen \Draft"
 
 
+def of_action(tag: str) -> str:
+    """The tag of the first try of an action, whose others have R2 and R3 behind it."""
+    return tag.partition("R")[0]
+
+
 class Row:
     """A message: its mod-sequence, its flags and its text."""
 
@@ -217,8 +222,8 @@ class Talk:
         self.command = self.verb = ""
 
     def tell(self, tag: str, lines: List[str]) -> None:
-        """Tells lines, in answer to the command of this tag."""
-        self.link.sendall("".join(f"{line}\r\n" for line in lines).encode())
+        """Tells lines, in answer to the command of this tag. A letter of them is a byte."""
+        self.link.sendall("".join(f"{line}\r\n" for line in lines).encode("latin-1"))
 
     def end(self) -> None:
         """Ends the connection."""
@@ -293,8 +298,8 @@ class Server:
         words = command.split(" ")
         talk.command, talk.verb = command, words[1] if words[0] == "UID" else words[0]
         if tag.startswith("P"):
-            self.meanwhile()
-            self.meanwhile = lambda: None
+            meanwhile, self.meanwhile = self.meanwhile, lambda: None
+            meanwhile()
         refusal = self.refused(tag)
         if refusal:
             talk.tell(tag, [f"{tag} {refusal}"])
@@ -352,8 +357,10 @@ class Server:
             return [self.words.row(box, uid, False) for uid in wanted]
         told = []
         for uid in wanted:
-            field = "".join(re.findall(r"(?im)^message-id:.*\r\n", box.rows[uid].text.decode())) + "\r\n"
-            told.append(f"* {box.place(uid)} FETCH (UID {uid} BODY[HEADER.FIELDS (MESSAGE-ID)] {{{len(field)}}}\r\n{field})")
+            text, item = box.rows[uid].text.decode("latin-1"), "BODY[]"
+            if "HEADER" in asked[2]:
+                text, item = "".join(re.findall(r"(?im)^message-id:.*\r\n", text)) + "\r\n", "BODY[HEADER.FIELDS (MESSAGE-ID)]"
+            told.append(f"* {box.place(uid)} FETCH (UID {uid} {item} {{{len(text)}}}\r\n{text})")
         return told
 
     def acted(self, talk: Talk, tag: str, command: str) -> Reply:
@@ -366,14 +373,14 @@ class Server:
             if box.rows[uid].mark > int(found[2]):
                 return Reply([], code=f"[MODIFIED {uid}] ")
             box.change(uid, found[3] == "+", set(found[4].split()))
-            self.deeds[tag] += 1
+            self.deeds[of_action(tag)] += 1
             return Reply([self.words.row(box, uid, True)])
         if found := re.fullmatch(r"UID MOVE (\d+) (\S+)", command):
             uid, target = int(found[1]), self.boxes[found[2]]
             if not box or uid not in box.rows:
                 return Reply([])
             row = box.drop(uid)
-            self.deeds[tag] += 1
+            self.deeds[of_action(tag)] += 1
             return Reply([f"* OK [COPYUID {target.validity} {uid} {target.put(row.flags, row.text)}] {self.words.copied}", f"* VANISHED {uid}"])
         return self.put(talk, tag, command)
 
@@ -392,7 +399,7 @@ class Server:
             return Reply([], refusal)
         target = self.boxes[found[1]]
         uid = target.put(found[2].split(), text)
-        self.deeds[tag] += 1
+        self.deeds[of_action(tag)] += 1
         told = self.words.of(target, self.words.appended) if target is talk.box else []
         return Reply(told, code=f"[APPENDUID {target.validity} {uid}] ")
 
