@@ -6,10 +6,17 @@ from typing import Dict, FrozenSet, List, NamedTuple, Optional, Tuple
 Texts = Dict[str, str]
 ITEM = r"^((?:pub(?:\([a-z]+\))? )?(?:struct|enum) (\w+)|impl\b.*)"
 FUNCTION = r"^( *)(?:pub(?:\([a-z]+\))? )?(?:const )?fn (\w+)"
+MESSAGE = r"(?:so far: )?(?:note: )?(?:\./)?(\S+?):(\d+):\d+: (.*)"
+# What is said of a name that a proof file has and that isn't there any more, and of what cites it. The record's fields, or its name, may
+# be told in a further line.
+NAMES = r"has no field|has no `|is not in scope|was not admitted|can be named from here|\(nearest: |error: (?:`[^`]*`: )?record `"
+# What is said of an answer to a goal that asks nothing any more.
+ASKS_NOTHING = r"the two types are `Unit \{0\}` \(expected\)"
 
 
 class Function(NamedTuple):
-    """A function: its path as `rt check` prints it, its file, and its first and last line, counted from 1."""
+    """A function: its path as `rt check` prints it, its file, and its first and last line, counted from 1. Its comment and its
+    attributes, where some goals are told, are of it."""
 
     path: str
     file: str
@@ -96,8 +103,15 @@ def functions_of(file: str, text: str, types: Dict[str, str]) -> List[Function]:
         begins = re.match(FUNCTION, line)
         if begins and owner is not None:
             last = next((n for n in range(at, len(lines)) if lines[n] == begins[1] + "}"), at)
-            found.append(Function(owner + begins[2], file, at + 1, last + 1))
+            found.append(Function(owner + begins[2], file, head_of(lines, at) + 1, last + 1))
     return found
+
+
+def head_of(lines: List[str], at: int) -> int:
+    """The line at which what stands over a function begins: its comment and its attributes."""
+    while at and lines[at - 1].lstrip().startswith(("//", "#[")):
+        at -= 1
+    return at
 
 
 def changed_by(pairs: Tuple[Tuple[str, str, str], ...], texts: Texts, types: Dict[str, str]) -> FrozenSet[Function]:
@@ -149,18 +163,27 @@ def put_texts(folder: str, texts: Texts) -> None:
             it.write(text)
 
 
+def is_for_a_name(reason: str) -> bool:
+    """Whether a refusal's reason is that a proof file names what isn't there any more, or answers a goal that asks nothing. Such a
+    refusal judges no clause."""
+    return bool(re.search(f"{NAMES}|{ASKS_NOTHING}", reason))
+
+
 def refusal_of(crate: str, function: Function, said: str) -> str:
-    """Why the prover refuses a changed function, in what a check of it and others printed; nothing where it is proved, where a reason
-    may be another function's, where a proof file only names what isn't there any more, or where there is no verdict."""
+    """Why the prover refuses a changed function, in what a check of it and others printed: a goal at the function, or an error in its
+    proofs. Nothing where it is proved, where a reason may be another function's, where there is no verdict, where a proof file only
+    names or answers what isn't there any more, or where what is told is a note or a form that rattle doesn't cover."""
     row = re.search(rf"(?m)^fn {crate}::{re.escape(function.path)}: (not proved|no proof)\b(.*)$", said)
     own = function.path.replace("::", ".")
     if not row or "it calls " in row[2] or "stands on" in row[2] and f".proofs.{own}." not in row[2]:
         return ""
     place = function.path.replace("::", "/")
     for line in said.split("\n"):
-        at = re.match(r"(?:so far: )?(?:note: )?(?:\./)?(\S+?):(\d+):\d+: (.*)", line)
-        if not at or not (at[1] == function.file and function.first <= int(at[2]) <= function.last or at[1].startswith(f"proofs/{place}/")):
+        at = re.match(MESSAGE, line)
+        if not at:
             continue
-        if not (at[1].startswith("proofs/") and re.search(r"has no field|is not in scope|has no `|was not admitted", at[3])):
+        is_goal = at[1] == function.file and function.first <= int(at[2]) <= function.last and "it is not proved" in at[3]
+        is_error = at[1].startswith(f"proofs/{place}/") and at[3].startswith("error: ") and not is_for_a_name(at[3])
+        if is_goal or is_error:
             return f"{at[1]}:{at[2]}: {at[3]}"[:160]
     return ""

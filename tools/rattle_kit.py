@@ -9,6 +9,8 @@ import signal
 import subprocess
 import sys
 import tempfile
+import threading
+from contextlib import contextmanager
 from types import ModuleType
 from typing import IO, Any, Dict, Iterator, List, NamedTuple, Tuple
 
@@ -42,6 +44,37 @@ def load() -> ModuleType:
 
 RTLIB = load()
 Crates = Dict[str, Any]
+LOOK = threading.local()
+
+
+@contextmanager
+def one_look() -> Iterator[None]:
+    """While it lasts, each crate's sum is reckoned once in this thread; no text may change meanwhile."""
+    if hasattr(LOOK, "sums"):
+        yield
+        return
+    LOOK.sums = {}
+    try:
+        yield
+    finally:
+        del LOOK.sums
+
+
+def reckon_once() -> None:
+    """Has the sum of each crate below another be reckoned once. The kit reckons it once for each way down: for the program's, which
+    takes in 27 crates, that were 1,372."""
+    reckon = RTLIB.Crate.stamp
+
+    def stamp(crate: Any) -> Any:
+        with one_look():
+            if crate.folder not in LOOK.sums:
+                LOOK.sums[crate.folder] = reckon(crate)
+            return LOOK.sums[crate.folder]
+
+    RTLIB.Crate.stamp = stamp
+
+
+reckon_once()
 
 
 def crates_of(top: str) -> Crates:
@@ -95,7 +128,13 @@ def texts_of(crate: Any) -> Iterator[str]:
 def give_libraries(built: str, crates: Crates) -> Given:
     """Puts the libraries that were proved in another checkout under these crates, where the texts of both are the same, and those of
     all that stands below them."""
-    there, given = crates_of(built), Given([], [], [])
+    with one_look():
+        return give_each(crates_of(built), crates)
+
+
+def give_each(there: Crates, crates: Crates) -> Given:
+    """The same, of another checkout's crates."""
+    given = Given([], [], [])
     for name, crate in crates.items():
         if not crate.makes_rlib():
             continue
