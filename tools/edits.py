@@ -11,7 +11,7 @@ MESSAGE = r"(?:so far: )?(?:note: )?(?:\./)?(\S+?):(\d+):\d+: (.*)"
 # be told in a further line.
 NAMES = r"has no field|has no `|is not in scope|was not admitted|can be named from here|\(nearest: |error: (?:`[^`]*`: )?record `"
 # What is said of an answer to a goal that asks nothing any more.
-ASKS_NOTHING = r"the two types are `Unit \{0\}` \(expected\)"
+ASKS_NOTHING = r"the two types are `Unit \{0\}` \(expected\)|expected type `Unit \{0\}`"
 
 
 class Function(NamedTuple):
