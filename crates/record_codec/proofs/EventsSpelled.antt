@@ -36,7 +36,8 @@ use Rattle.record_codec.proofs.Ids.{id_told}
 use Rattle.record_codec.proofs.OneByOne.{four, target_apart, text_fits}
 use Rattle.record_codec.proofs.Taking.{then_by, number_read, nonzero_read, modseq_read, name_read, octets_read, sign_read, bit_read}
 use Rattle.record_codec.proofs.Items.{flags_read, vanished_read, row_list_read, name_list_read}
-use Rattle.record_codec.proofs.EventsRead.{append_apart, reset_apart, store_apart, shift_apart, told_fields, told_apart}
+use Rattle.record_codec.proofs.FieldsRead.{append_apart, store_apart, shift_apart, told_fields, told_apart}
+use Rattle.record_codec.proofs.EventsRead.{reset_apart}
 
 -- ---- messages
 

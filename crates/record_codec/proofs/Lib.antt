@@ -8,6 +8,7 @@ pub mod Ids
 pub mod Taking
 pub mod Items
 pub mod SameFlags
+pub mod FieldsRead
 pub mod EventsRead
 pub mod EventsSpelled
 pub mod Lists
