@@ -42,15 +42,15 @@ use Rattle.playback.specs.Steps.{above_at, elsewhere, renewed_as}
 use Rattle.playback.specs.Why.{WasAboveIntent}
 use Rattle.playback.specs.Allowed.{IsAllowed, MaySend}
 use Rattle.playback.specs.Course.{AtMoment, Course}
-use Rattle.playback.specs.InBox.{InBox, InBoxNow}
-use Rattle.playback.specs.Kept.{KeptBook}
+use Rattle.book_laws.specs.InBox.{InBox, InBoxNow}
+use Rattle.book_laws.specs.Kept.{KeptBook}
 use Rattle.playback.specs.Knows.{HasEnded, IsTold, IsUnsent, Knows, Learning, OfAppend, OfPut, Rests, RowTold}
 use Rattle.playback.specs.Needs.{IsReadyEvent, again, due_id, end_of, need_end, need_for, need_ids, need_learn, need_of, need_search, need_send, search_of, send_meant, send_of}
-use Rattle.playback.specs.Of.{MutatingWaits, command_of, tag_of}
-use Rattle.playback.specs.Once.{Fits}
-use Rattle.playback.specs.Open.{IntentFacts, IsOpen, PutFacts, intent_name, intent_validity}
+use Rattle.book_laws.specs.Of.{MutatingWaits, command_of, tag_of}
+use Rattle.book_laws.specs.Once.{Fits}
+use Rattle.book_laws.specs.Open.{IntentFacts, IsOpen, PutFacts, intent_name, intent_validity}
 use Rattle.playback.specs.Replying.{flag_gone, last_fetch, names_modified, read_sent, read_store, read_stored}
-use Rattle.playback.specs.Resolved.{Resolves}
+use Rattle.book_laws.specs.Resolved.{Resolves}
 use Rattle.playback.specs.Steps.{append_again, append_first, append_in_box, append_judged, append_meant, append_new, append_open, conflict}
 use Rattle.playback.specs.Steps.{flag_again, flag_first, flag_judged, flag_meant, flag_new, flag_open, in_box, is_selected, is_selected_at}
 use Rattle.playback.specs.Steps.{move_again, move_first, move_meant, move_open, select_any, step_action}
@@ -67,15 +67,15 @@ use Rattle.playback.specs.declared.need.Need.TheVariants as needs
 use Rattle.playback.specs.declared.player.Player.{Player}
 use Rattle.playback.specs.declared.step.Step.{Step}
 use Rattle.playback.specs.declared.step.Step.TheVariants as steps
-use Rattle.playback.proofs.Carrying.{nothing_waits}
-use Rattle.playback.proofs.Lawful.{withdraw_flag}
+use Rattle.book_laws.proofs.Carrying.{nothing_waits}
+use Rattle.book_laws.proofs.Lawful.{withdraw_flag}
 use Rattle.playback.proofs.Lawfulness.{read_lawful}
 use Rattle.playback.proofs.Trying.{IsAgain, again_is}
 use Rattle.playback.proofs.Endings.{IsRight, ended_right, is_never_of, no_flag, no_move, suited_is}
 use Rattle.playback.proofs.Onward.{IsIdle, idle}
-use Rattle.playback.proofs.Queueing.{Suited}
-use Rattle.playback.proofs.Resolving.{of_flag, of_move}
-use Rattle.playback.proofs.Facts.{learned_validity, of_under}
+use Rattle.book_laws.proofs.Queueing.{Suited}
+use Rattle.book_laws.proofs.Resolving.{of_flag, of_move}
+use Rattle.book_laws.proofs.Facts.{learned_validity, of_under}
 use Rattle.playback.proofs.RowFacts.{IsAboutSpot, IsThat, RowThere, row_again, row_intends, row_is, row_mark, row_shifts, row_still}
 use Rattle.playback.proofs.RowFacts.{row_weaker, selected_that, spot_at, under_that, was_at, was_map}
 

@@ -32,13 +32,13 @@ use Rattle.playback.proofs.Taking.{IsOwed, carried_by, owed_of}
 use Rattle.playback.specs.Allowed.{IsReply}
 use Rattle.playback.specs.Choosing.{FitsWanted, IsChosen, box_fault, chosen_box, chosen_due, chosen_for, chosen_in, is_below, is_many}
 use Rattle.playback.specs.Choosing.{rows_fault, rows_with, target_fault, wanted_by}
-use Rattle.playback.specs.Kept.{KeptBook}
+use Rattle.book_laws.specs.Kept.{KeptBook}
 use Rattle.playback.specs.Knows.{IsNeeded, Knows}
 use Rattle.playback.specs.Needs.{IsBeside, IsNextBox, IsPlaced, IsPlain, IsReadyEvent, MayEnd, due_id, end_due, need_for, send_of}
 use Rattle.playback.specs.Replying.{Hears, HearsDue, HearsIdsFor, HearsIdsOf, HearsStep, IsHeard, copied_code, found_uids, is_barred}
 use Rattle.playback.specs.Replying.{lacked_by, lacked_in, lacks, last_copied, last_fetch, read_append_by, read_copied}
 use Rattle.playback.specs.Replying.{read_meant, read_move_by, read_moved, read_of, read_sent}
-use Rattle.playback.specs.Sound.{IsSound}
+use Rattle.book_laws.specs.Sound.{IsSound}
 use Rattle.playback.specs.Steps.{step_box, step_due, step_learn, step_of}
 use Rattle.playback.specs.Worlds.{World}
 use Rattle.playback.specs.declared.finding.Finding.{Finding}

@@ -10,11 +10,11 @@ use Rattle.playback.proofs.Gathering.{chosen_knows}
 use Rattle.playback.proofs.Besides.{chosen_beside}
 use Rattle.playback.specs.Allowed.{IsGathered}
 use Rattle.playback.specs.Choosing.{FitsWanted, IsChosen}
-use Rattle.playback.specs.Kept.{KeptBook}
+use Rattle.book_laws.specs.Kept.{KeptBook}
 use Rattle.playback.specs.Knows.{Knows}
 use Rattle.playback.specs.Needs.{IsBeside}
 use Rattle.playback.specs.Replying.{IsHeardFault, lacks}
-use Rattle.playback.specs.Sound.{IsSound}
+use Rattle.book_laws.specs.Sound.{IsSound}
 use Rattle.playback.specs.Worlds.{World, given}
 use Rattle.playback.specs.declared.need.Unheard.{Unheard}
 use Rattle.playback.specs.declared.player.Player.{Player}

@@ -11,18 +11,19 @@ use Rattle.action_queue.specs.declared.intent.Intent.{Intent}
 use Rattle.action_queue.specs.declared.outcome.Outcome.{Outcome}
 use Rattle.action_queue.specs.declared.queued.Queued.{Queued}
 use Rattle.mailbox_cache.specs.declared.cache.Cache.{Cache}
-use Rattle.playback.proofs.Queueing.{due_settle}
+use Rattle.book_laws.proofs.Queueing.{due_settle}
 use Rattle.playback.proofs.Ranks.{add_less, append_first_any, append_meant_any, at_most, below_boxed, below_selected, box_any, boxed}
 use Rattle.playback.proofs.Ranks.{due_search_any, due_sent_any, flag_first_any, flag_meant_any, ids_any, move_first_any, move_meant_any}
 use Rattle.playback.proofs.Ranks.{unlearned}
-use Rattle.playback.proofs.Recording.{due_there, put_length}
+use Rattle.playback.proofs.Recorded.{due_there}
+use Rattle.playback.proofs.Recording.{put_length}
 use Rattle.playback.specs.Allowed.{Records}
 use Rattle.playback.specs.Choosing.{committed, counted, told_after}
 use Rattle.playback.specs.Left.{left, rank, rank_behind, rank_of, unsettled}
 use Rattle.playback.proofs.Trying.{tries_tried}
 use Rattle.playback.proofs.Withdrawing.{IsWithdrawn, asks_anew, withdrawn}
 use Rattle.playback.specs.Needs.{IsBeside, IsNextBox, again, due_id, need_end, need_for, need_learn, need_of}
-use Rattle.playback.specs.Sound.{IsSound}
+use Rattle.book_laws.specs.Sound.{IsSound}
 use Rattle.playback.specs.Steps.{append_again, append_meant, flag_again, flag_first, flag_meant, move_again, move_first, move_meant}
 use Rattle.playback.specs.Steps.{step_action, step_append, step_due, step_flag_at, step_flag_found, step_last, step_learn}
 use Rattle.playback.specs.Steps.{step_move_at, step_move_found, step_of}

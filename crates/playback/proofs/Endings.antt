@@ -43,20 +43,20 @@ use Rattle.action_queue.specs.declared.target.Target.{Target}
 use Rattle.playback.specs.Course.{Said}
 use Rattle.playback.specs.Knows.{IsSent, WasSeen}
 use Rattle.playback.specs.Needs.{due_id}
-use Rattle.playback.specs.Of.{IsOf, command_of, tag_of}
-use Rattle.playback.specs.Once.{Fits, FitsConflict, is_unsure}
-use Rattle.playback.specs.Open.{intent_name, intent_validity}
+use Rattle.book_laws.specs.Of.{IsOf, command_of, tag_of}
+use Rattle.book_laws.specs.Once.{Fits, FitsConflict, is_unsure}
+use Rattle.book_laws.specs.Open.{intent_name, intent_validity}
 use Rattle.playback.specs.Replying.{copied_code, flag_gone, last_copied, last_fetch, move_gone, names_modified, read_append, read_append_by}
 use Rattle.playback.specs.Replying.{read_appended, read_copied, read_move, read_move_by, read_moved, read_sent, read_store, read_stored}
-use Rattle.playback.specs.Sound.{HasIntent, IsSound}
+use Rattle.book_laws.specs.Sound.{HasIntent, IsSound}
 use Rattle.playback.specs.Why.{EndedBy, NamesModified, NoRow, RowAt, RowIs, RowPassed, RowWas, WasCarried, WhyKind, WhyOutcome}
 use Rattle.playback.specs.Worlds.{IsUnder, World}
 use Rattle.playback.specs.declared.finding.Finding.{Finding}
 use Rattle.playback.specs.declared.finding.Finding.TheVariants as findings
-use Rattle.playback.proofs.Carrying.{append_done, move_done, store_done}
+use Rattle.book_laws.proofs.Carrying.{append_done, move_done, store_done}
 use Rattle.playback.proofs.CodesTold.{copied_read, last_this, may_name, none_copied, only_has, store_name, stored_there, unmodified}
 use Rattle.playback.proofs.Fetches.{last_told, none_told}
-use Rattle.playback.proofs.Queueing.{Suited, is_suited}
+use Rattle.book_laws.proofs.Queueing.{Suited, is_suited}
 use Rattle.playback.proofs.RowFacts.{IsAboutSpot, is_row, is_was, row_absent, row_passes, spot_at}
 
 -- an intent is one for its action

@@ -24,7 +24,7 @@ use Rattle.playback.proofs.Trying.{end_any}
 use Rattle.playback.specs.Needs.{again, due_id, need_for, need_learn, need_of}
 use Rattle.playback.specs.Replying.{Hears, HearsDue, HearsIds, HearsIdsOf, HearsStep, IsHeard, found_uids, is_barred, last_copied}
 use Rattle.playback.specs.Replying.{last_fetch, read_append, read_move, read_store}
-use Rattle.playback.specs.Sound.{HasIntent, IsSound}
+use Rattle.book_laws.specs.Sound.{HasIntent, IsSound}
 use Rattle.playback.specs.Steps.{append_again, append_first, append_in_box, append_meant, append_new, flag_again, flag_first, flag_judged}
 use Rattle.playback.specs.Steps.{flag_meant, flag_new, in_box, is_selected, is_selected_at, move_again, move_first, move_meant, select_any}
 use Rattle.playback.specs.Steps.{step_action, step_append, step_due, step_flag_at, step_flag_found, step_learn}

@@ -19,23 +19,23 @@ use Rattle.imap_model.specs.declared.server.Server.{Server}
 use Rattle.mailbox_cache.specs.Cache.{applied, first}
 use Rattle.mailbox_cache.specs.declared.cache.Cache.{Cache}
 use Rattle.mailbox_cache.specs.declared.delta.Delta.{Delta}
-use Rattle.playback.proofs.Deducing.{put_intends}
-use Rattle.playback.proofs.Facts.{box_evolves, now_in, put_goes, squeezed}
+use Rattle.book_laws.proofs.Deducing.{put_intends}
+use Rattle.book_laws.proofs.Facts.{box_evolves, now_in, put_goes, squeezed}
 use Rattle.playback.proofs.Moments.{grows_given, since_same}
 use Rattle.playback.proofs.Onward.{knows_again, rest_now}
 use Rattle.playback.proofs.Placed.{no_select}
 use Rattle.playback.proofs.Purposes.{ChoosesBox, OfBox, Purpose, a_box, a_row, a_search, an_effect, purpose_of, the_ids}
 use Rattle.playback.specs.Allowed.{IsGathered, is_due, reply_of}
 use Rattle.playback.specs.Choosing.{IsChosen, chosen_box, chosen_due, chosen_for, chosen_in, wanted_by}
-use Rattle.playback.specs.Course.{IsOneOf, Said}
-use Rattle.playback.specs.Fresh.{IsFreshFor}
-use Rattle.playback.specs.InBox.{InBox}
-use Rattle.playback.specs.Kept.{KeptBook}
-use Rattle.playback.specs.Knows.{Came, HasCome, Holds, IsAnswered, IsFetched, IsNeeded, IsQuiet, IsTold, IsUnsent, Knows, Rests}
+use Rattle.playback.specs.Course.{IsAmong, Said}
+use Rattle.book_laws.specs.Fresh.{IsFreshFor}
+use Rattle.book_laws.specs.InBox.{InBox}
+use Rattle.book_laws.specs.Kept.{KeptBook}
+use Rattle.playback.specs.Knows.{Came, HasCome, Holds, IsFetched, IsNeeded, IsQuiet, IsTold, IsUnsent, Knows, ReplyIsOwed, Rests}
 use Rattle.playback.specs.Knows.{SelectsBox, with_rows}
 use Rattle.playback.specs.Needs.{IsPlaced, IsPlain, need_of}
-use Rattle.playback.specs.Open.{PutFacts}
-use Rattle.playback.specs.Worlds.{Among, IsAt, Since, World, given, name_of, selected_after, selected_by, selected_on}
+use Rattle.book_laws.specs.Open.{PutFacts}
+use Rattle.playback.specs.Worlds.{Among, IsAt, LeadsTo, World, given, name_of, selected_after, selected_by, selected_on}
 use Rattle.playback.specs.declared.finding.Finding.{Finding}
 use Rattle.playback.specs.declared.player.Player.{Player}
 use Rattle.playback.specs.declared.step.Step.{Step}
@@ -65,7 +65,7 @@ use Rattle.playback.specs.declared.finding.Finding.TheVariants as findings
 -- the command that is owed was answered
 pub record IsAsked (c : Waiting) (p : Player) (b : Meaning) (w : World) : Type 0 where
   pub needed : IsNeeded (need_of p b) c p.selected b
-  pub answered : IsAnswered c p b w
+  pub answered : ReplyIsOwed c p b w
 
 pub came_asked : (c : Waiting) (p : Player) (b : Meaning) (w : World) (owed waiting : Option Waiting) → owed ≡ Some c → waiting ≡ None →
     Came owed waiting p b w → IsAsked c p b w
@@ -107,9 +107,9 @@ chooses p b w c name s (a_search x) =
 chooses p b w c name s (the_ids x) =
     let h : commands.FetchIds x.found.uids ≡ commands.Select name s.since = sym x.command ∙ s.is in absurd (cc)
 
-with_said : (rows : Option Said) (said : Said) (rest l : List Said) → l ≡ with_rows rows (said ∷ rest) → IsOneOf said l
-with_said None said rest l e = subst (λ (x : List Said). IsOneOf said x) (sym e) (inl refl)
-with_said (Some rows) said rest l e = subst (λ (x : List Said). IsOneOf said x) (sym e) (inr (inl refl))
+with_said : (rows : Option Said) (said : Said) (rest l : List Said) → l ≡ with_rows rows (said ∷ rest) → IsAmong said l
+with_said None said rest l e = subst (λ (x : List Said). IsAmong said x) (sym e) (inl refl)
+with_said (Some rows) said rest l e = subst (λ (x : List Said). IsAmong said x) (sym e) (inr (inl refl))
 
 kept_same : (cache : Cache) (codes : Codes) → kept_fault (Some cache) codes ≡ None → cache.validity ≡ codes.validity
 kept_same cache codes =
@@ -120,7 +120,7 @@ kept_same cache codes =
 
 module _ (p : Player) (b : Meaning) (w : World) (kept : KeptBook b w.course.now w.waiting) (quiet : w.waiting ≡ None)
     (known : Knows p b w) (delta : Delta)
-    (c : Waiting) (a : IsAnswered c p b w) (name : List ℕ) (box : OfBox name b) (selects : SelectsBox name b c)
+    (c : Waiting) (a : ReplyIsOwed c p b w) (name : List ℕ) (box : OfBox name b) (selects : SelectsBox name b c)
     (accepted : a.said.reply.ending ≡ endings.Ok) (all_accepted : (e : Said) → a.rows ≡ Some e → e.reply.ending ≡ endings.Ok)
     (fetched : is_some a.rows ≡ is_due (cache_at name b.boxes) a.said.reply)
     (tells : TellsDelta (cache_at name b.boxes) a.said.reply (reply_of a.rows) delta)
@@ -173,7 +173,7 @@ module _ (p : Player) (b : Meaning) (w : World) (kept : KeptBook b w.course.now 
   now_fresh : (cache : Cache) (t : Server) → Among t w → (m : Mailbox) → box_at name t.boxes ≡ Some m → IsFresh cache m →
       IsFreshFor name cache w.course.now.boxes
   now_fresh cache t among m there fresh =
-      let since : Since t w.course.now = known.since t among in
+      let since : LeadsTo t w.course.now = known.since t among in
       box_evolves (FreshFacts cache) name cache.validity t.boxes w.course.now.boxes since.evolves
       (λ x y f g v goes facts. facts_later cache x y facts goes)
       (now_in (record { box = m; there = there; same = sym fresh.validity; facts = fresh.facts }))
@@ -327,7 +327,7 @@ pub chosen_knows : (p r : Player) (b : Meaning) (w : World) (delta : Delta) → 
     IsChosen p b (Ok delta) r → Knows p b w → Knows r b (given w)
 chosen_knows p r b w delta kept g chosen_is known =
     let i : IsAsked g.command p b w = came_asked g.command p b w w.owed w.waiting g.owed g.answered known.came in
-    let a : IsAnswered g.command p b w = i.answered in
+    let a : ReplyIsOwed g.command p b w = i.answered in
     let x : ChoosesBox p b g.command = chooses p b w g.command g.name g.selects (purpose_of p b w g.command kept.sound known i.needed) in
     let never : g.command.command ≢ commands.FetchAll = select_no_all g.command g.name b g.selects in
     let same : IsSameSaid a.said g.selected a.rows g.rows =

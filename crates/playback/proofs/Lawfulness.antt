@@ -54,8 +54,8 @@ use Rattle.playback.specs.Needs.{need_of, need_search, need_send, search_of, sen
 use Rattle.playback.specs.Replying.{ended, flag_gone, last_copied, last_fetch, move_gone, names_modified, names_uid, one_of, place_if}
 use Rattle.playback.specs.Replying.{read_append_by, read_appended, read_copied, read_move_by, read_moved, read_sent, read_store}
 use Rattle.playback.specs.Replying.{read_stored}
-use Rattle.playback.specs.Resolved.{Resolves}
-use Rattle.playback.specs.Sound.{IsSound}
+use Rattle.book_laws.specs.Resolved.{Resolves}
+use Rattle.book_laws.specs.Sound.{IsSound}
 use Rattle.playback.specs.Steps.{append_again, append_first, append_in_box, append_judged, append_meant, append_new, append_open, conflict}
 use Rattle.playback.specs.Steps.{flag_again, flag_first, flag_judged, flag_meant, flag_new, flag_open, in_box, is_selected, is_selected_at}
 use Rattle.playback.specs.Steps.{move_again, move_first, move_meant, move_open, select_any, step_action}
@@ -70,9 +70,9 @@ use Rattle.playback.specs.declared.player.Player.{Player}
 use Rattle.playback.specs.declared.step.Step.{Step}
 use Rattle.playback.specs.declared.step.Step.TheVariants as steps
 use Rattle.playback.proofs.Endings.{is_never_of, no_flag, no_move, suited_is}
-use Rattle.playback.proofs.Making.{or_both}
-use Rattle.playback.proofs.Queueing.{Suited, is_there}
-use Rattle.playback.proofs.Resolving.{of_flag, of_move}
+use Rattle.book_laws.proofs.Making.{or_both}
+use Rattle.book_laws.proofs.Queueing.{Suited, is_there}
+use Rattle.book_laws.proofs.Resolving.{of_flag, of_move}
 use Rattle.playback.proofs.RowFacts.{spot_at}
 
 -- a rule that isn't broken

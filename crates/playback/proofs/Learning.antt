@@ -7,11 +7,11 @@ use Rattle.playback.proofs.Onward.{learns_need}
 use Rattle.playback.proofs.Recording.{behind_beside, behind_entered, behind_knows, put_length}
 use Rattle.playback.specs.Allowed.{Records}
 use Rattle.playback.specs.Choosing.{IsEntered, committed, counted, told_after}
-use Rattle.playback.specs.Kept.{KeptBook}
+use Rattle.book_laws.specs.Kept.{KeptBook}
 use Rattle.playback.specs.Knows.{Knows}
 use Rattle.playback.specs.Left.{left}
 use Rattle.playback.specs.Needs.{IsBeside, need_learn, need_of}
-use Rattle.playback.specs.Sound.{IsSound}
+use Rattle.book_laws.specs.Sound.{IsSound}
 use Rattle.playback.specs.Worlds.{World}
 use Rattle.playback.specs.declared.finding.Resynced.{Resynced}
 use Rattle.playback.specs.declared.need.Need.{Need}

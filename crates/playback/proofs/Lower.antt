@@ -1,6 +1,5 @@
 -- A lawful server's SELECT tells no UIDVALIDITY below the one that its mailbox is to have.
 use Rattle.action_queue.specs.Book.{Meaning}
-use Rattle.imap_model.specs.Carrying.{Waiting}
 use Rattle.imap_model.specs.Lookups.{box_at}
 use Rattle.imap_model.specs.declared.command.Command.{Command}
 use Rattle.imap_model.specs.declared.ending.Ending.{Ending}
@@ -10,10 +9,9 @@ use Rattle.playback.proofs.Gathering.{IsAsked, IsSameSaid, came_asked, no_all, s
 use Rattle.playback.proofs.Naming.{to_have_reached}
 use Rattle.playback.specs.Allowed.{IsGathered, IsLowerValidity, WhyNotChosen}
 use Rattle.playback.specs.Course.{Said}
-use Rattle.playback.specs.Kept.{KeptBook}
+use Rattle.book_laws.specs.Kept.{KeptBook}
 use Rattle.playback.specs.Knows.{IsNeeded, Knows, SelectsBox}
-use Rattle.playback.specs.Needs.{need_of}
-use Rattle.playback.specs.Reached.{HasReached}
+use Rattle.book_laws.specs.Reached.{HasReached}
 use Rattle.playback.specs.Worlds.{IsAt, World, selected_after, selected_by, selected_on}
 use Rattle.playback.specs.declared.need.Need.{Need}
 use Rattle.playback.specs.declared.need.Unheard.{Unheard}
@@ -21,11 +19,10 @@ use Rattle.playback.specs.declared.player.Player.{Player}
 use Rattle.qresync_core.specs.declared.codes.Codes.{Codes}
 use Rattle.qresync_core.specs.declared.fault.CodeFault.{CodeFault}
 use Rattle.qresync_core.specs.declared.fault.ResyncFault.{ResyncFault}
-use Rattle.std.proofs.Common.{List, Ok, Err, Option, Result, Some, ap, arith, refl, subst, sym, ℕ, ◌<◌, ◌≤◌, ◌∙◌, ◌≡◌, ◌≢◌}
+use Rattle.std.proofs.Common.{List, Ok, Err, Result, Some, ap, arith, subst, sym, ℕ, ◌<◌, ◌≤◌, ◌∙◌, ◌≡◌, ◌≢◌}
 use Rattle.std.proofs.lemmas.Option.{same_Some}
 use Rattle.std.specs.Prelude.{IfErr, IsErrOf}
 use Rattle.imap_model.specs.declared.command.Command.TheVariants as commands
-use Rattle.playback.specs.declared.need.Need.TheVariants as needs
 use Rattle.playback.specs.declared.need.Unheard.TheVariants as unheards
 
 module _ (p : Player) (b : Meaning) (w : World) (delta : Delta) (kept : KeptBook b w.course.now w.waiting) (g : IsGathered delta b w)

@@ -28,21 +28,21 @@ use Rattle.imap_model.specs.declared.server.Server.{Server}
 use Rattle.mail_base.specs.declared.tag.Tag.{Tag}
 use Rattle.mailbox_cache.specs.declared.cache.Cache.{Cache}
 use Rattle.mailbox_cache.specs.declared.row.Row.{Row}
-use Rattle.playback.proofs.Deducing.{later_then}
-use Rattle.playback.proofs.Deeds.{batch_ours}
-use Rattle.playback.proofs.Facts.{box_evolves, put_goes, squeezed, under_keeps}
-use Rattle.playback.specs.Course.{AtMoment, Course, IsCourse, IsOneOf, Said, WasSaid}
-use Rattle.playback.specs.InBox.{InBox, InBoxNow}
+use Rattle.book_laws.proofs.Deducing.{later_then}
+use Rattle.book_laws.proofs.Deeds.{batch_ours}
+use Rattle.book_laws.proofs.Facts.{box_evolves, put_goes, squeezed, under_keeps}
+use Rattle.playback.specs.Course.{AtMoment, Course, IsAmong, IsCourse, Said, WasSaid}
+use Rattle.book_laws.specs.InBox.{InBox, InBoxNow}
 use Rattle.playback.specs.Knows.{Covered, HasEnded, Holds, HoldsVerdict, IsLearning, IsProbed, IsSent, IsTold, IsUnsent, Learning, OfAppend}
 use Rattle.playback.specs.Knows.{OfPut, Rests, RowTold, Stays, WasSeen}
 use Rattle.playback.specs.Needs.{due_id}
-use Rattle.playback.specs.Once.{Fits}
-use Rattle.playback.specs.Open.{PutFacts}
-use Rattle.playback.specs.Past.{Later}
-use Rattle.playback.specs.Polite.{Spares}
+use Rattle.book_laws.specs.Once.{Fits}
+use Rattle.book_laws.specs.Open.{PutFacts}
+use Rattle.book_laws.specs.Past.{Later}
+use Rattle.book_laws.specs.Polite.{Spares}
 use Rattle.playback.specs.Why.{AreTwo, NoRow, OfDue, RowAt, RowIs, RowNotSo, RowWas, SomeRow, TellsLack, TellsNext, WasRefused, WasSelected}
 use Rattle.playback.specs.Why.{WhyIntent}
-use Rattle.playback.specs.Worlds.{Among, Grows, IsUnder, Since, World, answered_course, asks_rows, carried, given, moved}
+use Rattle.playback.specs.Worlds.{Among, IsUnder, KeepsCourse, LeadsTo, World, answered_course, answered_world, asks_rows, given, moved}
 use Rattle.playback.specs.Worlds.{says}
 use Rattle.playback.specs.declared.finding.Finding.{Finding}
 use Rattle.playback.specs.declared.finding.Resynced.{Resynced}
@@ -61,31 +61,31 @@ use Rattle.action_queue.specs.declared.intent.Intent.TheVariants as intents
 use Rattle.action_queue.specs.declared.outcome.Outcome.TheVariants as outcomes
 use Rattle.append_probe.specs.declared.verdict.Verdict.TheVariants as verdicts
 
-pub grows_moved : (t : Server) (w : World) → Grows w (moved t w)
+pub grows_moved : (t : Server) (w : World) → KeepsCourse w (moved t w)
 grows_moved t w = record { among = λ s a. inr a; back = λ s a. a; said = λ e a. a; first = refl }
 
-pub grows_carried : (c : Waiting) (r : Replies) (t : Server) (w : World) → Grows w (carried c r t w)
+pub grows_carried : (c : Waiting) (r : Replies) (t : Server) (w : World) → KeepsCourse w (answered_world c r t w)
 grows_carried c r t w = record { among = λ s a. inr a; back = λ s a. a; said = λ e a. inr a; first = refl }
 
-pub grows_says : (c : Waiting) (w : World) → Grows w (says c w)
+pub grows_says : (c : Waiting) (w : World) → KeepsCourse w (says c w)
 grows_says c w = record { among = λ s a. a; back = λ s a. inr a; said = λ e a. a; first = refl }
 
-pub grows_asks : (c : Waiting) (w : World) → Grows w (asks_rows c w)
+pub grows_asks : (c : Waiting) (w : World) → KeepsCourse w (asks_rows c w)
 grows_asks c w = record { among = λ s a. a; back = λ s a. inr a; said = λ e a. a; first = refl }
 
-pub grows_given : (w : World) → Grows w (given w)
+pub grows_given : (w : World) → KeepsCourse w (given w)
 grows_given w = record { among = λ s a. a; back = λ s a. inr a; said = λ e a. a; first = refl }
 
 -- the course tells the truth still
 pub course_moved : (t : Server) (c : Course) → IsCourse c → IsCourse (record c { now = t; past = c.now ∷ c.past })
 course_moved t c is = record { first = inr is.first; said = λ e a. (inr (is.said e a).0, inr (is.said e a).1, (is.said e a).2) }
 
-said_carried : (e x : Said) (t : Server) (c : Course) (after : Option (List ℕ)) → IsOneOf x.before (c.now ∷ c.past) → x.behind ≡ t →
+said_carried : (e x : Said) (t : Server) (c : Course) (after : Option (List ℕ)) → IsAmong x.before (c.now ∷ c.past) → x.behind ≡ t →
     CarriesOut x.command x.before x.reply x.behind after → e ≡ x →
-    IsOneOf e.before (t ∷ c.now ∷ c.past) × IsOneOf e.behind (t ∷ c.now ∷ c.past) ×
+    IsAmong e.before (t ∷ c.now ∷ c.past) × IsAmong e.behind (t ∷ c.now ∷ c.past) ×
     ((end : Option (List ℕ)) × CarriesOut e.command e.before e.reply e.behind end)
 said_carried e x t c after before behind carries is =
-    subst (λ (y : Said). IsOneOf y.before (t ∷ c.now ∷ c.past) × IsOneOf y.behind (t ∷ c.now ∷ c.past)
+    subst (λ (y : Said). IsAmong y.before (t ∷ c.now ∷ c.past) × IsAmong y.behind (t ∷ c.now ∷ c.past)
     × ((end : Option (List ℕ)) × CarriesOut y.command y.before y.reply y.behind end)) (sym is)
     (inr before, inl behind, (after, carries))
 
@@ -97,11 +97,11 @@ course_carried c r t course after carries is = record {
   said = λ e a.
       ⊎_elim (λ (n : e ≡ record { command = c; before = course.now; behind = t; reply = r }).
       said_carried e (record { command = c; before = course.now; behind = t; reply = r }) t course after (inl refl) refl carries n)
-      (λ (o : IsOneOf e course.said). (inr (is.said e o).0, inr (is.said e o).1, (is.said e o).2)) a;
+      (λ (o : IsAmong e course.said). (inr (is.said e o).0, inr (is.said e o).1, (is.said e o).2)) a;
 }
 
 -- what holds of the new server and of each earlier one holds of each
-pub each_moment : (P : Server → Type 0) (w v : World) → Grows w v → P v.course.now → ((s : Server) → Among s w → P s) → (s : Server) →
+pub each_moment : (P : Server → Type 0) (w v : World) → KeepsCourse w v → P v.course.now → ((s : Server) → Among s w → P s) → (s : Server) →
     Among s v → P s
 each_moment P w v g now before s a = ⊎_elim (λ (e : s ≡ v.course.now). subst P (sym e) now) (λ (h : Among s w). before s h) (g.back s a)
 
@@ -112,20 +112,20 @@ evolves_join a b c w g h =
     (record { evolves = g; ours = refl }) (record { evolves = h; ours = refl }) in
     l.evolves
 
-pub since_same : (s : Server) → IsWellFormed s.boxes → Since s s
+pub since_same : (s : Server) → IsWellFormed s.boxes → LeadsTo s s
 since_same s w = record { well = w; evolves = evolves_same s.boxes s.boxes; grows = λ n e. e }
 
-pub since_is : (s t : Server) → IsWellFormed s.boxes → t ≡ s → Since s t
-since_is s t w e = subst (λ (x : Server). Since s x) (sym e) (since_same s w)
+pub since_is : (s t : Server) → IsWellFormed s.boxes → t ≡ s → LeadsTo s t
+since_is s t w e = subst (λ (x : Server). LeadsTo s x) (sym e) (since_same s w)
 
-pub since_then : (a b c : Server) → Since a b → Since b c → Since a c
+pub since_then : (a b c : Server) → LeadsTo a b → LeadsTo b c → LeadsTo a c
 since_then a b c g h = record {
   well = g.well;
   evolves = evolves_join a.boxes b.boxes c.boxes g.well g.evolves h.evolves;
   grows = λ n e. g.grows n (h.grows n e);
 }
 
-pub since_foreign : (s t : Server) → IsWellFormed s.boxes → Batch s.boxes s t → Since s t
+pub since_foreign : (s t : Server) → IsWellFormed s.boxes → Batch s.boxes s t → LeadsTo s t
 since_foreign s t w f = record {
   well = w;
   evolves = (batches_stay s t w f).1;
@@ -141,7 +141,7 @@ ours_before n d (x ∷ xs) =
     (λ _ e. absurd (cc)) (λ _. ours_before n d xs)
 
 pub since_changes : (author : Author) (name : List ℕ) (change : Change) (s t : Server) → IsWellFormed s.boxes →
-    Changes s.boxes author name change s t → Since s t
+    Changes s.boxes author name change s t → LeadsTo s t
 since_changes author name change s t w c = record {
   well = w;
   evolves = (changes_stay s.boxes author name change s t w c).1;
@@ -149,7 +149,7 @@ since_changes author name change s t w c = record {
 }
 
 since_accepted : (selected : Option (List ℕ)) (tag : Tag) (command : Command) (s t : Server) → IsWellFormed s.boxes →
-    Accepted selected tag command s t → Since s t
+    Accepted selected tag command s t → LeadsTo s t
 since_accepted selected tag commands.Capability s t w e = since_is s t w e
 since_accepted selected tag (commands.Login account) s t w e = since_is s t w e
 since_accepted selected tag (commands.Plain account) s t w e = since_is s t w e
@@ -178,44 +178,44 @@ since_accepted selected tag commands.Logout s t w e = since_is s t w e
 
 -- a command that is carried out
 pub since_carries : (c : Waiting) (r : Replies) (s t : Server) (after : Option (List ℕ)) → IsWellFormed s.boxes → CarriesOut c s r t after →
-    Since s t
+    LeadsTo s t
 since_carries c r s t after w carries =
     ⊎_elim (λ (e : t ≡ s). since_is s t w e)
     (λ (e : Accepted c.selected c.tag c.command s t). since_accepted c.selected c.tag c.command s t w e)
     (carried_effect c s r t after carries)
 
 -- each earlier server, also to the new one
-pub since_grows : (w v : World) → Grows w v → Since w.course.now v.course.now → IsWellFormed v.course.now.boxes →
-    ((s : Server) → Among s w → Since s w.course.now) → (s : Server) → Among s v → Since s v.course.now
+pub since_grows : (w v : World) → KeepsCourse w v → LeadsTo w.course.now v.course.now → IsWellFormed v.course.now.boxes →
+    ((s : Server) → Among s w → LeadsTo s w.course.now) → (s : Server) → Among s v → LeadsTo s v.course.now
 since_grows w v g step well since =
-    each_moment (λ (s : Server). Since s v.course.now) w v g (since_same v.course.now well)
+    each_moment (λ (s : Server). LeadsTo s v.course.now) w v g (since_same v.course.now well)
     (λ s a. since_then s w.course.now v.course.now (since s a) step)
 
-pub moment_grows : (P : Server → Type 0) (w v : World) → Grows w v → AtMoment P w.course → AtMoment P v.course
+pub moment_grows : (P : Server → Type 0) (w v : World) → KeepsCourse w v → AtMoment P w.course → AtMoment P v.course
 moment_grows P w v g m = (m.0, g.among m.0 m.1, m.2)
 
-pub said_grows : (P : Said → Type 0) (w v : World) → Grows w v → WasSaid P w.course → WasSaid P v.course
+pub said_grows : (P : Said → Type 0) (w v : World) → KeepsCourse w v → WasSaid P w.course → WasSaid P v.course
 said_grows P w v g m = (m.0, g.said m.0 m.1, m.2)
 
-pub was_grows : (P : Action → Option Row → Type 0) (b : Meaning) (w v : World) → Grows w v → RowWas P b w.course → RowWas P b v.course
+pub was_grows : (P : Action → Option Row → Type 0) (b : Meaning) (w v : World) → KeepsCourse w v → RowWas P b w.course → RowWas P b v.course
 was_grows P b w v g o = record {
   queued = o.queued;
   there = o.there;
   holds = moment_grows (λ (s : Server). RowIs (P o.queued.action) b.queue o.queued.action s) w v g o.holds;
 }
 
-pub selected_grows : (name : List ℕ) (P : Replies → Type 0) (w v : World) → Grows w v → WasSelected name P w.course →
+pub selected_grows : (name : List ℕ) (P : Replies → Type 0) (w v : World) → KeepsCourse w v → WasSelected name P w.course →
     WasSelected name P v.course
 selected_grows name P w v g s =
     said_grows (λ (e : Said). ((since : Option Mark) × (e.command.command ≡ commands.Select name since)) × P e.reply) w v g s
 
-refused_grows : (queue : List Queued) (action : Action) (w v : World) → Grows w v → WasRefused queue w.course action →
+refused_grows : (queue : List Queued) (action : Action) (w v : World) → KeepsCourse w v → WasRefused queue w.course action →
     WasRefused queue v.course action
 refused_grows queue (actions.Flag target add asked) w v g r = (r.0, r.1, r.2, r.3, selected_grows r.0 (TellsLack asked) w v g r.4)
 refused_grows queue (actions.Move target to) w v g r = r
 refused_grows queue (actions.Append to flags text id) w v g r = r
 
-pub barred_grows : (b : Meaning) (w v : World) → Grows w v → OfDue (WasRefused b.queue w.course) b → OfDue (WasRefused b.queue v.course) b
+pub barred_grows : (b : Meaning) (w v : World) → KeepsCourse w v → OfDue (WasRefused b.queue w.course) b → OfDue (WasRefused b.queue v.course) b
 barred_grows b w v g o = record { queued = o.queued; there = o.there; holds = refused_grows b.queue o.queued.action w v g o.holds }
 
 pub append_maps : (P Q : List ℕ → List ℕ → Type 0) (b : Meaning) → ((to id : List ℕ) → P to id → Q to id) → OfAppend P b → OfAppend Q b
@@ -241,7 +241,7 @@ put_maps P Q b f o = record {
   holds = f o.append.to o.append.id o.validity o.uidnext o.holds;
 }
 
-probed_grows : (verdict : Verdict) (b : Meaning) (w v : World) → Grows w v → IsProbed verdict b w.course → IsProbed verdict b v.course
+probed_grows : (verdict : Verdict) (b : Meaning) (w v : World) → KeepsCourse w v → IsProbed verdict b w.course → IsProbed verdict b v.course
 probed_grows verdicts.NotThere b w v g t = tt
 probed_grows (verdicts.There uid) b w v g t = tt
 probed_grows (verdicts.Several first second) b w v g t =
@@ -249,7 +249,7 @@ probed_grows (verdicts.Several first second) b w v g t =
     (λ (to id : List ℕ) (validity low : ℕ). AtMoment (λ s. InBoxNow (AreTwo first second low id) to validity s.boxes) v.course) b
     (λ to id validity low m. moment_grows (λ (s : Server). InBoxNow (AreTwo first second low id) to validity s.boxes) w v g m) t
 
-pub told_grows : (told : Finding) (b : Meaning) (w v : World) → Grows w v → IsTold told b w.course → IsTold told b v.course
+pub told_grows : (told : Finding) (b : Meaning) (w v : World) → KeepsCourse w v → IsTold told b w.course → IsTold told b v.course
 told_grows findings.Nothing b w v g t = tt
 told_grows findings.NoRow b w v g t = was_grows NoRow b w v g t
 told_grows (findings.Row modseq so) b w v g t = was_grows (RowTold modseq so) b w v g t
@@ -262,12 +262,12 @@ told_grows (findings.Next validity uidnext) b w v g t =
 told_grows (findings.Candidates uids) b w v g t = tt
 told_grows (findings.Probed verdict) b w v g t = probed_grows verdict b w v g t
 
-pub intent_grows : (intent : Intent) (b : Meaning) (w v : World) → Grows w v → WhyIntent intent b w.course → WhyIntent intent b v.course
+pub intent_grows : (intent : Intent) (b : Meaning) (w v : World) → KeepsCourse w v → WhyIntent intent b w.course → WhyIntent intent b v.course
 intent_grows (intents.Store name validity uid modseq) b w v g s = was_grows (RowNotSo (λ k. k ≡ modseq)) b w v g s
 intent_grows (intents.Shift from validity uid to) b w v g s = was_grows SomeRow b w v g s
 intent_grows (intents.Put to validity uidnext) b w v g s = selected_grows to (TellsNext validity uidnext) w v g s
 
-pub seen_grows : (intent : Intent) (b : Meaning) (w v : World) → Grows w v → WasSeen intent b w.course → WasSeen intent b v.course
+pub seen_grows : (intent : Intent) (b : Meaning) (w v : World) → KeepsCourse w v → WasSeen intent b w.course → WasSeen intent b v.course
 seen_grows (intents.Store name validity uid modseq) b w v g s = was_grows (RowAt modseq) b w v g s
 seen_grows (intents.Shift from validity uid to) b w v g s = tt
 seen_grows (intents.Put to validity uidnext) b w v g s = tt
@@ -359,7 +359,7 @@ holds_stay (findings.Next validity uidnext) b s t st h = next_moves b s t validi
 holds_stay (findings.Candidates uids) b s t st h = covered_moves b s t uids st h
 holds_stay (findings.Probed verdict) b s t st h = verdict_stays verdict b s t st h
 
-pub unsent_grows : (told : Finding) (resumed : Bool) (b : Meaning) (w v : World) → Grows w v → Stays b w.course.now v.course.now →
+pub unsent_grows : (told : Finding) (resumed : Bool) (b : Meaning) (w v : World) → KeepsCourse w v → Stays b w.course.now v.course.now →
     IsUnsent told resumed b w → IsUnsent told resumed b v
 unsent_grows told resumed b w v g st u = record {
   same =
@@ -369,7 +369,7 @@ unsent_grows told resumed b w v g st u = record {
   holds = holds_stay told b w.course.now v.course.now st u.holds;
 }
 
-pub sent_grows : (b : Meaning) (x : Said) (w v : World) → Grows w v →
+pub sent_grows : (b : Meaning) (x : Said) (w v : World) → KeepsCourse w v →
     ours (due_id b) v.course.now.history ≡ ours (due_id b) w.course.now.history →
     IsSent b x w → IsSent b x v
 sent_grows b x w v g e u = record {
@@ -383,7 +383,7 @@ sent_grows b x w v g e u = record {
   later = e ∙ u.later;
 }
 
-pub ended_grows : (outcome : Outcome) (resumed : Bool) (b : Meaning) (w v : World) → Grows w v →
+pub ended_grows : (outcome : Outcome) (resumed : Bool) (b : Meaning) (w v : World) → KeepsCourse w v →
     ours (due_id b) v.course.now.history ≡ ours (due_id b) w.course.now.history → HasEnded outcome resumed b w →
     HasEnded outcome resumed b v
 ended_grows outcome resumed b w v g e h = record {
@@ -397,7 +397,7 @@ ended_grows outcome resumed b w v g e h = record {
   seen = seen_grows h.intent b w v g h.seen;
 }
 
-pub rests_grows : (told : Finding) (resumed : Bool) (b : Meaning) (w v : World) → Grows w v → Stays b w.course.now v.course.now →
+pub rests_grows : (told : Finding) (resumed : Bool) (b : Meaning) (w v : World) → KeepsCourse w v → Stays b w.course.now v.course.now →
     Rests told resumed b w → Rests told resumed b v
 rests_grows findings.Nothing resumed b w v g st r = unsent_grows findings.Nothing resumed b w v g st r
 rests_grows findings.NoRow resumed b w v g st r = unsent_grows findings.NoRow resumed b w v g st r
@@ -409,7 +409,7 @@ rests_grows (findings.Candidates uids) resumed b w v g st r = unsent_grows (find
 rests_grows (findings.Probed verdict) resumed b w v g st r = unsent_grows (findings.Probed verdict) resumed b w v g st r
 
 -- the cache that a delta makes stays fresh
-learning_stays : (told : Resynced) (p : Player) (b : Meaning) (s t : Server) → Since s t → IsLearning told p b s → IsLearning told p b t
+learning_stays : (told : Resynced) (p : Player) (b : Meaning) (s t : Server) → LeadsTo s t → IsLearning told p b s → IsLearning told p b t
 learning_stays told p b s t step l =
     let cache : Cache = learned (cache_at told.name b.boxes) told.delta in
     record {
@@ -419,12 +419,12 @@ learning_stays told p b s t step l =
           (λ x y f g v goes facts. facts_later cache x y facts goes) l.fresh;
     }
 
-pub learns_stay : (learns : Option Resynced) (p : Player) (b : Meaning) (s t : Server) → Since s t → Learning learns p b s →
+pub learns_stay : (learns : Option Resynced) (p : Player) (b : Meaning) (s t : Server) → LeadsTo s t → Learning learns p b s →
     Learning learns p b t
 learns_stay None p b s t step l = tt
 learns_stay (Some told) p b s t step l = learning_stays told p b s t step l
 
 -- a mailbox that is there under a UIDVALIDITY, and keeps it, is there under it still
-pub under_stays : (name : List ℕ) (validity : ℕ) (s t : Server) → Since s t → validity_of (box_at name t.boxes) ≡ validity_of (box_at name s.boxes) →
+pub under_stays : (name : List ℕ) (validity : ℕ) (s t : Server) → LeadsTo s t → validity_of (box_at name t.boxes) ≡ validity_of (box_at name s.boxes) →
     IsUnder name validity s → IsUnder name validity t
 under_stays name validity s t step v u = under_keeps step.evolves v u

@@ -20,12 +20,12 @@ use Rattle.imap_model.specs.declared.deed.Deed.{Deed}
 use Rattle.imap_model.specs.declared.server.Server.{Server}
 use Rattle.mail_base.specs.Tags.{action_of}
 use Rattle.mail_base.specs.declared.tag.Tag.{Tag}
-use Rattle.playback.specs.Reached.{ActionReached, DeedReached, DeedsReached, HasReached, TargetReached}
+use Rattle.book_laws.specs.Reached.{ActionReached, DeedReached, DeedsReached, HasReached, TargetReached}
 use Rattle.playback.specs.Allowed.{IsToHave}
-use Rattle.playback.specs.Kept.{KeptBook}
-use Rattle.playback.specs.Once.{AllOwned, IsOne, IsOwned, IsPlace}
-use Rattle.playback.specs.Open.{IsOpen}
-use Rattle.playback.specs.Wanted.{IsWanted}
+use Rattle.book_laws.specs.Kept.{KeptBook}
+use Rattle.book_laws.specs.Once.{AllOwned, IsOne, IsOwned, IsPlace}
+use Rattle.book_laws.specs.Open.{IsOpen}
+use Rattle.book_laws.specs.Wanted.{IsWanted}
 use Rattle.playback.specs.Why.{OfDue}
 use Rattle.std.proofs.Common.{List, None, Option, Some, [], ap, arith, refl, subst, suc, sym, true, ℕ, ◌-◌, ◌∙◌, ◌∷◌, ◌≡◌}
 use Rattle.std.proofs.lemmas.Bool.{cond_both, eqb-true}

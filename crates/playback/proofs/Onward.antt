@@ -21,26 +21,26 @@ use Rattle.imap_model.specs.declared.mark.Mark.{Mark}
 use Rattle.imap_model.specs.declared.replies.Replies.{Replies}
 use Rattle.imap_model.specs.declared.server.Mailbox.{Mailbox}
 use Rattle.imap_model.specs.declared.server.Server.{Server}
-use Rattle.playback.proofs.Carrying.{harmless}
-use Rattle.playback.proofs.Foreign.{others_keep}
-use Rattle.playback.proofs.Facts.{under_kept}
+use Rattle.book_laws.proofs.Carrying.{harmless}
+use Rattle.book_laws.proofs.Foreign.{others_keep}
+use Rattle.book_laws.proofs.Facts.{under_kept}
 use Rattle.playback.proofs.Moving.{carried_validity}
 use Rattle.playback.proofs.Moments.{course_carried, course_moved, each_moment, grows_asks, grows_carried, grows_moved, grows_says}
 use Rattle.playback.proofs.Moments.{intent_grows, learns_stay, rests_grows, sent_grows, since_carries, since_foreign, since_grows}
 use Rattle.playback.proofs.Moments.{since_same, stays_is, stays_others, stays_same, stays_then, told_grows, under_stays, unsent_grows}
 use Rattle.playback.specs.Course.{IsCourse, Said}
-use Rattle.playback.specs.Kept.{KeptBook}
-use Rattle.playback.specs.Knows.{Came, FetchesRows, HasCome, HasEnded, IsAnswered, IsFetched, IsNeeded, IsResting, IsTold, IsUnsent}
+use Rattle.book_laws.specs.Kept.{KeptBook}
+use Rattle.playback.specs.Knows.{Came, FetchesRows, HasCome, HasEnded, IsFetched, IsNeeded, IsResting, IsTold, IsUnsent, ReplyIsOwed}
 use Rattle.playback.specs.Knows.{IsWaiting, Knows, Learning, MayAskRows, Rests, Stays, with_rows}
 use Rattle.playback.proofs.Trying.{end_any}
 use Rattle.playback.specs.Needs.{IsPlaced, again, due_id, need_end, need_for, need_learn, need_of}
-use Rattle.playback.specs.Of.{IsOf}
-use Rattle.playback.specs.Open.{Open}
-use Rattle.playback.specs.Polite.{KeepsBox, KeepsWaiting, Spares}
+use Rattle.book_laws.specs.Of.{IsOf}
+use Rattle.book_laws.specs.Open.{Open}
+use Rattle.book_laws.specs.Polite.{KeepsBox, KeepsWaiting, Spares}
 use Rattle.playback.specs.Replying.{read_sent}
 use Rattle.playback.specs.Steps.{append_meant, flag_meant, move_meant, step_action, step_append, step_due, step_flag_found, step_learn}
 use Rattle.playback.specs.Steps.{step_move_found, step_of}
-use Rattle.playback.specs.Worlds.{Grows, IsAt, Since, World, asks_rows, carried, moved, name_of, says, selected_after, selected_by}
+use Rattle.playback.specs.Worlds.{IsAt, KeepsCourse, LeadsTo, World, answered_world, asks_rows, moved, name_of, says, selected_after, selected_by}
 use Rattle.playback.specs.Worlds.{selected_on}
 use Rattle.playback.specs.declared.finding.Finding.{Finding}
 use Rattle.playback.specs.declared.finding.Resynced.{Resynced}
@@ -66,8 +66,8 @@ use Rattle.action_queue.specs.declared.outcome.Outcome.TheVariants as outcomes
 use Rattle.playback.specs.declared.step.Step.TheVariants as steps
 
 -- what doesn't depend on how far the conversation is, also of a player that keeps something else
-pub knows_again : (p r : Player) (b : Meaning) (w v : World) → r.resumed ≡ p.resumed → Grows w v → IsCourse v.course →
-    Since w.course.now v.course.now → IsWellFormed v.course.now.boxes → Open b v.course.now →
+pub knows_again : (p r : Player) (b : Meaning) (w v : World) → r.resumed ≡ p.resumed → KeepsCourse w v → IsCourse v.course →
+    LeadsTo w.course.now v.course.now → IsWellFormed v.course.now.boxes → Open b v.course.now →
     ((selected : Selected) → v.selected ≡ Some selected → IsAt selected v.course.now) → IsTold r.told b v.course →
     (r.resumed ≡ false → (intent : Intent) → b.pending ≡ Some intent → IsPlaced intent r) →
     Learning r.learns r b v.course.now → Came v.owed v.waiting r b v → Knows p b w → Knows r b v
@@ -84,7 +84,7 @@ knows_again p r b w v same g course step well opened valid told placed learns ca
   came = came;
 }
 
-pub knows_from : (p : Player) (b : Meaning) (w v : World) → Grows w v → IsCourse v.course → Since w.course.now v.course.now →
+pub knows_from : (p : Player) (b : Meaning) (w v : World) → KeepsCourse w v → IsCourse v.course → LeadsTo w.course.now v.course.now →
     IsWellFormed v.course.now.boxes → Open b v.course.now →
     ((selected : Selected) → v.selected ≡ Some selected → IsAt selected v.course.now) →
     Came v.owed v.waiting p b v → Knows p b w → Knows p b v
@@ -114,7 +114,7 @@ rest_now p b w None = λ e r. r
 rest_now p b w (Some x) = λ e r. absurd (cc)
 
 -- as a moment is added at which nothing of the action happens, what is owed stays so
-module _ (p : Player) (b : Meaning) (w v : World) (g : Grows w v) (st : Stays b w.course.now v.course.now) where
+module _ (p : Player) (b : Meaning) (w v : World) (g : KeepsCourse w v) (st : Stays b w.course.now v.course.now) where
   come_on : (m : Bool) (e : Said) → IsWellFormed e.before.boxes → HasCome m e p.told p.resumed b w → HasCome m e p.told p.resumed b v
   come_on true e well h = sent_grows b e w v g st.same h
   come_on false e well h = record {
@@ -133,7 +133,7 @@ module _ (p : Player) (b : Meaning) (w v : World) (g : Grows w v) (st : Stays b 
       evolves = f.evolves;
     }
 
-    answered_on : (c : Waiting) → IsAnswered c p b w → IsAnswered c p b v
+    answered_on : (c : Waiting) → ReplyIsOwed c p b w → ReplyIsOwed c p b v
     answered_on c a = record {
       said = a.said;
       rows = a.rows;
@@ -183,7 +183,7 @@ pub others_know : (p : Player) (b : Meaning) (w : World) (t : Server) → KeptBo
     KeepsWaiting w.waiting w.course.now.boxes t.boxes → Knows p b w → Knows p b (moved t w)
 others_know p b w t kept foreign spares stays settled k =
     let later : KeptBook b t w.waiting = others_keep b w.course.now t w.waiting kept foreign spares settled in
-    let step : Since w.course.now t = since_foreign w.course.now t kept.well foreign in
+    let step : LeadsTo w.course.now t = since_foreign w.course.now t kept.well foreign in
     let st : Stays b w.course.now t = stays_others b w.course.now t kept.well foreign spares in
     knows_from p b w (moved t w) (grows_moved t w) (course_moved t w.course k.course) step later.well later.open_intent
     (λ selected e. under_kept selected.name selected.validity w.course.now.boxes t.boxes
@@ -296,7 +296,7 @@ says_know p b w c kept o n k =
 -- behind a SELECT the rows of all messages are asked for
 module _ (p : Player) (b : Meaning) (w : World) (c : Waiting) (may : MayAskRows c p b w) (known : Knows p b w) where
   -- they weren't asked for yet
-  none_asked : (a : IsAnswered may.select p b w) → (rows : Option Said) → a.rows ≡ rows → a.rows ≡ None
+  none_asked : (a : ReplyIsOwed may.select p b w) → (rows : Option Said) → a.rows ≡ rows → a.rows ≡ None
   none_asked a None e = e
   none_asked a (Some x) e =
       let f : IsFetched a.said x w = a.fetched x e in
@@ -307,7 +307,7 @@ module _ (p : Player) (b : Meaning) (w : World) (c : Waiting) (may : MayAskRows 
       sym f.asks ∙ ap (λ (s : Said). s.command.command) same ∙ ap (λ (x : Waiting). x.command) may.answers ∙ may.selects.is in
       absurd (cc)
 
-  asked : IsAnswered may.select p b w → FetchesRows may.select c p b (asks_rows c w)
+  asked : ReplyIsOwed may.select p b w → FetchesRows may.select c p b (asks_rows c w)
   unfolding answered_on
   asked a = record {
     asks = may.asks;
@@ -324,7 +324,7 @@ module _ (p : Player) (b : Meaning) (w : World) (c : Waiting) (may : MayAskRows 
   came_asks (Some y) (Some z) = λ o e x. absurd (cc)
   came_asks (Some y) None = λ o e x.
       let is : y ≡ may.select = same_Some y may.select o in
-      let f : FetchesRows may.select c p b (asks_rows c w) = asked (subst (λ (z : Waiting). IsAnswered z p b w) is x.1) in
+      let f : FetchesRows may.select c p b (asks_rows c w) = asked (subst (λ (z : Waiting). ReplyIsOwed z p b w) is x.1) in
       (x.0, inr (subst (λ (z : Waiting). FetchesRows z c p b (asks_rows c w)) (sym is) f))
 
 pub asks_know : (p : Player) (b : Meaning) (w : World) (c : Waiting) → MayAskRows c p b w → Knows p b w → Knows p b (asks_rows c w)
@@ -344,7 +344,7 @@ asks_know p b w c may k = record {
 -- what is selected behind a SELECT has the UIDVALIDITY that was told
 module _ (name : List ℕ) (since : Option Mark) (c : Waiting) (r : Replies) (s t : Server) (after : Option (List ℕ))
     (is : c.command ≡ commands.Select name since)
-    (carries : CarriesOut c s r t after) (step : Since s t) where
+    (carries : CarriesOut c s r t after) (step : LeadsTo s t) where
   valid_codes : r.ending ≡ endings.Ok → (box : Mailbox) → box_at name s.boxes ≡ Some box → (selected : Selected) →
       selected_by name (told_codes r) ≡ Some selected → IsAt selected t
   valid_codes ok box there selected h =
@@ -372,7 +372,7 @@ module _ (p : Player) (b : Meaning) (w : World) (c : Waiting) (r : Replies) (t :
   abbrev entry : Said
   entry = record { command = c; before = w.course.now; behind = t; reply = r }
 
-  step : Since w.course.now t
+  step : LeadsTo w.course.now t
   step = since_carries c r w.course.now t after kept.well carries
 
   stays_quiet : is_mutating c.command ≡ false → Stays b w.course.now t
@@ -382,7 +382,7 @@ module _ (p : Player) (b : Meaning) (w : World) (c : Waiting) (r : Replies) (t :
       (λ (e : Accepted c.selected c.tag c.command w.course.now t). harmless c.selected c.tag c.command w.course.now t f e)
       (carried_effect c w.course.now r t after carries))
 
-  come_by : (m : Bool) → is_mutating c.command ≡ m → IsUnsent p.told p.resumed b w → HasCome m entry p.told p.resumed b (carried c r t w)
+  come_by : (m : Bool) → is_mutating c.command ≡ m → IsUnsent p.told p.resumed b w → HasCome m entry p.told p.resumed b (answered_world c r t w)
   come_by true e u =
       let of : IsOf b w.course.now c = kept.waits (record { command = c; waits = refl; mutating = e }) in
       record {
@@ -397,9 +397,9 @@ module _ (p : Player) (b : Meaning) (w : World) (c : Waiting) (r : Replies) (t :
       }
   come_by false e u =
       let st : Stays b w.course.now t = stays_quiet e in
-      record { unsent = unsent_grows p.told p.resumed b w (carried c r t w) (grows_carried c r t w) st u; stays = st }
+      record { unsent = unsent_grows p.told p.resumed b w (answered_world c r t w) (grows_carried c r t w) st u; stays = st }
 
-  answered : IsWaiting c c p b w → IsAnswered c p b (carried c r t w)
+  answered : IsWaiting c c p b w → ReplyIsOwed c p b (answered_world c r t w)
   answered x = record {
     said = entry;
     rows = None;
@@ -417,11 +417,11 @@ module _ (p : Player) (b : Meaning) (w : World) (c : Waiting) (r : Replies) (t :
   }
 
   -- the FETCH of all rows behind a SELECT
-  rows_answered : (o : Waiting) → FetchesRows o c p b w → IsAnswered o p b (carried c r t w)
+  rows_answered : (o : Waiting) → FetchesRows o c p b w → ReplyIsOwed o p b (answered_world c r t w)
   rows_answered o x =
       let same : selected_after c.command r w.selected ≡ w.selected = ap (λ (y : Command). selected_after y r w.selected) x.asks in
       let st : Stays b w.course.now t = stays_quiet (ap is_mutating x.asks) in
-      let from : Since x.answered.said.before w.course.now = known.since x.answered.said.before x.answered.among in
+      let from : LeadsTo x.answered.said.before w.course.now = known.since x.answered.said.before x.answered.among in
       record {
         said = x.answered.said;
         rows = Some entry;
@@ -430,7 +430,7 @@ module _ (p : Player) (b : Meaning) (w : World) (c : Waiting) (r : Replies) (t :
             ap (λ (l : List Said). entry ∷ l)
             (x.answered.last ∙ ap (λ (y : Option Said). with_rows y (x.answered.said ∷ x.answered.rest)) x.none);
         fetched = λ e h.
-            subst (λ (y : Said). IsFetched x.answered.said y (carried c r t w)) (same_Some entry e h) (record {
+            subst (λ (y : Said). IsFetched x.answered.said y (answered_world c r t w)) (same_Some entry e h) (record {
               asks = x.asks;
               selected = x.selected ∙ ap name_of (sym same);
               among = inr (inl refl);
@@ -445,10 +445,10 @@ module _ (p : Player) (b : Meaning) (w : World) (c : Waiting) (r : Replies) (t :
         selected = same ∙ x.answered.selected;
         at = x.answered.at;
         fresh = x.answered.fresh;
-        come = come_on p b w (carried c r t w) (grows_carried c r t w) st (is_mutating o.command) x.answered.said from.well x.answered.come;
+        come = come_on p b w (answered_world c r t w) (grows_carried c r t w) st (is_mutating o.command) x.answered.said from.well x.answered.come;
       }
 
-  came_carried : (owed waiting : Option Waiting) → waiting ≡ Some c → Came owed waiting p b w → Came owed None p b (carried c r t w)
+  came_carried : (owed waiting : Option Waiting) → waiting ≡ Some c → Came owed waiting p b w → Came owed None p b (answered_world c r t w)
   came_carried None None = λ e x. absurd (cc)
   came_carried None (Some y) = λ e x. absurd x
   came_carried (Some o) None = λ e x. absurd (cc)
@@ -456,7 +456,7 @@ module _ (p : Player) (b : Meaning) (w : World) (c : Waiting) (r : Replies) (t :
       let y_is : y ≡ c = same_Some y c e in
       ⊎_elim (λ (i : IsWaiting o y p b w).
       let o_is : c ≡ o = sym y_is ∙ i.is in
-      subst (λ (z : Waiting). IsNeeded (need_of p b) z p.selected b × IsAnswered z p b (carried c r t w)) o_is (
+      subst (λ (z : Waiting). IsNeeded (need_of p b) z p.selected b × ReplyIsOwed z p b (answered_world c r t w)) o_is (
         subst (λ (z : Waiting). IsNeeded (need_of p b) z p.selected b) (sym o_is) x.0,
         answered (record { is = refl; selected = i.selected; unsent = i.unsent }),
       ))
@@ -488,9 +488,9 @@ module _ (p : Player) (b : Meaning) (w : World) (c : Waiting) (r : Replies) (t :
 
 pub carried_knows : (p : Player) (b : Meaning) (w : World) (c : Waiting) (r : Replies) (t : Server) (after : Option (List ℕ)) →
     w.waiting ≡ Some c →
-    CarriesOut c w.course.now r t after → KeptBook b w.course.now (Some c) → KeptBook b t None → Knows p b w → Knows p b (carried c r t w)
+    CarriesOut c w.course.now r t after → KeptBook b w.course.now (Some c) → KeptBook b t None → Knows p b w → Knows p b (answered_world c r t w)
 carried_knows p b w c r t after waits carries kept later k =
-    knows_from p b w (carried c r t w) (grows_carried c r t w) (course_carried c r t w.course after carries k.course)
+    knows_from p b w (answered_world c r t w) (grows_carried c r t w) (course_carried c r t w.course after carries k.course)
     (since_carries c r w.course.now t after kept.well carries) later.well later.open_intent
     (λ selected h. valid_after p b w c r t after carries kept k c.command refl selected h)
     (came_carried p b w c r t after carries kept k w.owed w.waiting waits k.came) k

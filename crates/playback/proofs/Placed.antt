@@ -12,10 +12,10 @@ use Rattle.action_queue.specs.declared.intent.Intent.{Intent}
 use Rattle.action_queue.specs.declared.queued.Queued.{Queued}
 use Rattle.action_queue.specs.declared.target.Target.{Target}
 use Rattle.playback.proofs.Endings.{suited_is}
-use Rattle.playback.proofs.Queueing.{Suited}
+use Rattle.book_laws.proofs.Queueing.{Suited}
 use Rattle.playback.proofs.Ranks.{append_first_any, append_meant_any, box_any, boxed, flag_first_any, flag_meant_any, move_first_any, move_meant_any}
-use Rattle.playback.specs.Open.{intent_name, intent_validity}
-use Rattle.playback.specs.Sound.{HasIntent, IsSound}
+use Rattle.book_laws.specs.Open.{intent_name, intent_validity}
+use Rattle.book_laws.specs.Sound.{HasIntent, IsSound}
 use Rattle.playback.specs.Steps.{above_at, append_again, append_in_box, append_meant, elsewhere, is_selected_at}
 use Rattle.playback.specs.Steps.{step_action, step_append, step_due, step_flag_at, step_flag_found, step_learn, step_move_at, step_move_found}
 use Rattle.playback.specs.declared.finding.Finding.{Finding}

@@ -12,11 +12,11 @@ use Rattle.qresync_core.specs.Marking.{mark_of}
 use Rattle.qresync_core.specs.Resync.{TellsDelta}
 use Rattle.playback.specs.Allowed.{IsGathered}
 use Rattle.playback.specs.Course.{Said}
-use Rattle.playback.specs.Example.{box_name, flag, message_with, server_after}
+use Rattle.book_laws.specs.Example.{box_name, flag, message_with, server_after}
 use Rattle.playback.specs.Games.{IsGood, OthersAct}
 use Rattle.playback.specs.Games.Play.{rests, turns}
 use Rattle.playback.specs.Games.Turn.{asks, carries, chooses, others, records, resets, sends}
-use Rattle.playback.specs.Kept.{KeptBook}
+use Rattle.book_laws.specs.Kept.{KeptBook}
 use Rattle.playback.specs.Knows.{MayAskRows, MayReset, SelectsBox}
 use Rattle.playback.specs.PlaysThrough.{PlaysOver, again_row, again_told, ask_again, chooses_to, delta_again, delta_first, delta_last}
 use Rattle.playback.specs.PlaysThrough.{game_again, game_end, game_held, game_next, game_one, game_reset, renewed_box, renews}

@@ -13,7 +13,7 @@ use Rattle.imap_model.specs.declared.server.Mailbox.{Mailbox}
 use Rattle.imap_model.specs.declared.server.Message.{Message}
 use Rattle.imap_model.specs.declared.server.Server.{Server}
 use Rattle.mail_base.specs.declared.tag.Tag.TheVariants.{Again}
-use Rattle.playback.specs.Example.{asked, box_name, box_with, flag, message_with, sent_out}
+use Rattle.book_laws.specs.Example.{asked, box_name, box_with, flag, message_with, sent_out}
 use Rattle.playback.specs.Games.{Game, OthersAct, Play}
 use Rattle.playback.specs.Games.Play.{rests, turns}
 use Rattle.playback.specs.Games.Turn.{carries, hears, others, records, sends}

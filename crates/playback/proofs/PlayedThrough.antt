@@ -28,7 +28,7 @@ use Rattle.qresync_core.specs.Resync.{TellsDelta}
 use Rattle.playback.specs.Allowed.{IsGathered, IsReply}
 use Rattle.playback.specs.Choosing.{FitsWanted}
 use Rattle.playback.specs.Course.{Said}
-use Rattle.playback.specs.Example.{asked, book_two, box_name, box_with, flag, meant, message_with, sent_out, server_after, server_before}
+use Rattle.book_laws.specs.Example.{asked, book_two, box_name, box_with, flag, meant, message_with, sent_out, server_after, server_before}
 use Rattle.playback.specs.Games.{Game, IsGood, Play}
 use Rattle.playback.specs.Games.Play.{rests, turns}
 use Rattle.playback.specs.Games.Turn.{asks, carries, chooses, hears, records, sends}
@@ -39,9 +39,9 @@ use Rattle.playback.specs.PlaysThrough.{game_learned, game_meant, game_one, game
 use Rattle.playback.specs.PlaysThrough.{carries_to, chooses_to, select_first, select_last, sends_to}
 use Rattle.playback.specs.declared.need.Need.{Need}
 use Rattle.playback.specs.declared.player.Player.{Player}
-use Rattle.playback.proofs.Needing.{kept_two}
+use Rattle.book_laws.proofs.Needing.{kept_two}
 use Rattle.playback.proofs.Recording.{begins_beside, begins_know}
-use Rattle.playback.proofs.Showing.{stores_it}
+use Rattle.book_laws.proofs.Showing.{stores_it}
 use Rattle.imap_model.specs.declared.command.Command.TheVariants as commands
 use Rattle.imap_model.specs.declared.ending.Ending.TheVariants as endings
 use Rattle.action_queue.specs.declared.event.Event.TheVariants as events

@@ -9,10 +9,10 @@ use Rattle.imap_model.specs.Carrying.{Waiting}
 use Rattle.imap_model.specs.Mutating.{is_mutating}
 use Rattle.imap_model.specs.declared.command.Command.{Command}
 use Rattle.imap_model.specs.declared.server.Server.{Server}
-use Rattle.playback.proofs.Carrying.{carries_book}
-use Rattle.playback.proofs.Entering.{book_keeps}
-use Rattle.playback.proofs.Foreign.{others_keep}
-use Rattle.playback.proofs.Keeping.{asked_quiet, quiet_keeps, sent}
+use Rattle.book_laws.proofs.Carrying.{carries_book}
+use Rattle.book_laws.proofs.Entering.{book_keeps}
+use Rattle.book_laws.proofs.Foreign.{others_keep}
+use Rattle.book_laws.proofs.Keeping.{asked_quiet, quiet_keeps, sent}
 use Rattle.playback.proofs.Onward.{IsIdle, asks_know, carried_knows, idle, others_know, says_know}
 use Rattle.playback.proofs.Recording.{committed_beside, committed_knows}
 use Rattle.playback.proofs.Allowing.{allowed_need}
@@ -25,10 +25,10 @@ use Rattle.playback.proofs.Calls.{counts, covers, parts}
 use Rattle.playback.specs.Allowed.{IsAllowed, MaySend, Records}
 use Rattle.playback.specs.Games.{Game, IsGood, IsSafe, IsSafeNeed, Play, PlaysWell, Turn}
 use Rattle.playback.specs.Games.{asks, carries, chooses, hears, others, records, resets, rests, sends, turns}
-use Rattle.playback.specs.Kept.{KeptBook}
+use Rattle.book_laws.specs.Kept.{KeptBook}
 use Rattle.playback.specs.Knows.{IsNeeded, OfTag}
 use Rattle.playback.specs.Needs.{IsLawfulNeed, due_id, need_of}
-use Rattle.playback.specs.Of.{IsOf, tag_of}
+use Rattle.book_laws.specs.Of.{IsOf, tag_of}
 use Rattle.playback.specs.Worlds.{World, name_of}
 use Rattle.playback.specs.declared.finding.Selected.{Selected}
 use Rattle.playback.specs.declared.need.Need.{Need}

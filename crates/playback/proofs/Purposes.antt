@@ -14,15 +14,15 @@ use Rattle.append_probe.specs.declared.verdict.Verdict.{Verdict}
 use Rattle.imap_model.proofs.Finding.{names_same, same_name}
 use Rattle.imap_model.specs.Carrying.{Waiting}
 use Rattle.imap_model.specs.Mutating.{is_mutating}
-use Rattle.playback.proofs.Resolving.{of_flag, of_move}
+use Rattle.book_laws.proofs.Resolving.{of_flag, of_move}
 use Rattle.playback.proofs.RowFacts.{row_mark, was_map}
 use Rattle.playback.proofs.Elsewhere.{elsewhere_any}
 use Rattle.playback.specs.Steps.{above_at, elsewhere}
 use Rattle.playback.specs.Knows.{IsNeeded, IsTold, Knows, RowTold, SelectsBox, WasSeen}
 use Rattle.playback.proofs.Trying.{end_any}
 use Rattle.playback.specs.Needs.{again, due_id, need_for, need_ids, need_learn, need_of, need_search, need_send, search_of, send_meant, send_of}
-use Rattle.playback.specs.Resolved.{Resolves}
-use Rattle.playback.specs.Sound.{HasIntent, IsSound}
+use Rattle.book_laws.specs.Resolved.{Resolves}
+use Rattle.book_laws.specs.Sound.{HasIntent, IsSound}
 use Rattle.playback.specs.Steps.{append_again, append_first, append_in_box, append_judged, append_meant, append_open, conflict}
 use Rattle.playback.specs.Steps.{flag_again, flag_first, flag_judged, flag_meant, flag_new, flag_open, in_box, is_selected}
 use Rattle.playback.specs.Steps.{is_selected_at, move_again, move_first, move_meant, move_open, select_any, select_box}

@@ -1,27 +1,24 @@
 -- What is so of a cache that is taken away, whatever the server did: it may come next, and the player needs what it needed.
-use Rattle.action_queue.specs.Book.{Meaning, after, cache_at, cache_of, known_at, put_cache}
+use Rattle.action_queue.specs.Book.{Meaning, cache_at, cache_of, known_at, put_cache}
 use Rattle.action_queue.specs.Queues.{due_action, tries_due}
 use Rattle.action_queue.specs.Rules.{is_unknown, is_wrong_reset}
-use Rattle.action_queue.specs.declared.action.Action.{Action}
 use Rattle.action_queue.specs.declared.book.Known.{Known}
-use Rattle.action_queue.specs.declared.queued.Queued.{Queued}
 use Rattle.mailbox_cache.specs.declared.cache.Cache.{Cache}
 use Rattle.playback.proofs.Ranks.{due_search_any, due_sent_any, ids_any}
 use Rattle.playback.proofs.Recording.{next_none, put_length}
-use Rattle.playback.proofs.Resetting.{ends_boxes, known_then, none_learned, right_one, step_same, two}
+use Rattle.playback.proofs.Resetting.{ends_boxes, known_then, right_one, step_same, two}
 use Rattle.playback.specs.Choosing.{IsEntered, reset_in, reset_of, wanted, wanted_by}
 use Rattle.playback.specs.Left.{left, rank, rank_of, unsettled}
 use Rattle.playback.proofs.Trying.{end_any}
 use Rattle.playback.specs.Needs.{IsBeside, again, IsNextBox, IsReadyEvent, MayRecord, due_id, need_for, need_learn, need_of}
-use Rattle.playback.specs.Steps.{step_action, step_learn, step_of}
+use Rattle.playback.specs.Steps.{step_learn, step_of}
 use Rattle.playback.specs.declared.finding.Resynced.{Resynced}
 use Rattle.playback.specs.declared.need.Need.{Need}
 use Rattle.playback.specs.declared.player.Player.{Player}
 use Rattle.playback.specs.declared.step.Step.{Step}
 use Rattle.std.proofs.Common.{Bool, List, None, Option, Some, [], ap, cond, false, length, refl, subst, sym, true, ℕ, ◌*◌, ◌+◌, ◌-◌, ◌<◌, ◌∙◌, ◌∷◌, ◌≡◌, ◌≤◌}
-use Rattle.std.proofs.lemmas.Bool.{cond-true, cond_both, lt-ltb}
+use Rattle.std.proofs.lemmas.Bool.{cond-true, lt-ltb}
 use Rattle.std.specs.Prelude.{bytes_eq, nat_lt}
-use Rattle.action_queue.specs.declared.action.Action.TheVariants as actions
 use Rattle.action_queue.specs.declared.event.Event.TheVariants as events
 use Rattle.playback.specs.declared.need.Need.TheVariants as needs
 use Rattle.action_queue.specs.declared.rule.Version.TheVariants as versions

@@ -19,21 +19,21 @@ use Rattle.imap_model.specs.declared.command.Command.{Command}
 use Rattle.imap_model.specs.declared.ending.Ending.{Ending}
 use Rattle.imap_model.specs.declared.server.Server.{Server}
 use Rattle.mailbox_cache.specs.declared.cache.Cache.{Cache}
-use Rattle.playback.proofs.Entering.{book_keeps, still_cached}
+use Rattle.book_laws.proofs.Entering.{book_keeps, still_cached}
 use Rattle.playback.proofs.Gathering.{IsAsked, IsSameSaid, came_asked, chooses, no_all, same_said, select_no_all}
 use Rattle.playback.proofs.Purposes.{ChoosesBox, purpose_of}
 use Rattle.playback.proofs.Recording.{append_boxes, next_none, put_length, was_boxes, why_boxes}
 use Rattle.playback.specs.Allowed.{WhyCommit}
 use Rattle.playback.specs.Choosing.{reset_of}
-use Rattle.playback.specs.Course.{Course, IsOneOf, Said}
-use Rattle.playback.specs.Fresh.{IsRenewed}
+use Rattle.playback.specs.Course.{Course, IsAmong, Said}
+use Rattle.book_laws.specs.Fresh.{IsRenewed}
 use Rattle.playback.specs.Games.{IsReset}
-use Rattle.playback.specs.InBox.{InBox}
-use Rattle.playback.specs.Kept.{KeptBook}
-use Rattle.playback.specs.Knows.{Came, Covered, HasCome, Holds, HoldsVerdict, IsAnswered, IsNeeded, IsProbed, IsQuiet, IsTold, Knows}
+use Rattle.book_laws.specs.InBox.{InBox}
+use Rattle.book_laws.specs.Kept.{KeptBook}
+use Rattle.playback.specs.Knows.{Came, Covered, HasCome, Holds, HoldsVerdict, IsNeeded, IsProbed, IsQuiet, IsTold, Knows, ReplyIsOwed}
 use Rattle.playback.specs.Knows.{Learning, MayReset, OfPut, RowTold}
 use Rattle.playback.specs.Needs.{IsBeside, IsNextBox, IsReadyEvent, MayEnd, MayRecord, again, due_id, end_of, need_for, need_of}
-use Rattle.playback.specs.Open.{PutFacts}
+use Rattle.book_laws.specs.Open.{PutFacts}
 use Rattle.playback.specs.Steps.{step_action, step_box, step_due, step_learn}
 use Rattle.playback.specs.Why.{NoRow, TellsNext, WasSelected}
 use Rattle.playback.specs.Worlds.{IsUnder, World, selected_after, selected_by, selected_on}
@@ -293,7 +293,7 @@ module _ (p : Player) (b : Meaning) (w : World) (name : List ℕ) (kept told : �
   asked : IsAsked may.select p b w
   asked = came_asked may.select p b w w.owed w.waiting may.owed may.none_waits known.came
 
-  a : IsAnswered may.select p b w
+  a : ReplyIsOwed may.select p b w
   a = asked.answered
 
   box : ChoosesBox p b may.select
@@ -328,7 +328,7 @@ module _ (p : Player) (b : Meaning) (w : World) (name : List ℕ) (kept told : �
     may.above,
     (
       may.said,
-      subst (λ (l : List Said). IsOneOf may.said l) (sym may.last) (inl refl),
+      subst (λ (l : List Said). IsAmong may.said l) (sym may.last) (inl refl),
       ((may.selects.since, ap (λ (x : Waiting). x.command) may.answers ∙ may.selects.is), (may.codes, may.tells, may.validity)),
     ),
   )
@@ -366,7 +366,7 @@ module _ (p : Player) (b : Meaning) (w : World) (name : List ℕ) (kept told : �
         stays = record { evolves = q.stays.evolves; spares = q.stays.spares; same = q.stays.same };
       }
 
-  answered : IsAnswered may.select p later w
+  answered : ReplyIsOwed may.select p later w
   answered = record {
     said = asked.answered.said;
     rows = asked.answered.rows;

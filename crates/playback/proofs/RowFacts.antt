@@ -24,16 +24,16 @@ use Rattle.action_queue.specs.declared.found.Found.{Found}
 use Rattle.action_queue.specs.declared.found.Found.TheVariants as found
 use Rattle.action_queue.specs.declared.queued.Queued.{Queued}
 use Rattle.playback.specs.Course.{AtMoment, Course}
-use Rattle.playback.specs.InBox.{InBox, InBoxNow}
+use Rattle.book_laws.specs.InBox.{InBox, InBoxNow}
 use Rattle.playback.specs.Knows.{RowTold}
-use Rattle.playback.specs.Open.{ShiftFacts, StoreFacts}
-use Rattle.playback.specs.Past.{OneBox}
+use Rattle.book_laws.specs.Open.{ShiftFacts, StoreFacts}
+use Rattle.book_laws.specs.Past.{OneBox}
 use Rattle.playback.specs.Steps.{is_selected_at}
 use Rattle.playback.specs.Why.{IsAbout, NoRow, RowAt, RowIs, RowPassed, RowSo, RowWas, SomeRow}
-use Rattle.playback.specs.Worlds.{IsAt, IsUnder, Since}
+use Rattle.playback.specs.Worlds.{IsAt, IsUnder, LeadsTo}
 use Rattle.playback.specs.declared.finding.Selected.{Selected}
 use Rattle.playback.specs.declared.finding.Spot.{Spot}
-use Rattle.playback.proofs.Deducing.{one_goes, shift_again, shift_intends, store_again, store_intends}
+use Rattle.book_laws.proofs.Deducing.{one_goes, shift_again, shift_intends, store_again, store_intends}
 
 pub record IsMessage (modseq uid : ℕ) (box : Mailbox) : Type 0 where
   pub message : Message
@@ -171,7 +171,7 @@ one_box P spot s now row under =
     record { was = row.box; there = row.there; was_validity = row.same; box = under.box; here = under.there; validity_is = under.same }
 
 -- a row at an earlier moment makes the facts of an intent now
-pub row_intends : (n : ℕ) (spot : Spot) (modseq : ℕ) (action : Action) (s now : Server) → Since s now →
+pub row_intends : (n : ℕ) (spot : Spot) (modseq : ℕ) (action : Action) (s now : Server) → LeadsTo s now →
     ours n now.history ≡ ours n s.history →
     RowThere spot (RowAt modseq action) s → IsUnder spot.name spot.validity now →
     InBoxNow (StoreFacts spot.uid modseq []) spot.name spot.validity now.boxes
@@ -198,7 +198,7 @@ row_again spot modseq action mine s o row =
     (λ (x : Mailbox). StoreFacts spot.uid modseq mine x) is (o.facts (ap (λ (x : Mailbox). x.validity) is ∙ row.same))) m.there m.mark
 
 -- the same of a move
-pub row_shifts : (n : ℕ) (spot : Spot) (modseq : ℕ) (action : Action) (s now : Server) → Since s now →
+pub row_shifts : (n : ℕ) (spot : Spot) (modseq : ℕ) (action : Action) (s now : Server) → LeadsTo s now →
     ours n now.history ≡ ours n s.history →
     RowThere spot (RowAt modseq action) s → IsUnder spot.name spot.validity now →
     InBoxNow (ShiftFacts spot.uid []) spot.name spot.validity now.boxes

@@ -10,7 +10,7 @@ use Rattle.imap_model.specs.declared.replies.Replies.{Replies}
 use Rattle.playback.specs.Replying.{HearsDue, HearsFound, HearsIds, HearsIdsOf, HearsStep, IsHeard, IsHeardFault, is_barred, lacked_by}
 use Rattle.playback.specs.Replying.{lacked_in, lacks, last_fetch, read_meant, read_of, read_row}
 use Rattle.mail_header.specs.Identifier.{HasMessageId}
-use Rattle.playback.specs.Sound.{IsSound}
+use Rattle.book_laws.specs.Sound.{IsSound}
 use Rattle.playback.specs.Steps.{step_of}
 use Rattle.playback.specs.Taken.{Keeps, TakesDue, TakesIds, TakesStep, TakesVerdict, taken, with_kept}
 use Rattle.playback.specs.declared.finding.Finding.{Finding}

@@ -25,25 +25,25 @@ use Rattle.imap_model.specs.declared.mark.Mark.{Mark}
 use Rattle.imap_model.specs.declared.replies.Replies.{Replies}
 use Rattle.imap_model.specs.declared.server.Mailbox.{Mailbox}
 use Rattle.mailbox_cache.specs.declared.row.Row.{Row}
-use Rattle.playback.proofs.Deducing.{put_again, put_found}
+use Rattle.book_laws.proofs.Deducing.{put_again, put_found}
 use Rattle.playback.proofs.Fetches.{row_finding, row_read}
 use Rattle.playback.proofs.Moments.{grows_given, sent_grows, since_same}
 use Rattle.playback.proofs.Onward.{knows_again, rest_now}
-use Rattle.playback.proofs.PlainDeeds.{asked_decides}
+use Rattle.book_laws.proofs.PlainDeeds.{asked_decides}
 use Rattle.playback.proofs.Purposes.{AsksIds, AsksRow, OfPending, Purpose, Searches, SendsIt, a_box, a_row, a_search, an_effect}
 use Rattle.playback.proofs.Purposes.{learns_none, purpose_of, the_ids}
 use Rattle.playback.proofs.Readings.{IfRead, append_ends, if_read, move_ends, same_finding, store_ends}
-use Rattle.playback.proofs.Facts.{now_in}
+use Rattle.book_laws.proofs.Facts.{now_in}
 use Rattle.playback.proofs.RowFacts.{IsThat, selected_that, under_that}
-use Rattle.playback.specs.Allowed.{IsFair, IsReply, LacksFlags}
-use Rattle.playback.specs.Course.{AtMoment, IsOneOf, Said}
-use Rattle.playback.specs.InBox.{InBox, InBoxNow}
-use Rattle.playback.specs.Kept.{KeptBook}
-use Rattle.playback.specs.Knows.{Came, Covered, HasCome, Holds, IsAnswered, IsFetched, IsNeeded, IsQuiet, IsSent, IsTold, IsUnsent}
+use Rattle.playback.specs.Allowed.{IsReply, LacksFlags, PermitsTruly}
+use Rattle.playback.specs.Course.{AtMoment, IsAmong, Said}
+use Rattle.book_laws.specs.InBox.{InBox, InBoxNow}
+use Rattle.book_laws.specs.Kept.{KeptBook}
+use Rattle.playback.specs.Knows.{Came, Covered, HasCome, Holds, IsFetched, IsNeeded, IsQuiet, IsSent, IsTold, IsUnsent, ReplyIsOwed}
 use Rattle.playback.specs.Knows.{Knows, Learning, OfPut, Rests, RowTold, with_rows}
 use Rattle.playback.specs.Needs.{due_id, need_of, send_of}
-use Rattle.playback.specs.Once.{Fits}
-use Rattle.playback.specs.Open.{IsOpen, PutFacts}
+use Rattle.book_laws.specs.Once.{Fits}
+use Rattle.book_laws.specs.Open.{IsOpen, PutFacts}
 use Rattle.playback.specs.Replying.{Hears, HearsDue, HearsFound, HearsIds, HearsIdsOf, HearsStep, IsHeard, found_uids}
 use Rattle.playback.specs.Replying.{is_barred, is_so, last_copied, last_fetch, read_meant, read_row, read_sent}
 use Rattle.playback.specs.Steps.{is_selected_at, step_of}
@@ -74,9 +74,9 @@ use Rattle.append_probe.specs.declared.verdict.Verdict.TheVariants as verdicts
 -- the answer to the command that is owed
 pub record IsOwed (r : Replies) (c : Waiting) (p : Player) (b : Meaning) (w : World) : Type 0 where
   pub needed : IsNeeded (need_of p b) c p.selected b
-  pub answered : IsAnswered c p b w
+  pub answered : ReplyIsOwed c p b w
   pub is : answered.said.reply ≡ r
-  pub was_said : IsOneOf answered.said w.course.said
+  pub was_said : IsAmong answered.said w.course.said
 
 -- a command that is needed doesn't ask for all rows
 never_all : (p : Player) (b : Meaning) (w : World) (c : Waiting) → Purpose p b w c → c.command ≢ commands.FetchAll
@@ -96,8 +96,8 @@ last_said w c (Some rows) said other rest others n f a = λ e.
     let all : other.command.command ≡ commands.FetchAll = sym (ap (λ (x : Said). x.command.command) is) ∙ (f rows refl).asks in
     absurd (n (sym (ap (λ (x : Waiting). x.command) a) ∙ all))
 
-one_of_all : (x y : Said) (rest : List Said) (l : List Said) → l ≡ y ∷ rest → x ≡ y → IsOneOf x l
-one_of_all x y rest l e is = subst (λ (k : List Said). IsOneOf x k) (sym e) (inl is)
+one_of_all : (x y : Said) (rest : List Said) (l : List Said) → l ≡ y ∷ rest → x ≡ y → IsAmong x l
+one_of_all x y rest l e is = subst (λ (k : List Said). IsAmong x k) (sym e) (inl is)
 
 came_owed : (r : Replies) (p : Player) (b : Meaning) (w : World) (i : IsReply r w) → KeptBook b w.course.now w.waiting → Knows p b w →
     (owed waiting : Option Waiting) → owed ≡ Some i.command → waiting ≡ None → Came owed waiting p b w → IsOwed r i.command p b w
@@ -260,7 +260,7 @@ module _ (p : Player) (b : Meaning) (w : World) (kept : KeptBook b w.course.now 
         (subst (λ (o : Option Queued). HearsDue p b o permits r finding) e hears)
 
     -- a row
-    module _ (x : AsksRow p b c) (fair : IsFair permits b w) (ok : r.ending ≡ endings.Ok) where
+    module _ (x : AsksRow p b c) (fair : PermitsTruly permits b w) (ok : r.ending ≡ endings.Ok) where
       abbrev q : Queued
       q = x.message.queued
 
@@ -523,7 +523,7 @@ module _ (p : Player) (b : Meaning) (w : World) (kept : KeptBook b w.course.now 
         sent_knows so.0 so.1
 
   module _ (covers : SearchCovers) (counts : VerdictCounts) (permits : Bool) (finding : Finding) (hears : Hears p b permits r finding)
-      (fair : IsFair permits b w)
+      (fair : PermitsTruly permits b w)
       (accepted : is_mutating c.command ≡ false → r.ending ≡ endings.Ok)
       (other : (name : List ℕ) (since : Option Mark) → c.command ≢ commands.Select name since) where
     by_search : Searches p b c → Knows (heard_player finding) b (given w)
@@ -550,7 +550,7 @@ module _ (p : Player) (b : Meaning) (w : World) (kept : KeptBook b w.course.now 
     by_purpose (the_ids x) = by_ids x
 
 pub heard_knows : SearchCovers → VerdictCounts → (p r : Player) (b : Meaning) (w : World) (permits : Bool) (replies : Replies) →
-    KeptBook b w.course.now w.waiting → IsReply replies w → IsFair permits b w → IsHeard p b permits replies r → Knows p b w →
+    KeptBook b w.course.now w.waiting → IsReply replies w → PermitsTruly permits b w → IsHeard p b permits replies r → Knows p b w →
     Knows r b (given w)
 heard_knows covers counts p r b w permits replies kept i fair heard known =
     let owed : IsOwed replies i.command p b w = owed_of replies p b w i kept known in

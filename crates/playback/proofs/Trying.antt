@@ -2,8 +2,7 @@
 use Rattle.action_queue.proofs.Queueing.{due_tried}
 use Rattle.action_queue.specs.Book.{Meaning}
 use Rattle.action_queue.specs.Queues.{change_first, due_action, tried, tries_due, tries_of}
-use Rattle.action_queue.specs.Rules.{is_early_in, is_no_turn, is_wrong_turn}
-use Rattle.action_queue.specs.declared.intent.Intent.{Intent}
+use Rattle.action_queue.specs.Rules.{is_early_in}
 use Rattle.action_queue.specs.declared.outcome.Kind.{Kind}
 use Rattle.action_queue.specs.declared.outcome.Outcome.{Outcome}
 use Rattle.action_queue.specs.declared.queued.Queued.{Queued}
@@ -11,10 +10,9 @@ use Rattle.playback.specs.Needs.{IsLawfulNeed, IsReadyEvent, again, again_as, du
 use Rattle.playback.specs.declared.need.Need.{Need}
 use Rattle.playback.specs.declared.need.Need.TheVariants as needs
 use Rattle.playback.specs.declared.player.Player.{Player}
-use Rattle.std.proofs.Common.{Bool, List, None, Option, Some, ap, arith, false, not, refl, subst, suc, sym, true, zero, ℕ, ◌+◌, ◌<◌, ◌≡◌, ◌≤◌, ◌||◌}
-use Rattle.std.proofs.lemmas.Bool.{cond_both, eq-eqb, eqb-true, ltb-false, ltb-true}
+use Rattle.std.proofs.Common.{List, None, Option, Some, ap, arith, false, not, refl, subst, suc, sym, zero, ℕ, ◌+◌, ◌<◌, ◌≡◌, ◌≤◌, ◌||◌}
+use Rattle.std.proofs.lemmas.Bool.{cond_both, eq-eqb, ltb-false, ltb-true}
 use Rattle.std.proofs.lemmas.Option.{none-some, same_Some}
-use Rattle.std.specs.Option.{is_none}
 use Rattle.std.specs.Prelude.{nat_lt, ◌==◌}
 use Rattle.action_queue.specs.declared.event.Event.TheVariants as events
 use Rattle.action_queue.specs.declared.outcome.Kind.TheVariants as kinds
@@ -62,22 +60,6 @@ not_early tries (outcomes.Conflict kind) few e = kind_last tries kind few e
 -- behind it so many tries were taken back of the action, which is due still
 pub tries_tried : (tries : ℕ) (queue : List Queued) (q : Queued) → due_action queue ≡ Some q → tries_due (change_first (tried tries) queue) ≡ tries
 tries_tried tries queue q e = ap tries_of (due_tried tries queue q e)
-
--- only two are taken back
-one_or_two : (tries : ℕ) (one two : Bool) → (tries == 1) ≡ one → (tries == 2) ≡ two → not (one || two) ≡ false → tries ≤ 2
-one_or_two tries true two e f h = let is : tries ≡ 1 = eqb-true tries 1 e in omega (arith, is)
-one_or_two tries false true e f h = let is : tries ≡ 2 = eqb-true tries 2 f in omega (arith, is)
-one_or_two tries false false e f h = absurd (cc)
-
-either_false : (x y : Bool) → (x || y) ≡ false → x ≡ false
-either_false true y e = absurd (cc)
-either_false false y e = refl
-
-pub turn_most : (o : Option Queued) (pending : Option Intent) (tries : ℕ) → is_none o ≡ false → is_wrong_turn o pending tries ≡ false → tries ≤ 2
-turn_most None pending tries there right = absurd (cc)
-turn_most (Some q) pending tries there right =
-    one_or_two tries (tries == 1) (tries == 2) refl refl
-    (either_false (not (tries == 1 || tries == 2)) (is_no_turn pending q.tries tries) right)
 
 -- the next number is one of them
 pub first_or_second : (tries : ℕ) → tries < 2 → not ((tries + 1 == 1) || (tries + 1 == 2)) ≡ false

@@ -13,14 +13,14 @@ use Rattle.action_queue.specs.declared.outcome.Place.{Place}
 use Rattle.action_queue.specs.declared.queued.Queued.{Queued}
 use Rattle.action_queue.specs.declared.target.Target.{Target}
 use Rattle.playback.proofs.Endings.{suited_is}
-use Rattle.playback.proofs.Lawful.{withdraw_flag}
-use Rattle.playback.proofs.Queueing.{Suited, grows_try, resolved_stays}
+use Rattle.book_laws.proofs.Lawful.{withdraw_flag}
+use Rattle.book_laws.proofs.Queueing.{Suited, grows_try, resolved_stays}
 use Rattle.playback.proofs.Ranks.{append_first_by, append_meant_by, below_boxed, box_any, boxed, flag_first_by, flag_meant_by, move_first_by, move_meant_by}
-use Rattle.playback.proofs.Recording.{due_there}
+use Rattle.playback.proofs.Recorded.{due_there}
 use Rattle.playback.proofs.Trying.{IsAgain, again_is}
 use Rattle.playback.specs.Left.{rank}
 use Rattle.playback.specs.Needs.{IsBeside, IsPlaced, IsReadyEvent, MayEnd, again, again_as, due_id, end_of}
-use Rattle.playback.specs.Sound.{IsSound}
+use Rattle.book_laws.specs.Sound.{IsSound}
 use Rattle.playback.specs.Steps.{conflict, flag_first, move_first, is_selected, is_selected_at, renewed_as, step_action, step_append, step_due, step_flag_at, step_flag_found, step_learn}
 use Rattle.playback.specs.Steps.{step_move_at, step_move_found, step_of}
 use Rattle.playback.specs.declared.finding.Finding.{Finding}

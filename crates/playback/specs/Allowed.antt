@@ -16,8 +16,8 @@ use Rattle.mailbox_cache.specs.declared.delta.Delta.{Delta}
 use Rattle.playback.specs.Course.{Course, Said}
 use Rattle.playback.specs.Knows.{OfTag, SelectsBox, with_rows}
 use Rattle.playback.specs.Needs.{need_of}
-use Rattle.playback.specs.Of.{IsOf, MutatingWaits}
-use Rattle.playback.specs.Permitted.{Permits}
+use Rattle.book_laws.specs.Of.{IsOf, MutatingWaits}
+use Rattle.book_laws.specs.Permitted.{Permits}
 use Rattle.playback.specs.Why.{OfDue, TellsLack, TellsValidity, WasPassed, WasSelected, WhyIntent, WhyOutcome}
 use Rattle.playback.specs.Worlds.{World, name_of}
 use Rattle.playback.specs.declared.need.Need.{Need}
@@ -87,8 +87,8 @@ LacksFlags w (actions.Move target to) = Unit {0}
 LacksFlags w (actions.Append to flags text id) = Unit {0}
 
 -- where the flags of the action that is due are said not to be kept, a SELECT told so
-abbrev pub IsFair : Bool → Meaning → World → Type 0
-IsFair permits b w = permits ≡ false → (q : Queued) → due_action b.queue ≡ Some q → LacksFlags w q.action
+abbrev pub PermitsTruly : Bool → Meaning → World → Type 0
+PermitsTruly permits b w = permits ≡ false → (q : Queued) → due_action b.queue ≡ Some q → LacksFlags w q.action
 
 -- the reply to what was said, where something was
 abbrev pub reply_of : Option Said → Option Replies

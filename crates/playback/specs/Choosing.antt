@@ -41,12 +41,12 @@ of_resync (resyncs.Unfit mark highest) = unheards.Resync (resyncs.Unfit mark hig
 of_resync (resyncs.BareRow index) = unheards.Resync (resyncs.BareRow index)
 
 -- the mailbox that is to be selected, with the UIDVALIDITY that it is to have where that is known
-pub record Wanted : Type 0 where
+pub record WantedBox : Type 0 where
   pub name : List ℕ
   pub under : Option ℕ
 
 -- the mailbox that the step selects
-abbrev pub wanted_by : Step → Option Wanted
+abbrev pub wanted_by : Step → Option WantedBox
 wanted_by steps.Learn = None
 wanted_by (steps.Select name under) = Some (record { name = name; under = under })
 wanted_by (steps.AskRow uid) = None
@@ -58,7 +58,7 @@ wanted_by steps.Send = None
 wanted_by steps.Finished = None
 
 -- the mailbox that is to be selected next
-abbrev pub wanted : Player → Meaning → Option Wanted
+abbrev pub wanted : Player → Meaning → Option WantedBox
 wanted p b = wanted_by (step_of p b)
 
 -- where a SELECT told this UIDVALIDITY above that of the cache, the cache is to be taken away
@@ -67,7 +67,7 @@ reset_of name None told = None
 reset_of name (Some cache) told = if nat_lt cache.validity told then Some (events.Reset name cache.validity told) else None
 
 -- the same of the mailbox that is to be selected
-abbrev pub reset_in : Meaning → ℕ → Option Wanted → Option Event
+abbrev pub reset_in : Meaning → ℕ → Option WantedBox → Option Event
 reset_in b told None = None
 reset_in b told (Some box) = reset_of box.name (cache_at box.name b.boxes) told
 
@@ -91,7 +91,7 @@ chosen_box p b delta name = record p {
 }
 
 -- and where no mailbox is to be selected, all stays
-abbrev pub chosen_in : Player → Meaning → Delta → Option Wanted → Player
+abbrev pub chosen_in : Player → Meaning → Delta → Option WantedBox → Player
 chosen_in p b delta None = p
 chosen_in p b delta (Some box) = chosen_box p b delta box.name
 
@@ -123,7 +123,7 @@ target_fault None later = later
 target_fault (Some pair) later = Some (unheards.Target pair.0 pair.1)
 
 -- why the delta of this mailbox isn't taken
-abbrev pub box_fault : Meaning → Delta → Option Wanted → Option Unheard
+abbrev pub box_fault : Meaning → Delta → Option WantedBox → Option Unheard
 box_fault b delta None = None
 box_fault b delta (Some box) = target_fault (is_below box.under delta.validity) (rows_fault (is_many (rows_with box.name b delta)))
 

@@ -21,21 +21,21 @@ pub record Course : Type 0 where
   pub said : List Said
 
 -- it is one of these
-abbrev pub IsOneOf : {A : Type 0} → A → List A → Type 0
-IsOneOf x [] = ⊥
-IsOneOf x (y ∷ ys) = (x ≡ y) ⊎ IsOneOf x ys
+abbrev pub IsAmong : {A : Type 0} → A → List A → Type 0
+IsAmong x [] = ⊥
+IsAmong x (y ∷ ys) = (x ≡ y) ⊎ IsAmong x ys
 
 -- The course tells the truth: the connection's first server is one of the run's moments; each command stands between two of them, and
 -- its reply is one by which a server carries it out, or refuses it. A refusal in place of a request to go on is one of the latter.
 pub record IsCourse (c : Course) : Type 0 where
-  pub first : IsOneOf c.first (c.now ∷ c.past)
-  pub said : (e : Said) → IsOneOf e c.said → IsOneOf e.before (c.now ∷ c.past) × IsOneOf e.behind (c.now ∷ c.past)
+  pub first : IsAmong c.first (c.now ∷ c.past)
+  pub said : (e : Said) → IsAmong e c.said → IsAmong e.before (c.now ∷ c.past) × IsAmong e.behind (c.now ∷ c.past)
       × ((after : Option (List ℕ)) × CarriesOut e.command e.before e.reply e.behind after)
 
 -- at a moment of the run this was so of the server
 abbrev pub AtMoment : (Server → Type 0) → Course → Type 0
-AtMoment P c = (s : Server) × IsOneOf s (c.now ∷ c.past) × P s
+AtMoment P c = (s : Server) × IsAmong s (c.now ∷ c.past) × P s
 
 -- a command with its reply of which this is so
 abbrev pub WasSaid : (Said → Type 0) → Course → Type 0
-WasSaid P c = (e : Said) × IsOneOf e c.said × P e
+WasSaid P c = (e : Said) × IsAmong e c.said × P e

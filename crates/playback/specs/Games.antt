@@ -7,15 +7,15 @@ use Rattle.imap_model.specs.Changes.{Batch}
 use Rattle.imap_model.specs.declared.replies.Replies.{Replies}
 use Rattle.imap_model.specs.declared.server.Server.{Server}
 use Rattle.mailbox_cache.specs.declared.delta.Delta.{Delta}
-use Rattle.playback.specs.Allowed.{IsAllowed, IsFair, IsGathered, IsReply, Records, WhyCommit}
+use Rattle.playback.specs.Allowed.{IsAllowed, IsGathered, IsReply, PermitsTruly, Records, WhyCommit}
 use Rattle.playback.specs.Choosing.{FitsWanted, IsChosen, committed}
-use Rattle.playback.specs.Kept.{KeptBook}
+use Rattle.book_laws.specs.Kept.{KeptBook}
 use Rattle.playback.specs.Knows.{IsNeeded, Knows, MayAskRows, MayReset}
 use Rattle.playback.specs.Needs.{IsBeside, IsLawfulNeed, IsReadyEvent, need_of}
-use Rattle.playback.specs.Permitted.{Permits}
-use Rattle.playback.specs.Polite.{KeepsBox, KeepsWaiting, Spares}
+use Rattle.book_laws.specs.Permitted.{Permits}
+use Rattle.book_laws.specs.Polite.{KeepsBox, KeepsWaiting, Spares}
 use Rattle.playback.specs.Replying.{IsHeard}
-use Rattle.playback.specs.Worlds.{World, asks_rows, carried, given, moved, name_of, says}
+use Rattle.playback.specs.Worlds.{World, answered_world, asks_rows, given, moved, name_of, says}
 use Rattle.playback.specs.declared.player.Player.{Player}
 use Rattle.std.specs.Prelude.{Bool, List, None, Ok, Option, Some, ℕ, ◌≡◌}
 use Rattle.action_queue.specs.declared.event.Event.TheVariants as events
@@ -42,8 +42,8 @@ pub data Turn (x : Game) : Game → Type 0 where
       → Turn x (record x { world = says c x.world })
   asks : (c : Waiting) → MayAskRows c x.player x.book x.world → Turn x (record x { world = asks_rows c x.world })
   carries : (c : Waiting) (r : Replies) (t : Server) (after : Option (List ℕ)) → x.world.waiting ≡ Some c → CarriesOut c x.world.course.now r t after
-      → Turn x (record x { world = carried c r t x.world })
-  hears : (r : Replies) (permits : Bool) (p : Player) → IsReply r x.world → IsFair permits x.book x.world → IsHeard x.player x.book permits r p
+      → Turn x (record x { world = answered_world c r t x.world })
+  hears : (r : Replies) (permits : Bool) (p : Player) → IsReply r x.world → PermitsTruly permits x.book x.world → IsHeard x.player x.book permits r p
       → Turn x (record { player = p; book = x.book; world = given x.world })
   chooses : (delta : Delta) (p : Player) → FitsWanted x.player x.book (Ok delta) → IsGathered delta x.book x.world
       → IsChosen x.player x.book (Ok delta) p → Turn x (record { player = p; book = x.book; world = given x.world })
@@ -89,7 +89,7 @@ pub record KnownOnward : Type 0 where
   pub asks : (p : Player) (b : Meaning) (w : World) (c : Waiting) → MayAskRows c p b w → Knows p b w → Knows p b (asks_rows c w)
   pub carries : (p : Player) (b : Meaning) (w : World) (c : Waiting) (r : Replies) (t : Server) (after : Option (List ℕ))
       → w.waiting ≡ Some c → CarriesOut c w.course.now r t after → KeptBook b w.course.now (Some c) → KeptBook b t None → Knows p b w
-      → Knows p b (carried c r t w)
+      → Knows p b (answered_world c r t w)
   pub resets : (p : Player) (b : Meaning) (w : World) (name : List ℕ) (kept told : ℕ) → MayReset name kept told b w
       → KeptBook b w.course.now w.waiting → Knows p b w
       → Knows p (after b (events.Reset name kept told)) w

@@ -21,18 +21,18 @@ use Rattle.imap_model.specs.declared.server.Mailbox.{Mailbox}
 use Rattle.imap_model.specs.declared.server.Server.{Server}
 use Rattle.mailbox_cache.specs.declared.cache.Cache.{Cache}
 use Rattle.mailbox_cache.specs.declared.row.Row.{Row}
-use Rattle.playback.specs.Course.{AtMoment, Course, IsCourse, IsOneOf, Said}
-use Rattle.playback.specs.Fresh.{Fresh, IsFreshFor}
-use Rattle.playback.specs.InBox.{InBox, InBoxNow}
-use Rattle.playback.specs.Kept.{KeptBook}
+use Rattle.playback.specs.Course.{AtMoment, Course, IsAmong, IsCourse, Said}
+use Rattle.book_laws.specs.Fresh.{Fresh, IsFreshFor}
+use Rattle.book_laws.specs.InBox.{InBox, InBoxNow}
+use Rattle.book_laws.specs.Kept.{KeptBook}
 use Rattle.playback.specs.Needs.{IsPlaced, IsPlain, due_id, need_of}
-use Rattle.playback.specs.Of.{IsOf, tag_of}
-use Rattle.playback.specs.Once.{Fits}
-use Rattle.playback.specs.Open.{Open, PutFacts}
-use Rattle.playback.specs.Polite.{Spares}
+use Rattle.book_laws.specs.Of.{IsOf, tag_of}
+use Rattle.book_laws.specs.Once.{Fits}
+use Rattle.book_laws.specs.Open.{Open, PutFacts}
+use Rattle.book_laws.specs.Polite.{Spares}
 use Rattle.playback.specs.Replying.{read_sent}
 use Rattle.playback.specs.Why.{AreTwo, NoRow, OfDue, RowAt, RowNotSo, RowSo, RowWas, TellsNext, WasRefused, WasSelected, WhyIntent}
-use Rattle.playback.specs.Worlds.{Among, IsAt, Since, World, name_of, selected_after}
+use Rattle.playback.specs.Worlds.{Among, IsAt, LeadsTo, World, name_of, selected_after}
 use Rattle.playback.specs.declared.finding.Finding.{Finding}
 use Rattle.playback.specs.declared.finding.Resynced.{Resynced}
 use Rattle.playback.specs.declared.finding.Selected.{Selected}
@@ -136,7 +136,7 @@ pub record IsUnsent (told : Finding) (resumed : Bool) (b : Meaning) (w : World) 
 -- one command of it was carried out, and nothing of the action happened since
 pub record IsSent (b : Meaning) (e : Said) (w : World) : Type 0 where
   pub among : Among e.before w
-  pub was_said : IsOneOf e w.course.said
+  pub was_said : IsAmong e w.course.said
   pub after : Option (List ℕ)
   pub carries : CarriesOut e.command e.before e.reply e.behind after
   pub kept : KeptBook b e.before (Some e.command)
@@ -226,7 +226,7 @@ pub record IsFetched (e rows : Said) (w : World) : Type 0 where
   pub evolves : EvolvesFrom e.before.boxes e.before.boxes rows.before.boxes
 
 -- the command was carried out, and its reply is owed
-pub record IsAnswered (c : Waiting) (p : Player) (b : Meaning) (w : World) : Type 0 where
+pub record ReplyIsOwed (c : Waiting) (p : Player) (b : Meaning) (w : World) : Type 0 where
   pub said : Said
   pub rows : Option Said
   pub rest : List Said
@@ -251,7 +251,7 @@ pub record IsWaiting (c waits : Waiting) (p : Player) (b : Meaning) (w : World) 
 pub record FetchesRows (c waits : Waiting) (p : Player) (b : Meaning) (w : World) : Type 0 where
   pub asks : waits.command ≡ commands.FetchAll
   pub selected : waits.selected ≡ name_of w.selected
-  pub answered : IsAnswered c p b w
+  pub answered : ReplyIsOwed c p b w
   pub none : answered.rows ≡ None
   pub quiet : is_mutating c.command ≡ false
 
@@ -276,7 +276,7 @@ abbrev pub Came : Option Waiting → Option Waiting → Player → Meaning → W
 Came None None p b w = IsResting p b w
 Came None (Some waits) p b w = ⊥
 Came (Some c) (Some waits) p b w = IsNeeded (need_of p b) c p.selected b × (IsWaiting c waits p b w ⊎ FetchesRows c waits p b w)
-Came (Some c) None p b w = IsNeeded (need_of p b) c p.selected b × IsAnswered c p b w
+Came (Some c) None p b w = IsNeeded (need_of p b) c p.selected b × ReplyIsOwed c p b w
 
 -- What the player knows: the course tells the truth; each server of its moments went on to the one now; the selected mailbox has the
 -- UIDVALIDITY that was told; an intent that this run recorded had its reason, and its mailbox is selected still; one of an earlier run
@@ -284,7 +284,7 @@ Came (Some c) None p b w = IsNeeded (need_of p b) c p.selected b × IsAnswered c
 -- what it keeps was so; and how far the conversation is.
 pub record Knows (p : Player) (b : Meaning) (w : World) : Type 0 where
   pub course : IsCourse w.course
-  pub since : (s : Server) → Among s w → Since s w.course.now
+  pub since : (s : Server) → Among s w → LeadsTo s w.course.now
   pub valid : (selected : Selected) → w.selected ≡ Some selected → IsAt selected w.course.now
   pub fresh : b.pending ≡ None → p.resumed ≡ false
   pub meant : p.resumed ≡ false → (intent : Intent) → b.pending ≡ Some intent → WhyIntent intent b w.course

@@ -14,7 +14,7 @@ use Rattle.action_queue.specs.declared.queued.Queued.{Queued}
 use Rattle.append_probe.specs.Question.{question_of}
 use Rattle.imap_model.specs.Mutating.{is_mutating}
 use Rattle.imap_model.specs.declared.command.Command.{Command}
-use Rattle.playback.specs.Open.{intent_name, intent_validity}
+use Rattle.book_laws.specs.Open.{intent_name, intent_validity}
 use Rattle.playback.specs.Steps.{is_selected_at, step_of}
 use Rattle.playback.specs.declared.finding.Finding.{Finding}
 use Rattle.playback.specs.declared.finding.Resynced.{Resynced}

@@ -18,7 +18,7 @@ use Rattle.playback.specs.Needs.{need_of}
 use Rattle.playback.specs.Replying.{HearsFound, read_of}
 use Rattle.playback.specs.Steps.{step_of}
 use Rattle.playback.specs.Why.{Lacks}
-use Rattle.playback.specs.WorkedRows.{appends_it, archive, book_of, flags_it, id, inbox, puts, seen, stores, text}
+use Rattle.book_laws.specs.WorkedRows.{appends_it, archive, book_of, flags_it, id, inbox, puts, seen, stores, text}
 use Rattle.playback.specs.declared.finding.Finding.{Finding}
 use Rattle.playback.specs.declared.need.Need.{Need}
 use Rattle.playback.specs.declared.player.Player.{Player}

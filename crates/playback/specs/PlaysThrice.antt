@@ -14,7 +14,7 @@ use Rattle.action_queue.specs.Queues.{AllSettled, accepted, settled}
 use Rattle.action_queue.specs.declared.intent.Intent.{Intent}
 use Rattle.mail_base.specs.declared.tag.Tag.{Tag}
 use Rattle.mail_base.specs.declared.tag.Tag.TheVariants.{Again, Count}
-use Rattle.playback.specs.Example.{asked, box_name, box_with, flag, sent_out}
+use Rattle.book_laws.specs.Example.{asked, box_name, box_with, flag, sent_out}
 use Rattle.playback.specs.Games.{Game, IsGood, Play}
 use Rattle.playback.specs.PlaysThrough.{carries_to, game_meant, game_one, hears_to, moves_to, records_to, row_told, sends_to, tells}
 use Rattle.playback.specs.declared.finding.Finding.{Finding}

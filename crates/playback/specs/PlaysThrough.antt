@@ -21,10 +21,10 @@ use Rattle.mailbox_cache.specs.Cache.{first}
 use Rattle.mailbox_cache.specs.declared.delta.Delta.{Delta}
 use Rattle.mailbox_cache.specs.declared.row.Row.{Row}
 use Rattle.playback.specs.Choosing.{begun_with, chosen, committed}
-use Rattle.playback.specs.Example.{asked, book_two, box_name, box_with, flag, meant, message_with, sent_out, server_after, server_before}
+use Rattle.book_laws.specs.Example.{asked, book_two, box_name, box_with, flag, meant, message_with, sent_out, server_after, server_before}
 use Rattle.playback.specs.Games.{Game, IsGood, Play}
 use Rattle.playback.specs.Needs.{need_of}
-use Rattle.playback.specs.Worlds.{asks_rows, begins, carried, given, moved, says}
+use Rattle.playback.specs.Worlds.{answered_world, asks_rows, begins, given, moved, says}
 use Rattle.playback.specs.declared.finding.Finding.{Finding}
 use Rattle.std.specs.Prelude.{Bool, List, None, Some, [], false, length, refl, true, ℕ, ◌++◌, ◌∷◌, ◌≡◌}
 use Rattle.std.specs.declared.alloc.Global.{Global}
@@ -45,7 +45,7 @@ abbrev pub asks_to : Waiting → Game → Game
 asks_to c x = record x { world = asks_rows c x.world }
 
 abbrev pub carries_to : Waiting → Replies → Server → Game → Game
-carries_to c r t x = record x { world = carried c r t x.world }
+carries_to c r t x = record x { world = answered_world c r t x.world }
 
 abbrev pub hears_to : Finding → Game → Game
 hears_to finding x = record { player = record x.player { told = finding }; book = x.book; world = given x.world }

@@ -38,11 +38,11 @@ use Rattle.action_queue.specs.declared.outcome.Kind.{Kind}
 use Rattle.action_queue.specs.declared.outcome.Kind.TheVariants as kinds
 use Rattle.action_queue.specs.declared.queued.Queued.{Queued}
 use Rattle.playback.specs.Course.{Said, Course, AtMoment, WasSaid}
-use Rattle.playback.specs.InBox.{InBoxNow}
+use Rattle.book_laws.specs.InBox.{InBoxNow}
 use Rattle.append_probe.specs.Marked.{at_least, marked}
-use Rattle.playback.specs.Of.{tag_of}
-use Rattle.playback.specs.Open.{intent_name, intent_validity}
-use Rattle.playback.specs.Wanted.{IsAsked}
+use Rattle.book_laws.specs.Of.{tag_of}
+use Rattle.book_laws.specs.Open.{intent_name, intent_validity}
+use Rattle.book_laws.specs.Wanted.{IsAsked}
 
 -- the action that is due has this
 pub record OfDue (P : Action → Type 0) (b : Meaning) : Type 0 where

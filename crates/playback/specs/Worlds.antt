@@ -8,8 +8,8 @@ use Rattle.imap_model.specs.declared.command.Command.{Command}
 use Rattle.imap_model.specs.declared.ending.Ending.{Ending}
 use Rattle.imap_model.specs.declared.replies.Replies.{Replies}
 use Rattle.imap_model.specs.declared.server.Server.{Server}
-use Rattle.playback.specs.Course.{Course, IsOneOf, Said}
-use Rattle.playback.specs.InBox.{InBoxNow}
+use Rattle.playback.specs.Course.{Course, IsAmong, Said}
+use Rattle.book_laws.specs.InBox.{InBoxNow}
 use Rattle.playback.specs.declared.finding.Selected.{Selected}
 use Rattle.qresync_core.specs.ToldCodes.{told_codes}
 use Rattle.qresync_core.specs.declared.codes.Codes.{Codes}
@@ -27,7 +27,7 @@ pub record World : Type 0 where
 
 -- the server of one of the moments
 abbrev pub Among : Server → World → Type 0
-Among s w = IsOneOf s (w.course.now ∷ w.course.past)
+Among s w = IsAmong s (w.course.now ∷ w.course.past)
 
 -- the mailbox of this name is there, under this UIDVALIDITY
 abbrev pub IsUnder : List ℕ → ℕ → Server → Type 0
@@ -90,8 +90,8 @@ answered_course c r t course = record {
 }
 
 -- the command that waits is carried out
-abbrev pub carried : Waiting → Replies → Server → World → World
-carried c r t w = record w { course = answered_course c r t w.course; selected = selected_after c.command r w.selected; waiting = None }
+abbrev pub answered_world : Waiting → Replies → Server → World → World
+answered_world c r t w = record w { course = answered_course c r t w.course; selected = selected_after c.command r w.selected; waiting = None }
 
 -- a command's last byte has arrived, and its reply is owed
 abbrev pub says : Waiting → World → World
@@ -106,14 +106,14 @@ abbrev pub given : World → World
 given w = record w { owed = None }
 
 -- what is known of one server stays known of a later one
-pub record Since (s now : Server) : Type 0 where
+pub record LeadsTo (s now : Server) : Type 0 where
   pub well : IsWellFormed s.boxes
   pub evolves : EvolvesFrom s.boxes s.boxes now.boxes
   pub grows : (n : ℕ) → ours n now.history ≡ [] → ours n s.history ≡ []
 
 -- no moment and nothing that was said is forgotten; at most one moment is new
-pub record Grows (w v : World) : Type 0 where
+pub record KeepsCourse (w v : World) : Type 0 where
   pub among : (s : Server) → Among s w → Among s v
   pub back : (s : Server) → Among s v → (s ≡ v.course.now) ⊎ Among s w
-  pub said : (e : Said) → IsOneOf e w.course.said → IsOneOf e v.course.said
+  pub said : (e : Said) → IsAmong e w.course.said → IsAmong e v.course.said
   pub first : v.course.first ≡ w.course.first

@@ -4,7 +4,7 @@ ghost use Rattle.action_queue.specs.Book.{meaning};
 ghost use Rattle.action_queue.specs.Queues.{due_action};
 ghost use Rattle.playback.specs.Replying.{HearsFound, IsHeard, IsHeardFault, found_row, found_uids, is_barred, is_so};
 ghost use Rattle.playback.specs.Replying.{read_meant, read_row, read_sent};
-ghost use Rattle.playback.specs.Sound.{IsSound};
+ghost use Rattle.book_laws.specs.Sound.{IsSound};
 ghost use Rattle.playback.specs.Taken.{Takes, TakesDue, TakesIds, TakesStep, TakesVerdict, taken, with_kept};
 ghost use Rattle.std.specs.Option.{option_copied};
 ghost use Rattle.std.specs.Prelude.{IfErr, IfOk, ◌≡◌};

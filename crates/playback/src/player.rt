@@ -7,16 +7,16 @@ ghost use Rattle.action_queue.specs.declared.event.Event.{Event};
 ghost use Rattle.imap_model.specs.declared.item.Item.{Item};
 ghost use Rattle.imap_model.specs.declared.server.Server.{Server};
 ghost use Rattle.mailbox_cache.specs.declared.delta.Delta.{Delta};
-ghost use Rattle.playback.specs.Allowed.{IsAllowed, IsFair, IsGathered, IsReply, Records, WhyNotChosen};
+ghost use Rattle.playback.specs.Allowed.{IsAllowed, IsGathered, IsReply, PermitsTruly, Records, WhyNotChosen};
 ghost use Rattle.playback.specs.Choosing.{FitsWanted, IsChosen, IsChosenFault, IsEntered, begun_with, box_fault};
 ghost use Rattle.playback.specs.Choosing.{chosen_box, chosen_due, committed, is_below, is_many, rows_fault};
 ghost use Rattle.playback.specs.Choosing.{reset_in, reset_of, target_fault, wanted};
-ghost use Rattle.playback.specs.Kept.{KeptBook};
+ghost use Rattle.book_laws.specs.Kept.{KeptBook};
 ghost use Rattle.playback.specs.Knows.{Knows};
 ghost use Rattle.playback.specs.Left.{Awaits, left};
 ghost use Rattle.playback.specs.Needs.{IsBeside, IsFinished, IsLawfulNeed, NeedsNoMemory, need_learn, need_of};
 ghost use Rattle.playback.specs.Replying.{IsHeard, IsHeardFault};
-ghost use Rattle.playback.specs.Sound.{IsSound};
+ghost use Rattle.book_laws.specs.Sound.{IsSound};
 ghost use Rattle.playback.specs.Taken.{with_kept};
 ghost use Rattle.playback.specs.Worlds.{World, begins, given};
 ghost use Rattle.qresync_core.specs.Fitting.{Fits};
@@ -134,7 +134,7 @@ impl Player {
         ensures honest { (w : World) (item : Item) → KeptBook (meaning book.now) w.course.now w.waiting → IsReply replies.now w
             → Knows self.old (meaning book.now) w → IsErrOf result (unheards.Lacks item) → ⊥ }
         ensures knows { OnOk result ((w : World) → KeptBook (meaning book.now) w.course.now w.waiting → IsReply replies.now w
-            → IsFair permits (meaning book.now) w → Knows self.old (meaning book.now) w → Knows self.new (meaning book.now) (given w)) }
+            → PermitsTruly permits (meaning book.now) w → Knows self.old (meaning book.now) w → Knows self.new (meaning book.now) (given w)) }
     {
         self.hear(book, replies, permits)
     }

@@ -1,0 +1,25 @@
+-- The lemmas of this crate.
+pub mod Queueing
+pub mod Making
+pub mod Lawful
+pub mod Marks
+pub mod Deeds
+pub mod Facts
+pub mod Reaching
+pub mod Carrying
+pub mod Foreign
+pub mod Entering
+pub mod Keeping
+pub mod Counting
+pub mod Deducing
+pub mod Later
+pub mod ConnectionSteps
+pub mod Showing
+pub mod Deciding
+pub mod PlainDeeds
+pub mod PlainBoxes
+pub mod Sounding
+pub mod Resolving
+pub mod Needing
+pub mod Twice
+pub mod Acting

@@ -1,6 +1,0 @@
--- The examples.
-use Rattle.playback.proofs.Acting.{stores, shifts, puts}
-use Rattle.playback.proofs.laws.each_kind_takes_effect.Goals as goal
-
-pub returns : goal.returns
-returns c = record { store = stores; shift = shifts; put = puts }

@@ -1,7 +1,0 @@
--- The law, by its lemmas.
-use Rattle.playback.proofs.Deducing.{foreign_later, later_then, one_goes}
-use Rattle.playback.proofs.Later.{carried_later}
-use Rattle.playback.proofs.laws.goes_on_later.Goals as goal
-
-pub returns : goal.returns
-returns c = record { others = foreign_later; carried = carried_later; joined = later_then; goes = one_goes }

@@ -1,6 +1,0 @@
--- The law, by its lemmas.
-use Rattle.playback.proofs.Deducing.{store_intends, shift_intends, put_intends}
-use Rattle.playback.proofs.laws.intents_follow.Goals as goal
-
-pub returns : goal.returns
-returns c = record { store = store_intends; shift = shift_intends; put = put_intends }

@@ -1,6 +1,0 @@
--- The law, by its lemmas.
-use Rattle.playback.proofs.Sounding.{begun_sound, sound_behind}
-use Rattle.playback.proofs.laws.sound_stays.Goals as goal
-
-pub returns : goal.returns
-returns c = record { at_first = begun_sound; behind = sound_behind }
