@@ -1,5 +1,5 @@
 -- What is done where nothing prevents it.
-use Rattle.std.proofs.Common.{◌≡◌, ◌≢◌, ◌⊎◌, inl, inr, ℕ, List, Option, Some, None, Result, Ok, Err, refl, sym, ◌∙◌, ap, subst, arith}
+use Rattle.std.proofs.Common.{◌≡◌, inl, inr, ℕ, List, Some, None, Ok, Err, refl, sym, ◌∙◌, ap, subst}
 use Rattle.std.specs.Prelude.{codes}
 use Rattle.mail_base.specs.Account.{Credentials}
 use Rattle.mail_base.specs.declared.status.Status.{Status}
@@ -16,10 +16,8 @@ use Rattle.body_cache.specs.Ending.{Ends, EndsDates, EndsFetch, EndsReading, End
 use Rattle.body_cache.specs.Finding.{Finds}
 use Rattle.body_cache.specs.Keys.{cached_in, key_in}
 use Rattle.body_cache.specs.Shelf.{text_at}
-use Rattle.body_cache.specs.Words.{Asks, AsksNothing, WritesDates, WritesMessage}
+use Rattle.body_cache.specs.Words.{Asks, WritesMessage}
 use Rattle.body_cache.specs.declared.key.Key.{Key}
-use Rattle.body_cache.specs.declared.key.KeptText.{KeptText}
-use Rattle.body_cache.specs.declared.keys.Cached.{Cached}
 use Rattle.body_cache.specs.declared.reading.ReadReason.{ReadReason}
 use Rattle.body_cache.specs.declared.reading.Reading.{Reading}
 use Rattle.body_cache.specs.declared.reading.Reading.TheVariants as readings

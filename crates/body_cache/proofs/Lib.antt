@@ -14,7 +14,6 @@ pub mod TextPut
 pub mod Carried
 mod TextServed
 mod ReadServed
-mod LinesTold
 pub mod Completeness
 pub mod DateLines
 mod NoDeeds

@@ -13,7 +13,7 @@ use Rattle.store_core.specs.Mail.{mail}
 use Rattle.store_core.specs.Steps.{Books, Firm}
 use Rattle.store_core.specs.Taking.{ChoosesStep, HasBooks}
 use Rattle.store_core.proofs.MailBook.{one_mail_event}
-use Rattle.playback.specs.Kept.{Kept}
+use Rattle.book_laws.specs.Kept.{Kept}
 use Rattle.play_driver.specs.Accuses.{ConnectsOnce}
 use Rattle.play_driver.specs.Played.{played}
 use Rattle.play_driver.proofs.Calls.{enquires_stays, stays_then}

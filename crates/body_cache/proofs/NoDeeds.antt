@@ -12,7 +12,7 @@ use Rattle.imap_model.specs.declared.command.Command.TheVariants as commands
 use Rattle.imap_model.specs.declared.server.Server.{Server}
 use Rattle.imap_model.proofs.Effect.{carried_effect}
 use Rattle.imap_session.specs.Enquiring.{Enquiring, asking, connecting}
-use Rattle.playback.proofs.Deeds.{batch_ours, ours_push_other}
+use Rattle.book_laws.proofs.Deeds.{batch_ours, ours_push_other}
 use Rattle.world_traits.specs.Asking.Asking.{answers, arrives}
 use Rattle.world_traits.specs.Links.{Any, LinkStep}
 use Rattle.world_traits.specs.Moments.{Moment, Since, Within}

@@ -24,7 +24,7 @@ use Rattle.play_driver.proofs.Answering.{AnsweredAt, answered_at, answered_throu
 use Rattle.play_driver.proofs.Calm.{SameSelected, calm_now, held_now, stays_selected}
 use Rattle.play_driver.proofs.Learned.{IsPast, answered_stays, calm, past_on, select_after, selected_stays, selects}
 use Rattle.play_driver.proofs.Parts.{grows, grows_then, since_first, since_second}
-use Rattle.play_driver.specs.Exchanges.{Exchange, IsAnswered}
+use Rattle.play_driver.specs.Exchanges.{Exchange, IsAnsweredOk}
 use Rattle.play_driver.specs.Joining.{AllFair, Grows}
 use Rattle.play_driver.specs.KnownAt.{StandsKept}
 use Rattle.play_driver.specs.Levelling.{LeavesSelected, LeavesValidity, SelectedStays, ValidityStays}
@@ -58,7 +58,7 @@ pub record ToldThen (key : Key) (found : TextFound) (old new : Clock) : Type 0 w
   pub is : found ≡ found_of (message_at key.uid box.messages)
 
 -- A SELECT that was answered OK.
-module _ (name : List ℕ) (selected : Option (List ℕ)) (tag : Tag) (r : Replies) (old mid : Clock) (a : IsAnswered selected tag (selecting_it name r) old mid) where
+module _ (name : List ℕ) (selected : Option (List ℕ)) (tag : Tag) (r : Replies) (old mid : Clock) (a : IsAnsweredOk selected tag (selecting_it name r) old mid) where
   pub first : AnsweredAt selected tag (selecting_it name r) old mid
   first = answered_at selected tag (selecting_it name r) old mid refl a
 
@@ -74,8 +74,8 @@ module _ (name : List ℕ) (selected : Option (List ℕ)) (tag : Tag) (r : Repli
 
 -- A FETCH behind it.
 module _ (b : Meaning) (key : Key) (selected : Option (List ℕ)) (tag again : Tag) (r s : Replies) (codes : Codes) (old mid new : Clock)
-    (stands : StandsKept b old) (fair : AllFair mail played old new) (a : IsAnswered selected tag (selecting_it key.name r) old mid)
-    (told : told_codes r ≡ Ok codes) (validity : codes.validity ≡ key.validity) (f : IsAnswered (Some key.name) again (fetching key.uid s) mid new) where
+    (stands : StandsKept b old) (fair : AllFair mail played old new) (a : IsAnsweredOk selected tag (selecting_it key.name r) old mid)
+    (told : told_codes r ≡ Ok codes) (validity : codes.validity ≡ key.validity) (f : IsAnsweredOk (Some key.name) again (fetching key.uid s) mid new) where
   abbrev First : AnsweredAt selected tag (selecting_it key.name r) old mid
   First = first key.name selected tag r old mid a
 
@@ -175,14 +175,6 @@ module _ (key : Key) (old new : Clock) where
   never_lacks None is = cc is
   never_lacks (Some m) is = cc is
 
-  -- none is lacking
-  pub not_lacking : (found : TextFound) → ToldThen key found old new → found ≡ founds.Lacks → ⊥
-  not_lacking found t is = never_lacks (message_at key.uid t.box.messages) (sym t.is ∙ is)
-
   none_there : (o : Option Message) → found_of o ≡ founds.Gone → o ≡ None
   none_there None is = refl
   none_there (Some m) is = absurd cc
-
-  -- and a message of which nothing was told wasn't there
-  pub was_gone : (found : TextFound) (t : ToldThen key found old new) → found ≡ founds.Gone → message_at key.uid t.box.messages ≡ None
-  was_gone found t is = none_there (message_at key.uid t.box.messages) (sym t.is ∙ is)

@@ -3,12 +3,11 @@ use Rattle.std.proofs.Common.{ℕ, ◌+◌, List, Some, None, refl}
 use Rattle.action_queue.specs.Book.{Meaning}
 use Rattle.imap_session.specs.Dialogue.{next_tag}
 use Rattle.imap_session.specs.Enquiring.{Enquiring}
-use Rattle.playback.specs.Kept.{Kept}
+use Rattle.book_laws.specs.Kept.{Kept}
 use Rattle.store_core.proofs.MailBook.{one_mail_event}
 use Rattle.store_core.specs.Mail.{mail}
 use Rattle.store_core.specs.Steps.{Books, Firm}
 use Rattle.store_core.specs.Taking.{HasBooks}
-use Rattle.world_traits.proofs.Keeping.{since_now}
 use Rattle.world_traits.proofs.Narrowing.{within_keeps}
 use Rattle.world_traits.proofs.Passing.{since_then}
 use Rattle.world_traits.proofs.Traces.{carried_now}
@@ -33,7 +32,6 @@ use Rattle.body_cache.specs.Fetched.{PutsHad, PutsTold}
 use Rattle.body_cache.specs.Fetching.{FetchesAt}
 use Rattle.body_cache.specs.HasText.{HadText}
 use Rattle.body_cache.specs.TextFound.{text_found}
-use Rattle.body_cache.specs.declared.found.TextFound.TheVariants as founds
 use Rattle.body_cache.specs.declared.key.Key.{Key}
 
 -- an opening keeps what is kept

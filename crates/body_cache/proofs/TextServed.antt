@@ -38,8 +38,8 @@ use Rattle.play_driver.proofs.Faultless.{asked_whole, session_faultless}
 use Rattle.play_driver.proofs.GroundChains.{select_grounded}
 use Rattle.play_driver.proofs.OverOne.{asked_talks}
 use Rattle.play_driver.proofs.Served.{served_end}
-use Rattle.play_driver.proofs.ToldRefusals.{IsHonest, WasTold, never_told, refused_as}
-use Rattle.play_driver.specs.Exchanges.{IsAnswered}
+use Rattle.play_driver.proofs.ToldRefusals.{IsHonest, WasTold, never_told, refused_as, answer_told}
+use Rattle.play_driver.specs.Exchanges.{IsAnsweredOk}
 use Rattle.play_driver.specs.Faults.{ComesAnyway, IsReplyFault, of_session}
 use Rattle.play_driver.specs.Granting.{IsBox}
 use Rattle.play_driver.specs.Grounds.{AreBoxes, Grounded, GroundStep, HasGround}
@@ -54,7 +54,6 @@ use Rattle.play_driver.specs.declared.fault.PlayFault.{PlayFault}
 use Rattle.play_driver.specs.declared.fault.PlayFault.TheVariants as plays
 use Rattle.body_cache.proofs.TextHad.{fetching}
 use Rattle.body_cache.proofs.TextTold.{found_of, told_at}
-use Rattle.body_cache.proofs.LinesTold.{answer_told}
 use Rattle.body_cache.proofs.OnlyAsking.{same_err, stopped}
 use Rattle.body_cache.specs.Asking.{ComesServed, Converses}
 use Rattle.body_cache.specs.Fetching.{NotSelected, NotTold, WhyNone, WhyUnfit, of_code}
@@ -103,7 +102,7 @@ none_lacking : (o : Option Message) → found_of o ≡ founds.Lacks → ⊥
 none_lacking None is = cc is
 none_lacking (Some m) is = cc is
 
-pub none_faultless : (name : List ℕ) (uid : ℕ) (tag : Tag) (s : Replies) (old new : Clock) → IsAnswered (Some name) tag (fetching uid s) old new →
+pub none_faultless : (name : List ℕ) (uid : ℕ) (tag : Tag) (s : Replies) (old new : Clock) → IsAnsweredOk (Some name) tag (fetching uid s) old new →
     (x : TextFault) → WhyNone (text_found uid s.untagged) x → (fault : PlayFault) → x ≡ faults.Stopped fault → ⊥
 none_faultless name uid tag s old new a x why fault stopped = by (text_found uid s.untagged) refl why
   where

@@ -11,7 +11,7 @@ use Rattle.world_traits.specs.Moments.{Clock}
 use Rattle.qresync_core.specs.ToldCodes.{told_codes}
 use Rattle.qresync_core.specs.declared.codes.Codes.{Codes}
 use Rattle.qresync_core.specs.declared.fault.CodeFault.{CodeFault}
-use Rattle.play_driver.specs.Exchanges.{Exchange, IsAnswered}
+use Rattle.play_driver.specs.Exchanges.{Exchange, IsAnsweredOk}
 use Rattle.play_driver.specs.Faults.{of_session}
 use Rattle.play_driver.specs.Stages.{Stage}
 use Rattle.play_driver.specs.Turning.{AskedBetween, NotAnswered}
@@ -52,7 +52,7 @@ module _ (key : Key) (p : Stage) (tag : Tag) (is : tag ≡ next_tag p.count) whe
   is_count = subst IsCount (sym is) tt
 
   -- and the mailbox that is selected is the key's
-  pub answered_so : (n : List ℕ) → n ≡ key.name → (x : Exchange) (old new : Clock) → IsAnswered (Some n) tag x old new →
-      IsAnswered (Some key.name) (next_tag p.count) x old new
+  pub answered_so : (n : List ℕ) → n ≡ key.name → (x : Exchange) (old new : Clock) → IsAnsweredOk (Some n) tag x old new →
+      IsAnsweredOk (Some key.name) (next_tag p.count) x old new
   answered_so n same x old new a =
-      subst (λ (g : Tag). IsAnswered (Some key.name) g x old new) is (subst (λ (k : List ℕ). IsAnswered (Some k) tag x old new) same a)
+      subst (λ (g : Tag). IsAnsweredOk (Some key.name) g x old new) is (subst (λ (k : List ℕ). IsAnsweredOk (Some k) tag x old new) same a)

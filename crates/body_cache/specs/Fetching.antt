@@ -11,7 +11,7 @@ use Rattle.world_traits.specs.LinkState.{LinkState}
 use Rattle.world_traits.specs.Links.{Linked}
 use Rattle.world_traits.specs.Moments.{Clock}
 use Rattle.play_driver.specs.Entering.{HasEntered, NotEntered}
-use Rattle.play_driver.specs.Exchanges.{IsAnswered}
+use Rattle.play_driver.specs.Exchanges.{IsAnsweredOk}
 use Rattle.play_driver.specs.Faults.{of_session}
 use Rattle.play_driver.specs.Playing.{HasLeft, NotLeft}
 use Rattle.play_driver.specs.Stages.{Stage}
@@ -92,7 +92,7 @@ pub data NotFetched (account : Credentials) (key : Key) (old link : LinkState) (
 -- At the server: it answered SELECT at one moment of the time between, and told the key's UIDVALIDITY. So many questions were asked before.
 pub record SelectsAt (key : Key) (count : ℕ) (old new : Clock) : Type 0 where
   pub replies : Replies
-  pub answered : IsAnswered None (next_tag count) (record { asked = commands.Select key.name None; replies = replies }) old new
+  pub answered : IsAnsweredOk None (next_tag count) (record { asked = commands.Select key.name None; replies = replies }) old new
   pub codes : Codes
   pub told : told_codes replies ≡ Ok codes
   pub same : codes.validity ≡ key.validity
@@ -100,7 +100,7 @@ pub record SelectsAt (key : Key) (count : ℕ) (old new : Clock) : Type 0 where
 -- It answered the FETCH so, while the mailbox was selected.
 pub record TellsAt (key : Key) (text : List ℕ) (count : ℕ) (old new : Clock) : Type 0 where
   pub replies : Replies
-  pub answered : IsAnswered (Some key.name) (next_tag count) (record { asked = commands.FetchText key.uid; replies = replies }) old new
+  pub answered : IsAnsweredOk (Some key.name) (next_tag count) (record { asked = commands.FetchText key.uid; replies = replies }) old new
   pub found : text_found key.uid replies.untagged ≡ founds.Text text
 
 -- So the text was told at the server: behind a clock at which nothing waited or arrived and nothing was selected, SELECT was answered, and then the FETCH.

@@ -1,6 +1,6 @@
 //! A text is fetched: one connection, in which its mailbox is selected and the text is asked for (RFC 9051, sections 6.3.2 and 6.4.5).
 
-ghost use Rattle.std.specs.Prelude.{◌≡◌, ◌≤◌, ◌<◌, ◌+◌, ℕ, None, Some, IfOk, IsErrOf, OnOk};
+ghost use Rattle.std.specs.Prelude.{◌≡◌, ◌<◌, ◌+◌, None, Some, IfOk, IsErrOf, OnOk};
 ghost use Rattle.imap_session.specs.Session.{Follows, Stands};
 ghost use Rattle.play_driver.specs.Accuses.{ConnectsOnce};
 ghost use Rattle.play_driver.specs.Granting.{IsBox};

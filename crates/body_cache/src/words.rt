@@ -1,6 +1,6 @@
 //! The words of `fetch BOX ID`, `show BOX ID` and `dates BOX`.
 
-ghost use Rattle.std.specs.Prelude.{◌≡◌, ◌∷◌, ℕ, List, IsNone, IfSome, codes, map, string_bytes};
+ghost use Rattle.std.specs.Prelude.{◌∷◌, ℕ, List, IsNone, IfSome, codes, map, string_bytes};
 ghost use Rattle.body_cache.specs.Words.{Asks, AsksNothing, WritesDates, WritesMessage, WritesUid};
 
 use crate::Reading;

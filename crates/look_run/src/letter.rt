@@ -1,6 +1,6 @@
 //! The letter that an action puts into a mailbox.
 
-ghost use Rattle.std.specs.Prelude.{◌≡◌, ◌<◌, IfOk};
+ghost use Rattle.std.specs.Prelude.{◌<◌, IfOk};
 ghost use Rattle.action_queue.specs.Book.{meaning};
 ghost use Rattle.look_run.specs.LetterText.{IsLetter};
 

@@ -1,7 +1,7 @@
 //! What `--help` and `--version` print, which are no commands (no top call knows them), and the notices on standard
 //! error.
 
-ghost use Rattle.std.specs.Prelude.{◌≡◌, IsNone, IfSome, map, string_bytes};
+ghost use Rattle.std.specs.Prelude.{IsNone, IfSome, map, string_bytes};
 ghost use Rattle.mail_cli.specs.Notices.{AsksHelp, AsksVersion, OneOf};
 
 /// The text of `--help`.

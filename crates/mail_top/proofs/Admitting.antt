@@ -57,9 +57,6 @@ one_of p fails passes = cc (ap (λ (q : Bool). q || false) fails, passes)
 one_is : (p : Bool) → p ≡ true → (p || false) ≡ true
 one_is p is = ap (λ (q : Bool). q || false) is
 
-two_of : (p q : Bool) → p ≡ false → q ≡ false → (p || (q || false)) ≡ true → ⊥
-two_of p q fails none passes = cc (ap (λ (x : Bool). x || (q || false)) fails, ap (λ (x : Bool). x || false) none, passes)
-
 first_is : (p q : Bool) → p ≡ true → (p || (q || false)) ≡ true
 first_is p q is = ap (λ (x : Bool). x || (q || false)) is
 
@@ -252,9 +249,6 @@ why_bad flag fault is other = by_refusal (asked_refusal flag) is
     by_refusal : (o : Option FlagFault) → fault ≡ unwrap_or o flaws.Memory → is_some o ≡ true
     by_refusal None told = absurd (other told)
     by_refusal (Some x) told = refl
-
-pub why_good : (flag : List ℕ) → asked_refusal flag ≡ None → is_bad_flag flag ≡ false
-why_good flag none = ap is_some none
 
 -- the fault of a flag that is handed on
 pub refused_bad : {T : Type 0} (flag text : List ℕ) (r : Result T FlagFault) (x : FlagFault) → IsErrAnd r (λ fault. fault ≡ x) →

@@ -19,15 +19,15 @@ use Rattle.action_queue.specs.declared.action.Action.TheVariants as actions
 use Rattle.action_queue.specs.declared.intent.Intent.{Intent}
 use Rattle.action_queue.specs.declared.intent.Intent.TheVariants as intents
 use Rattle.action_queue.specs.declared.queued.Queued.{Queued}
-use Rattle.playback.specs.Kept.{Kept, KeptBook}
-use Rattle.playback.specs.Of.{IsOf}
-use Rattle.playback.specs.Once.{Fits}
-use Rattle.playback.specs.Polite.{KeepsBox, KeepsWaiting, Spares}
-use Rattle.playback.specs.Sound.{HasIntent}
-use Rattle.playback.proofs.Deeds.{batch_none, batch_ours, batch_owned}
-use Rattle.playback.proofs.Facts.{fresh_evolves}
-use Rattle.playback.proofs.Foreign.{of_after, others_keep, spared_same}
-use Rattle.playback.proofs.Reaching.{others_reached}
+use Rattle.book_laws.specs.Kept.{Kept, KeptBook}
+use Rattle.book_laws.specs.Of.{IsOf}
+use Rattle.book_laws.specs.Once.{Fits}
+use Rattle.book_laws.specs.Polite.{KeepsBox, KeepsWaiting, Spares}
+use Rattle.book_laws.specs.Sound.{HasIntent}
+use Rattle.book_laws.proofs.Deeds.{batch_none, batch_ours, batch_owned}
+use Rattle.book_laws.proofs.Facts.{fresh_evolves}
+use Rattle.book_laws.proofs.Foreign.{of_after, others_keep, spared_same}
+use Rattle.book_laws.proofs.Reaching.{others_reached}
 use Rattle.store_core.specs.Mail.{mail}
 use Rattle.play_driver.specs.Machine.{Withstands}
 use Rattle.play_driver.proofs.PlayedKept.{withstood}

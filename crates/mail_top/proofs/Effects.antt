@@ -4,7 +4,7 @@ use Rattle.std.specs.Prelude.{codes}
 use Rattle.action_queue.specs.declared.outcome.Kind.{Kind}
 use Rattle.action_queue.specs.declared.outcome.Kind.TheVariants as kinds
 use Rattle.conflict_report.specs.ReportLines.{effect_text}
-use Rattle.playback.specs.Once.{is_unsure}
+use Rattle.book_laws.specs.Once.{is_unsure}
 
 pub effect_told : (kind : Kind) → effect_text kind ≡ (if is_unsure kind then codes " unsure" else codes " nothing")
 effect_told kinds.MessageGone = refl

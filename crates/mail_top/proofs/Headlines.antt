@@ -19,9 +19,9 @@ use Rattle.action_queue.specs.Book.{Meaning}
 use Rattle.action_queue.specs.Queues.{AllSettled}
 use Rattle.action_queue.specs.declared.outcome.Outcome.{Outcome}
 use Rattle.action_queue.specs.declared.queued.Queued.{Queued}
-use Rattle.playback.specs.Kept.{Kept, KeptBook}
-use Rattle.playback.specs.Machine as machine
-use Rattle.playback.proofs.Twice.{never_twice}
+use Rattle.book_laws.specs.Kept.{Kept, KeptBook}
+use Rattle.book_laws.specs.Machine as machine
+use Rattle.book_laws.proofs.Twice.{never_twice}
 use Rattle.store_core.specs.Mail.{mail}
 use Rattle.store_core.specs.Steps.{Firm}
 use Rattle.store_core.proofs.MailBook.{one_mail_event}

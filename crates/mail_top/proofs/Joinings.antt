@@ -17,10 +17,10 @@ use Rattle.action_queue.specs.declared.target.Target.TheVariants as targets
 use Rattle.local_view.specs.declared.seen.Ident.{Ident}
 use Rattle.local_view.specs.declared.seen.Ident.TheVariants as ident
 use Rattle.mailbox_cache.specs.declared.cache.Cache.{Cache}
-use Rattle.playback.specs.Fresh.{Fresh}
-use Rattle.playback.specs.Kept.{Kept}
-use Rattle.playback.specs.Permitted.{Permits}
-use Rattle.playback.specs.Reached.{ActionReached, TargetReached}
+use Rattle.book_laws.specs.Fresh.{Fresh}
+use Rattle.book_laws.specs.Kept.{Kept}
+use Rattle.book_laws.specs.Permitted.{Permits}
+use Rattle.book_laws.specs.Reached.{ActionReached, TargetReached}
 use Rattle.store_core.specs.Mail.{mail}
 use Rattle.store_core.specs.Steps.{Books, MakesFirm, Chooses, EachBook}
 use Rattle.store_core.proofs.MailBook.{one_mail_event}

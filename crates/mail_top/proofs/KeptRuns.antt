@@ -9,9 +9,9 @@ use Rattle.world_traits.specs.Links.{Any}
 use Rattle.world_traits.specs.Moments.{Moment, MayLeave, Clock, OneSideAtRest}
 use Rattle.world_traits.proofs.Keeping.{since_now}
 use Rattle.journal_core.specs.OneSide.{AnyNext, EachOneSide}
-use Rattle.playback.specs.Kept.{Kept}
-use Rattle.playback.specs.Machine.{State, Firm as Held}
-use Rattle.playback.proofs.Twice.{never_twice}
+use Rattle.book_laws.specs.Kept.{Kept}
+use Rattle.book_laws.specs.Machine.{State, Firm as Held}
+use Rattle.book_laws.proofs.Twice.{never_twice}
 use Rattle.store_core.specs.Mail.{mail}
 use Rattle.store_core.specs.Steps.{Books, Firm, Begun}
 use Rattle.store_core.specs.Taking.{HasBooks}

@@ -1,3 +1,4 @@
+pub mod Accusing
 pub mod Admitting
 pub mod AnyServers
 pub mod Beginnings

@@ -21,7 +21,7 @@ use Rattle.journal_core.proofs.Unique.{one_book, one_version}
 use Rattle.journal_core.proofs.UpTo.{up_to_here}
 use Rattle.action_queue.specs.Book.{Meaning}
 use Rattle.record_codec.specs.Restated.{restated_end}
-use Rattle.playback.specs.Kept.{Kept}
+use Rattle.book_laws.specs.Kept.{Kept}
 use Rattle.store_core.specs.Anew.{told_on}
 use Rattle.store_core.specs.Mail.{mail}
 use Rattle.store_core.specs.Books.{HasBook}

@@ -9,7 +9,7 @@ use Rattle.world_traits.proofs.Passing.{since_then, since_weaker}
 use Rattle.world_traits.proofs.Traces.{carried_now}
 use Rattle.journal_core.specs.OneSide.{AnyNext, EachOneSide}
 use Rattle.action_queue.specs.Book.{Meaning}
-use Rattle.playback.specs.Kept.{Kept}
+use Rattle.book_laws.specs.Kept.{Kept}
 use Rattle.store_core.specs.Mail.{mail}
 use Rattle.store_core.specs.Books.{HasBook}
 use Rattle.store_core.specs.HeldActions.{KeepsActions}

@@ -17,8 +17,8 @@ use Rattle.imap_model.proofs.Effects.{rewritten_other, rewritten_there}
 use Rattle.imap_model.proofs.Finding.{same_name}
 use Rattle.imap_model.proofs.Going.{names_apart}
 use Rattle.action_queue.specs.Book.{Meaning}
-use Rattle.playback.specs.Polite.{KeepsBox, KeepsWaiting, Spares, has_validity}
-use Rattle.playback.proofs.Foreign.{spared_same}
+use Rattle.book_laws.specs.Polite.{KeepsBox, KeepsWaiting, Spares, has_validity}
+use Rattle.book_laws.proofs.Foreign.{spared_same}
 use Rattle.world_traits.specs.Files.{Stored}
 use Rattle.world_traits.specs.Moments.{Moment}
 use Rattle.mail_top.specs.FairRuns.{FairlyGoesOn, SparesBetween}

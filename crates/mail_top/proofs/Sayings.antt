@@ -280,12 +280,6 @@ module _ {S : Type 0} (o : Result S PlayFault) (r : Result Played Unfinished) (x
   pub run_reply : ((why : Why) → o ≡ Err (faults.BadReply why) → ⊥) → status_of_play r ≡ status.Reply → ⊥
   run_reply never is = reply_fault x (λ why same. never why (was ∙ ap (λ (f : PlayFault). Err f) same)) (of_run status.Reply is)
 
-  pub run_place : (at : ℕ) → r ≡ Err (ends.Stopped (faults.BadReply (whys.At at))) → o ≡ Err (faults.BadReply (whys.At at))
-  run_place at is =
-      let same : Err (ends.Stopped x) ≡ Err (ends.Stopped (faults.BadReply (whys.At at))) = sym (ended_by r (ends.Stopped x) given) ∙ is in
-      let fault : x ≡ faults.BadReply (whys.At at) = cc same in
-      was ∙ ap (λ (f : PlayFault). Err f) fault
-
 -- only of an honest server's replies no place is told
 why_told : (x : PlayFault) → ((at : ℕ) → x ≡ faults.BadReply (whys.At at) → ⊥) → status_of_fault x ≡ status.Reply → TellsNoPlace (text_of_fault x)
 why_told faults.Memory honest is = absurd cc
@@ -425,9 +419,6 @@ through_ok : (r : Result Played Unfinished) (P : Type 0) → CameThrough (status
 through_ok (Ok p) P is came = came
 through_ok (Err (ends.Unopened x)) P is came = absurd (through_refusal x is)
 through_ok (Err (ends.Stopped x)) P is came = absurd (through_fault x is)
-
-pub came_through : (r : Result Played Unfinished) (s : Status) (P : Type 0) → s ≡ status_of_play r → CameThrough s → OnOk r P → P
-came_through r s P status_is is came = through_ok r P (subst CameThrough status_is is) came
 
 -- one that ended early didn't
 pub stopped_early : (r : Result Played Unfinished) (x : Unfinished) → IsErrAnd r (λ end. end ≡ x) → CameThrough (status_of_play r) → ⊥

@@ -44,7 +44,7 @@ pub record EntersKept {Self : Type 0} (W : Ghosts Self) (old : Self) : Type 0 wh
   pub kept : IsKeptNow (W.clock old).now
 
 -- What a run gives of the book beside the server, what more where it is a `play`, and what at any server (`any_server`): each field is the
--- clause of `run` of this name.
+-- clause of `run` of this name, or the field of one.
 -- (`kept` hands the book on to the next run; by `serves` a server that serves ends no `play`.)
 pub record BesideServer {Self : Type 0} (W : Ghosts Self) (seen : Self → Files) (IsPlay : Type 0) (old new : Self) (s : Status) (text : List ℕ)
     : Type 0 where

@@ -5,7 +5,7 @@ use Rattle.imap_model.specs.declared.server.Mailbox.{Mailbox}
 use Rattle.imap_model.specs.declared.server.Server.{Server}
 use Rattle.action_queue.specs.Book.{Meaning}
 use Rattle.action_queue.specs.declared.intent.Intent.TheVariants as intents
-use Rattle.playback.specs.Polite.{KeepsBox, KeepsWaiting, Spares}
+use Rattle.book_laws.specs.Polite.{KeepsBox, KeepsWaiting, Spares}
 use Rattle.world_traits.specs.Files.{Files}
 use Rattle.world_traits.specs.Links.{LinkStep}
 use Rattle.world_traits.specs.Moments.{Moment, MayLeave, Clock, OneSideAtRest, restarted}
@@ -19,7 +19,7 @@ use Rattle.mail_top.specs.KeptNow.{IsKeptNow, StaysKept}
 use Rattle.mail_top.specs.Runs.{CutOff}
 
 -- A run, and a clock on its way: its last, or one at which the run was cut off. Its moments are as `run` promises over a link that
--- tells its server, by the clauses `goes`, `sides.each_one_side` and `joined`, and others were fair up to that clock. (Of a run that was
+-- tells its server, by `goes`, `journal.sides.each_one_side` and `moments.joined`, and others were fair up to that clock. (Of a run that was
 -- cut off the moments behind the cut are those that might have come.)
 pub record FairRun (words : List (List ℕ)) (input : List ℕ) (seen : Files) (old at new : Clock) : Type 0 where
   pub cut : CutOff words input seen old at new

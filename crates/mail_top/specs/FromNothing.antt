@@ -2,7 +2,7 @@
 use Rattle.std.specs.Prelude.{[]}
 use Rattle.world_traits.specs.Files.{Files}
 use Rattle.world_traits.specs.Moments.{Moment, Rests}
-use Rattle.playback.specs.Kept.{KeptBefore}
+use Rattle.book_laws.specs.Kept.{KeptBefore}
 
 -- two files without a byte
 abbrev pub empty : Files

@@ -8,8 +8,8 @@ use Rattle.action_queue.specs.Book.{Meaning}
 use Rattle.action_queue.specs.Queues.{AllSettled}
 use Rattle.action_queue.specs.declared.outcome.Outcome.{Outcome}
 use Rattle.action_queue.specs.declared.queued.Queued.{Queued}
-use Rattle.playback.specs.Kept.{NoneOurs}
-use Rattle.playback.specs.Once.{AllOwned, Fits}
+use Rattle.book_laws.specs.Kept.{NoneOurs}
+use Rattle.book_laws.specs.Once.{AllOwned, Fits}
 use Rattle.store_core.specs.Mail.{mail}
 use Rattle.store_core.specs.Books.{HasBook, HoldsBook}
 use Rattle.store_core.specs.Steps.{Firm}

@@ -1,5 +1,5 @@
 -- A time in which no action takes effect twice (this client's profile of RFC 4549, section 4.2).
-use Rattle.playback.specs.Kept.{Kept}
+use Rattle.book_laws.specs.Kept.{Kept}
 use Rattle.world_traits.specs.Moments.{Moment, Clock}
 use Rattle.store_core.specs.Mail.{mail}
 use Rattle.play_driver.specs.Joining.{IsKept, StaysJoined}

@@ -11,7 +11,9 @@ pub mod FairRuns
 pub mod Faults
 pub mod FromNothing
 pub mod Going
+pub mod HasOutcomes
 pub mod Headline
+pub mod KeepsJournal
 pub mod KeptNow
 pub mod Leaving
 pub mod Names
@@ -32,5 +34,9 @@ pub mod Takeover
 pub mod Texts
 pub mod TruePlay
 pub mod TrueRuns
+pub mod TrueToServer
+pub mod UsesLink
+pub mod UsesStreams
 pub mod Weighing
+pub mod WhileFair
 pub mod Words

@@ -50,7 +50,7 @@ pub record EndsTruly (place : ℕ) (outcome : Outcome) (seen : Files) (old new :
   pub due : place ≡ due book.queue
   pub before : Grows now new
 
--- each of these runs that is a `play` records truly up to where it was cut off, as `run` promises by its clause `truly`
+-- each of these runs that is a `play` records truly up to where it was cut off, as `run` promises by `server.truly`
 abbrev pub AllTrue : (first last : Moment) → FollowsFairly first last → Type 0
 AllTrue first last at_once = Unit {0}
 AllTrue first last (by_run words input seen old at new so_far reads run) = AllTrue first old.now so_far × (WritesPlay words → PlaysTruly seen old at)

@@ -2,11 +2,11 @@
 
 ghost use Rattle.std.specs.Prelude.{◌≡◌, ◌⊎◌, ◌≤◌, ℕ, List, [], IsErrOf, OnOk};
 ghost use Rattle.world_traits.specs.Calls.{Rose};
-ghost use Rattle.world_traits.specs.Moments.{OneSideAtRest};
-ghost use Rattle.journal_core.specs.OneSide.{EachOneSide};
+ghost use Rattle.journal_core.specs.Blames.{BlamesWhere};
 ghost use Rattle.mail_base.specs.Lines.{accepted};
 ghost use Rattle.mail_top.specs.Going.{GoesAction};
 ghost use Rattle.mail_top.specs.Reading.{AwaitsOn, IsAppendAsked, IsInput, IsReadOut, TakesFront};
+ghost use Rattle.mail_top.specs.Resting.{KeepsOneSide};
 ghost use Rattle.mail_top.specs.Telling.{status_of, text_of};
 ghost use Rattle.mail_top.specs.Words.{HasFewFlags, wanted_of};
 ghost use Rattle.mail_top.specs.declared.refusal.Refusal.TheVariants as refusals;
@@ -46,9 +46,7 @@ pub fn accept<D: Disk, I: Source>(
         })
         (status_of result) (text_of accepted result) }
 
-    ensures one_side { D.tells_files → OneSideAtRest (D.clock disk.old).now → OneSideAtRest (D.clock disk.new).now }
-    ensures each_one_side { D.tells_files → OneSideAtRest (D.clock disk.old).now →
-        EachOneSide (D.clock disk.old) (D.clock disk.new) }
+    ensures sides { D.tells_files → KeepsOneSide (D.clock disk.old) (D.clock disk.new) }
 
     // How the input is read.
     ensures read { D.tells_files → (input.new ≡ input.old) ⊎ AwaitsOn (wanted_of asked.now []) (D.seen disk.old) }
@@ -57,11 +55,9 @@ pub fn accept<D: Disk, I: Source>(
     ensures whole { I.tells → IsAppendAsked asked.now → OnOk result (I.rest input.new ≡ []) }
     ensures out { I.tells → (IsErrOf result refusals.Input → ⊥) → (IsErrOf result refusals.Memory → ⊥) → (input.new ≡ input.old) ⊎ IsReadOut (I.rest input.old) (I.rest input.new) }
 
-    ensures link { D.link disk.new ≡ D.link disk.old }
-    ensures count { D.disk_faults disk.old ≤ D.disk_faults disk.new }
+    // Whom it blames.
+    ensures blames { BlamesWhere D.Clocked disk.old disk.new (IsErrOf result refusals.Disk) }
     ensures source_count { I.source_faults input.old ≤ I.source_faults input.new }
-    ensures cause { IsErrOf result refusals.Disk → Rose (D.disk_faults disk.old) (D.disk_faults disk.new) }
-    ensures unfailed { (IsErrOf result refusals.Disk → ⊥) → D.disk_faults disk.new ≡ D.disk_faults disk.old }
     ensures input_cause { IsErrOf result refusals.Input → Rose (I.source_faults input.old) (I.source_faults input.new) }
     ensures never { IsErrOf result refusals.Already → ⊥ }
 {

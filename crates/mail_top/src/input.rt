@@ -1,6 +1,6 @@
 //! The input of a command: a message, as it is put into a mailbox.
 
-ghost use Rattle.std.specs.Prelude.{◌≡◌, ◌⊎◌, ◌≤◌, ◌<◌, ◌++◌, ◌==◌, ℕ, List, [], length, true, false, IfOk, IfErr, OnErr, OnOk, IsErrOf};
+ghost use Rattle.std.specs.Prelude.{◌≡◌, ◌≤◌, ◌<◌, ◌==◌, ℕ, List, [], OnOk, IsErrOf};
 ghost use Rattle.std.specs.List.{list_any};
 ghost use Rattle.mail_header.specs.BareLf.{crlf_of};
 ghost use Rattle.world_traits.specs.Calls.{Rose};

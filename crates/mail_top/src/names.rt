@@ -1,6 +1,6 @@
 //! The names of mailboxes that the words of a command write (RFC 9051, section 5.1).
 
-ghost use Rattle.std.specs.Prelude.{◌≡◌, ◌↔◌, ℕ, List, IsTrue, IfOk, map, string_bytes};
+ghost use Rattle.std.specs.Prelude.{◌≡◌, ◌↔◌, List, IsTrue, IfOk, map, string_bytes};
 ghost use Rattle.std.specs.List.{AllByRecursion};
 ghost use Rattle.mail_base.specs.BoxName.{IsBoxText};
 ghost use Rattle.action_queue.specs.Events.{IsAbsent};

@@ -1,27 +1,25 @@
 //! The top call.
 
 ghost use Rattle.std.specs.Prelude.{◌≡◌, ◌≢◌, ◌↔◌, ℕ, List, map, string_bytes};
-ghost use Rattle.world_traits.specs.Moments.{Clock};
 ghost use Rattle.play_driver.specs.Serving.{AllServing};
 ghost use Rattle.mail_top.specs.AnyServer.{StandsAny};
-ghost use Rattle.mail_top.specs.BesideServer.{BesideServer, EntersKept, FairUpTo, Fairly};
-ghost use Rattle.mail_top.specs.Causing.{HasCauses, HasOutputCause, NoDiskFault, NoInputFault, NoLinkFault, NoOutputFault};
+ghost use Rattle.mail_top.specs.BesideServer.{BesideServer, Fairly};
+ghost use Rattle.mail_top.specs.Causing.{HasCauses, NoDiskFault, NoInputFault, NoLinkFault, NoOutputFault};
 ghost use Rattle.mail_top.specs.CompletePlay.{HasEachBox, IsPlayed};
 ghost use Rattle.mail_top.specs.Completing.{Completes};
-ghost use Rattle.mail_top.specs.Connecting.{Connects, SparesServer};
 ghost use Rattle.mail_top.specs.Course.{course_of};
 ghost use Rattle.mail_top.specs.Going.{Goes, GoesRequest};
-ghost use Rattle.mail_top.specs.Headline.{AlwaysOwned, Finishes, NeverTwice, OnceOrReported};
-ghost use Rattle.mail_top.specs.KeptNow.{StaysKept};
-ghost use Rattle.mail_top.specs.Leaving.{LosesNone};
-ghost use Rattle.mail_top.specs.Played.{AreSynced, CameThrough};
+ghost use Rattle.mail_top.specs.HasOutcomes.{HasOutcomes};
+ghost use Rattle.mail_top.specs.KeepsJournal.{KeepsJournal};
 ghost use Rattle.mail_top.specs.Printing.{Prints};
 ghost use Rattle.mail_top.specs.Reading.{AsksAppend, AwaitsAsked, AwaitsInput, IsAppend, IsInput};
 ghost use Rattle.mail_top.specs.ReadsInput.{ReadsInput};
 ghost use Rattle.mail_top.specs.Resting.{KeepsOneSide};
-ghost use Rattle.mail_top.specs.SurePlay.{EndsSurely};
 ghost use Rattle.mail_top.specs.Telling.{printed, TellsNoPlace};
-ghost use Rattle.mail_top.specs.TruePlay.{PlaysTruly};
+ghost use Rattle.mail_top.specs.TrueToServer.{TrueToServer};
+ghost use Rattle.mail_top.specs.UsesLink.{UsesLink};
+ghost use Rattle.mail_top.specs.UsesStreams.{UsesStreams};
+ghost use Rattle.mail_top.specs.WhileFair.{WhileFair};
 ghost use Rattle.mail_top.specs.Words.{AsksNothing, IsLawful, IsPlay, WritesPlay, request_of};
 
 use crate::accepting::accept;
@@ -134,9 +132,8 @@ pub fn run<W: World, I: Source, S: Sink>(
     // Each answer has its cause, whatever the world tells; and where a call of the disk or of the link failed, that is the answer.
     ensures words { (result ≡ Status.Words) ↔ AsksNothing (map string_bytes words.now) }
     ensures causes { HasCauses W.Clocked world.old world.new result }
-    ensures sink { HasOutputCause S.Sink out.old out.new result }
-    ensures reads { ReadsInput I.Source (AsksAppend (map string_bytes words.now)) W.tells_files
-        (AwaitsInput (map string_bytes words.now) (W.seen world.old)) input.old input.new result }
+    ensures streams { UsesStreams I.Source S.Sink (map string_bytes words.now) W.tells_files (W.seen world.old)
+        input.old input.new out.old out.new result }
 
     // What no reason, fault or limit prevents is done, or memory is wanting; `play` at a server that serves it, with each mailbox of
     // the book there.
@@ -151,8 +148,7 @@ pub fn run<W: World, I: Source, S: Sink>(
         → NoOutputFault S.Sink out.old out.new → (result ≡ Status.Limit → ⊥) → IsPlayed result }
 
     // No action that all images hold at entry is lost; and one side of the journal stays at rest.
-    ensures held { W.tells_files → LosesNone (W.clock world.old).now (W.clock world.new).now }
-    ensures sides { W.tells_files → KeepsOneSide (W.clock world.old) (W.clock world.new) }
+    ensures journal { KeepsJournal W.Clocked world.old world.new }
 
     // Whatever a server sends: where each image held a lawful book at entry, each does at every moment, with the actions and the outcomes
     // that all images held then; and of each try of an action one command is sent at most. Nothing is asked of the server or of others.
@@ -160,35 +156,19 @@ pub fn run<W: World, I: Source, S: Sink>(
 
     // Up to each moment to which others were fair: each moment is kept, and joined to the one before it by one step of the book beside
     // the server; no action has two changes there; and none is this client's that no action wants of the book that a stop leaves.
-    ensures joined { EntersKept W.Clocked world.old → StaysKept (W.clock world.old) (W.clock world.new) }
-    ensures twice { (at : Clock) → FairUpTo W.Clocked world.old world.new at
-        → NeverTwice (W.clock world.old) at }
-    ensures owned { EntersKept W.Clocked world.old → (at : Clock) → FairUpTo W.Clocked world.old world.new at
-        → AlwaysOwned (W.clock world.old) at }
+    ensures moments { WhileFair W.Clocked world.old world.new }
 
     // A `play` that came to its end has settled every action, and each took effect once or is reported. However it ended, but by a
     // fault of the disk, no action ended as unsure in it but the one whose intent was pending.
-    ensures finishes { W.tells_files → WritesPlay (map string_bytes words.now) → CameThrough result
-        → Finishes (W.seen world.old) (W.seen world.new) (W.clock world.new).now }
-    ensures once_or_reported { WritesPlay (map string_bytes words.now) → CameThrough result
-        → Fairly W.Clocked world.old world.new
-        → OnceOrReported (W.seen world.old) (W.seen world.new) (W.clock world.new).now }
-    ensures surely { WritesPlay (map string_bytes words.now) → (result ≡ Status.Disk → ⊥)
-        → Fairly W.Clocked world.old world.new → EndsSurely (W.seen world.old) (W.seen world.new) }
+    ensures outcomes { HasOutcomes W.Clocked W.seen (map string_bytes words.now) world.old world.new result }
 
     // Each intent and each conflict that a `play` recorded had its reason at that moment. One that came to its end leaves each mailbox
     // with a cache that is the server's as it last answered in this run, behind the last outcome. No reply is found at fault.
-    ensures truly { WritesPlay (map string_bytes words.now) → Fairly W.Clocked world.old world.new
-        → PlaysTruly (W.seen world.old) (W.clock world.old) (W.clock world.new) }
-    ensures synced { WritesPlay (map string_bytes words.now) → CameThrough result
-        → Fairly W.Clocked world.old world.new
-        → AreSynced (W.seen world.new) (W.clock world.old) (W.clock world.new) }
-    ensures faultless { Fairly W.Clocked world.old world.new → result ≡ Status.Reply → ⊥ }
+    ensures server { TrueToServer W.Clocked W.seen (map string_bytes words.now) world.old world.new result }
 
     // A run connects before it asks for anything, questions and changes of mailboxes alike, and not again: it makes one connection at
     // most. Only `play` touches the server or the link.
-    ensures connects { Connects W.Clocked world.old world.new }
-    ensures spares { (WritesPlay (map string_bytes words.now) → ⊥) → SparesServer W.Clocked world.old world.new }
+    ensures link { UsesLink W.Clocked (map string_bytes words.now) world.old world.new }
 {
     let ending = carry_out(alloc, words, account, input, world);
     say(out, &ending)

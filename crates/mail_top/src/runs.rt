@@ -14,7 +14,7 @@ ghost use Rattle.action_queue.specs.declared.action.Action.{Action};
 ghost use Rattle.action_queue.specs.declared.outcome.Kind.{Kind};
 ghost use Rattle.action_queue.specs.declared.outcome.Outcome.{Outcome};
 ghost use Rattle.conflict_report.specs.ReportLines.{effect_text};
-ghost use Rattle.playback.specs.Once.{is_unsure};
+ghost use Rattle.book_laws.specs.Once.{is_unsure};
 ghost use Rattle.play_driver.specs.Joining.{Grows};
 ghost use Rattle.mail_top.specs.Actions.{Becomes, accepts};
 ghost use Rattle.mail_top.specs.Course.{Course};
@@ -39,7 +39,7 @@ pub fn runs_one_behind_another()
     // What a stop leaves is where the next run begins.
     ensures begins { (m : Moment) (files : Files) → MayLeave m files → BeginsWith files m (restarted files m) }
 
-    // A run that goes as `run` promises, by its clauses `goes` and `sides.each_one_side`, may be cut off at each of its moments.
+    // A run that goes as `run` promises, by `goes` and `journal.sides.each_one_side`, may be cut off at each of its moments.
     ensures cut_off { (account : Credentials) (words : List (List ℕ)) (input : List ℕ) (k : Course) (s : Status) (text : List ℕ) →
         Goes account words input k s text → (OneSideAtRest k.old.now → EachOneSide k.old k.new) → (at : Clock) →
         Grows k.old at → Grows at k.new → CutOff words input k.seen k.old at k.new }
@@ -86,7 +86,7 @@ pub fn from_nothing()
     ensures owned { (first last : Moment) → FromNothing first → FollowsFairly first last → IsOwnedNow last }
 {}
 
-/// What `truly` says of a `play` it says of it up to each moment on its way. So over all runs each outcome that a stop may leave, and
+/// What `server.truly` says of a `play` it says of it up to each moment on its way. So over all runs each outcome that a stop may leave, and
 /// could not have left at first, was recorded in one of them with its reason: in one that was cut off, too.
 pub fn outcomes_have_their_reasons()
     ensures so_far { (seen : Files) (old at new : Clock) → PlaysTruly seen old new → Grows old at → Grows at new →

@@ -1,7 +1,6 @@
 //! What a book, and the input, answer to an action that is asked for.
 
-ghost use Rattle.std.specs.Prelude.{◌≡◌, ◌⊎◌, ◌≤◌, ℕ, List, [], Some, IfOk, IfErr, IsErrOf, OnOk, OnErr, map, string_bytes, length, true, false};
-ghost use Rattle.std.specs.List.{list_any};
+ghost use Rattle.std.specs.Prelude.{◌≡◌, ◌⊎◌, ◌≤◌, ℕ, List, [], Some, IfOk, IfErr, IsErrOf, OnOk, map, string_bytes, length, true, false};
 ghost use Rattle.world_traits.specs.Calls.{Rose};
 ghost use Rattle.flag_set.specs.FlagKey.{key_of};
 ghost use Rattle.flag_set.specs.FlagSet.{put};

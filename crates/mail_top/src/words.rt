@@ -1,9 +1,9 @@
 //! The words of a command.
 
 ghost use Rattle.std.specs.Prelude.{◌≡◌, ℕ, List, [], ◌∷◌, IsNone, IfSome, string_bytes, map, codes};
-ghost use Rattle.mail_top.specs.Words.{Asks, AsksAction, AsksNothing, HasFewFlags, IsLawful, WritesInit, WritesFlag, WritesMove, WritesAppend};
+ghost use Rattle.mail_top.specs.Words.{Asks, AsksNothing, IsLawful, WritesInit, WritesFlag, WritesMove, WritesAppend};
 ghost use Rattle.mail_top.specs.Words.{WritesRows, WritesQueue, WritesReport, WritesPlay, Change, Transfer, Addition, Queue, Report, Play};
-ghost use Rattle.mail_top.specs.Words.{change_of, transfer_of, addition_of, wanted_of, request_of};
+ghost use Rattle.mail_top.specs.Words.{change_of, transfer_of, addition_of, request_of};
 ghost use Rattle.mail_top.specs.Names.{name_of, WriteNames};
 
 use crate::{

@@ -20,7 +20,7 @@ use Rattle.imap_session.specs.Enquiring.{Enquiring}
 use Rattle.imap_session.specs.Knowing.{AllGo, Tells}
 use Rattle.imap_session.specs.Session.{KeepsSelection, waiting_of}
 use Rattle.imap_session.proofs.Talks.{asks_enquires}
-use Rattle.play_driver.specs.Exchanges.{Exchange, IsAnswered}
+use Rattle.play_driver.specs.Exchanges.{Exchange, IsAnsweredOk}
 use Rattle.play_driver.proofs.Calm.{SameSelected}
 use Rattle.play_driver.proofs.KnownBeside.{Does, asking_does, go_back, go_front, not_told}
 use Rattle.play_driver.proofs.KnownBeside.Does.{changes, goes, nothing, replies}
@@ -130,7 +130,7 @@ module _ (told : List Response) (tag : Tag) (command : Command) (old : Clock) (a
       (inl (record { asked = []; is = as_told ∙ sym (append-nil told); chosen = since_start Any SameSelected old })) at linked)
 
 pub answered_at : (selected : Option (List ℕ)) (tag : Tag) (x : Exchange) (old new : Clock) → is_mutating x.asked ≡ false →
-    IsAnswered selected tag x old new → AnsweredAt selected tag x old new
+    IsAnsweredOk selected tag x old new → AnsweredAt selected tag x old new
 answered_at selected tag x old new question a =
     let told = old.now.outside.talk.told in
     let r = a.answered.became in

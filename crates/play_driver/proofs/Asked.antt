@@ -17,7 +17,6 @@ use Rattle.imap_session.specs.declared.fault.SessionFault.{SessionFault}
 use Rattle.imap_model.specs.TagText.{IsCommandTag}
 use Rattle.mail_base.specs.Tags.{action_of, try_tag}
 use Rattle.mail_base.specs.declared.tag.Tag.{Tag}
-use Rattle.play_driver.proofs.Faulting.{same_err}
 use Rattle.play_driver.proofs.Folds.{fold_sound}
 use Rattle.play_driver.proofs.NotRead.{asked_not_read}
 use Rattle.play_driver.specs.Faults.{of_session, of_unheard}
@@ -35,7 +34,7 @@ use Rattle.playback.specs.declared.finding.Finding.{Finding}
 use Rattle.playback.specs.declared.need.Need.{Need}
 use Rattle.playback.specs.declared.need.Unheard.{Unheard}
 use Rattle.playback.specs.declared.player.Player.{Player}
-use Rattle.std.proofs.Common.{Bool, Err, IsErrOf, List, Option, Some, ap, arith, false, inl, inr, None, refl, subst, suc, sym, true, zero, ℕ, ◌<◌, ◌∙◌, ◌≡◌, ◌≢◌, ◌≤◌}
+use Rattle.std.proofs.Common.{Bool, List, Option, Some, ap, arith, false, inl, inr, None, refl, subst, suc, sym, true, zero, ℕ, ◌<◌, ◌∙◌, ◌≡◌, ◌≢◌, ◌≤◌}
 use Rattle.std.proofs.lemmas.Bool.{both_ways}
 use Rattle.store_core.specs.Fold.{IsFold}
 use Rattle.store_core.specs.Holding.{Holding}
@@ -272,9 +271,3 @@ not_heard_so link later chosen new store p b tag command r unheard fault same is
     not_heard tag command r (stage_of later (sessions.Chosen new)) unheard chosen.name refl
     (subst (λ (x : Meaning). IsAskedFor (need_of p x) (tries_due x.queue) chosen.conversation.count tag command) (sym same) is) came refl
     (subst (λ (x : Meaning). IsHeardFault p x (permits_due chosen.permits (due_action x.queue)) r unheard) (sym same) lacking) told
-
--- the fault of a run where the reply isn't taken
-pub unheard_told : {T : Type 0} (told fault : PlayFault) (now name : List ℕ) (unheard : Unheard) → IsErrOf {T = T} (Err told) fault →
-    told ≡ of_unheard now unheard → now ≡ name → fault ≡ of_unheard name unheard
-unheard_told {T} told fault now name unheard is e same =
-    same_err {T = T} (Err told) fault told is refl ∙ e ∙ ap (λ (n : List ℕ). of_unheard n unheard) same

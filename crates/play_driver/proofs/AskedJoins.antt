@@ -27,11 +27,11 @@ use Rattle.play_driver.specs.Played.{played}
 use Rattle.play_driver.specs.SentOnce.{MayAsk}
 use Rattle.play_driver.specs.Turning.{IsAskedFor, permits_due}
 use Rattle.playback.proofs.Allowing.{allowed_need}
-use Rattle.playback.specs.Allowed.{IsAllowed, IsFair, IsReply, MaySend}
-use Rattle.playback.specs.Kept.{Kept, KeptBook}
+use Rattle.playback.specs.Allowed.{IsAllowed, IsReply, MaySend, PermitsTruly}
+use Rattle.book_laws.specs.Kept.{Kept, KeptBook}
 use Rattle.playback.specs.Knows.{IsNeeded, Knows}
 use Rattle.playback.specs.Needs.{IsLawfulNeed, due_id, need_of}
-use Rattle.playback.specs.Of.{IsOf, tag_of}
+use Rattle.book_laws.specs.Of.{IsOf, tag_of}
 use Rattle.playback.specs.Worlds.{World, given, name_of}
 use Rattle.playback.specs.declared.need.Need.{Need}
 use Rattle.playback.specs.declared.player.Player.{Player}
@@ -126,7 +126,7 @@ module _ (p : Player) (b : Meaning) (permits : Option Permits) (made old : Clock
 -- the reply is given to the player
 pub heard_known : (p new : Player) (b : Meaning) (permits : Option Permits) (made now : Clock) (r : Replies) (name : List ℕ) →
     now.now.outside.talk.selected ≡ Some name → HeardAt r made now permits p b →
-    ((w : World) → KeptBook b w.course.now w.waiting → IsReply r w → IsFair (permits_due permits (due_action b.queue)) b w → Knows p b w →
+    ((w : World) → KeptBook b w.course.now w.waiting → IsReply r w → PermitsTruly (permits_due permits (due_action b.queue)) b w → Knows p b w →
     Knows new b (given w)) → KnownAt made now permits None new b
 heard_known p new b permits made now r name here heard knows = record {
   world = given heard.world;

@@ -1,11 +1,8 @@
 -- What each kind of call keeps, and calls one behind another.
-use Rattle.std.proofs.Common.{⊎_elim, List, Some}
-use Rattle.mail_base.specs.declared.tag.Tag.{Tag}
+use Rattle.std.proofs.Common.{⊎_elim, Some}
 use Rattle.imap_model.specs.Talking.{Peer}
-use Rattle.imap_model.specs.declared.command.Command.{Command}
-use Rattle.imap_model.specs.declared.response.Response.{Response}
 use Rattle.world_traits.specs.Asking.{Asking}
-use Rattle.world_traits.specs.Links.{Any, LinkStep, Linked}
+use Rattle.world_traits.specs.Links.{Any, LinkStep}
 use Rattle.world_traits.specs.Moments.{Moment, Clock, Since, GoesOn, Within, restarted}
 use Rattle.world_traits.proofs.Narrowing.{restart_within, within_keeps}
 use Rattle.world_traits.proofs.Passing.{since_start, since_then, since_weaker}
@@ -13,8 +10,7 @@ use Rattle.world_traits.proofs.Traces.{carried_now}
 use Rattle.store_core.specs.Keeping.{Keeping}
 use Rattle.store_core.specs.Books.{HoldsBook}
 use Rattle.store_core.proofs.Folding.{OneEvent}
-use Rattle.store_core.specs.Steps.{Books, Firm}
-use Rattle.store_core.specs.Taking.{HasBooks}
+use Rattle.store_core.specs.Steps.{Firm}
 use Rattle.play_driver.specs.Machine.{Relation, Machine, Withstands}
 use Rattle.play_driver.specs.Joining.{Relates, IsKept, Joined, IsFair, AllFair, StaysJoined, AnyTwo, Grows}
 use Rattle.imap_session.specs.Enquiring.{Enquiring}
@@ -26,7 +22,7 @@ use Rattle.play_driver.proofs.Steps.{run_keeps}
 use Rattle.play_driver.proofs.Choices.{narrows_keeps, settles_joins}
 use Rattle.play_driver.proofs.Files.{takes_keeps, takes_joins}
 use Rattle.play_driver.proofs.Beginnings.{chooses_joins, begins_joins}
-use Rattle.play_driver.proofs.Links.{linked_keeps, linked_joins, linked_now}
+use Rattle.play_driver.proofs.Links.{linked_keeps, linked_joins}
 use Rattle.play_driver.proofs.Questions.{enquiring_steps}
 use Rattle.play_driver.proofs.Longer.{in_order}
 use Rattle.play_driver.proofs.Parts.{grows_start, since_first, since_second}
@@ -89,13 +85,6 @@ module _ (K : Keeping) (one : OneEvent K) (R : Relation K) (M : Machine K) (stan
       linked_stays (Asking told tag command) (AsksOnce K M b told tag command) (Firm (Some b))
       (asks_once K M stands.sendable b told tag command) old new has asks kept linked
 
-  pub sends_now : (b : K.Book) (told : List Response) (tag : Tag) (command : Command) (old new : Clock) → HasBooks K (Firm (Some b)) old.now →
-      AsksOnce K M b told tag command old.now.outside → Linked (Asking told tag command) old new → AllFair K M old new →
-      AsksOnce K M b told tag command new.now.outside
-  sends_now b told tag command old new has asks linked fair =
-      (linked_now K M (Asking told tag command) (Firm (Some b)) (AsksOnce K M b told tag command) (asks_once K M stands.sendable b told tag command)
-      old has asks new linked fair).1
-
 module _ (K : Keeping) (R : Relation K) (M : Machine K) where
   pub stays_start : (k : Clock) → StaysJoined K R M k k
   stays_start k at before after fair = since_first (IsKept K R) (Joined K M) k at k before after (since_start (IsKept K R) (Joined K M) k)
@@ -123,8 +112,3 @@ module _ (K : Keeping) (R : Relation K) (M : Machine K) where
   pub stays_then : (e k l : Clock) → IsKept K R e.now → Grows e k → Grows k l → StaysJoined K R M e k → (IsKept K R k.now → StaysJoined K R M k l) →
       StaysJoined K R M e l
   stays_then e k l kept before more a b = stays_on e k l kept before more (Unit {0}) a (λ fair. tt) (λ then known. b then)
-
-  -- the books of the last moment
-  pub books_now : (k l : Clock) → (x : Books K) → HasBooks K x k.now → Since (IsKept K R) (Joined K M) k l → (y : Books K) × HasBooks K y l.now
-  books_now k l x has s =
-      carried_now (IsKept K R) (λ m. (y : Books K) × HasBooks K y m) (Joined K M) (λ m n here j h. (j.new, j.at_new)) k (x, has) l s

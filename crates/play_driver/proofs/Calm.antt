@@ -18,8 +18,7 @@ use Rattle.world_traits.proofs.Traces.{since_both, since_carry, carried_now}
 use Rattle.imap_session.specs.Enquiring.{Enquiring, connecting, asking}
 use Rattle.play_driver.specs.Calm.{IsCalm, NoChangeWaits}
 use Rattle.play_driver.specs.Levelling.{LeavesSelected, LeavesValidity, SameValidity, SelectedStays, ValidityStays}
-use Rattle.playback.specs.Polite.{KeepsBox, has_validity}
-use Rattle.play_driver.proofs.Parts.{grows, since_first, since_second}
+use Rattle.book_laws.specs.Polite.{KeepsBox, has_validity}
 use Rattle.play_driver.proofs.QuestionsStay.{question_stays}
 
 -- others change something as is said
@@ -96,16 +95,6 @@ module _ (name : List ℕ) where
   held_now P stands old new linked fair h =
       held_by (SameValidity name) P stands old new linked
       (since_weaker Any Any (LeavesValidity name) (LeavesBy (SameValidity name)) (λ m p. p) by_validity old new fair) h
-
-  -- parts of a time in which others left the UIDVALIDITY
-  module _ (old mid new : Clock) (a : Linked Enquiring old mid) (b : Linked Enquiring mid new) (fair : ValidityStays name old new) where
-    pub stays_first : ValidityStays name old mid
-    stays_first =
-        since_first Any (LeavesValidity name) old mid new (grows Any (LinkStep Enquiring) old mid a) (grows Any (LinkStep Enquiring) mid new b) fair
-
-    pub stays_second : ValidityStays name mid new
-    stays_second =
-        since_second Any (LeavesValidity name) old mid new (grows Any (LinkStep Enquiring) old mid a) (grows Any (LinkStep Enquiring) mid new b) fair
 
 -- From one moment to the next what is selected stays.
 abbrev pub SameSelected : Moment → Moment → Type 0

@@ -11,7 +11,7 @@ pub ok_no_err : {T E : Type 0} (r : Result T E) (x : T) (e : E) → r ≡ Ok x �
 ok_no_err r x e p q = cc
 
 module _ {T E : Type 0} where
-  raised_as : (r : Result T E) (x : E) → IsErrAnd r (λ fault. fault ≡ x) → r ≡ Err x
+  pub raised_as : (r : Result T E) (x : E) → IsErrAnd r (λ fault. fault ≡ x) → r ≡ Err x
   raised_as (Ok y) x given = absurd given
   raised_as (Err fault) x given = ap (λ (f : E). Err f) given
 

@@ -20,7 +20,7 @@ use Rattle.play_driver.specs.Played.{played}
 use Rattle.play_driver.specs.Resynchronising.{Resyncs, fetches, resync, select_of}
 use Rattle.play_driver.specs.declared.fault.PlayFault.{PlayFault}
 use Rattle.playback.specs.Allowed.{IsGathered, IsReply, WhyNotChosen}
-use Rattle.playback.specs.Kept.{KeptBook}
+use Rattle.book_laws.specs.Kept.{KeptBook}
 use Rattle.playback.specs.Knows.{Knows}
 use Rattle.playback.specs.Replying.{IsHeardFault}
 use Rattle.playback.specs.Worlds.{World}

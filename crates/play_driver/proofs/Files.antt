@@ -5,7 +5,7 @@ use Rattle.world_traits.specs.Links.{Any}
 use Rattle.world_traits.specs.Moments.{Moment, Clock, Since, AtPhase, GoesOn}
 use Rattle.world_traits.proofs.Keeping.{disk_keeps}
 use Rattle.world_traits.proofs.Passing.{since_weaker}
-use Rattle.world_traits.proofs.Traces.{since_carry, carried_now}
+use Rattle.world_traits.proofs.Traces.{since_carry}
 use Rattle.journal_core.specs.declared.version.Version.{Version}
 use Rattle.store_core.specs.Keeping.{Keeping}
 use Rattle.store_core.specs.Books.{HoldsBook}
@@ -89,6 +89,3 @@ module _ (K : Keeping) (M : Machine K) (version : Version) (b : Option K.Book) (
         since_weaker (λ m. IsTaking K b e m × Outer m) Any (λ m n. Outer m × Goes m n) (Joined K M) (λ m p. tt)
         (λ m n s. by_phase m n (at_peer m s.0) s.1.outside s.1.from s.1.to s.1.forward s.1.one s.1.at_from s.1.at_to) old new
         (since_carry (IsTaking K b e) Outer Goes outer_on old refl new takes)
-
-    pub takes_outside : (new : Clock) → Takes K b e old new → new.now.outside ≡ old.now.outside
-    takes_outside new takes = carried_now (IsTaking K b e) Outer Goes outer_on old refl new takes

@@ -15,8 +15,8 @@ use Rattle.action_queue.specs.declared.rule.Rule.{Rule}
 use Rattle.action_queue.specs.declared.outcome.Outcome.{Outcome}
 use Rattle.action_queue.specs.declared.queued.Queued.{Queued}
 use Rattle.action_queue.proofs.Queueing.{none_due, order_ended, order_push, order_settled, order_tried, length_change}
-use Rattle.playback.specs.Sound.{IsSound}
-use Rattle.playback.proofs.Sounding.{begun_sound, sound_behind}
+use Rattle.book_laws.specs.Sound.{IsSound}
+use Rattle.book_laws.proofs.Sounding.{begun_sound, sound_behind}
 use Rattle.playback.proofs.Recording.{put_length}
 use Rattle.store_core.specs.Fold.{IsFold, begins, follows}
 

@@ -21,7 +21,7 @@ use Rattle.play_driver.specs.Synced.{IsLastRead, IsNotRead}
 use Rattle.play_driver.specs.declared.session.Held.{Held}
 use Rattle.playback.specs.Allowed.{IsGathered}
 use Rattle.playback.specs.Choosing.{IsChosen}
-use Rattle.playback.specs.Kept.{Kept, KeptBook}
+use Rattle.book_laws.specs.Kept.{Kept, KeptBook}
 use Rattle.playback.specs.Knows.{Knows}
 use Rattle.playback.specs.Needs.{need_of}
 use Rattle.playback.specs.Worlds.{World, given}

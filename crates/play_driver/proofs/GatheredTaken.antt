@@ -23,7 +23,7 @@ use Rattle.play_driver.specs.declared.fault.PlayFault.{PlayFault}
 use Rattle.play_driver.specs.declared.session.Session.{Session}
 use Rattle.playback.proofs.Ranks.{due_search_any, due_sent_any, ids_any}
 use Rattle.playback.specs.Allowed.{WhyNotChosen}
-use Rattle.playback.specs.Choosing.{FitsWanted, IsChosen, IsChosenFault, Wanted, chosen_box, chosen_in, wanted, wanted_by}
+use Rattle.playback.specs.Choosing.{FitsWanted, IsChosen, IsChosenFault, WantedBox, chosen_box, chosen_in, wanted, wanted_by}
 use Rattle.playback.specs.Needs.{again, due_id, need_end, need_for, need_learn, need_of}
 use Rattle.playback.specs.Steps.{step_learn, step_of}
 use Rattle.playback.specs.Worlds.{name_of}
@@ -114,7 +114,7 @@ pub record KeepsRest (p new : Player) : Type 0 where
   pub resumed : new.resumed ≡ p.resumed
   pub resynced : new.resynced ≡ p.resynced
 
-keeps_in : (p : Player) (b : Meaning) (delta : Delta) (box : Option Wanted) → KeepsRest p (chosen_in p b delta box)
+keeps_in : (p : Player) (b : Meaning) (delta : Delta) (box : Option WantedBox) → KeepsRest p (chosen_in p b delta box)
 keeps_in p b delta None = record { resumed = refl; resynced = refl }
 keeps_in p b delta (Some box) = record { resumed = refl; resynced = refl }
 

@@ -36,7 +36,7 @@ use Rattle.imap_session.specs.Session.{Answered, Stands, waiting_of}
 use Rattle.imap_session.specs.declared.fault.SessionFault.{SessionFault}
 use Rattle.imap_session.proofs.Dialogues.{broke_first, broke_from, had_now, is_reply, lines_of, stood_at}
 use Rattle.imap_session.specs.Enquiring.{Enquiring}
-use Rattle.play_driver.specs.Exchanges.{AnsweredAll, CameAll, IsAnswered}
+use Rattle.play_driver.specs.Exchanges.{AnsweredAll, CameAll, IsAnsweredOk}
 use Rattle.play_driver.specs.Resynchronising.{mark_kept, select_of, fetches, exchanged, resync, then_all, Gathered, IsLearnable, MakesDelta}
 use Rattle.imap_session.proofs.Talks.{asks_enquires}
 
@@ -48,7 +48,7 @@ behind due next = if due then Asks commands.FetchAll (λ all. next) else next
 pub answered_by : (selected : Option (List ℕ)) (count : ℕ) (kept since : Option Mark) (name : List ℕ) (r : Replies) (old at : Clock)
     (c : Option Connection) (feed : Stream) → since ≡ kept → r.ending ≡ endings.Ok →
     Answered (waiting_of selected (next_tag count) (commands.Select name since)) r old at c feed →
-    IsAnswered selected (next_tag count) (record { asked = commands.Select name kept; replies = r }) old at
+    IsAnsweredOk selected (next_tag count) (record { asked = commands.Select name kept; replies = r }) old at
 answered_by selected count kept since name r old at c feed same ok a = record {
   connection = c;
   feed = feed;
@@ -73,11 +73,6 @@ fetch_told tag old new linked = asks_enquires old.now.outside.talk.told tag comm
 
 module _ (name : List ℕ) (kept : Option Cache) (since : Option Mark) (same : since ≡ mark_kept kept) (count : ℕ) where
   -- what was answered
-  pub answered_one : (selected : Option (List ℕ)) (r : Replies) (old new : Clock) (c : Option Connection) (feed : Stream) →
-      r.ending ≡ endings.Ok → Answered (waiting_of selected (next_tag count) (commands.Select name since)) r old new c feed →
-      AnsweredAll (exchanged name kept (record { selected = r; all = None })) selected count old new
-  answered_one selected r old new c feed ok a = (new, answered_by selected count (mark_kept kept) since name r old new c feed same ok a, refl)
-
   pub answered_two : (selected : Option (List ℕ)) (r all : Replies) (tag : Tag) (other : List ℕ) (old at new : Clock) (c d : Option Connection)
       (between feed : Stream) → tag ≡ next_tag (count + 1) → other ≡ name → r.ending ≡ endings.Ok → all.ending ≡ endings.Ok → Stands (Some name) at c between →
       Answered (waiting_of selected (next_tag count) (commands.Select name since)) r old at c between →
@@ -159,14 +154,6 @@ module _ (name : List ℕ) (kept : Option Cache) (since : Option Mark) (same : s
           inr (r, within.reply, first_lines, first_reply, there_due)
 
   -- what was sent
-  sent_as_kept : (old new : List ℕ) → SentFront (next_text count (commands.Select name since)) old new →
-      SentFront (next_text count (select_of name kept)) old new
-  sent_as_kept old new sent = subst (λ (m : Option Mark). SentFront (next_text count (commands.Select name m)) old new) same sent
-
-  pub sent_one : (next : Dialogue) (old new : List ℕ) → SentFront (next_text count (commands.Select name since)) old new →
-      SentIn (resync name kept next) count old new
-  sent_one next old new sent = inl (sent_as_kept old new sent)
-
   pub sent_two : (next : Dialogue) (tag : Tag) (r : Replies) (old at new : List ℕ) → tag ≡ next_tag (count + 1) → true ≡ fetches kept r →
       at ≡ old ++ next_text count (commands.Select name since) → SentFront (joined (parts_of tag commands.FetchAll)) at new →
       SentIn (resync name kept next) count old new
@@ -175,16 +162,6 @@ module _ (name : List ℕ) (kept : Option Cache) (since : Option Mark) (same : s
       inl (subst (λ (x : Tag). SentFront (joined (parts_of x commands.FetchAll)) at new) is sent) in
       let behind_select = subst (λ (t : List ℕ). SentIn (behind true next) (count + 1) t new) (whole_as_kept old at whole) counted in
       inr (r, subst (λ (b : Bool). SentIn (behind b next) (count + 1) (old ++ next_text count (select_of name kept)) new) due behind_select)
-
-  -- why SELECT wasn't answered
-  pub why_one : (next : Dialogue) (heard : List Response) (had : List ℕ) (old new : LinkState) (fault : SessionFault) →
-      SentFront (next_text count (commands.Select name since)) old.sent new.sent →
-      FailsBehind heard (next_tag count) (commands.Select name since) had new.connection fault →
-      BrokeOff (resync name kept next) count old.sent had heard new fault
-  why_one next heard had old new fault text fails = inl (record {
-    text = sent_as_kept old.sent new.sent text;
-    failing = subst (λ (m : Option Mark). FailsBehind heard (next_tag count) (commands.Select name m) had new.connection fault) same fails;
-  })
 
 -- what may be learned of the cache
 have_few : (rows : List (ℕ × Row)) → AllByRecursion (λ (row : ℕ × Row). AreFew row.1.flags) rows → HaveFewFlags rows

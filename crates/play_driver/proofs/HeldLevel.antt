@@ -17,7 +17,7 @@ use Rattle.mailbox_cache.specs.declared.delta.Delta.{Delta}
 use Rattle.play_driver.proofs.Answering.{AnsweredAt, answered_at, answered_through}
 use Rattle.play_driver.proofs.KnownHeld.{asked, owes, selects_box, told}
 use Rattle.play_driver.proofs.Learned.{Comes, IsPast, calm, ends_at, rows_fine, selected_stays, told_empty}
-use Rattle.play_driver.specs.Exchanges.{AnsweredAll, Exchange, IsAnswered}
+use Rattle.play_driver.specs.Exchanges.{AnsweredAll, Exchange, IsAnsweredOk}
 use Rattle.play_driver.specs.Holds.{IsHeldFor, IsHeldReply, OwesHeld}
 use Rattle.play_driver.specs.Joining.{AllFair}
 use Rattle.play_driver.specs.KnownAt.{KnownAt, StandsKept}
@@ -27,7 +27,7 @@ use Rattle.play_driver.specs.Settled.{IsReadHeld}
 use Rattle.play_driver.specs.Synced.{IsLastRead}
 use Rattle.play_driver.specs.declared.session.Held.{Held}
 use Rattle.playback.proofs.Gathering.{IsSameSaid, no_all, same_said, select_no_all}
-use Rattle.playback.specs.Course.{IsOneOf, Said}
+use Rattle.playback.specs.Course.{IsAmong, Said}
 use Rattle.playback.specs.Worlds.{IsUnder, name_of, selected_after, selected_by, selected_on}
 use Rattle.playback.specs.declared.player.Player.{Player}
 use Rattle.qresync_core.proofs.Judging.{memory_alone}
@@ -64,8 +64,8 @@ module _ (p : Player) (b : Meaning) (h : Held) (permits : Option Permits) (made 
   is_select = (selects_box p b h permits made old stands known fits).is
 
   -- the server that answered the SELECT
-  among : IsOneOf Owed.said known.world.course.said
-  among = subst (λ (l : List Said). IsOneOf Owed.said l) (sym Owed.last) (inl refl)
+  among : IsAmong Owed.said known.world.course.said
+  among = subst (λ (l : List Said). IsAmong Owed.said l) (sym Owed.last) (inl refl)
 
   abbrev Carried : (after : Option (List ℕ)) × CarriesOut Owed.said.command Owed.said.before Reply Owed.said.behind after
   Carried = (known.knows.course.said Owed.said among).2
@@ -133,7 +133,7 @@ module _ (p : Player) (b : Meaning) (h : Held) (permits : Option Permits) (made 
 
   -- the rows come behind it
   rows_come : (tag : ℕ) (all : Replies) (new : Clock) → AllFair mail played old new →
-      IsAnswered (Some Box) (next_tag tag) (record { asked = commands.FetchAll; replies = all }) old new → Comes Box None Reply (Some all) old new
+      IsAnsweredOk (Some Box) (next_tag tag) (record { asked = commands.FetchAll; replies = all }) old new → Comes Box None Reply (Some all) old new
   rows_come tag all new fair a =
       let y : Exchange = record { asked = commands.FetchAll; replies = all } in
       let f : AnsweredAt (Some Box) (next_tag tag) y old new = answered_at (Some Box) (next_tag tag) y old new refl a in

@@ -10,7 +10,7 @@ use Rattle.play_driver.proofs.KnownLaws.{known_law}
 use Rattle.play_driver.proofs.Learned.{calm, ends_at, selected_stays, without_rows}
 use Rattle.play_driver.proofs.NotRead.{last_earlier}
 use Rattle.play_driver.proofs.ReadsOne.{exchanges_other}
-use Rattle.play_driver.specs.Exchanges.{CameAll, Exchange, IsAnswered}
+use Rattle.play_driver.specs.Exchanges.{CameAll, Exchange, IsAnsweredOk}
 use Rattle.play_driver.specs.Gathering.{HasHeld}
 use Rattle.play_driver.specs.Holds.{IsHeldFor}
 use Rattle.play_driver.specs.Joining.{AllFair, Grows}
@@ -76,7 +76,7 @@ module _ {Self : Type 0} (L : Ghosts Self) (old new : Self) (session : Session) 
     abbrev Asked : Exchange
     Asked = record { asked = select_of name kept; replies = x.reply }
 
-    answered : IsAnswered (selected_in session) (next_tag (count_of session)) Asked (L.clock old) (L.clock new)
+    answered : IsAnsweredOk (selected_in session) (next_tag (count_of session)) Asked (L.clock old) (L.clock new)
     answered =
         let a = x.answered t in
         ends_at name (selected_in session) (next_tag (count_of session)) Asked (L.clock old) a.0 (L.clock new) a.2 a.1
@@ -84,15 +84,15 @@ module _ {Self : Type 0} (L : Ghosts Self) (old new : Self) (session : Session) 
     pub known_held : (made : Clock) (permits : Option Permits) → KnownAt made (L.clock old) permits None p b →
         (L.clock old).now.outside.talk.selected ≡ selected_in session → KnownAt made (L.clock new) h.chosen.permits (Some h) p b
     known_held made permits known selects =
-        let there : IsAnswered (selected_in session) (next_tag (count_of session))
+        let there : IsAnsweredOk (selected_in session) (next_tag (count_of session))
         (record { asked = select_of h.chosen.name (cache_at h.chosen.name b.boxes); replies = x.reply }) (L.clock old) (L.clock new) =
-        subst (λ (n : List ℕ). IsAnswered (selected_in session) (next_tag (count_of session))
+        subst (λ (n : List ℕ). IsAnsweredOk (selected_in session) (next_tag (count_of session))
         (record { asked = select_of n (cache_at n b.boxes); replies = x.reply }) (L.clock old) (L.clock new)) (sym same)
-        (subst (λ (o : Option Cache). IsAnswered (selected_in session) (next_tag (count_of session))
+        (subst (λ (o : Option Cache). IsAnsweredOk (selected_in session) (next_tag (count_of session))
         (record { asked = select_of name o; replies = x.reply }) (L.clock old) (L.clock new)) cached answered) in
         subst (λ (o : Option Permits). KnownAt made (L.clock new) o (Some h) p b) (sym x.permitted)
         (known_law.holds p b h x.reply (count_of session) permits made (L.clock old) (L.clock new) stands known needed_held fair
-        (subst (λ (s : Option (List ℕ)). IsAnswered s (next_tag (count_of session))
+        (subst (λ (s : Option (List ℕ)). IsAnsweredOk s (next_tag (count_of session))
         (record { asked = select_of h.chosen.name (cache_at h.chosen.name b.boxes); replies = x.reply }) (L.clock old) (L.clock new)) (sym selects) there)
         x.is)
 

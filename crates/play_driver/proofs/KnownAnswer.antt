@@ -23,14 +23,14 @@ use Rattle.play_driver.specs.Joining.{AllFair, Grows, IsFair}
 use Rattle.play_driver.specs.KnownAt.{KnownAt, StandsKept, TellsOf}
 use Rattle.play_driver.specs.Played.{played}
 use Rattle.play_driver.specs.SentOnce.{Behind, MayAsk}
-use Rattle.playback.proofs.Carrying.{carries_book}
-use Rattle.playback.proofs.Foreign.{of_after}
-use Rattle.playback.proofs.Keeping.{asked_quiet, quiet_keeps, sent}
+use Rattle.book_laws.proofs.Carrying.{carries_book}
+use Rattle.book_laws.proofs.Foreign.{of_after}
+use Rattle.book_laws.proofs.Keeping.{asked_quiet, quiet_keeps, sent}
 use Rattle.playback.proofs.Onward.{IsIdle, idle}
-use Rattle.playback.specs.Course.{Course, IsOneOf, Said}
-use Rattle.playback.specs.Kept.{KeptBook}
+use Rattle.playback.specs.Course.{Course, IsAmong, Said}
+use Rattle.book_laws.specs.Kept.{KeptBook}
 use Rattle.playback.specs.Knows.{Knows}
-use Rattle.playback.specs.Polite.{KeepsBox}
+use Rattle.book_laws.specs.Polite.{KeepsBox}
 use Rattle.playback.specs.Worlds.{World, answered_course, name_of, selected_after}
 use Rattle.playback.specs.declared.finding.Selected.{Selected}
 use Rattle.playback.specs.declared.player.Player.{Player}
@@ -331,7 +331,7 @@ tells_then p b made new selected owed said after c feed stands selects f = recor
   first = f.first;
   server = f.server;
   each = f.each;
-  answered = λ e one. f.answered e (subst (IsOneOf e) f.is_said one);
+  answered = λ e one. f.answered e (subst (IsAmong e) f.is_said one);
   waits = sym stands.nothing;
   selects = selects ∙ sym stands.selects;
 }

@@ -19,7 +19,7 @@ use Rattle.play_driver.specs.Played.{played}
 use Rattle.play_driver.specs.SentOnce.{MayAsk}
 use Rattle.playback.proofs.Onward.{carried_knows, says_know}
 use Rattle.playback.specs.Course.{Course}
-use Rattle.playback.specs.Kept.{KeptBook}
+use Rattle.book_laws.specs.Kept.{KeptBook}
 use Rattle.playback.specs.Knows.{IsNeeded, Knows}
 use Rattle.playback.specs.Needs.{need_of}
 use Rattle.playback.specs.Worlds.{World, answered_course, name_of, says, selected_after}

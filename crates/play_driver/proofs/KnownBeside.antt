@@ -18,14 +18,14 @@ use Rattle.play_driver.specs.Joining.{Grows}
 use Rattle.play_driver.specs.KnownAt.{WasAnswered}
 use Rattle.play_driver.specs.Played.{SparesFrom}
 use Rattle.play_driver.specs.SentOnce.{Behind}
-use Rattle.playback.proofs.Foreign.{others_keep}
+use Rattle.book_laws.proofs.Foreign.{others_keep}
 use Rattle.playback.proofs.Moments.{grows_carried, grows_moved}
 use Rattle.playback.proofs.Onward.{others_know}
-use Rattle.playback.specs.Course.{Course, IsOneOf, Said}
-use Rattle.playback.specs.Kept.{KeptBook}
+use Rattle.playback.specs.Course.{Course, IsAmong, Said}
+use Rattle.book_laws.specs.Kept.{KeptBook}
 use Rattle.playback.specs.Knows.{Knows}
-use Rattle.playback.specs.Polite.{KeepsBox, Spares}
-use Rattle.playback.specs.Worlds.{World, answered_course, carried, moved, name_of, selected_after}
+use Rattle.book_laws.specs.Polite.{KeepsBox, Spares}
+use Rattle.playback.specs.Worlds.{World, answered_course, answered_world, moved, name_of, selected_after}
 use Rattle.playback.specs.declared.finding.Selected.{Selected}
 use Rattle.playback.specs.declared.player.Player.{Player}
 use Rattle.std.proofs.Common.{List, None, Option, Some, [], ap, arith, inl, inr, length, refl, subst, sym, true, ℕ, ◌++◌, ◌∙◌}
@@ -122,7 +122,7 @@ module _ (p : Player) (b : Meaning) (made : Clock) (selected : Option Selected) 
           is = (before, behind, tells);
         };
       }))
-      (λ (was : IsOneOf f said). answered_later said made k (tick k m) (grows_tick k m) answered f was) one
+      (λ (was : IsAmong f said). answered_later said made k (tick k m) (grows_tick k m) answered f was) one
 
   -- a command is carried out
   pub carried_follows : (k : Clock) (m : Moment) (w : Waiting) (r : Replies) (later : Option Waiting) (told : List Response)
@@ -141,7 +141,7 @@ module _ (p : Player) (b : Meaning) (made : Clock) (selected : Option Selected) 
         first = h.first;
         server = refl;
         selects = chosen;
-        each = servers_grow old (carried w r t old) made k m (grows_carried w r t old) refl h.each;
+        each = servers_grow old (answered_world w r t old) made k m (grows_carried w r t old) refl h.each;
         is_said = ap (λ (l : List Said). record { command = w; before = h.course.now; behind = t; reply = r } ∷ l) h.is_said;
         answered = answered_now k m (record { command = w; before = h.course.now; behind = t; reply = r }) told after
             (servers_time old made k h.each) (sym h.server) refl tells h.answered;

@@ -21,17 +21,17 @@ use Rattle.play_driver.specs.Joining.{AllFair}
 use Rattle.play_driver.specs.KnownAt.{KnownAt, StandsKept, WasServer}
 use Rattle.play_driver.specs.Played.{played}
 use Rattle.play_driver.specs.Calm.{NoChangeWaits}
-use Rattle.playback.proofs.Carrying.{nothing_waits}
-use Rattle.playback.proofs.Keeping.{quiet_keeps}
+use Rattle.book_laws.proofs.Carrying.{nothing_waits}
+use Rattle.book_laws.proofs.Keeping.{quiet_keeps}
 use Rattle.playback.proofs.Moments.{grows_moved}
 use Rattle.playback.proofs.Onward.{others_know}
 use Rattle.playback.proofs.Recording.{begins_know}
 use Rattle.playback.specs.Choosing.{begun_with}
-use Rattle.playback.specs.Course.{IsOneOf}
-use Rattle.playback.specs.Kept.{Kept, KeptBook}
-use Rattle.playback.specs.Of.{MutatingWaits}
+use Rattle.playback.specs.Course.{IsAmong}
+use Rattle.book_laws.specs.Kept.{Kept, KeptBook}
+use Rattle.book_laws.specs.Of.{MutatingWaits}
 use Rattle.playback.specs.Knows.{Knows}
-use Rattle.playback.specs.Polite.{KeepsBox, KeepsWaiting, Spares}
+use Rattle.book_laws.specs.Polite.{KeepsBox, KeepsWaiting, Spares}
 use Rattle.playback.specs.Worlds.{World, moved, name_of}
 use Rattle.playback.specs.Worlds.{begins as begins_at}
 use Rattle.playback.specs.declared.player.Player.{Player}
@@ -177,7 +177,7 @@ module _ (alloc : Global) (b : Meaning) (made now : Clock) (stands : StandsKept 
       let h : IsFirst P b reached_first.world now.now.outside = reached_first.there in
       record {
         world = reached_first.world;
-        tells = tells_of (IsFirst P b) W made now refl reached_first (λ e one. absurd (subst (IsOneOf e) h.unsaid one)) (record {
+        tells = tells_of (IsFirst P b) W made now refl reached_first (λ e one. absurd (subst (IsAmong e) h.unsaid one)) (record {
           server = h.server;
           waits = h.waiting ∙ sym waiting;
           selects = ap name_of h.selected ∙ sym selected;

@@ -21,7 +21,7 @@ use Rattle.play_driver.proofs.KnownBeside.{world_of}
 use Rattle.play_driver.proofs.KnownPermits.{permitted_on, told_permits}
 use Rattle.play_driver.proofs.KnownWalk.{grows_tick}
 use Rattle.play_driver.proofs.Parts.{grows, grows_then, since_first, since_second}
-use Rattle.play_driver.specs.Exchanges.{AnsweredAll, Exchange, IsAnswered}
+use Rattle.play_driver.specs.Exchanges.{AnsweredAll, Exchange, IsAnsweredOk}
 use Rattle.play_driver.specs.Holds.{IsHeldReply}
 use Rattle.play_driver.specs.Joining.{AllFair, Grows, IsFair}
 use Rattle.play_driver.specs.KnownAt.{GatheredAt, IsPermitted, KnownAt, StandsKept}
@@ -31,7 +31,7 @@ use Rattle.play_driver.specs.declared.session.Held.{Held}
 use Rattle.playback.proofs.Onward.{asks_know, carried_knows}
 use Rattle.playback.specs.Allowed.{is_due}
 use Rattle.playback.specs.Course.{Course, Said}
-use Rattle.playback.specs.Kept.{KeptBook}
+use Rattle.book_laws.specs.Kept.{KeptBook}
 use Rattle.playback.specs.Knows.{IsNeeded, Knows, MayAskRows, SelectsBox}
 use Rattle.playback.specs.Needs.{need_of}
 use Rattle.playback.specs.Worlds.{World, answered_course, asks_rows, name_of, selected_after, selected_by, selected_on}
@@ -96,7 +96,7 @@ rows_carried p b c r selected owed course t after may out waits later k =
     carried_knows p b (asks_rows c v) c r t after refl out waits later (asks_know p b v c may k)
 
 -- time goes on while a question is answered
-answered_grows : (selected : Option (List ℕ)) (tag : Tag) (x : Exchange) (old new : Clock) → IsAnswered selected tag x old new →
+answered_grows : (selected : Option (List ℕ)) (tag : Tag) (x : Exchange) (old new : Clock) → IsAnsweredOk selected tag x old new →
     Grows old new
 answered_grows selected tag x old new a =
     let step : Moment → Moment → Type 0 = LinkStep (Asking old.now.outside.talk.told tag x.asked) in
@@ -132,7 +132,7 @@ module _ (p : Player) (b : Meaning) (name : List ℕ) (permits told : Option Per
   select_needed : IsNeeded (need_of p b) Select p.selected b
   select_needed = subst (λ (need : Need). IsNeeded need Select p.selected b) (sym needed) selects_box
 
-  module _ (mid : Clock) (a : IsAnswered Before (next_tag count) First old mid) (fair : AllFair mail played old mid) where
+  module _ (mid : Clock) (a : IsAnsweredOk Before (next_tag count) First old mid) (fair : AllFair mail played old mid) where
     selects : name_of Selection ≡ a.answered.after
     selects =
         let became = a.answered.became in
@@ -221,7 +221,7 @@ module _ (p : Player) (b : Meaning) (name : List ℕ) (permits told : Option Per
       abbrev Second : Exchange
       Second = record { asked = commands.FetchAll; replies = all }
 
-      module _ (f : IsAnswered a.answered.after (next_tag (count + 1)) Second mid new) (later_fair : AllFair mail played mid new) where
+      module _ (f : IsAnsweredOk a.answered.after (next_tag (count + 1)) Second mid new) (later_fair : AllFair mail played mid new) where
         may_rows : (course : Course) → course.said ≡ there.said ∷ Rest → MayAskRows Fetch p b (world_of course Selection (Some Select))
         may_rows course is_said = record {
           select = Select;
@@ -294,13 +294,13 @@ module _ (p : Player) (b : Meaning) (name : List ℕ) (delta : Delta) (permits t
   by_exchanges r None is due tells a =
       let x : Exchange = record { asked = select_of name Kept; replies = r } in
       known_selected p b name permits told made old stands known needed count r new
-      (subst (λ (k : Clock). IsAnswered Front (next_tag count) x old k) (sym a.2) a.1) fair delta is due tells
+      (subst (λ (k : Clock). IsAnsweredOk Front (next_tag count) x old k) (sym a.2) a.1) fair delta is due tells
   by_exchanges r (Some all) is due tells a =
       let x : Exchange = record { asked = select_of name Kept; replies = r } in
       let y : Exchange = record { asked = commands.FetchAll; replies = all } in
       let mid : Clock = a.0 in
-      let f : IsAnswered a.1.answered.after (next_tag (count + 1)) y mid new =
-      subst (λ (k : Clock). IsAnswered a.1.answered.after (next_tag (count + 1)) y mid k) (sym a.2.2) a.2.1 in
+      let f : IsAnsweredOk a.1.answered.after (next_tag (count + 1)) y mid new =
+      subst (λ (k : Clock). IsAnsweredOk a.1.answered.after (next_tag (count + 1)) y mid k) (sym a.2.2) a.2.1 in
       let first : Grows old mid = answered_grows Front (next_tag count) x old mid a.1 in
       let second : Grows mid new = answered_grows a.1.answered.after (next_tag (count + 1)) y mid new f in
       known_fetched p b name permits told made old stands known needed count r mid a.1

@@ -15,7 +15,7 @@ use Rattle.play_driver.proofs.KnownGathers.{rows_carried}
 use Rattle.play_driver.proofs.KnownPermits.{permitted_on}
 use Rattle.play_driver.proofs.KnownWalk.{answered_later, kept_here, kept_told, servers_later, tells_peer}
 use Rattle.play_driver.proofs.Parts.{grows}
-use Rattle.play_driver.specs.Exchanges.{AnsweredAll, Exchange, IsAnswered}
+use Rattle.play_driver.specs.Exchanges.{AnsweredAll, Exchange, IsAnsweredOk}
 use Rattle.play_driver.specs.Holds.{IsHeldFor, OwesHeld}
 use Rattle.play_driver.specs.Joining.{AllFair, Grows}
 use Rattle.play_driver.specs.KnownAt.{GatheredAt, KnownAt, StandsKept}
@@ -27,7 +27,7 @@ use Rattle.playback.proofs.Resetting.{IsResetOf, reset_knows, reset_kept, reset_
 use Rattle.playback.specs.Allowed.{is_due}
 use Rattle.playback.specs.Choosing.{reset_of}
 use Rattle.playback.specs.Course.{Course, Said}
-use Rattle.playback.specs.Kept.{KeptBook}
+use Rattle.book_laws.specs.Kept.{KeptBook}
 use Rattle.playback.specs.Knows.{IsNeeded, Knows, MayAskRows, MayReset, SelectsBox}
 use Rattle.playback.specs.Why.{TellsValidity}
 use Rattle.playback.specs.Worlds.{World, name_of}
@@ -41,7 +41,6 @@ use Rattle.store_core.specs.Mail.{mail}
 use Rattle.store_core.specs.Taking.{IsTaking, Takes}
 use Rattle.world_traits.proofs.Traces.{carried_now}
 use Rattle.world_traits.specs.Moments.{Clock, GoesOn, Moment}
-use Rattle.action_queue.specs.declared.event.Event.TheVariants as events
 use Rattle.imap_model.specs.declared.command.Command.TheVariants as commands
 
 -- the reply that is held answers the SELECT that the player needs
@@ -96,9 +95,6 @@ module _ (p : Player) (b : Meaning) (h : Held) (permits : Option Permits) (made 
 
     pub may : MayReset Name is_of.cache.validity h.told b W
     may = may_reset is_of.cache is_of.there is_of.above
-
-    pub reset_is : event ≡ events.Reset Name is_of.cache.validity h.told
-    reset_is = is_of.is
 
     pub kept_behind : KeptBook (after b event) W.course.now W.waiting
     kept_behind =
@@ -214,7 +210,7 @@ module _ (p : Player) (b : Meaning) (h : Held) (permits : Option Permits) (made 
         selected = sym known.tells.selects;
       }
 
-      module _ (f : IsAnswered old.now.outside.talk.selected (next_tag count) Second old new) (fair : AllFair mail played old new) where
+      module _ (f : IsAnsweredOk old.now.outside.talk.selected (next_tag count) Second old new) (fair : AllFair mail played old new) where
         then : AnsweredFollows Fetch all p b made W.selected (Some owes.select) W.course.said new
         then =
             follows_answered p b made old new Fetch all W.selected (Some owes.select) W.course.said f.connection f.feed f.answered fair
@@ -264,5 +260,5 @@ module _ (p : Player) (b : Meaning) (h : Held) (permits : Option Permits) (made 
         by None a makes = subst (λ (k : Clock). GatheredAt delta made k permits p b) (sym a) (known_empty makes)
         by (Some all) a makes =
             known_rows count all new
-            (subst (λ (k : Clock). IsAnswered old.now.outside.talk.selected (next_tag count) (record { asked = commands.FetchAll; replies = all }) old k)
+            (subst (λ (k : Clock). IsAnsweredOk old.now.outside.talk.selected (next_tag count) (record { asked = commands.FetchAll; replies = all }) old k)
             (sym a.2) a.1) fair makes

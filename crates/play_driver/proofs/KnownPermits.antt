@@ -6,7 +6,7 @@ use Rattle.imap_model.specs.declared.mark.Mark.{Mark}
 use Rattle.imap_session.specs.Permanent.{permitted}
 use Rattle.imap_session.specs.declared.permits.Permits.{Permits}
 use Rattle.play_driver.specs.KnownAt.{IsPermitted}
-use Rattle.playback.specs.Course.{IsOneOf, Said}
+use Rattle.playback.specs.Course.{IsAmong, Said}
 use Rattle.playback.specs.Why.{WasSelected}
 use Rattle.playback.specs.Worlds.{World, name_of}
 
@@ -19,7 +19,7 @@ pub permitted_on : (permits : Option Permits) (w v : World) → name_of v.select
     v.course.said ≡ said ∷ w.course.said → IsPermitted permits w → IsPermitted permits v
 permitted_on permits w v same said last before name is =
     let found : WasSelected name (λ r. permits ≡ permitted None r) w.course = before name (sym same ∙ is) in
-    (found.0, subst (λ (l : List Said). IsOneOf found.0 l) (sym last) (inr found.1), found.2)
+    (found.0, subst (λ (l : List Said). IsAmong found.0 l) (sym last) (inr found.1), found.2)
 
 -- a SELECT said it last
 pub told_permits : (permits : Option Permits) (name : List ℕ) (since : Option Mark) (w : World) (said : Said) (rest : List Said) →
@@ -28,6 +28,6 @@ pub told_permits : (permits : Option Permits) (name : List ℕ) (since : Option 
 told_permits permits name since w said rest last asks is selects other named =
     let same : name ≡ other = same_Some name other (sym selects ∙ named) in (
       said,
-      subst (λ (l : List Said). IsOneOf said l) (sym last) (inl refl),
+      subst (λ (l : List Said). IsAmong said l) (sym last) (inl refl),
       ((since, subst (λ (n : List ℕ). said.command.command ≡ commands.Select n since) same asks), is),
     )

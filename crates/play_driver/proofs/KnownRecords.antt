@@ -10,13 +10,13 @@ use Rattle.play_driver.proofs.Parts.{grows}
 use Rattle.play_driver.specs.Joining.{Grows}
 use Rattle.play_driver.specs.KnownAt.{KnownAt, StandsKept}
 use Rattle.playback.proofs.Allowing.{allowed_need}
-use Rattle.playback.proofs.Entering.{event_keeps}
+use Rattle.book_laws.proofs.Entering.{event_keeps}
 use Rattle.playback.proofs.Recording.{committed_knows}
 use Rattle.playback.specs.Allowed.{IsAllowed, Records}
 use Rattle.playback.specs.Choosing.{committed}
-use Rattle.playback.specs.Kept.{KeptBook}
+use Rattle.book_laws.specs.Kept.{KeptBook}
 use Rattle.playback.specs.Needs.{need_of}
-use Rattle.playback.specs.Permitted.{MayFollow, Permits}
+use Rattle.book_laws.specs.Permitted.{MayFollow, Permits}
 use Rattle.playback.specs.Worlds.{World, name_of}
 use Rattle.playback.specs.declared.need.Need.{Need}
 use Rattle.playback.specs.declared.player.Player.{Player}

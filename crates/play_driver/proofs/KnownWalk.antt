@@ -13,10 +13,9 @@ use Rattle.play_driver.proofs.Steps.{joined_keeps}
 use Rattle.play_driver.specs.Joining.{AllFair, AnyTwo, Grows, IsFair, IsKept, Joined}
 use Rattle.play_driver.specs.KnownAt.{TellsOf, WasAnswered, WasServer}
 use Rattle.play_driver.specs.Played.{SparesFrom, played}
-use Rattle.playback.specs.Course.{IsOneOf, Said}
-use Rattle.playback.specs.Kept.{Kept, KeptBook}
-use Rattle.playback.specs.Worlds.{Among, World, name_of}
-use Rattle.playback.specs.Worlds.{Grows as Grown}
+use Rattle.playback.specs.Course.{IsAmong, Said}
+use Rattle.book_laws.specs.Kept.{Kept, KeptBook}
+use Rattle.playback.specs.Worlds.{Among, KeepsCourse, World, name_of}
 use Rattle.store_core.proofs.MailBook.{one_mail_event}
 use Rattle.store_core.specs.Mail.{mail}
 use Rattle.store_core.specs.Steps.{Firm}
@@ -115,7 +114,7 @@ servers_later w made k l more each s among = was_later s made k l more (each s a
 
 -- what was said was answered at these moments
 abbrev pub AreAnswered : List Said → Clock → Clock → Type 0
-AreAnswered said made k = (e : Said) → IsOneOf e said → WasAnswered e made k
+AreAnswered said made k = (e : Said) → IsAmong e said → WasAnswered e made k
 
 was_answered_later : (e : Said) (made k l : Clock) → Grows k l → WasAnswered e made k → WasAnswered e made l
 was_answered_later e made k l more was =
@@ -131,20 +130,20 @@ servers_time w made k each =
     grows_then made was.at k was.first was.later
 
 -- a moment more, and the world as it is then
-pub servers_grow : (w v : World) (made k : Clock) (m : Moment) → Grown w v → v.course.now ≡ m.outside.server → AreServers w made k →
+pub servers_grow : (w v : World) (made k : Clock) (m : Moment) → KeepsCourse w v → v.course.now ≡ m.outside.server → AreServers w made k →
     AreServers v made (tick k m)
 servers_grow w v made k m grown now each s among =
     let time : Grows made (tick k m) = grows_then made k (tick k m) (servers_time w made k each) (grows_tick k m) in
     ⊎_elim (λ (is : s ≡ v.course.now). subst (λ (x : Server). WasServer x made (tick k m)) (sym (is ∙ now)) (was_now made (tick k m) time))
     (λ (before : Among s w). was_later s made k (tick k m) (grows_tick k m) (each s before)) (grown.back s among)
 
-pub grown_same : (w : World) → Grown w w
+pub grown_same : (w : World) → KeepsCourse w w
 grown_same w = record { among = λ s a. a; back = λ s a. inr a; said = λ e a. a; first = refl }
 
 -- the world goes on to one of which this is so, at most a moment later
 pub record GoesTo (At : World → Peer → Type 0) (w : World) (q : Peer) : Type 0 where
   pub world : World
-  pub grown : Grown w world
+  pub grown : KeepsCourse w world
   pub there : At world q
 
 -- so it goes on over the moments

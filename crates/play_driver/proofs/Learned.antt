@@ -43,12 +43,12 @@ use Rattle.imap_session.specs.Dialogue.{next_tag}
 use Rattle.imap_session.specs.Enquiring.{Enquiring}
 use Rattle.imap_session.specs.Session.{waiting_of}
 use Rattle.imap_session.specs.declared.permits.Permits.{Permits}
-use Rattle.playback.specs.Kept.{KeptBook}
-use Rattle.playback.specs.Fresh.{IsFreshFor}
+use Rattle.book_laws.specs.Kept.{KeptBook}
+use Rattle.book_laws.specs.Fresh.{IsFreshFor}
 use Rattle.store_core.specs.Mail.{mail}
 use Rattle.store_core.specs.Steps.{Firm}
 use Rattle.store_core.specs.Taking.{HasBooks}
-use Rattle.play_driver.specs.Exchanges.{Exchange, AnsweredAll, IsAnswered}
+use Rattle.play_driver.specs.Exchanges.{Exchange, AnsweredAll, IsAnsweredOk}
 use Rattle.play_driver.specs.Renewing.{above, above_codes, renewed_to}
 use Rattle.play_driver.specs.Resynchronising.{exchanged, fetches, mark_kept, select_of, Resyncs}
 use Rattle.play_driver.specs.Calm.{IsCalm, IsFreshAt, NoChangeWaits}
@@ -62,7 +62,7 @@ use Rattle.play_driver.proofs.Answering.{AnsweredAt, answered_at, answered_throu
 use Rattle.play_driver.proofs.Calm.{SameSelected, calm_now, held_freely, held_now, stays_selected}
 use Rattle.play_driver.proofs.KnownWalk.{grows_tick, kept_here}
 use Rattle.play_driver.proofs.QuestionsStay.{question_stays}
-use Rattle.playback.proofs.Facts.{box_evolves}
+use Rattle.book_laws.proofs.Facts.{box_evolves}
 use Rattle.play_driver.proofs.Links.{books_there, fair_books}
 use Rattle.play_driver.proofs.NotRead.{IsQuiet, last_earlier, quiet_all}
 use Rattle.play_driver.proofs.Parts.{grows, grows_then, since_first, since_second}
@@ -378,9 +378,9 @@ module _ (name : List ℕ) where
       (rows.0, λ delta tells. levelled_earlier (first delta) old mid new first_part a.nothing a.no_part (rows.1 delta tells))
 
   -- what was answered, up to the end
-  pub ends_at : (selected : Option (List ℕ)) (tag : Tag) (x : Exchange) (old at new : Clock) → new ≡ at → IsAnswered selected tag x old at →
-      IsAnswered selected tag x old new
-  ends_at selected tag x old at new same a = subst (λ (k : Clock). IsAnswered selected tag x old k) (sym same) a
+  pub ends_at : (selected : Option (List ℕ)) (tag : Tag) (x : Exchange) (old at new : Clock) → new ≡ at → IsAnsweredOk selected tag x old at →
+      IsAnsweredOk selected tag x old new
+  ends_at selected tag x old at new same a = subst (λ (k : Clock). IsAnsweredOk selected tag x old k) (sym same) a
 
   pub told_empty : (empty : Bool) → false ≡ not empty → empty ≡ true
   told_empty true is = refl
@@ -405,9 +405,9 @@ module _ (name : List ℕ) where
       let first_at = answered_at selected (next_tag count) x old a.0 refl a.1 in
       let after : a.1.answered.after ≡ Some name =
       select_after None selected (next_tag count) r _ _ a.1.answered.after a.1.accepted a.1.answered.became.is.is in
-      let fetched : IsAnswered (Some name) (next_tag (count + 1)) y a.0 a.2.0 =
-      subst (λ (s : Option (List ℕ)). IsAnswered s (next_tag (count + 1)) y a.0 a.2.0) after a.2.1 in
-      let at_end : IsAnswered (Some name) (next_tag (count + 1)) y a.0 new = ends_at (Some name) (next_tag (count + 1)) y a.0 a.2.0 new a.2.2 fetched in
+      let fetched : IsAnsweredOk (Some name) (next_tag (count + 1)) y a.0 a.2.0 =
+      subst (λ (s : Option (List ℕ)). IsAnsweredOk s (next_tag (count + 1)) y a.0 a.2.0) after a.2.1 in
+      let at_end : IsAnsweredOk (Some name) (next_tag (count + 1)) y a.0 new = ends_at (Some name) (next_tag (count + 1)) y a.0 a.2.0 new a.2.2 fetched in
       let second_at = answered_at (Some name) (next_tag (count + 1)) y a.0 new refl at_end in
       with_rows selected (next_tag count) (next_tag (count + 1)) r all old a.0 new calm none no_part fair a.1.accepted at_end.accepted first_at
       second_at (second_at.keeps tt)

@@ -74,3 +74,4 @@ pub mod SentTexts
 pub mod SentNumbers
 pub mod SentRuns
 pub mod OverLink
+pub mod RecordedTurn

@@ -96,9 +96,6 @@ module _ (K : Keeping) (M : Machine K) (S : Peer → Peer → Type 0) (x : Books
       since_weaker (λ m. A m × Held m) Any (λ m n. Held m × L m n) (Joined K M) (λ m p. tt) joins old new
       (since_carry A Held L on old (has, at_first) new both)
 
-  pub linked_now : HasBooks K x new.now × Known new.now.outside
-  linked_now = carried_now A Held L on old (has, at_first) new both
-
 -- The files stay as a store left them while the link is called.
 module _ (K : Keeping) (S : Peer → Peer → Type 0) (store : Holding K) (old new : Clock) (seen later : Files) (left : IsAsLeft K store old.now seen)
     (linked : Linked S old new) (leaves : MayLeave new.now later) where

@@ -13,7 +13,7 @@ use Rattle.play_driver.specs.Running.{RunsBetween, StopsBehind}
 use Rattle.play_driver.specs.Turning.{IsNext, Standing, TurnFails, need_at}
 use Rattle.play_driver.specs.declared.fault.PlayFault.{PlayFault}
 use Rattle.play_driver.specs.declared.session.Held.{Held}
-use Rattle.playback.specs.Kept.{Kept}
+use Rattle.book_laws.specs.Kept.{Kept}
 use Rattle.playback.specs.Needs.{NeedsNoMemory, need_of}
 use Rattle.playback.specs.declared.need.Need.{Need}
 use Rattle.playback.specs.declared.need.Need.TheVariants as needs

@@ -1,7 +1,7 @@
 -- A command of a book that is asked is sent once, while it may be; and each step meanwhile is one of the machine.
 use Rattle.std.proofs.Common.{◌≡◌, ◌⊎◌, inl, inr, ℕ, ◌≤◌, ◌<◌, true, List, [], ◌∷◌, ◌++◌, length, Option, Some, None, refl, sym, ◌∙◌, ap, subst, arith}
 use Rattle.std.proofs.Common.{length-append}
-use Rattle.std.proofs.lemmas.Option.{none-some, same_Some}
+use Rattle.std.proofs.lemmas.Option.{none-some}
 use Rattle.mail_base.specs.declared.tag.Tag.{Tag}
 use Rattle.imap_model.specs.CarriedOut.{told_in}
 use Rattle.imap_model.specs.Carrying.{Waiting}
@@ -114,16 +114,6 @@ module _ (K : Keeping) (M : Machine K)
       let as_tagged = subst (λ (t : Tag). Asking told t command p q) (sym k.tagged) asked in
       let there = step b told k.waiting p q (subst (λ (c : Command). Asking told k.waiting.tag c p q) (sym k.asked) as_tagged) f k.state in
       (record { waiting = k.waiting; tagged = k.tagged; asked = k.asked; state = there.0 }, there.1)
-
--- a command that waits while it is asked may still be sent: where it is carried out, it has taken no effect yet
-pub waits_may : (K : Keeping) (M : Machine K) (b : K.Book) (told : List Response) (tag : Tag) (command : Command) (p : Peer) (v : Waiting) →
-    AsksOnce K M b told tag command p → p.waiting ≡ Some v → MayAsk K M b p.server v
-waits_may K M b told tag command p v k waits = by k.state
-  where
-    by : (Before K M b told k.waiting p ⊎ Waits K M b told k.waiting p ⊎ Behind told p) → MayAsk K M b p.server v
-    by (inl h) = absurd (none-some v (sym h.quiet ∙ waits))
-    by (inr (inl h)) = subst (MayAsk K M b p.server) (same_Some k.waiting v (sym h.waits ∙ waits)) h.may
-    by (inr (inr h)) = absurd (none-some v (sym h.quiet ∙ waits))
 
 -- over an idle connection, a command may be asked that may be sent
 pub idle_asks : (K : Keeping) (M : Machine K) (b : K.Book) (selected : Option (List ℕ)) (tag : Tag) (command : Command) (p : Peer) → p.waiting ≡ None →

@@ -32,7 +32,7 @@ use Rattle.play_driver.specs.declared.session.Held.{Held}
 use Rattle.play_driver.specs.declared.session.Session.{Session}
 use Rattle.playback.specs.Allowed.{Records}
 use Rattle.playback.specs.Choosing.{IsChosen, committed}
-use Rattle.playback.specs.Kept.{Kept}
+use Rattle.book_laws.specs.Kept.{Kept}
 use Rattle.playback.specs.Needs.{IsBeside, IsLawfulNeed, need_of}
 use Rattle.playback.specs.Replying.{IsHeard}
 use Rattle.playback.specs.Worlds.{name_of}

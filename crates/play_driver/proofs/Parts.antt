@@ -65,6 +65,3 @@ became_within P S R e k l m before b after = record {
 -- a step with R within the first of two runs, and within the second
 pub became_later : (R : Moment → Moment → Type 0) (old mid new : Clock) → Became Any AnyTwo R old mid → Grows mid new → Became Any AnyTwo R old new
 became_later R old mid new b more = became_within Any AnyTwo R old old mid new (grows_start old) b more
-
-pub became_earlier : (R : Moment → Moment → Type 0) (old mid new : Clock) → Grows old mid → Became Any AnyTwo R mid new → Became Any AnyTwo R old new
-became_earlier R old mid new first b = became_within Any AnyTwo R old mid new new first b (grows_start new)

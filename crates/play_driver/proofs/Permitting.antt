@@ -13,7 +13,7 @@ use Rattle.imap_session.specs.Permanent.{behind, behind_all, behind_code, behind
 use Rattle.imap_session.specs.declared.permits.Permits.{Permits}
 use Rattle.play_driver.specs.KnownAt.{IsPermitted}
 use Rattle.play_driver.specs.Turning.{permits_action, permits_due}
-use Rattle.playback.specs.Allowed.{IsFair, LacksFlags}
+use Rattle.playback.specs.Allowed.{LacksFlags, PermitsTruly}
 use Rattle.playback.specs.Why.{Lacks, Permanent, TellsLack, last_permanent, permanent_in}
 use Rattle.playback.specs.Worlds.{World, name_of}
 use Rattle.qresync_core.proofs.Closing.{all_behind}
@@ -219,6 +219,6 @@ lacks_flags permits w name (actions.Append to flags text id) at told e = tt
 
 -- whether the flags of the action that is due can be changed for good is what a SELECT told
 pub fair_permits : (permits : Option Permits) (b : Meaning) (w : World) (name : List ℕ) → name_of w.selected ≡ Some name →
-    IsPermitted permits w → IsFair (permits_due permits (due_action b.queue)) b w
+    IsPermitted permits w → PermitsTruly (permits_due permits (due_action b.queue)) b w
 fair_permits permits b w name at told = λ e q is.
     lacks_flags permits w name q.action at told (subst (λ (o : Option Queued). permits_due permits o ≡ false) is e)

@@ -10,13 +10,13 @@ use Rattle.action_queue.specs.Book.{Meaning}
 use Rattle.action_queue.specs.declared.event.Event.{Event}
 use Rattle.store_core.specs.Mail.{mail, MayCome, rules_of}
 use Rattle.play_driver.specs.Machine.{Withstands}
-use Rattle.playback.specs.Kept.{Kept}
-use Rattle.playback.specs.Permitted.{MayFollow}
-use Rattle.playback.proofs.Carrying.{nothing_waits, carries_book}
-use Rattle.playback.proofs.Entering.{book_keeps}
-use Rattle.playback.proofs.Foreign.{others_book, of_after, spared_same}
-use Rattle.playback.proofs.Keeping.{sent, quiet_keeps, asked_quiet}
-use Rattle.playback.specs.Polite.{KeepsBox, KeepsWaiting}
+use Rattle.book_laws.specs.Kept.{Kept}
+use Rattle.book_laws.specs.Permitted.{MayFollow}
+use Rattle.book_laws.proofs.Carrying.{carries_book, nothing_waits}
+use Rattle.book_laws.proofs.Entering.{book_keeps}
+use Rattle.book_laws.proofs.Foreign.{others_book, of_after, spared_same}
+use Rattle.book_laws.proofs.Keeping.{sent, quiet_keeps, asked_quiet}
+use Rattle.book_laws.specs.Polite.{KeepsBox, KeepsWaiting}
 use Rattle.play_driver.specs.Played.{played}
 
 pub follows : (version : Version) (b : Option Meaning) (e : Event) → MayCome version b e → MayFollow b e

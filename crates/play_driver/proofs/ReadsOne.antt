@@ -16,7 +16,7 @@ use Rattle.imap_session.specs.Dialogue.{next_tag}
 use Rattle.imap_session.specs.Session.{waiting_of}
 use Rattle.imap_session.specs.declared.permits.Permits.{Permits}
 use Rattle.imap_session.proofs.Talks.{became_since}
-use Rattle.play_driver.specs.Exchanges.{AnsweredAll, Exchange, IsAnswered}
+use Rattle.play_driver.specs.Exchanges.{AnsweredAll, Exchange, IsAnsweredOk}
 use Rattle.play_driver.specs.Resynchronising.{Resyncs, exchanged, mark_kept, select_of, then_all}
 use Rattle.play_driver.specs.Synced.{AsksRows, IsNotRead}
 use Rattle.play_driver.proofs.Learned.{select_after}
@@ -38,7 +38,7 @@ module _ (name other : List ℕ) (apart : name ≢ other) where
 
   -- one question
   exchange_other : (selected : Option (List ℕ)) (tag : Tag) (x : Exchange) (old new : Clock) → old.now.outside.waiting ≡ None →
-      old.now.outside.talk.arriving ≡ None → IsAnswered selected tag x old new →
+      old.now.outside.talk.arriving ≡ None → IsAnsweredOk selected tag x old new →
       (AsksRows other (waiting_of old.now.outside.talk.selected tag x.asked) → ⊥) → Since Any (IsNotRead other) old new
   exchange_other selected tag x old new none nothing a asks =
       asked_not_read other tag x.asked old new none nothing asks

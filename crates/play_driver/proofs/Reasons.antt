@@ -14,7 +14,7 @@ use Rattle.play_driver.specs.KnownAt.{KnownAt, StandsKept}
 use Rattle.play_driver.specs.Played.{played}
 use Rattle.play_driver.specs.TrueRecords.{TrueEvent}
 use Rattle.play_driver.proofs.PlayedKept.{withstood}
-use Rattle.playback.specs.Permitted.{Permits as Permitted}
+use Rattle.book_laws.specs.Permitted.{Permits as Permitted}
 use Rattle.action_queue.specs.Events.{IsLawful}
 use Rattle.action_queue.specs.Rules.{first_broken}
 use Rattle.action_queue.specs.declared.rule.Version.{Version as Rules}
@@ -23,12 +23,12 @@ use Rattle.play_driver.specs.Progress.{IsPlayEvent}
 use Rattle.playback.proofs.Allowing.{allowed_need}
 use Rattle.playback.proofs.Calls.{parts}
 use Rattle.playback.proofs.Lawfulness.{lawful_need}
-use Rattle.playback.proofs.Recording.{IsRecorded, recorded}
+use Rattle.playback.proofs.Recorded.{IsRecorded, recorded}
 use Rattle.store_core.specs.Fold.{IsFold}
 use Rattle.playback.specs.Allowed.{IsAllowed, Records, WhyCommit}
 use Rattle.playback.specs.Choosing.{IsEntered, committed}
 use Rattle.playback.specs.Course.{Course}
-use Rattle.playback.specs.Kept.{Kept, KeptBook}
+use Rattle.book_laws.specs.Kept.{Kept, KeptBook}
 use Rattle.playback.specs.Needs.{IsBeside, IsLawfulNeed, IsReadyEvent, need_of}
 use Rattle.playback.specs.Why.{WhyEvent, WhyOutcome, is_open}
 use Rattle.playback.specs.Worlds.{World}

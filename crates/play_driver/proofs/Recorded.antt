@@ -3,7 +3,6 @@ use Rattle.action_queue.specs.Book.{Meaning, after}
 use Rattle.action_queue.specs.declared.event.Event.{Event}
 use Rattle.imap_session.specs.Session.{Stands}
 use Rattle.journal_core.specs.OneSide.{EachOneSide}
-use Rattle.journal_core.specs.Sides.{version_written}
 use Rattle.literal_feed.specs.Stream.{Stream}
 use Rattle.play_driver.proofs.GroundChains.{record_grounded}
 use Rattle.play_driver.proofs.OneTurn.{stands_kept}
@@ -14,16 +13,16 @@ use Rattle.play_driver.specs.GoesOn.{GoesOn}
 use Rattle.play_driver.specs.Joining.{IsKept}
 use Rattle.play_driver.specs.KnownAt.{KnownAt, StandsKept}
 use Rattle.play_driver.specs.Progress.{box_names}
-use Rattle.play_driver.specs.Rests.{Rests}
 use Rattle.play_driver.specs.Sessions.{held_in, permits_in}
 use Rattle.play_driver.specs.Settled.{IsSyncedSoFar}
 use Rattle.play_driver.specs.TrueRecords.{TrueEvent}
+use Rattle.play_driver.specs.Turned.{MayTurn}
 use Rattle.play_driver.specs.declared.fault.PlayFault.{PlayFault}
 use Rattle.play_driver.specs.declared.session.Held.{Held}
 use Rattle.play_driver.specs.declared.session.Session.{Session}
 use Rattle.playback.specs.Allowed.{Records}
 use Rattle.playback.specs.Choosing.{IsEntered, committed}
-use Rattle.playback.specs.Kept.{Kept}
+use Rattle.book_laws.specs.Kept.{Kept}
 use Rattle.playback.specs.Needs.{need_of}
 use Rattle.playback.specs.declared.finding.Resynced.{Resynced}
 use Rattle.playback.specs.declared.need.Need.{Need}
@@ -32,8 +31,7 @@ use Rattle.playback.specs.declared.player.Player.{Player}
 use Rattle.imap_model.specs.Talking.{Peer}
 use Rattle.imap_session.specs.Hearing.{Hears}
 use Rattle.std.proofs.Common.{IfOk, ap, is_some, List, None, Option, Result, Some, refl, sym, subst, true, ◌∙◌, ℕ, ◌≡◌}
-use Rattle.store_core.specs.Fold.{IsFold}
-use Rattle.store_core.specs.Holding.{Holding, IsAsLeft}
+use Rattle.store_core.specs.Holding.{Holding}
 use Rattle.store_core.specs.Mail.{MayCome, mail}
 use Rattle.store_core.specs.Taking.{Takes}
 use Rattle.world_traits.specs.Files.{Files}
@@ -55,14 +53,13 @@ stands_still selected k m c d feed same link stands =
     })
 
 module _ {Self : Type 0} (W : Ghosts Self) (old new : Self) (session : Session) (p : Player) (s : Holding mail) (event : Event) (seen : Files)
-    (fold : IsFold s.book) (version : s.journal.version ≡ version_written) (rests : Rests W old p s.book session) (resting : held_in session ≡ None) (needed : Records (need_of p s.book) event)
-    (left : W.tells_files → IsAsLeft mail s (W.clock old).now seen)
+    (given : MayTurn W old seen session p s) (resting : held_in session ≡ None) (needed : Records (need_of p s.book) event)
     (takes : W.tells_files → Takes mail (Some s.book) event (W.clock old) (W.clock new)) where
   pub may : MayCome s.journal.version (Some s.book) event
-  may = may_come s.journal.version version p s.book event fold rests.beside needed
+  may = may_come s.journal.version given.written p s.book event given.fold given.rests.beside needed
 
   pub stands : W.tells_server → IsKept mail Kept (W.clock old).now → StandsKept s.book (W.clock old)
-  stands t kept = stands_kept s _ _ _ _ _ (left (W.server_with_files t)) (rests.stands t) kept
+  stands t kept = stands_kept s _ _ _ _ _ (given.left (W.server_with_files t)) (given.rests.stands t) kept
 
   -- no reply is held
   pub rested : (made : Clock) → KnownAt made (W.clock old) (permits_in session) (held_in session) p s.book →
@@ -100,7 +97,7 @@ module _ {Self : Type 0} (W : Ghosts Self) (old new : Self) (session : Session) 
       KnownAt made (W.clock old) (permits_in session) (held_in session) p s.book → IsEntered entry p s.book → TrueEvent event entry s.book made (W.clock old)
   truly_recorded t made entry kept known entered =
       true_event p s.book event made (W.clock old) (permits_in session) (stands t kept) (rested made known) needed entry entered
-      (ready p s.book event fold rests.beside needed).lawful
+      (ready p s.book event given.fold given.rests.beside needed).lawful
 
 -- a delta is recorded as it was moved out of the player, by a book that is this one
 pub learns_event : (p : Player) (b x : Meaning) (event : Event) → x ≡ b → need_of p x ≡ needs.Commit event → Records (need_of p b) event

@@ -4,7 +4,6 @@ use Rattle.action_queue.specs.declared.event.Event.{Event}
 use Rattle.imap_model.specs.Carrying.{Waiting}
 use Rattle.imap_model.specs.declared.server.Server.{Server}
 use Rattle.journal_core.specs.OneSide.{EachOneSide}
-use Rattle.journal_core.specs.Sides.{version_written}
 use Rattle.play_driver.proofs.Calls.{takes_stays}
 use Rattle.play_driver.proofs.GroundChains.{record_grounded}
 use Rattle.play_driver.proofs.KnownHeld.{is_of, kept, may}
@@ -19,9 +18,9 @@ use Rattle.play_driver.specs.Joining.{IsKept, StaysJoined}
 use Rattle.play_driver.specs.KnownAt.{KnownAt, StandsKept}
 use Rattle.play_driver.specs.Played.{played}
 use Rattle.play_driver.specs.Progress.{IsPlayEvent, box_names}
-use Rattle.play_driver.specs.Rests.{Rests}
 use Rattle.play_driver.specs.Sessions.{held_in, permits_in}
 use Rattle.play_driver.specs.TrueRecords.{TrueEvent}
+use Rattle.play_driver.specs.Turned.{MayTurn}
 use Rattle.play_driver.specs.declared.fault.PlayFault.{PlayFault}
 use Rattle.play_driver.specs.declared.session.Held.{Held}
 use Rattle.play_driver.specs.declared.session.Session.{Session}
@@ -29,14 +28,14 @@ use Rattle.playback.proofs.ResetBook.{none_cached, reset_ready}
 use Rattle.playback.proofs.Resetting.{IsResetOf, is_reset, reset_told}
 use Rattle.playback.specs.Choosing.{reset_of}
 use Rattle.playback.specs.Games.{IsReset}
-use Rattle.playback.specs.Kept.{Kept}
+use Rattle.book_laws.specs.Kept.{Kept}
 use Rattle.playback.specs.Needs.{IsReadyEvent}
-use Rattle.playback.specs.Permitted.{Permits}
+use Rattle.book_laws.specs.Permitted.{Permits}
 use Rattle.playback.specs.Why.{WhyEvent}
 use Rattle.playback.specs.declared.player.Player.{Player}
 use Rattle.std.proofs.Common.{IfOk, None, Option, Result, Some, ap, refl, subst, sym, ◌∙◌, ◌≡◌}
 use Rattle.store_core.proofs.MailBook.{one_mail_event}
-use Rattle.store_core.specs.Holding.{Holding, IsAsLeft}
+use Rattle.store_core.specs.Holding.{Holding}
 use Rattle.store_core.specs.Mail.{MayCome, mail}
 use Rattle.store_core.specs.Taking.{Takes}
 use Rattle.world_traits.specs.Files.{Files}
@@ -64,26 +63,25 @@ module _ (h : Held) (b : Meaning) (event : Event) (due : reset_of h.chosen.name 
       ap (λ (e : Event). cache_at h.chosen.name (after b e).boxes) of_reset.is ∙ none_cached h.chosen.name b.boxes
 
 module _ {Self : Type 0} (W : Ghosts Self) (old new : Self) (h : Held) (p : Player) (s : Holding mail) (event : Event) (seen : Files)
-    (version : s.journal.version ≡ version_written) (rests : Rests W old p s.book (sessions.Held h))
+    (given : MayTurn W old seen (sessions.Held h) p s)
     (due : reset_of h.chosen.name (cache_at h.chosen.name s.book.boxes) h.told ≡ Some event)
-    (left : W.tells_files → IsAsLeft mail s (W.clock old).now seen)
     (takes : W.tells_files → Takes mail (Some s.book) event (W.clock old) (W.clock new)) where
   may_reset : MayCome s.journal.version (Some s.book) event
-  may_reset = may_come_ready s.journal.version version s.book event (reset_comes h s.book event due)
+  may_reset = may_come_ready s.journal.version given.written s.book event (reset_comes h s.book event due)
 
   pub stands_held : W.tells_server → IsKept mail Kept (W.clock old).now → StandsKept s.book (W.clock old)
-  stands_held t kept = stands_kept s _ _ _ _ _ (left (W.server_with_files t)) (rests.stands t) kept
+  stands_held t kept = stands_kept s _ _ _ _ _ (given.left (W.server_with_files t)) (given.rests.stands t) kept
 
   -- while the player knows the connection
   module _ (made : Clock) (stands : StandsKept s.book (W.clock old)) (known : KnownAt made (W.clock old) h.chosen.permits (Some h) p s.book) where
     abbrev Of : IsResetOf h.chosen.name (cache_at h.chosen.name s.book.boxes) h.told event
-    Of = is_of p s.book h h.chosen.permits made (W.clock old) stands known rests.held event due
+    Of = is_of p s.book h h.chosen.permits made (W.clock old) stands known given.rests.held event due
 
     is_so : IsReset h.chosen.name Of.cache.validity h.told s.book known.world
     is_so =
         is_reset p s.book known.world h.chosen.name Of.cache.validity h.told
-        (may p s.book h h.chosen.permits made (W.clock old) stands known rests.held event due)
-        (kept p s.book h h.chosen.permits made (W.clock old) stands known rests.held) known.knows
+        (may p s.book h h.chosen.permits made (W.clock old) stands known given.rests.held event due)
+        (kept p s.book h h.chosen.permits made (W.clock old) stands known given.rests.held) known.knows
 
     permitted_now : Permits (Some s.book) event (W.clock old).now.outside.server (W.clock old).now.outside.waiting
     permitted_now =
@@ -98,7 +96,7 @@ module _ {Self : Type 0} (W : Ghosts Self) (old new : Self) (h : Held) (p : Play
 
     known_then : W.tells_server → KnownAt made (W.clock new) h.chosen.permits (Some h) p (after s.book event)
     known_then t =
-        known_law.resets p s.book h event s.journal.version h.chosen.permits made (W.clock old) (W.clock new) stands known rests.held due may_reset
+        known_law.resets p s.book h event s.journal.version h.chosen.permits made (W.clock old) (W.clock new) stands known given.rests.held due may_reset
         (takes (W.server_with_files t))
 
     why_so : (entry : Meaning) → WhyEvent event entry s.book known.world.course

@@ -1,4 +1,4 @@
--- The actions whose commands a run sends have rising numbers: what is left falls with each turn.
+-- The tries whose commands a run sends have rising places: what is left falls with each turn.
 use Rattle.std.proofs.Common.{◌≡◌, ◌⊎◌, ⊎_elim, inl, inr, ℕ, zero, suc, ◌+◌, ◌-◌, ◌*◌, ◌<◌, ◌≤◌, List, [], ◌∷◌, ◌++◌, length, Option, Some, None}
 use Rattle.std.proofs.Common.{refl, sym, ◌∙◌, ap, subst, arith, rules}
 use Rattle.std.specs.Prelude.{IsSome}
@@ -21,7 +21,7 @@ use Rattle.mail_base.specs.Tags.{try_tag}
 use Rattle.mail_base.specs.declared.tag.Tag.{Tag}
 use Rattle.imap_model.specs.declared.command.Command.{Command}
 use Rattle.playback.specs.Allowed.{Records}
-use Rattle.playback.specs.Choosing.{Wanted, chosen_in, committed, counted, wanted}
+use Rattle.playback.specs.Choosing.{WantedBox, chosen_in, committed, counted, wanted}
 use Rattle.playback.specs.Left.{left, rank, rank_of}
 use Rattle.playback.specs.Needs.{again, due_id, need_end, need_for, need_ids, need_learn, need_of, need_search, need_send, search_of, send_meant, send_of}
 use Rattle.playback.specs.Steps.{step_learn, step_of}
@@ -280,7 +280,7 @@ behind_reset n m q stands h event reset =
       last = stands.last;
     })
 
-chosen_count : (p : Player) (b : Meaning) (delta : Delta) (o : Option Wanted) → (chosen_in p b delta o).resynced ≡ p.resynced
+chosen_count : (p : Player) (b : Meaning) (delta : Delta) (o : Option WantedBox) → (chosen_in p b delta o).resynced ≡ p.resynced
 chosen_count p b delta None = refl
 chosen_count p b delta (Some box) = refl
 

@@ -15,7 +15,7 @@ use Rattle.play_driver.specs.TrueRecords.IsTrueSince.{enters, records, rests}
 use Rattle.play_driver.specs.declared.fault.PlayFault.{PlayFault}
 use Rattle.play_driver.specs.declared.fault.PlayFault.TheVariants as faults
 use Rattle.playback.specs.Course.{Course}
-use Rattle.playback.specs.Once.{is_unsure}
+use Rattle.book_laws.specs.Once.{is_unsure}
 use Rattle.playback.specs.Why.{WhyEvent, WhyKind, WhyOutcome, is_open}
 use Rattle.std.proofs.Common.{Bool, Err, IsErrOf, List, None, Ok, Option, Result, Some, ap, inl, inr, refl, subst, suc, sym, true, zero, ℕ, ◌∙◌, ◌∷◌, [], ◌≡◌, ◌⊎◌}
 use Rattle.std.proofs.lemmas.Bool.{and_parts, eqb-true}

@@ -18,7 +18,7 @@ use Rattle.play_driver.specs.Settled.{IsSettledAt, IsSyncedSoFar, SyncedSince}
 use Rattle.play_driver.specs.Synced.{IsLastRead, IsNotRead, IsSynced}
 use Rattle.playback.specs.Allowed.{Records}
 use Rattle.play_driver.proofs.Progressing.{names_put, takes_grows}
-use Rattle.playback.proofs.Recording.{IsRecorded, recorded}
+use Rattle.playback.proofs.Recorded.{IsRecorded, recorded}
 use Rattle.playback.specs.Choosing.{committed, counted}
 use Rattle.playback.specs.Needs.{IsBeside, IsNextBox, need_of}
 use Rattle.playback.specs.Steps.{step_box, step_due, step_learn, step_of}

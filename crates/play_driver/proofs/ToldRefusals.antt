@@ -100,7 +100,7 @@ unfit_denies tag Early frame response line (same, inl bye) other = absurd (other
 unfit_denies tag Early frame response line (same, inr (count, (ending, code, done, bad))) other = subst DeniesQuestion (sym done) (count, bad)
 
 -- where a question, or the command of an action, was refused
-answer_told : (heard : List Response) (tag : Tag) (command : Command) (had : List ℕ) (c : Option Connection) (line : List ℕ)
+pub answer_told : (heard : List Response) (tag : Tag) (command : Command) (had : List ℕ) (c : Option Connection) (line : List ℕ)
     (told : List Response) → FailsBehind heard tag command had c (sessions.Refused line) → IsHonest told c → WasTold RefusesRun told
 answer_told heard tag command had c line told (inl r) honest = absurd r.reading
 answer_told heard tag command had c line told (inr u) honest =

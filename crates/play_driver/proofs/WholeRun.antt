@@ -45,7 +45,7 @@ use Rattle.play_driver.specs.Turning.{Standing, standing_of}
 use Rattle.play_driver.specs.declared.fault.PlayFault.{PlayFault}
 use Rattle.playback.proofs.Falling.{left_at_first}
 use Rattle.playback.specs.Choosing.{IsEntered, begun_with}
-use Rattle.playback.specs.Kept.{Kept}
+use Rattle.book_laws.specs.Kept.{Kept}
 use Rattle.playback.specs.Left.{left, unsettled}
 use Rattle.playback.specs.Needs.{IsFinished}
 use Rattle.playback.specs.declared.player.Player.{Player}

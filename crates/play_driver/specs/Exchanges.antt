@@ -17,7 +17,7 @@ pub record Exchange : Type 0 where
   pub replies : Replies
 
 -- the server answered the question by OK at one moment of the time between, while this was selected
-pub record IsAnswered (selected : Option (List ℕ)) (tag : Tag) (x : Exchange) (old new : Clock) : Type 0 where
+pub record IsAnsweredOk (selected : Option (List ℕ)) (tag : Tag) (x : Exchange) (old new : Clock) : Type 0 where
   pub connection : Option Connection
   pub feed : Stream
   pub answered : Answered (waiting_of selected tag x.asked) x.replies old new connection feed
@@ -27,7 +27,7 @@ pub record IsAnswered (selected : Option (List ℕ)) (tag : Tag) (x : Exchange) 
 abbrev pub AnsweredAll : List Exchange → Option (List ℕ) → ℕ → Clock → Clock → Type 0
 AnsweredAll [] selected count old new = new ≡ old
 AnsweredAll (x ∷ xs) selected count old new =
-    (at : Clock) × (a : IsAnswered selected (next_tag count) x old at) × AnsweredAll xs a.answered.after (count + 1) at new
+    (at : Clock) × (a : IsAnsweredOk selected (next_tag count) x old at) × AnsweredAll xs a.answered.after (count + 1) at new
 
 -- Each question was sent whole, and its replies are all that came behind what was heard before it. This had been sent, received
 -- and heard before.

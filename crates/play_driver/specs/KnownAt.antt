@@ -19,15 +19,15 @@ use Rattle.mailbox_cache.specs.declared.delta.Delta.{Delta}
 use Rattle.play_driver.specs.Joining.{AllFair, AnyTwo, Grows, IsKept}
 use Rattle.play_driver.specs.Played.{played}
 use Rattle.play_driver.specs.Questioning.{Questioning}
-use Rattle.play_driver.specs.Exchanges.{IsAnswered}
+use Rattle.play_driver.specs.Exchanges.{IsAnsweredOk}
 use Rattle.play_driver.specs.Holds.{IsHeldFor, IsHeldReply, Owes}
 use Rattle.play_driver.specs.Resynchronising.{Resyncs, RowsFetched, select_of}
 use Rattle.play_driver.specs.declared.session.Held.{Held}
 use Rattle.play_driver.specs.SentOnce.{MayAsk}
 use Rattle.playback.specs.Allowed.{IsGathered, IsReply, Records}
 use Rattle.playback.specs.Choosing.{begun_with, committed, reset_of}
-use Rattle.playback.specs.Course.{IsOneOf, Said}
-use Rattle.playback.specs.Kept.{Kept, KeptBook}
+use Rattle.playback.specs.Course.{IsAmong, Said}
+use Rattle.book_laws.specs.Kept.{Kept, KeptBook}
 use Rattle.playback.specs.Knows.{IsNeeded, Knows}
 use Rattle.playback.specs.Needs.{need_of}
 use Rattle.playback.specs.Why.{WasSelected}
@@ -67,7 +67,7 @@ pub record TellsOf (w : World) (made now : Clock) : Type 0 where
   pub first : w.course.first ≡ made.now.outside.server
   pub server : w.course.now ≡ now.now.outside.server
   pub each : (s : Server) → Among s w → WasServer s made now
-  pub answered : (e : Said) → IsOneOf e w.course.said → WasAnswered e made now
+  pub answered : (e : Said) → IsAmong e w.course.said → WasAnswered e made now
   pub waits : w.waiting ≡ now.now.outside.waiting
   pub selects : name_of w.selected ≡ now.now.outside.talk.selected
 
@@ -130,7 +130,7 @@ pub record KnownGoesOn : Type 0 where
       KnownAt made new permits None (committed p (after b event)) (after b event)
   pub holds : (p : Player) (b : Meaning) (h : Held) (r : Replies) (count : ℕ) (permits : Option Permits) (made old new : Clock) →
       StandsKept b old → KnownAt made old permits None p b → need_of p b ≡ needs.Select h.chosen.name → AllFair mail played old new →
-      IsAnswered old.now.outside.talk.selected (next_tag count)
+      IsAnsweredOk old.now.outside.talk.selected (next_tag count)
       (record { asked = select_of h.chosen.name (cache_at h.chosen.name b.boxes); replies = r }) old new →
       IsHeldReply h r → KnownAt made new (permitted None r) (Some h) p b
   pub resets : (p : Player) (b : Meaning) (h : Held) (event : Event) (version : Version) (permits : Option Permits) (made old new : Clock) →

@@ -18,8 +18,8 @@ use Rattle.play_driver.specs.KnownAt.{StandsKept}
 use Rattle.play_driver.specs.Played.{played}
 use Rattle.imap_session.specs.declared.permits.Permits.{Permits}
 use Rattle.play_driver.specs.Calm.{IsCalm, IsFreshAt}
-use Rattle.playback.specs.Fresh.{IsFreshFor}
-use Rattle.playback.specs.Polite.{KeepsBox}
+use Rattle.book_laws.specs.Fresh.{IsFreshFor}
+use Rattle.book_laws.specs.Polite.{KeepsBox}
 
 -- the mailbox of this name has one UIDVALIDITY in both servers
 abbrev pub SameValidity : List ℕ → Server → Server → Type 0

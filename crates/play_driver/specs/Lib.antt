@@ -38,6 +38,7 @@ pub mod Reasons
 pub mod Surely
 pub mod Rests
 pub mod TakesTurn
+pub mod Turned
 pub mod Gathering
 pub mod Fetching
 pub mod Enters

@@ -5,9 +5,9 @@ use Rattle.action_queue.specs.Book.{Meaning}
 use Rattle.std.specs.Prelude.{Option}
 use Rattle.store_core.specs.Mail.{mail}
 use Rattle.play_driver.specs.Machine.{Machine}
-use Rattle.playback.specs.Of.{IsOf}
-use Rattle.playback.specs.Permitted.{Permits}
-use Rattle.playback.specs.Polite.{KeepsBox, KeepsWaiting, SparesBook}
+use Rattle.book_laws.specs.Of.{IsOf}
+use Rattle.book_laws.specs.Permitted.{Permits}
+use Rattle.book_laws.specs.Polite.{KeepsBox, KeepsWaiting, SparesBook}
 
 -- Others spare the books, and renew no mailbox that is selected, nor one in which a command waits (RFC 9051, section 2.3.1.1).
 abbrev pub SparesFrom : Option Meaning → Peer → Server → Type 0

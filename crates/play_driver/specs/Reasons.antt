@@ -3,7 +3,7 @@ use Rattle.std.specs.Prelude.{Some, Result, IsErrOf}
 use Rattle.action_queue.specs.Book.{Meaning}
 use Rattle.action_queue.specs.declared.event.Event.{Event}
 use Rattle.playback.specs.Choosing.{IsEntered}
-use Rattle.playback.specs.Kept.{Kept}
+use Rattle.book_laws.specs.Kept.{Kept}
 use Rattle.playback.specs.declared.player.Player.{Player}
 use Rattle.store_core.specs.Mail.{mail}
 use Rattle.store_core.specs.Taking.{IsTaking}

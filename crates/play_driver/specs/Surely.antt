@@ -5,7 +5,7 @@ use Rattle.action_queue.specs.Queues.{due}
 use Rattle.action_queue.specs.declared.outcome.Kind.{Kind}
 use Rattle.action_queue.specs.declared.outcome.Outcome.TheVariants as outcomes
 use Rattle.action_queue.specs.declared.queued.Queued.{Queued}
-use Rattle.playback.specs.Once.{is_unsure}
+use Rattle.book_laws.specs.Once.{is_unsure}
 
 -- An action that ended as unsure in the later book had ended so in the earlier one, or it was due there, with its intent pending. So at
 -- most one ended as unsure meanwhile; and where no intent was pending, each that ended meanwhile ended as done, or as a conflict of

@@ -2,7 +2,7 @@
 use Rattle.std.specs.Prelude.{◌≡◌, ◌≤◌, ◌<◌, ◌+◌, None, Result, IfOk, OnOk, IsErr, IsErrOf}
 use Rattle.action_queue.specs.Book.{Meaning}
 use Rattle.playback.specs.Choosing.{IsEntered}
-use Rattle.playback.specs.Kept.{Kept}
+use Rattle.book_laws.specs.Kept.{Kept}
 use Rattle.playback.specs.Needs.{IsFinished}
 use Rattle.playback.specs.declared.player.Player.{Player}
 use Rattle.store_core.specs.Holding.{Holding}

@@ -5,7 +5,7 @@ use Rattle.action_queue.specs.Events.{IsLawful}
 use Rattle.action_queue.specs.declared.event.Event.{Event}
 use Rattle.imap_model.specs.Talking.{Connecting}
 use Rattle.imap_model.specs.declared.server.Server.{Server}
-use Rattle.playback.specs.Course.{Course, IsCourse, IsOneOf, Said}
+use Rattle.playback.specs.Course.{Course, IsAmong, IsCourse, Said}
 use Rattle.playback.specs.Why.{WhyEvent}
 use Rattle.store_core.specs.Mail.{mail}
 use Rattle.store_core.specs.Steps.{Firm}
@@ -28,8 +28,8 @@ pub record TrueEvent (event : Event) (entry b : Meaning) (made now : Clock) : Ty
   pub is_course : IsCourse course
   pub first : course.first ≡ made.now.outside.server
   pub last : course.now ≡ now.now.outside.server
-  pub each : (s : Server) → IsOneOf s (course.now ∷ course.past) → WasServer s made now
-  pub answered : (e : Said) → IsOneOf e course.said → WasAnswered e made now
+  pub each : (s : Server) → IsAmong s (course.now ∷ course.past) → WasServer s made now
+  pub answered : (e : Said) → IsAmong e course.said → WasAnswered e made now
   pub why : WhyEvent event entry b course
 
 -- each stop leaves this book at each moment of the time between

@@ -1,21 +1,12 @@
 //! A question, or the command of an action, is asked, and the player takes its reply.
 
-ghost use Rattle.std.specs.Prelude.{is_some, true, ◌≡◌, ◌<◌, ◌+◌, None, Some, IfOk};
+ghost use Rattle.std.specs.Prelude.{is_some, true, ◌≡◌, None};
 ghost use Rattle.action_queue.specs.Queues.{due_action, tries_due};
-ghost use Rattle.playback.specs.Left.{left};
 ghost use Rattle.playback.specs.Needs.{need_of};
-ghost use Rattle.store_core.specs.Fold.{IsFold};
-ghost use Rattle.store_core.specs.Mail.{mail};
 ghost use Rattle.play_driver.specs.Turning.{IsAskedFor, permits_due};
-ghost use Rattle.play_driver.specs.declared.fault.PlayFault.{PlayFault};
 ghost use Rattle.play_driver.specs.declared.session.Session.TheVariants as sessions;
-ghost use Rattle.play_driver.specs.Accuses.{AccusesLink};
-ghost use Rattle.play_driver.specs.Rests.{Rests};
-ghost use Rattle.store_core.specs.Holding.{IsAsLeft};
-ghost use Rattle.play_driver.specs.GoesOn.{GoesOn, SyncsOn};
-ghost use Rattle.play_driver.specs.Reasons.{Reasons};
 ghost use Rattle.play_driver.specs.Sessions.{count_of, held_in, selected_in};
-ghost use Rattle.play_driver.specs.TakesTurn.{Excuses, TakesTurn};
+ghost use Rattle.play_driver.specs.Turned.{MayTurn, TurnedByLink};
 
 use crate::fault::unheard_of;
 use crate::{PlayFault, Session};
@@ -43,25 +34,9 @@ pub(crate) fn ask<W: World>(
     requires needed { IsAskedFor (need_of player.old store.now.book) (tries_due store.now.book.queue) (count_of session)
         tag command.now }
     requires resting { held_in session ≡ None }
-    requires fold { IsFold store.now.book }
-    requires rests { Rests W.Clocked world.old player.old store.now.book session }
-    requires room { count_of session + 2 < 4294967295 }
-    requires left { W.tells_files
-        → IsAsLeft mail store.now (W.clock world.old).now (W.seen world.old) }
-    ensures goes_on { GoesOn W.Clocked world.old world.new session player.old player.new
-        store.now.book store.now.book result }
-    ensures synced { SyncsOn W.Clocked world.old world.new session player.old player.new
-        store.now.book store.now.book result }
-    ensures reasons { Reasons W.Clocked (Unit {0}) world.old world.new session player.old
-        store.now.book store.now.book result }
-    ensures takes { TakesTurn W.Clocked world.old world.new session player.old player.new
-        store.now store.now result }
-    ensures excuses { Excuses W.Clocked world.old world.new session player.old
-        store.now.book result }
-    ensures accuses { AccusesLink W.Clocked world.old world.new result }
-    ensures rests { IfOk result (Rests W.Clocked world.new player.new store.now.book) }
-    ensures left { W.tells_files
-        → IsAsLeft mail store.now (W.clock world.new).now (W.seen world.new) }
+    requires ready { MayTurn W.Clocked world.old (W.seen world.old) session player.old store.now }
+    ensures { TurnedByLink W.Clocked world.old world.new (W.seen world.new) session
+        player.old player.new store.now result }
 {
     let book = store.book();
     let chosen = chosen_in(session);

@@ -3,7 +3,7 @@
 ghost use Rattle.play_driver.specs.KnownAt.{KnownGoesOn};
 ghost use Rattle.play_driver.specs.Machine.{Withstands};
 ghost use Rattle.play_driver.specs.Played.{played};
-ghost use Rattle.playback.specs.Kept.{Kept};
+ghost use Rattle.book_laws.specs.Kept.{Kept};
 ghost use Rattle.store_core.specs.Mail.{mail};
 ghost use Rattle.std.specs.Prelude.{Option};
 ghost use Rattle.imap_model.specs.Talking.{Peer};

@@ -1,13 +1,12 @@
 //! An event that playback needs is recorded.
 
-ghost use Rattle.std.specs.Prelude.{IfOk, ◌+◌, ◌≡◌, ◌<◌, Some, Ok, IsErr, IsErrOf, IsTrue, None, OnOk, false, is_some, true};
+ghost use Rattle.std.specs.Prelude.{◌≡◌, Some, IsErr, IsErrOf, IsTrue, None, OnOk, false, is_some, true};
 ghost use Rattle.action_queue.specs.Writable.{IsWritable};
 ghost use Rattle.journal_core.specs.OneSide.{EachOneSide};
 ghost use Rattle.journal_core.specs.Sides.{version_written};
 ghost use Rattle.playback.specs.Allowed.{Records};
 ghost use Rattle.playback.specs.Left.{left};
 ghost use Rattle.playback.specs.Needs.{need_of};
-ghost use Rattle.store_core.specs.Fold.{IsFold};
 ghost use Rattle.store_core.specs.Holding.{IsAsLeft};
 ghost use Rattle.store_core.specs.Mail.{mail, IsOld, MayCome};
 ghost use Rattle.store_core.specs.Taking.{Takes};
@@ -15,13 +14,9 @@ ghost use Rattle.store_core.specs.declared.fault.CommitFault.{CommitFault};
 ghost use Rattle.store_core.specs.declared.fault.CommitFault.TheVariants as commits;
 ghost use Rattle.play_driver.specs.Faults.{of_commit};
 ghost use Rattle.play_driver.specs.Recording.{NotRecorded, recorded};
-ghost use Rattle.play_driver.specs.declared.fault.PlayFault.{PlayFault};
-ghost use Rattle.play_driver.specs.Accuses.{Accuses, AccusesDisk};
-ghost use Rattle.play_driver.specs.GoesOn.{GoesOn, SyncsOn};
-ghost use Rattle.play_driver.specs.Reasons.{Reasons};
-ghost use Rattle.play_driver.specs.Rests.{Rests, Stored};
-ghost use Rattle.play_driver.specs.Sessions.{count_of, held_in};
-ghost use Rattle.play_driver.specs.TakesTurn.{Excuses, TakesTurn};
+ghost use Rattle.play_driver.specs.Accuses.{AccusesDisk};
+ghost use Rattle.play_driver.specs.Sessions.{held_in};
+ghost use Rattle.play_driver.specs.Turned.{MayTurn, Turned};
 
 use crate::{PlayFault, Session};
 use action_queue::Event;
@@ -31,7 +26,7 @@ use store_core::{CommitFault, Store};
 use world_traits::{Clocked, Disk, Link, World};
 
 /// Records the event that the player needs: on the disk, and then in the book; and the player goes on behind it. An outcome is
-/// recorded without taking memory, and that a try is taken back. Its clauses are those of `turn`.
+/// recorded without taking memory, and that a try is taken back. Its contract is that of `turn`.
 ///
 /// `Limit` where the journal has no room for it; `Memory`. Then nothing has changed. After `Disk` the event is on the disk or not, and
 /// the store isn't used again.
@@ -45,26 +40,9 @@ pub(crate) fn record<W: World>(
 ) -> Result<Session, PlayFault>
     requires needed { Records (need_of player.old store.old.book) event }
     requires resting { held_in session ≡ None }
-    requires fold { IsFold store.old.book }
-    requires rests { Rests W.Clocked world.old player.old store.old.book session }
-    requires room { count_of session + 2 < 4294967295 }
-    requires written { store.old.journal.version ≡ version_written }
-    requires sound { IsTrue store.old.journal.failed → ⊥ }
-    requires left { W.tells_files
-        → IsAsLeft mail store.old (W.clock world.old).now (W.seen world.old) }
-    ensures goes_on { GoesOn W.Clocked world.old world.new session player.old player.new
-        store.old.book store.new.book result }
-    ensures synced { SyncsOn W.Clocked world.old world.new session player.old player.new
-        store.old.book store.new.book result }
-    ensures reasons { Reasons W.Clocked (Unit {0}) world.old world.new session player.old
-        store.old.book store.new.book result }
-    ensures takes { TakesTurn W.Clocked world.old world.new session player.old player.new
-        store.old store.new result }
-    ensures excuses { Excuses W.Clocked world.old world.new session player.old
-        store.old.book result }
-    ensures accuses { Accuses W.Clocked world.old world.new result }
-    ensures rests { IfOk result (Rests W.Clocked world.new player.new store.new.book) }
-    ensures stored { Stored W.Clocked world.new (W.seen world.new) store.old.book store.new result }
+    requires ready { MayTurn W.Clocked world.old (W.seen world.old) session player.old store.old }
+    ensures { Turned W.Clocked world.old world.new (W.seen world.new) session
+        player.old player.new store.old store.new result }
 {
     enter_event(alloc, store, world, event)?;
     player.committed(store.book());
@@ -82,26 +60,9 @@ pub(crate) fn learn<W: World>(
 ) -> Result<Session, PlayFault>
     requires waits { is_some player.old.learns ≡ true }
     requires resting { held_in session ≡ None }
-    requires fold { IsFold store.old.book }
-    requires rests { Rests W.Clocked world.old player.old store.old.book session }
-    requires room { count_of session + 2 < 4294967295 }
-    requires written { store.old.journal.version ≡ version_written }
-    requires sound { IsTrue store.old.journal.failed → ⊥ }
-    requires left { W.tells_files
-        → IsAsLeft mail store.old (W.clock world.old).now (W.seen world.old) }
-    ensures goes_on { GoesOn W.Clocked world.old world.new session player.old player.new
-        store.old.book store.new.book result }
-    ensures synced { SyncsOn W.Clocked world.old world.new session player.old player.new
-        store.old.book store.new.book result }
-    ensures reasons { Reasons W.Clocked (Unit {0}) world.old world.new session player.old
-        store.old.book store.new.book result }
-    ensures takes { TakesTurn W.Clocked world.old world.new session player.old player.new
-        store.old store.new result }
-    ensures excuses { Excuses W.Clocked world.old world.new session player.old
-        store.old.book result }
-    ensures accuses { Accuses W.Clocked world.old world.new result }
-    ensures rests { IfOk result (Rests W.Clocked world.new player.new store.new.book) }
-    ensures stored { Stored W.Clocked world.new (W.seen world.new) store.old.book store.new result }
+    requires ready { MayTurn W.Clocked world.old (W.seen world.old) session player.old store.old }
+    ensures { Turned W.Clocked world.old world.new (W.seen world.new) session
+        player.old player.new store.old store.new result }
 {
     let told = player.learn(store.book());
     enter_event(alloc, store, world, told)?;

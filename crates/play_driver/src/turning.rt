@@ -1,24 +1,13 @@
 //! A turn of playback: what is needed next is done, and the player takes what came of it.
 
-ghost use Rattle.std.specs.Prelude.{◌≡◌, ◌≢◌, ◌<◌, ◌+◌, IfOk, IsErr, IsTrue, Some, is_some, true};
+ghost use Rattle.std.specs.Prelude.{◌≡◌, ◌≢◌, IfOk, IsErr, Some, is_some, true};
 ghost use Rattle.action_queue.specs.Book.{meaning};
-ghost use Rattle.action_queue.specs.declared.event.Event.{Event};
 ghost use Rattle.imap_session.specs.Dialogue.{next_tag};
-ghost use Rattle.journal_core.specs.Sides.{version_written};
-ghost use Rattle.playback.specs.Left.{left};
 ghost use Rattle.playback.specs.Needs.{IsFinished, NeedsNoMemory, need_of};
 ghost use Rattle.playback.specs.declared.need.Need.TheVariants as needs;
-ghost use Rattle.store_core.specs.Fold.{IsFold};
-ghost use Rattle.store_core.specs.Holding.{IsAsLeft};
-ghost use Rattle.store_core.specs.Mail.{mail};
 ghost use Rattle.play_driver.specs.Sessions.{count_of, held_in, selected_in};
-ghost use Rattle.play_driver.specs.declared.fault.PlayFault.{PlayFault};
-ghost use Rattle.play_driver.specs.Accuses.{Accuses};
-ghost use Rattle.play_driver.specs.GoesOn.{GoesOn, SyncsOn};
-ghost use Rattle.play_driver.specs.Reasons.{Reasons};
-ghost use Rattle.play_driver.specs.Rests.{Rests, Stored};
-ghost use Rattle.play_driver.specs.TakesTurn.{Excuses, TakesTurn};
 ghost use Rattle.play_driver.specs.Turning.{IsNext};
+ghost use Rattle.play_driver.specs.Turned.{MayTurn, Turned};
 
 use crate::asking::ask;
 use crate::holding::resume;
@@ -28,7 +17,7 @@ use crate::{PlayFault, Session};
 use action_queue::{Book, Event};
 use imap_model::Command;
 use imap_session::Chosen;
-use mail_base::{BoxName, Tag};
+use mail_base::Tag;
 use playback::{Need, Player};
 use std::alloc::{AllocError, Global};
 use store_core::Store;
@@ -64,33 +53,9 @@ pub(crate) fn turn<W: World>(
 ) -> Result<Session, PlayFault>
     requires needed { IsNext next player.old store.old.book }
     requires unfinished { next ≢ Some needs.Finished }
-    requires fold { IsFold store.old.book }
-    requires rests { Rests W.Clocked world.old player.old store.old.book session }
-    requires room { count_of session + 2 < 4294967295 }
-    requires written { store.old.journal.version ≡ version_written }
-    requires sound { IsTrue store.old.journal.failed → ⊥ }
-    requires left { W.tells_files
-        → IsAsLeft mail store.old (W.clock world.old).now (W.seen world.old) }
-
-    // At every moment a stop leaves the book that was, or one further on; each mailbox that counts stays the server's; and what is
-    // recorded has its reason.
-    ensures goes_on { GoesOn W.Clocked world.old world.new session player.old player.new
-        store.old.book store.new.book result }
-    ensures synced { SyncsOn W.Clocked world.old world.new session player.old player.new
-        store.old.book store.new.book result }
-    ensures reasons { Reasons W.Clocked (Unit {0}) world.old world.new session player.old
-        store.old.book store.new.book result }
-
-    // What was done, or why not, on the bytes sent and received.
-    ensures takes { TakesTurn W.Clocked world.old world.new session player.old player.new
-        store.old store.new result }
-    ensures excuses { Excuses W.Clocked world.old world.new session player.old
-        store.old.book result }
-    ensures accuses { Accuses W.Clocked world.old world.new result }
-
-    // How store and connection stand then.
-    ensures rests { IfOk result (Rests W.Clocked world.new player.new store.new.book) }
-    ensures stored { Stored W.Clocked world.new (W.seen world.new) store.old.book store.new result }
+    requires ready { MayTurn W.Clocked world.old (W.seen world.old) session player.old store.old }
+    ensures { Turned W.Clocked world.old world.new (W.seen world.new) session
+        player.old player.new store.old store.new result }
 {
     match session {
         Session::Held(held) => {
@@ -116,26 +81,9 @@ fn act<W: World>(
     requires resting { held_in session ≡ None }
     requires needed { IsNext next player.old store.old.book }
     requires unfinished { next ≢ Some needs.Finished }
-    requires fold { IsFold store.old.book }
-    requires rests { Rests W.Clocked world.old player.old store.old.book session }
-    requires room { count_of session + 2 < 4294967295 }
-    requires written { store.old.journal.version ≡ version_written }
-    requires sound { IsTrue store.old.journal.failed → ⊥ }
-    requires left { W.tells_files
-        → IsAsLeft mail store.old (W.clock world.old).now (W.seen world.old) }
-    ensures goes_on { GoesOn W.Clocked world.old world.new session player.old player.new
-        store.old.book store.new.book result }
-    ensures synced { SyncsOn W.Clocked world.old world.new session player.old player.new
-        store.old.book store.new.book result }
-    ensures reasons { Reasons W.Clocked (Unit {0}) world.old world.new session player.old
-        store.old.book store.new.book result }
-    ensures takes { TakesTurn W.Clocked world.old world.new session player.old player.new
-        store.old store.new result }
-    ensures excuses { Excuses W.Clocked world.old world.new session player.old
-        store.old.book result }
-    ensures accuses { Accuses W.Clocked world.old world.new result }
-    ensures rests { IfOk result (Rests W.Clocked world.new player.new store.new.book) }
-    ensures stored { Stored W.Clocked world.new (W.seen world.new) store.old.book store.new result }
+    requires ready { MayTurn W.Clocked world.old (W.seen world.old) session player.old store.old }
+    ensures { Turned W.Clocked world.old world.new (W.seen world.new) session
+        player.old player.new store.old store.new result }
 {
     match next {
         None => learn(alloc, session, store, player, world),
@@ -143,7 +91,7 @@ fn act<W: World>(
     }
 }
 
-// Does what is needed. Its clauses are those of `turn`.
+// Does what is needed. Its contract is that of `turn`.
 fn meet<W: World>(
     alloc: Global,
     session: Session,
@@ -155,26 +103,9 @@ fn meet<W: World>(
     requires resting { held_in session ≡ None }
     requires needed { need ≡ need_of player.old store.old.book }
     requires unfinished { need ≢ needs.Finished }
-    requires fold { IsFold store.old.book }
-    requires rests { Rests W.Clocked world.old player.old store.old.book session }
-    requires room { count_of session + 2 < 4294967295 }
-    requires written { store.old.journal.version ≡ version_written }
-    requires sound { IsTrue store.old.journal.failed → ⊥ }
-    requires left { W.tells_files
-        → IsAsLeft mail store.old (W.clock world.old).now (W.seen world.old) }
-    ensures goes_on { GoesOn W.Clocked world.old world.new session player.old player.new
-        store.old.book store.new.book result }
-    ensures synced { SyncsOn W.Clocked world.old world.new session player.old player.new
-        store.old.book store.new.book result }
-    ensures reasons { Reasons W.Clocked (Unit {0}) world.old world.new session player.old
-        store.old.book store.new.book result }
-    ensures takes { TakesTurn W.Clocked world.old world.new session player.old player.new
-        store.old store.new result }
-    ensures excuses { Excuses W.Clocked world.old world.new session player.old
-        store.old.book result }
-    ensures accuses { Accuses W.Clocked world.old world.new result }
-    ensures rests { IfOk result (Rests W.Clocked world.new player.new store.new.book) }
-    ensures stored { Stored W.Clocked world.new (W.seen world.new) store.old.book store.new result }
+    requires ready { MayTurn W.Clocked world.old (W.seen world.old) session player.old store.old }
+    ensures { Turned W.Clocked world.old world.new (W.seen world.new) session
+        player.old player.new store.old store.new result }
 {
     match need {
         Need::Select(name) => select(alloc, session, store, player, world, &name),

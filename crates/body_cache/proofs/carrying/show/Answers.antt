@@ -1,4 +1,4 @@
-use Rattle.std.proofs.Common.{inr, List, Result, refl, sym, ◌∙◌, ap, subst, ℕ}
+use Rattle.std.proofs.Common.{inr, List, Result, refl, sym, subst, ℕ}
 use Rattle.mail_top.specs.Causing.{HasCauses}
 use Rattle.mail_top.specs.Course.{course_of}
 use Rattle.body_cache.specs.Causing.{HasShelfCause, shelving_of}

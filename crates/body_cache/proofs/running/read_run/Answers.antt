@@ -1,6 +1,5 @@
 use Rattle.mail_base.specs.declared.status.Status.TheVariants as status
 use Rattle.mail_top.proofs.Endings.{ended_so, said_as, said_disk, said_link, said_words}
-use Rattle.body_cache.specs.Completing.{IsServed}
 use Rattle.body_cache.proofs.Completeness.{complete_fetch, completes}
 use Rattle.body_cache.proofs.Looking.{looks_kept}
 use Rattle.body_cache.proofs.ReadRuns.{quiet_ends, said_done, said_ends, said_served}

@@ -1,4 +1,3 @@
-use Rattle.std.proofs.Common.{refl}
 use Rattle.body_cache.proofs.Wording.{zero_uid}
 use Rattle.body_cache.proofs.words.uid_of.Goals as goal
 

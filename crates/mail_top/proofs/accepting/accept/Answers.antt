@@ -1,14 +1,15 @@
-use Rattle.std.proofs.Common.{◌∙◌, ap, arith, subst, sym, refl, Ok}
+use Rattle.std.proofs.Common.{◌∙◌, ap, subst, sym, refl, Ok}
 use Rattle.journal_core.proofs.AtRest.{each_then}
 use Rattle.journal_core.proofs.HeldBodies.{narrowed}
 use Rattle.action_queue.specs.Book.{Meaning}
 use Rattle.mail_top.specs.Weighing.{Admits, HasNumber, Weighed}
 use Rattle.mail_top.specs.Words.{Act, wanted_of}
 use Rattle.mail_top.specs.declared.refusal.Refusal.TheVariants as refusals
+use Rattle.mail_top.proofs.Accusing.{blames_behind, blames_none}
 use Rattle.mail_top.proofs.Goings.{awaits_on, nothing_taken}
 use Rattle.mail_top.proofs.Moving.{opens_adding, adding_then, anew_adding, anew_steps, chooses_steps, steps_then, left_now, left_start}
 use Rattle.mail_top.proofs.Openings.{unopened_act, weighed_act, unrecorded_act, opened_stays, opened_book, store_disk, store_failed, store_already}
-use Rattle.mail_top.proofs.Openings.{store_input, never_err, rose_later, commit_disk, commit_failed, commit_already, commit_input, weighed_disk}
+use Rattle.mail_top.proofs.Openings.{store_input, never_err, commit_disk, commit_failed, commit_already, commit_input, weighed_disk}
 use Rattle.mail_top.proofs.Openings.{weighed_already, weighed_input, act_told, full_act, handed_back, handed_on, number_already, number_disk, number_input}
 use Rattle.mail_top.proofs.Recording.{told_as, no_room, may_event, stands_as, event_keeps, event_steps, event_full, event_recorded}
 use Rattle.mail_top.proofs.Takeovers.{stays_taken, untaken_act, untaken_already, untaken_input}
@@ -28,12 +29,13 @@ returns-in_err-store-clause-goes g c tells = (
   },
 )
 
-pub returns-in_err-store-clause-cause : goal.returns-in_err-store-clause-cause
-returns-in_err-store-clause-cause g c is = c.open.ensures.blames.cause (store_disk _ _ _ c.in_err-store.was c.from_residual.ensures.1 is)
-
-pub returns-in_err-store-clause-unfailed : goal.returns-in_err-store-clause-unfailed
-returns-in_err-store-clause-unfailed g c other =
-    c.open.ensures.blames.unfailed (λ is. other (store_failed _ _ _ c.in_err-store.was c.from_residual.ensures.1 is))
+pub returns-in_err-store-clause-blames : goal.returns-in_err-store-clause-blames
+returns-in_err-store-clause-blames g c = record {
+  link = c.open.ensures.blames.link;
+  count = c.open.ensures.blames.count;
+  cause = λ is. c.open.ensures.blames.cause (store_disk _ _ _ c.in_err-store.was c.from_residual.ensures.1 is);
+  unfailed = λ other. c.open.ensures.blames.unfailed (λ is. other (store_failed _ _ _ c.in_err-store.was c.from_residual.ensures.1 is));
+}
 
 pub returns-in_err-store-clause-input_cause : goal.returns-in_err-store-clause-input_cause
 returns-in_err-store-clause-input_cause g c is = absurd (store_input _ _ _ c.in_err-store.was c.from_residual.ensures.1 is)
@@ -61,13 +63,12 @@ returns-in_err-action-clause-goes g c tells =
       },
     )
 
-pub returns-in_err-action-clause-cause : goal.returns-in_err-action-clause-cause
-returns-in_err-action-clause-cause g c is =
-    absurd (weighed_disk _ c.in_ok-store.store.book _ _ _ c.in_err-action.was c.from_residual-in_err-action.ensures.1
+pub returns-in_err-action-clause-blames : goal.returns-in_err-action-clause-blames
+returns-in_err-action-clause-blames g c =
+    blames_none g.D.Clocked _ _ c.open.ensures.blames.link (c.in_ok-store.ensures.blames.unfailed (never_err _ _)) _
+    (λ is.
+    weighed_disk _ c.in_ok-store.store.book _ _ _ c.in_err-action.was c.from_residual-in_err-action.ensures.1
     (subst (λ (b : Meaning). Weighed (wanted_of c.args.asked.now c.weighed.ensures.value.0) b c.weighed.result) c.book.ensures c.weighed.ensures.value.2) is)
-
-pub returns-in_err-action-clause-unfailed : goal.returns-in_err-action-clause-unfailed
-returns-in_err-action-clause-unfailed g c other = c.in_ok-store.ensures.blames.unfailed (never_err _ _)
 
 pub returns-in_err-action-clause-input_cause : goal.returns-in_err-action-clause-input_cause
 returns-in_err-action-clause-input_cause g c is =
@@ -117,14 +118,11 @@ returns-in_err-take_over-clause-goes g c tells =
       },
     )
 
-pub returns-in_err-take_over-clause-cause : goal.returns-in_err-take_over-clause-cause
-returns-in_err-take_over-clause-cause g c is = rose_later _ _ _ c.open.ensures.blames.count
-    (c.take_over.ensures.blames.cause (handed_back _ _ _ c.in_err-take_over.was c.from_residual-in_err-take_over.ensures.1 refusals.Disk is))
-
-pub returns-in_err-take_over-clause-unfailed : goal.returns-in_err-take_over-clause-unfailed
-returns-in_err-take_over-clause-unfailed g c other =
-    c.take_over.ensures.blames.unfailed (λ is. other (handed_on _ _ _ c.in_err-take_over.was c.from_residual-in_err-take_over.ensures.1 refusals.Disk is))
-    ∙ c.in_ok-store.ensures.blames.unfailed (never_err _ _)
+pub returns-in_err-take_over-clause-blames : goal.returns-in_err-take_over-clause-blames
+returns-in_err-take_over-clause-blames g c =
+    blames_behind g.D.Clocked _ _ c.open.ensures.blames.link (c.in_ok-store.ensures.blames.unfailed (never_err _ _)) _ _ _
+    (λ is. handed_back _ _ _ c.in_err-take_over.was c.from_residual-in_err-take_over.ensures.1 refusals.Disk is)
+    (λ is. handed_on _ _ _ c.in_err-take_over.was c.from_residual-in_err-take_over.ensures.1 refusals.Disk is) c.take_over.ensures.blames
 
 pub returns-in_err-take_over-clause-input_cause : goal.returns-in_err-take_over-clause-input_cause
 returns-in_err-take_over-clause-input_cause g c is =
@@ -134,9 +132,11 @@ pub returns-in_err-take_over-clause-never : goal.returns-in_err-take_over-clause
 returns-in_err-take_over-clause-never g c is =
     untaken_already c.in_ok-store.store _ _ c.from_residual-in_err-take_over.ensures.1 c.in_err-take_over.ensures.why is
 
-pub returns-in_err-take_over-clause-each_one_side : goal.returns-in_err-take_over-clause-each_one_side
-returns-in_err-take_over-clause-each_one_side g c tells one =
-    each_then _ _ _ ((c.open.ensures.moments tells).each_one_side one) (c.take_over.ensures.moments tells).each_one_side
+pub returns-in_err-take_over-clause-sides : goal.returns-in_err-take_over-clause-sides
+returns-in_err-take_over-clause-sides g c tells = record {
+  one_side = λ one. (c.take_over.ensures.moments tells).one_side;
+  each_one_side = λ one. each_then _ _ _ ((c.open.ensures.moments tells).each_one_side one) (c.take_over.ensures.moments tells).each_one_side;
+}
 
 pub returns-in_err-take_over-clause-read : goal.returns-in_err-take_over-clause-read
 returns-in_err-take_over-clause-read g c tells =
@@ -169,12 +169,11 @@ returns-in_err-id-clause-goes g c tells =
       },
     )
 
-pub returns-in_err-id-clause-cause : goal.returns-in_err-id-clause-cause
-returns-in_err-id-clause-cause g c is = absurd (number_disk _ _ _ _ c.in_err-id.was c.from_residual-in_err-id.ensures.1 c.next_id.ensures is)
-
-pub returns-in_err-id-clause-unfailed : goal.returns-in_err-id-clause-unfailed
-returns-in_err-id-clause-unfailed g c other =
-    c.in_ok-take_over.ensures.blames.unfailed (never_err _ _) ∙ c.in_ok-store.ensures.blames.unfailed (never_err _ _)
+pub returns-in_err-id-clause-blames : goal.returns-in_err-id-clause-blames
+returns-in_err-id-clause-blames g c =
+    blames_none g.D.Clocked _ _ (c.take_over.ensures.blames.link ∙ c.open.ensures.blames.link)
+    (c.in_ok-take_over.ensures.blames.unfailed (never_err _ _) ∙ c.in_ok-store.ensures.blames.unfailed (never_err _ _)) _
+    (λ is. number_disk _ _ _ _ c.in_err-id.was c.from_residual-in_err-id.ensures.1 c.next_id.ensures is)
 
 pub returns-in_err-id-clause-input_cause : goal.returns-in_err-id-clause-input_cause
 returns-in_err-id-clause-input_cause g c is = absurd (number_input _ _ _ _ c.in_err-id.was c.from_residual-in_err-id.ensures.1 c.next_id.ensures is)
@@ -182,9 +181,11 @@ returns-in_err-id-clause-input_cause g c is = absurd (number_input _ _ _ _ c.in_
 pub returns-in_err-id-clause-never : goal.returns-in_err-id-clause-never
 returns-in_err-id-clause-never g c is = number_already _ _ _ _ c.in_err-id.was c.from_residual-in_err-id.ensures.1 c.next_id.ensures is
 
-pub returns-in_err-id-clause-each_one_side : goal.returns-in_err-id-clause-each_one_side
-returns-in_err-id-clause-each_one_side g c tells one =
-    each_then _ _ _ ((c.open.ensures.moments tells).each_one_side one) (c.take_over.ensures.moments tells).each_one_side
+pub returns-in_err-id-clause-sides : goal.returns-in_err-id-clause-sides
+returns-in_err-id-clause-sides g c tells = record {
+  one_side = λ one. (c.take_over.ensures.moments tells).one_side;
+  each_one_side = λ one. each_then _ _ _ ((c.open.ensures.moments tells).each_one_side one) (c.take_over.ensures.moments tells).each_one_side;
+}
 
 pub returns-in_err-id-clause-read : goal.returns-in_err-id-clause-read
 returns-in_err-id-clause-read g c tells =
@@ -247,15 +248,12 @@ returns-in_err-commit-clause-goes g c tells =
       },
     )
 
-pub returns-in_err-commit-clause-cause : goal.returns-in_err-commit-clause-cause
-returns-in_err-commit-clause-cause g c is =
-    rose_later _ _ _ (omega (arith, c.open.ensures.blames.count, c.take_over.ensures.blames.count))
-    (c.commit.ensures.blames.cause (commit_disk _ _ _ c.in_err-commit.was c.from_residual-in_err-commit.ensures.1 is))
-
-pub returns-in_err-commit-clause-unfailed : goal.returns-in_err-commit-clause-unfailed
-returns-in_err-commit-clause-unfailed g c other =
-    c.commit.ensures.blames.unfailed (λ is. other (commit_failed _ _ _ c.in_err-commit.was c.from_residual-in_err-commit.ensures.1 is))
-    ∙ (c.in_ok-take_over.ensures.blames.unfailed (never_err _ _) ∙ c.in_ok-store.ensures.blames.unfailed (never_err _ _))
+pub returns-in_err-commit-clause-blames : goal.returns-in_err-commit-clause-blames
+returns-in_err-commit-clause-blames g c =
+    blames_behind g.D.Clocked _ _ (c.take_over.ensures.blames.link ∙ c.open.ensures.blames.link)
+    (c.in_ok-take_over.ensures.blames.unfailed (never_err _ _) ∙ c.in_ok-store.ensures.blames.unfailed (never_err _ _)) _ _ _
+    (λ is. commit_disk _ _ _ c.in_err-commit.was c.from_residual-in_err-commit.ensures.1 is)
+    (λ is. commit_failed _ _ _ c.in_err-commit.was c.from_residual-in_err-commit.ensures.1 is) c.commit.ensures.blames
 
 pub returns-in_err-commit-clause-input_cause : goal.returns-in_err-commit-clause-input_cause
 returns-in_err-commit-clause-input_cause g c is = absurd (commit_input _ _ _ c.in_err-commit.was c.from_residual-in_err-commit.ensures.1 is)
@@ -263,10 +261,13 @@ returns-in_err-commit-clause-input_cause g c is = absurd (commit_input _ _ _ c.i
 pub returns-in_err-commit-clause-never : goal.returns-in_err-commit-clause-never
 returns-in_err-commit-clause-never g c is = commit_already _ _ _ c.in_err-commit.was c.from_residual-in_err-commit.ensures.1 is
 
-pub returns-in_err-commit-clause-each_one_side : goal.returns-in_err-commit-clause-each_one_side
-returns-in_err-commit-clause-each_one_side g c tells one =
-    each_then _ _ _ (each_then _ _ _ ((c.open.ensures.moments tells).each_one_side one) (c.take_over.ensures.moments tells).each_one_side)
-    (c.commit.ensures.moments tells).each_one_side
+pub returns-in_err-commit-clause-sides : goal.returns-in_err-commit-clause-sides
+returns-in_err-commit-clause-sides g c tells = record {
+  one_side = λ one. (c.commit.ensures.moments tells).one_side;
+  each_one_side = λ one.
+      each_then _ _ _ (each_then _ _ _ ((c.open.ensures.moments tells).each_one_side one) (c.take_over.ensures.moments tells).each_one_side)
+      (c.commit.ensures.moments tells).each_one_side;
+}
 
 pub returns-in_err-commit-clause-read : goal.returns-in_err-commit-clause-read
 returns-in_err-commit-clause-read g c tells =
@@ -305,15 +306,19 @@ returns-clause-goes g c tells =
       },
     )
 
-pub returns-clause-unfailed : goal.returns-clause-unfailed
-returns-clause-unfailed g c other =
-    c.in_ok-commit.ensures.blames.unfailed (never_err _ _)
-    ∙ (c.in_ok-take_over.ensures.blames.unfailed (never_err _ _) ∙ c.in_ok-store.ensures.blames.unfailed (never_err _ _))
+pub returns-clause-blames : goal.returns-clause-blames
+returns-clause-blames g c =
+    blames_none g.D.Clocked _ _ (c.commit.ensures.blames.link ∙ c.take_over.ensures.blames.link ∙ c.open.ensures.blames.link)
+    (c.in_ok-commit.ensures.blames.unfailed (never_err _ _)
+    ∙ (c.in_ok-take_over.ensures.blames.unfailed (never_err _ _) ∙ c.in_ok-store.ensures.blames.unfailed (never_err _ _))) _ (λ is. never_err _ _ is)
 
-pub returns-clause-each_one_side : goal.returns-clause-each_one_side
-returns-clause-each_one_side g c tells one =
-    each_then _ _ _ (each_then _ _ _ ((c.open.ensures.moments tells).each_one_side one) (c.take_over.ensures.moments tells).each_one_side)
-    (c.commit.ensures.moments tells).each_one_side
+pub returns-clause-sides : goal.returns-clause-sides
+returns-clause-sides g c tells = record {
+  one_side = λ one. (c.commit.ensures.moments tells).one_side;
+  each_one_side = λ one.
+      each_then _ _ _ (each_then _ _ _ ((c.open.ensures.moments tells).each_one_side one) (c.take_over.ensures.moments tells).each_one_side)
+      (c.commit.ensures.moments tells).each_one_side;
+}
 
 pub returns-clause-read : goal.returns-clause-read
 returns-clause-read g c tells =

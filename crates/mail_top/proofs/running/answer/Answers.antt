@@ -61,13 +61,13 @@ returns-in-Act-clause-goes g c tells =
       went.1,
       went_so c.args.account.now _ (request_of c.args.asked.now went.0) (Act (wanted_of _ went.0)) _ _ _ _ c.ending_of_action.ensures.status
           c.ending_of_action.ensures.text (ap (λ (a : Asked). request_of a went.0) c.in-Act.is)
-          (went_act c.args.account.now _ c.accept.ensures.link _ _ _ went.2),
+          (went_act c.args.account.now _ c.accept.ensures.blames.link _ _ _ went.2),
     )
 
 pub returns-in-Act-clause-causes : goal.returns-in-Act-clause-causes
 returns-in-Act-clause-causes g c =
-    refused_causes g.W.Clocked _ _ _ _ c.ending_of_action.ensures.status c.accept.ensures.cause c.accept.ensures.unfailed c.accept.ensures.count
-    c.accept.ensures.link
+    let blames = c.accept.ensures.blames in
+    refused_causes g.W.Clocked _ _ _ _ c.ending_of_action.ensures.status blames.cause blames.unfailed blames.count blames.link
 
 pub returns-in-Act-clause-reads : goal.returns-in-Act-clause-reads
 returns-in-Act-clause-reads g c = record {
@@ -98,13 +98,10 @@ returns-in-Act-clause-server g c =
           act_whole (g.W.Disk.seen c.args.world.now) (g.W.Clocked.clock c.args.world.now) (g.W.Clocked.clock c.accept.new.disk) was (wanted_of _ went.0)
           went.2.goes.keeps;
     })
-    c.accept.ensures.link (λ play. subst IsPlay c.in-Act.is play) (λ is. no_reply _ _ c.ending_of_action.ensures.status is)
+    c.accept.ensures.blames.link (λ play. subst IsPlay c.in-Act.is play) (λ is. no_reply _ _ c.ending_of_action.ensures.status is)
 
 pub returns-in-Act-clause-sides : goal.returns-in-Act-clause-sides
-returns-in-Act-clause-sides g c tells = record {
-  one_side = c.accept.ensures.one_side tells;
-  each_one_side = c.accept.ensures.each_one_side tells;
-}
+returns-in-Act-clause-sides g c = c.accept.ensures.sides
 
 pub returns-in-Rows-clause-goes : goal.returns-in-Rows-clause-goes
 returns-in-Rows-clause-goes g c tells = (

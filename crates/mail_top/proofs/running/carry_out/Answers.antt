@@ -1,6 +1,6 @@
 use Rattle.std.proofs.Common.{inl, inr, [], refl}
 use Rattle.journal_core.proofs.AtRest.{each_none}
-use Rattle.playback.specs.Kept.{Kept}
+use Rattle.book_laws.specs.Kept.{Kept}
 use Rattle.store_core.specs.Mail.{mail}
 use Rattle.play_driver.specs.Played.{played}
 use Rattle.play_driver.proofs.Calls.{stays_start}

@@ -37,21 +37,21 @@ returns-clause-causes g c =
           causes.link_unfailed (λ is. other (ended_so status.Link _ _ (λ e. cc e) (λ e. cc e) c.say.ensures.status is));
     }
 
-pub returns-clause-sink : goal.returns-clause-sink
-returns-clause-sink g c = record { output = c.say.ensures.output; sink_count = c.say.ensures.count }
-
-pub returns-clause-reads : goal.returns-clause-reads
-returns-clause-reads g c =
+pub returns-clause-streams : goal.returns-clause-streams
+returns-clause-streams g c =
     let reads = c.carry_out-ending.ensures.reads in record {
-      unread = reads.unread;
-      read = reads.read;
-      taken = reads.taken;
-      whole = λ tells append through. reads.whole tells append (said_through _ _ c.say.ensures.status through);
-      out = λ tells unfailed enough.
-          reads.out tells (λ is. unfailed (ended_so status.Input _ _ (λ e. cc e) (λ e. cc e) c.say.ensures.status is))
-          (λ is. enough (ended_so status.Memory _ _ (λ e. cc e) (λ e. cc e) c.say.ensures.status is));
-      input_fault = λ is. reads.input_fault (said_input _ _ c.say.ensures.status is);
-      source_count = reads.source_count;
+      sink = record { output = c.say.ensures.output; sink_count = c.say.ensures.count };
+      reads = record {
+        unread = reads.unread;
+        read = reads.read;
+        taken = reads.taken;
+        whole = λ tells append through. reads.whole tells append (said_through _ _ c.say.ensures.status through);
+        out = λ tells unfailed enough.
+            reads.out tells (λ is. unfailed (ended_so status.Input _ _ (λ e. cc e) (λ e. cc e) c.say.ensures.status is))
+            (λ is. enough (ended_so status.Memory _ _ (λ e. cc e) (λ e. cc e) c.say.ensures.status is));
+        input_fault = λ is. reads.input_fault (said_input _ _ c.say.ensures.status is);
+        source_count = reads.source_count;
+      };
     }
 
 pub returns-clause-completes : goal.returns-clause-completes
@@ -73,52 +73,49 @@ returns-clause-complete_play g c asks fairly serving none no_disk no_link no_sin
     (λ is. no_link (begun.causes.link_fault (said_link _ _ said.status is))) no_limit
     (λ bad. begun.server.serves asks fairly serving none (said_servers _ _ said.status bad))
 
-pub returns-clause-held : goal.returns-clause-held
-returns-clause-held g c tells = held_later _ _ _ _ _ (c.carry_out-ending.ensures.goes tells).2.every
+pub returns-clause-journal : goal.returns-clause-journal
+returns-clause-journal g c = record {
+  held = λ tells. held_later _ _ _ _ _ (c.carry_out-ending.ensures.goes tells).2.every;
+  sides = c.carry_out-ending.ensures.sides;
+}
 
 pub returns-clause-any_server : goal.returns-clause-any_server
 returns-clause-any_server g c tells = c.carry_out-ending.ensures.server.any_server tells
 
-pub returns-clause-joined : goal.returns-clause-joined
-returns-clause-joined g c enters = c.carry_out-ending.ensures.server.joined enters
+pub returns-clause-moments : goal.returns-clause-moments
+returns-clause-moments g c =
+    let server = c.carry_out-ending.ensures.server in record {
+      joined = server.joined;
+      twice = λ at f. server.twice f.tells f.kept at f.reach f.left f.fair;
+      owned = λ enters at f. stays_owned _ _ (server.joined enters) at f.reach f.left f.fair;
+    }
 
-pub returns-clause-twice : goal.returns-clause-twice
-returns-clause-twice g c at f = c.carry_out-ending.ensures.server.twice f.tells f.kept at f.reach f.left f.fair
-
-pub returns-clause-owned : goal.returns-clause-owned
-returns-clause-owned g c enters at f = stays_owned _ _ (c.carry_out-ending.ensures.server.joined enters) at f.reach f.left f.fair
-
-pub returns-clause-finishes : goal.returns-clause-finishes
-returns-clause-finishes g c tells asks through =
+pub returns-clause-outcomes : goal.returns-clause-outcomes
+returns-clause-outcomes g c =
     let ended = c.carry_out-ending.ensures in
-    run_finished _ _ _ _ _ _ asks (said_through _ _ c.say.ensures.status through) (ended.goes tells).2.ends
+    let said = c.say.ensures.status in record {
+      finishes = λ tells asks through. run_finished _ _ _ _ _ _ asks (said_through _ _ said through) (ended.goes tells).2.ends;
+      once_or_reported = λ asks through fairly.
+          let goes = ended.goes (g.W.Clocked.server_with_files fairly.tells) in
+          once_or_reported _ _ _ (run_finished _ _ _ _ _ _ asks (said_through _ _ said through) goes.2.ends) (ended.server.kept asks fairly);
+      surely = λ asks other fairly.
+          ended.server.surely asks (λ is. other (ended_so status.Disk _ _ (λ e. cc e) (λ e. cc e) said is)) fairly;
+    }
 
-pub returns-clause-once_or_reported : goal.returns-clause-once_or_reported
-returns-clause-once_or_reported g c asks through fairly =
-    let ended = c.carry_out-ending.ensures in
-    let goes = ended.goes (g.W.Clocked.server_with_files fairly.tells) in
-    once_or_reported _ _ _ (run_finished _ _ _ _ _ _ asks (said_through _ _ c.say.ensures.status through) goes.2.ends)
-    (ended.server.kept asks fairly)
+pub returns-clause-server : goal.returns-clause-server
+returns-clause-server g c =
+    let server = c.carry_out-ending.ensures.server in
+    let said = c.say.ensures.status in record {
+      truly = server.truly;
+      synced = λ asks through fairly. server.synced asks (said_through _ _ said through) fairly;
+      faultless = λ fairly is. server.faultless fairly (said_reply _ _ said is);
+    }
 
-pub returns-clause-truly : goal.returns-clause-truly
-returns-clause-truly g c asks fairly = c.carry_out-ending.ensures.server.truly asks fairly
-
-pub returns-clause-surely : goal.returns-clause-surely
-returns-clause-surely g c asks other fairly =
-    c.carry_out-ending.ensures.server.surely asks (λ is. other (ended_so status.Disk _ _ (λ e. cc e) (λ e. cc e) c.say.ensures.status is)) fairly
-
-pub returns-clause-synced : goal.returns-clause-synced
-returns-clause-synced g c asks through fairly =
-    c.carry_out-ending.ensures.server.synced asks (said_through _ _ c.say.ensures.status through) fairly
-
-pub returns-clause-faultless : goal.returns-clause-faultless
-returns-clause-faultless g c fairly is = c.carry_out-ending.ensures.server.faultless fairly (said_reply _ _ c.say.ensures.status is)
-
-pub returns-clause-connects : goal.returns-clause-connects
-returns-clause-connects g c = c.carry_out-ending.ensures.server.connects
-
-pub returns-clause-spares : goal.returns-clause-spares
-returns-clause-spares g c never = record {
-  link = c.carry_out-ending.ensures.link never;
-  outside = λ tells. outside_later _ _ never _ _ _ (c.carry_out-ending.ensures.goes tells).2.every;
+pub returns-clause-link : goal.returns-clause-link
+returns-clause-link g c = record {
+  connects = c.carry_out-ending.ensures.server.connects;
+  spares = λ never. record {
+    link = c.carry_out-ending.ensures.link never;
+    outside = λ tells. outside_later _ _ never _ _ _ (c.carry_out-ending.ensures.goes tells).2.every;
+  };
 }

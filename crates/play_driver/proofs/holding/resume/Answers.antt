@@ -9,7 +9,7 @@ reset-requires-clause-due g c =
     let b = c.args.store.now.book in
     let name = c.args.held.chosen.name in
     let told = c.args.held.told in
-    sym (reset_asked c.args.player.now b told name c.requires.rests.held.needed)
+    sym (reset_asked c.args.player.now b told name c.requires.ready.rests.held.needed)
     ∙ ap (λ (x : Meaning). reset_in x told (wanted c.args.player.now x)) (sym c.book.ensures)
     ∙ sym c.outdated.ensures ∙ c.in-Some.is
 
@@ -19,6 +19,6 @@ fetch-requires-clause-away g c =
     let name = c.args.held.chosen.name in
     let told = c.args.held.told in
     reset_none name (cache_at name b.boxes) told
-    (sym (reset_asked c.args.player.now b told name c.requires.rests.held.needed)
+    (sym (reset_asked c.args.player.now b told name c.requires.ready.rests.held.needed)
     ∙ ap (λ (x : Meaning). reset_in x told (wanted c.args.player.now x)) (sym c.book.ensures)
-    ∙ sym c.outdated.ensures ∙ c.in-None.is) c.requires.rests.held.risen
+    ∙ sym c.outdated.ensures ∙ c.in-None.is) c.requires.ready.rests.held.risen

@@ -4,7 +4,7 @@ use Rattle.action_queue.specs.Book.{Meaning}
 use Rattle.journal_core.specs.OneSide.{EachOneSide}
 use Rattle.journal_core.specs.Sides.{version_written}
 use Rattle.playback.specs.Choosing.{IsEntered}
-use Rattle.playback.specs.Kept.{Kept}
+use Rattle.book_laws.specs.Kept.{Kept}
 use Rattle.store_core.specs.Fold.{IsFold}
 use Rattle.store_core.specs.Holding.{IsAsLeft}
 use Rattle.store_core.specs.Mail.{mail}
