@@ -12,7 +12,7 @@ use Rattle.action_queue.specs.declared.queued.Queued.{Queued}
 use Rattle.mail_base.specs.declared.status.Status.{Status}
 use Rattle.mail_base.specs.declared.status.Status.TheVariants as status
 use Rattle.play_driver.specs.Progress.{actions_of}
-use Rattle.playback.specs.Once.{AllOwned}
+use Rattle.book_laws.specs.Once.{AllOwned}
 use Rattle.mail_top.specs.Headline.{IsOnceOrReported}
 use Rattle.store_core.specs.Mail.{mail}
 use Rattle.store_core.specs.Steps.{Firm}

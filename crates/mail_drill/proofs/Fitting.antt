@@ -4,7 +4,7 @@ use Rattle.std.specs.Prelude.{nat_lt, not, ◌&&◌}
 use Rattle.imap_model.specs.declared.deed.Deed.{Deed}
 use Rattle.action_queue.specs.declared.outcome.Outcome.{Outcome}
 use Rattle.action_queue.specs.declared.outcome.Outcome.TheVariants as outcomes
-use Rattle.playback.specs.Once.{Fits, FitsConflict, is_unsure}
+use Rattle.book_laws.specs.Once.{Fits, FitsConflict, is_unsure}
 use Rattle.mail_drill.specs.Counted.{is_conflict}
 
 few_once : (mine : List Deed) → length mine ≤ 1 → nat_lt 1 (length mine) ≡ false

@@ -18,8 +18,8 @@ use Rattle.world_traits.specs.Links.{Any}
 use Rattle.world_traits.specs.Moments.{MayLeave, OneSideAtRest}
 use Rattle.world_traits.proofs.Passing.{since_weaker}
 use Rattle.world_mem.specs.Worlds.{course_of, seen_sound}
-use Rattle.playback.specs.Kept.{Kept}
-use Rattle.playback.specs.Permitted.{Permits}
+use Rattle.book_laws.specs.Kept.{Kept}
+use Rattle.book_laws.specs.Permitted.{Permits}
 use Rattle.store_core.specs.Mail.{MayCome, mail}
 use Rattle.store_core.specs.Steps.{Books}
 use Rattle.store_core.specs.Taking.{HasBooks}

@@ -21,7 +21,7 @@ use Rattle.world_mem.specs.Worlds.{line_in, planned_of, run_in}
 use Rattle.world_mem.specs.declared.course.Phase.TheVariants as phases
 use Rattle.world_mem.specs.declared.mem_world.MemWorld.{MemWorld}
 use Rattle.world_mem.specs.declared.plan.Plan.{Plan}
-use Rattle.playback.proofs.Carrying.{nothing_waits}
+use Rattle.book_laws.proofs.Carrying.{nothing_waits}
 use Rattle.mail_top.specs.KeptNow.{IsKeptNow}
 use Rattle.mail_drill.specs.Alone.{is_alone}
 use Rattle.mail_drill.specs.Beginning.{IsNew, boxes_at_first}

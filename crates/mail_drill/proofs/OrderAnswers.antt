@@ -15,7 +15,7 @@ use Rattle.action_queue.specs.declared.book.Known.{Known}
 use Rattle.action_queue.specs.declared.outcome.Outcome.{Outcome}
 use Rattle.action_queue.specs.declared.queued.Queued.{Queued}
 use Rattle.local_view.specs.declared.seen.Ident.TheVariants as ident
-use Rattle.playback.specs.Kept.{Kept}
+use Rattle.book_laws.specs.Kept.{Kept}
 use Rattle.play_driver.specs.Joining.{IsKept, Joined}
 use Rattle.play_driver.specs.Played.{played}
 use Rattle.play_driver.specs.Progress.{has_name}

@@ -7,7 +7,7 @@ use Rattle.action_queue.specs.Book.{Meaning}
 use Rattle.world_traits.specs.Files.{Files}
 use Rattle.world_traits.specs.Moments.{MayLeave, Moment, restarted}
 use Rattle.world_traits.proofs.Narrowing.{restart_within}
-use Rattle.playback.specs.Kept.{Kept}
+use Rattle.book_laws.specs.Kept.{Kept}
 use Rattle.store_core.specs.Mail.{mail}
 use Rattle.play_driver.specs.Joining.{IsKept}
 use Rattle.play_driver.specs.Machine.{Relation}

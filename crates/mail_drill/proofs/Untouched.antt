@@ -21,8 +21,8 @@ use Rattle.world_traits.proofs.Keeping.{since_now}
 use Rattle.world_traits.proofs.Traces.{since_both}
 use Rattle.action_queue.specs.Book.{Meaning}
 use Rattle.action_queue.specs.declared.queued.Queued.{Queued}
-use Rattle.playback.specs.Kept.{Kept, KeptBook}
-use Rattle.playback.specs.Once.{IsOwned, AllOwned}
+use Rattle.book_laws.specs.Kept.{Kept, KeptBook}
+use Rattle.book_laws.specs.Once.{AllOwned, IsOwned}
 use Rattle.store_core.specs.Mail.{mail}
 use Rattle.store_core.specs.Steps.{Books, Firm, Begun}
 use Rattle.store_core.specs.Taking.{HasBooks}

@@ -5,7 +5,7 @@ use Rattle.mail_base.specs.declared.status.Status.TheVariants as status
 use Rattle.imap_model.specs.Ours.{ours}
 use Rattle.action_queue.specs.Book.{Meaning}
 use Rattle.action_queue.specs.declared.queued.Queued.{Queued}
-use Rattle.playback.specs.Once.{AllOwned}
+use Rattle.book_laws.specs.Once.{AllOwned}
 use Rattle.store_core.specs.Books.{HasBook}
 use Rattle.store_core.specs.Mail.{mail}
 use Rattle.store_core.specs.Steps.{Firm}

@@ -9,7 +9,7 @@ use Rattle.action_queue.specs.declared.queued.Queued.{Queued}
 use Rattle.world_traits.specs.Files.{Files}
 use Rattle.world_traits.specs.Moments.{Clock, Moment, OneSideAtRest}
 use Rattle.world_mem.specs.Worlds.{run_in}
-use Rattle.playback.specs.Once.{AllOwned}
+use Rattle.book_laws.specs.Once.{AllOwned}
 use Rattle.store_core.specs.Books.{HasBook}
 use Rattle.store_core.specs.Mail.{mail}
 use Rattle.store_core.specs.Steps.{Firm}

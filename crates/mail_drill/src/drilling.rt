@@ -10,7 +10,7 @@ ghost use Rattle.mail_drill.specs.Held.{Gives, PassesLimit};
 ghost use Rattle.action_queue.specs.Book.{Meaning};
 ghost use Rattle.mail_drill.specs.Accepted.{accepted};
 ghost use Rattle.mail_drill.specs.Beginning.{IsNew};
-ghost use Rattle.mail_drill.specs.Orders.{behind_orders, orders_from, orders_of};
+ghost use Rattle.mail_drill.specs.Orders.{orders_from, orders_of};
 ghost use Rattle.mail_drill.specs.Standing.{HasAsked, HasOne, IsBrokenAs};
 ghost use Rattle.mail_drill.specs.Tasks.{WritesTask};
 ghost use Rattle.mail_drill.specs.declared.task.Task.{Task as AnyTask};

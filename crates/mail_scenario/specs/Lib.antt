@@ -1,3 +1,2 @@
 pub mod Muted
 pub mod Silent
-pub mod Written

@@ -1,25 +1,31 @@
-//! The worlds of a scenario, and their calls. They are taken without clauses: what a call says of all moments is dear to carry on.
+//! The worlds of a scenario, and their calls. They are taken without clauses: what a call says of
+//! all moments is dear to carry on.
 
 ghost use Rattle.std.specs.Prelude.{◌<◌, ◌≤◌, ◌+◌, ◌^◌, length, IfOk};
 
-use crate::fault::LineFault;
-use crate::foreign::Foreign;
 use crate::muted_world::MutedWorld;
+use cases::{Foreign, WordFault};
 use imap_model::Server;
 use server_mem::ForeignFault;
-use std::alloc::AllocError;
+use std::alloc::{AllocError, Global};
 use world_mem::{Files, ImageFault, MemWorld, Plan, ScriptWorld};
 use world_traits::{Disk, DiskFailed, Link, LinkFailed, Side};
 
-/// The world of a server, of one that is muted, or that of a script.
+/// The world of a server, of one that is muted, or that of a script. A box keeps the many parts of
+/// each out of sight of the proofs that let it go.
 #[derive(Drop)]
 pub enum AnyWorld {
     /// Of a server.
-    Served(MemWorld),
+    Served(Box<MemWorld>),
     /// Of a server that leaves APPENDUID out. It has no plan, and none of its moments is shown.
-    Muted(MutedWorld),
+    Muted(Box<MutedWorld>),
     /// Of a script. It has no server and no plan, and none of its moments is shown.
-    Scripted(ScriptWorld),
+    Scripted(Box<ScriptWorld>),
+}
+
+/// What was made, in a box. It knows of no type, so that its proof sees no parts.
+pub fn boxed<T: Drop>(alloc: Global, made: Result<T, AllocError>) -> Result<Box<T>, AllocError> {
+    Ok(Box::new(alloc, made?)?)
 }
 
 impl AnyWorld {
@@ -149,17 +155,17 @@ impl AnyWorld {
     /// Another client changes the server, if that is lawful. Gives the rule that it would break.
     ///
     /// # Errors
-    /// `Unfit` where there is no server, and `Memory`.
-    pub fn change(&mut self, foreign: &Foreign) -> Result<Option<u8>, LineFault> {
+    /// `Form` where there is no server, and `Memory`.
+    pub fn change(&mut self, foreign: &Foreign) -> Result<Option<u8>, WordFault> {
         let made = match self {
             AnyWorld::Served(world) => world.foreign(&foreign.name, &foreign.change),
             AnyWorld::Muted(world) => world.foreign(&foreign.name, &foreign.change),
-            AnyWorld::Scripted(_) => return Err(LineFault::Unfit),
+            AnyWorld::Scripted(_) => return Err(WordFault::Form),
         };
         match made {
             Ok(()) => Ok(None),
             Err(ForeignFault::NotLawful { rule }) => Ok(Some(rule)),
-            Err(ForeignFault::Memory) => Err(LineFault::Memory),
+            Err(ForeignFault::Memory) => Err(WordFault::Memory),
         }
     }
 
@@ -170,9 +176,18 @@ impl AnyWorld {
             AnyWorld::Muted(_) | AnyWorld::Scripted(_) => None,
         }
     }
-}
 
-/// Goes on from the image of the last moment that the pick takes.
-pub fn restarted(world: MemWorld, pick: u64, plan: Plan) -> Result<MemWorld, AllocError> {
-    world.restart(pick, plan)
+    /// Goes on from the image of the last moment that the pick takes.
+    ///
+    /// # Errors
+    /// `Form` where its moments aren't shown, and `Memory`.
+    pub fn restarted(self, alloc: Global, pick: u64, plan: Plan) -> Result<AnyWorld, WordFault> {
+        match self {
+            AnyWorld::Served(world) => {
+                let world = boxed(alloc, Box::into_inner(world).restart(pick, plan))?;
+                Ok(AnyWorld::Served(world))
+            }
+            AnyWorld::Muted(_) | AnyWorld::Scripted(_) => Err(WordFault::Form),
+        }
+    }
 }

@@ -1,5 +1,6 @@
 //! Why a scenario ends before its last line.
 
+use cases::WordFault;
 use std::alloc::{AllocError, AllocFailed};
 
 /// Why a scenario ends before its last line.
@@ -11,6 +12,15 @@ pub enum LineFault {
     NotWellFormed,
     /// Memory is wanting.
     Memory,
+}
+
+impl From<WordFault> for LineFault {
+    fn from(fault: WordFault) -> LineFault {
+        match fault {
+            WordFault::Memory => LineFault::Memory,
+            WordFault::Form => LineFault::Unfit,
+        }
+    }
 }
 
 impl From<AllocError> for LineFault {

@@ -1,42 +1,44 @@
 //! What happens in a world between runs, and what is shown of it.
 
-use crate::act::Act;
 use crate::any_world::AnyWorld;
-use crate::fault::LineFault;
-use crate::foreign::Foreign;
-use crate::page::Page;
-use crate::shows::{show_boxes, show_files, show_history, show_image, show_moments, show_sent};
+use crate::shows::{
+    show_boxes, show_files, show_history, show_image, show_moments, show_sent, show_texts,
+};
+use crate::stand::Stand;
+use cases::{Answer, Foreign, Input, WordFault, change};
 use imap_model::Server;
-use std::alloc::AllocError;
 
 /// Does, or shows, what a line says.
-pub fn look(world: &mut AnyWorld, act: &Act, page: &mut Page) -> Result<(), LineFault> {
-    match act {
-        Act::Change(foreign) => change(world, foreign, page),
-        Act::Show => Ok(show_boxes(page, server_of(world)?)?),
-        Act::History => Ok(show_history(page, server_of(world)?)?),
-        Act::Sent => Ok(show_sent(page, world.sent())?),
-        Act::ShowFiles => show_files(page, world),
-        Act::Image { moment, pick } => show_image(page, world, *moment, *pick),
-        Act::Moments => show_moments(page, world),
-        Act::Run(_) | Act::Restart(_) | Act::ShowTexts => Err(LineFault::Unfit),
+pub fn look(
+    stand: &mut Stand,
+    verb: &str,
+    input: &mut Input<'_>,
+    page: &mut Answer,
+) -> Result<(), WordFault> {
+    let world = stand.world.world_mut();
+    match verb {
+        "change" => make(world, &change(input)?, page),
+        "show" => show_boxes(page, server_of(world)?),
+        "history" => show_history(page, server_of(world)?),
+        "sent" => show_sent(input.alloc, page, world.sent()),
+        "files" => show_files(input.alloc, page, world),
+        "image" => show_image(input, page, world),
+        "moments" => show_moments(page, world),
+        "shelf" => show_texts(page, stand.shelf.texts()),
+        _ => Err(WordFault::Form),
     }
 }
 
-fn server_of(world: &AnyWorld) -> Result<&Server, LineFault> {
-    world.server().ok_or(LineFault::Unfit)
+fn server_of(world: &AnyWorld) -> Result<&Server, WordFault> {
+    world.server().ok_or(WordFault::Form)
 }
 
 // Another client changes the server, and the rule that it would break is told.
-fn change(world: &mut AnyWorld, foreign: &Foreign, page: &mut Page) -> Result<(), LineFault> {
-    if let Some(rule) = world.change(foreign)? {
-        put_rule(page, rule)?;
-    }
-    Ok(())
-}
-
-fn put_rule(page: &mut Page, rule: u8) -> Result<(), AllocError> {
-    page.put(b"rule")?;
+fn make(world: &mut AnyWorld, foreign: &Foreign, page: &mut Answer) -> Result<(), WordFault> {
+    let Some(rule) = world.change(foreign)? else {
+        return Ok(());
+    };
+    page.word("rule")?;
     page.number(u64::from(rule))?;
     page.end_line()
 }

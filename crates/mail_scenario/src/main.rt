@@ -1,39 +1,32 @@
-//! The program `mail_scenario`: plays the scenario of its input, and prints what happens; docs/SCENARIOS.md has the language.
-//! Where arguments name files of cases, it plays these, and tells each line that prints something else than the file says; an
-//! argument `-` among them is the scenario of its input. It is for tests.
+//! The program `mail_scenario`: plays the scenario of its input, and prints what happens;
+//! docs/SCENARIOS.md has the language. Where arguments name files of cases, it plays these, and
+//! tells each line that prints something else than the file says; an argument `-` among them is the
+//! scenario of its input. It is for tests.
 #![tactic(auto)]
 
-mod act;
 mod any_world;
-mod cases;
 mod fault;
-mod foreign;
-mod line;
+mod hexadecimal;
 mod looks;
-mod mishap;
 mod muted_link;
 mod muted_run;
 mod muted_world;
 mod next_run;
-mod numbers;
 mod outcome;
-mod page;
 mod player;
 mod playing;
 mod runs;
+mod scenarios;
 mod setting;
 mod setup;
 mod shows;
 mod silent_world;
 mod stand;
-mod values;
-mod words;
-mod written;
 
-use case_files::Tally;
-use cases::check_file;
+use cases::{Tally, check_file, print_tally};
 use outcome::Ended;
 use playing::{play, print_memory};
+use scenarios::Scenarios;
 use std::io::{ErrorKind, Read};
 use std::process::ExitCode;
 use std::rt::{Env, Files};
@@ -72,7 +65,8 @@ fn played<R: Files + Input + Print + AllocGlobal>(rt: &R, name: &str, tally: &mu
     let Ok(text) = fs::read_to_string(rt, name) else {
         return Ended::Input;
     };
-    match check_file(rt, name, text.as_str(), tally) {
+    let mut play = Scenarios { alloc: rt.alloc() };
+    match check_file(rt, &mut play, name, text.as_str(), tally) {
         Ok(()) => Ended::Done,
         Err(_) => Ended::Output,
     }
@@ -88,15 +82,10 @@ fn play_input<R: Input + Print + AllocGlobal>(rt: &R) -> Ended {
     }
 }
 
-// Prints how many lines were played in the cases that passed, and how many cases passed and failed.
+// Prints how many cases passed, and how many failed where one did.
 fn told<R: Print>(rt: &R, tally: Tally) -> Ended {
-    let Tally {
-        passed,
-        failed,
-        compared,
-    } = tally;
-    match println!(rt; "{compared} lines\n{passed} passed, {failed} failed") {
-        Ok(()) if failed == 0 => Ended::Done,
+    match print_tally(rt, tally) {
+        Ok(()) if tally.failed == 0 => Ended::Done,
         Ok(()) => Ended::Failed,
         Err(_) => Ended::Output,
     }

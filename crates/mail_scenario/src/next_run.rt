@@ -1,9 +1,9 @@
 //! What the next run begins with.
 
-use crate::mishap::Mishap;
+use cases::{Input, WordFault, change};
 use mail_base::List;
-use std::alloc::{AllocError, Global};
-use world_mem::Plan;
+use std::alloc::Global;
+use world_mem::{Loss, Plan};
 
 /// What the next run reads, and what is to go wrong in it.
 #[derive(Drop)]
@@ -25,6 +25,11 @@ pub fn no_plan(alloc: Global) -> Plan {
     }
 }
 
+/// Whether such a line is of the input, of the output or of the shelf.
+pub fn is_beside_world(verb: &str) -> bool {
+    matches!(verb, "source" | "sink" | "shelf")
+}
+
 impl NextRun {
     /// Nothing to read, and nothing goes wrong. It takes no memory.
     pub fn new(alloc: Global) -> NextRun {
@@ -37,21 +42,29 @@ impl NextRun {
         }
     }
 
-    /// Adds what is to go wrong.
-    pub fn add(&mut self, mishap: Mishap) -> Result<(), AllocError> {
-        match mishap {
-            Mishap::Disk(call) => self.plan.disk_fails.push(call)?,
-            Mishap::Link(call, loss) => self.plan.link_fails.push((call, loss))?,
-            Mishap::Other(call, foreign) => {
-                self.plan
-                    .foreign
-                    .push((call, foreign.name, foreign.change))?;
-            }
-            Mishap::Stop(calls) => self.plan.stop_after = Some(calls),
-            Mishap::Source(call) => self.source_fails.push(call)?,
-            Mishap::Sink(call) => self.sink_fails.push(call)?,
-            Mishap::Shelf(call) => self.shelf_fails.push(call)?,
+    /// Adds what a line says that is to go wrong. Calls are counted from 1.
+    pub fn add(&mut self, verb: &str, input: &mut Input<'_>) -> Result<(), WordFault> {
+        let call = input.number()?;
+        match verb {
+            "stop" => self.plan.stop_after = Some(call),
+            _ if call == 0 => return Err(WordFault::Form),
+            "disk" => self.plan.disk_fails.push(call)?,
+            "link" => self.plan.link_fails.push((call, loss_of(input)?))?,
+            "other" => self.add_foreign(call, input)?,
+            "source" => self.source_fails.push(call)?,
+            "sink" => self.sink_fails.push(call)?,
+            "shelf" => self.shelf_fails.push(call)?,
+            _ => return Err(WordFault::Form),
         }
+        Ok(())
+    }
+
+    // `CHANGE`: another client makes it as this call of the link begins.
+    fn add_foreign(&mut self, call: u64, input: &mut Input<'_>) -> Result<(), WordFault> {
+        let foreign = change(input)?;
+        self.plan
+            .foreign
+            .push((call, foreign.name, foreign.change))?;
         Ok(())
     }
 
@@ -61,5 +74,27 @@ impl NextRun {
         self.source_fails = Vec::new(alloc);
         self.sink_fails = Vec::new(alloc);
         self.shelf_fails = Vec::new(alloc);
+    }
+}
+
+// `nothing`, `part K`, `all`, `waits done` or `waits dropped`
+fn loss_of(input: &mut Input<'_>) -> Result<Loss, WordFault> {
+    match input.word()? {
+        "nothing" => Ok(Loss::Nothing),
+        "part" => Ok(Loss::Part(input.short()?)),
+        "all" => Ok(Loss::All),
+        "waits" => Ok(Loss::Waits {
+            carried: is_carried(input.word()?)?,
+        }),
+        _ => Err(WordFault::Form),
+    }
+}
+
+// What becomes of a command that waits.
+fn is_carried(word: &str) -> Result<bool, WordFault> {
+    match word {
+        "done" => Ok(true),
+        "dropped" => Ok(false),
+        _ => Err(WordFault::Form),
     }
 }

@@ -1,19 +1,12 @@
 //! A scenario, as far as it has come.
 
-use crate::act::Act;
 use crate::fault::LineFault;
-use crate::line::{Line, line_of};
 use crate::looks::look;
-use crate::mishap::Mishap;
-use crate::next_run::{NextRun, no_plan};
-use crate::page::Page;
+use crate::next_run::{NextRun, is_beside_world, no_plan};
 use crate::runs::run_in;
-use crate::setting::Setting;
 use crate::setup::Setup;
-use crate::shows::show_texts;
 use crate::stand::Stand;
-use crate::words::words_of;
-use mail_base::Words;
+use cases::{Answer, Input, WordFault, words_of};
 use std::alloc::Global;
 use std::mem;
 
@@ -23,8 +16,8 @@ pub struct Player {
     alloc: Global,
     // The server that is described, up to `world`, `muted` or `scripted`.
     setup: Option<Setup>,
-    // What stands behind these. Before the first server there is neither. A box keeps it out of sight of those proofs that let a
-    // scenario go: a world has many parts.
+    // What stands behind these. Before the first server there is neither. A box keeps it out of
+    // sight of those proofs that let a scenario go: a world has many parts.
     stand: Option<Box<Stand>>,
     next: NextRun,
 }
@@ -40,153 +33,135 @@ impl Player {
         }
     }
 
-    /// Plays a line, and adds to the page what it prints.
+    /// Plays a line, and adds to the page what it prints. An empty line is passed over, and a
+    /// comment is printed.
     ///
     /// # Errors
-    /// Why the scenario ends with this line. What the page has then isn't printed, and no further line is played.
-    pub fn take(&mut self, text: &[u8], page: &mut Page) -> Result<(), LineFault> {
-        match read_line(self.alloc, text, page)? {
-            Some(line) => self.take_line(line, page),
-            None => Ok(()),
+    /// Why the scenario ends with this line. What the page has then isn't printed, and no further
+    /// line is played.
+    pub fn take(&mut self, text: &[u8], page: &mut Answer) -> Result<(), LineFault> {
+        match text {
+            [] => Ok(()),
+            [b'#', ..] => {
+                page.raw(text)?;
+                Ok(page.end_line()?)
+            }
+            _ => self.take_words(text, page),
         }
     }
 
-    fn take_line(&mut self, line: Line, page: &mut Page) -> Result<(), LineFault> {
-        match line {
-            Line::Server(offers) => self.begin(offers),
-            Line::World => self.enter_world(),
-            Line::Muted => self.enter_muted(),
-            Line::Scripted => self.enter_script(),
-            Line::Setting(setting) => self.set(setting),
-            Line::Mishap(mishap) => self.plan(mishap),
-            Line::Input(text) => self.give_input(text),
-            Line::Act(act) => self.act(&act, page),
-        }
+    fn take_words(&mut self, text: &[u8], page: &mut Answer) -> Result<(), LineFault> {
+        let words = words_of(self.alloc, text)?;
+        let mut input = Input::new(self.alloc, &words);
+        self.take_line(&mut input, page)?;
+        Ok(input.end()?)
     }
 
-    // A server with these offers, and nothing of what was.
-    fn begin(&mut self, offers: Words) -> Result<(), LineFault> {
+    // Plays a line. `files` alone shows the files, and `shelf` alone the kept texts.
+    fn take_line(&mut self, input: &mut Input<'_>, page: &mut Answer) -> Result<(), LineFault> {
+        let verb = input.word()?;
+        match verb {
+            "server" => self.begin(input)?,
+            "world" | "muted" | "scripted" => self.enter(verb, input)?,
+            "files" | "shelf" if input.is_done() => self.look(verb, input, page)?,
+            "disk" | "link" | "other" | "stop" | "source" | "sink" | "shelf" => {
+                self.plan(verb, input)?
+            }
+            "input" => self.give_input(input)?,
+            "run" => self.run(input, page)?,
+            "restart" => self.restart(input)?,
+            "change" | "show" | "history" | "sent" | "image" | "moments" => {
+                self.look(verb, input, page)?
+            }
+            _ => self.set(verb, input)?,
+        }
+        Ok(())
+    }
+
+    // `WORD ..`: a server with these offers, and nothing of what was.
+    fn begin(&mut self, input: &mut Input<'_>) -> Result<(), WordFault> {
         self.stand = None;
         self.next = NextRun::new(self.alloc);
-        self.setup = Some(Setup::new(self.alloc, offers)?);
+        self.setup = Some(Setup::new(input)?);
         Ok(())
     }
 
-    fn set(&mut self, setting: Setting) -> Result<(), LineFault> {
+    fn set(&mut self, verb: &str, input: &mut Input<'_>) -> Result<(), WordFault> {
         match &mut self.setup {
-            Some(setup) => setup.set(setting),
-            None => Err(LineFault::Unfit),
+            Some(setup) => setup.set(verb, input),
+            None => Err(WordFault::Form),
         }
     }
 
-    // The server that was described, which stands from now on.
-    fn take_setup(&mut self) -> Result<Setup, LineFault> {
-        self.setup.take().ok_or(LineFault::Unfit)
-    }
-
-    fn enter_world(&mut self) -> Result<(), LineFault> {
-        let setup = self.take_setup()?;
-        let stand = setup.into_world(self.alloc)?;
-        self.stand = Some(Box::new(self.alloc, stand)?);
-        Ok(())
-    }
-
-    // A world of a muted server has no plan: what was planned is forgotten.
-    fn enter_muted(&mut self) -> Result<(), LineFault> {
-        let setup = self.take_setup()?;
-        self.next.forget_plan(self.alloc);
-        let stand = setup.into_muted(self.alloc)?;
-        self.stand = Some(Box::new(self.alloc, stand)?);
-        Ok(())
-    }
-
-    // Nor has a world of a script.
-    fn enter_script(&mut self) -> Result<(), LineFault> {
-        let setup = self.take_setup()?;
-        self.next.forget_plan(self.alloc);
-        let stand = setup.into_script(self.alloc)?;
+    // Makes the world of the server that was described, or of its script. One of a muted server
+    // has no plan, and neither has one of a script: what was planned is forgotten.
+    fn enter(&mut self, verb: &str, input: &mut Input<'_>) -> Result<(), LineFault> {
+        input.end()?;
+        let Some(setup) = self.setup.take() else {
+            return Err(LineFault::Unfit);
+        };
+        if verb != "world" {
+            self.next.forget_plan(self.alloc);
+        }
+        let stand = setup.into_stand(verb, self.alloc)?;
         self.stand = Some(Box::new(self.alloc, stand)?);
         Ok(())
     }
 
     // Of a run over a world without a plan the input, the output and the shelf alone fail by one.
-    fn plan(&mut self, mishap: Mishap) -> Result<(), LineFault> {
-        if !self.is_plan(&mishap) {
-            return Err(LineFault::Unfit);
+    fn plan(&mut self, verb: &str, input: &mut Input<'_>) -> Result<(), WordFault> {
+        if self.has_plan(verb) {
+            return self.next.add(verb, input);
         }
-        self.next.add(mishap)?;
-        Ok(())
+        Err(WordFault::Form)
     }
 
-    fn is_plan(&self, mishap: &Mishap) -> bool {
+    fn has_plan(&self, verb: &str) -> bool {
         match &self.stand {
-            Some(stand) => stand.world.world().has_plan() || mishap.is_beside_world(),
+            Some(stand) => stand.world.world().has_plan() || is_beside_world(verb),
             None => self.setup.is_some(),
         }
     }
 
-    fn give_input(&mut self, text: Vec<u8>) -> Result<(), LineFault> {
+    // `TEXT`
+    fn give_input(&mut self, input: &mut Input<'_>) -> Result<(), WordFault> {
         if self.setup.is_none() && self.stand.is_none() {
-            return Err(LineFault::Unfit);
+            return Err(WordFault::Form);
         }
-        self.next.input = text;
+        self.next.input = input.text()?.to_vec(self.alloc)?;
         Ok(())
     }
 
-    fn act(&mut self, act: &Act, page: &mut Page) -> Result<(), LineFault> {
-        match act {
-            Act::Run(words) => self.run(words, page),
-            Act::Restart(pick) => self.restart(*pick),
-            Act::ShowTexts => self.show_texts(page),
-            _ => self.look(act, page),
-        }
-    }
-
-    fn run(&mut self, words: &[String], page: &mut Page) -> Result<(), LineFault> {
+    // `WORD ..`
+    fn run(&mut self, input: &mut Input<'_>, page: &mut Answer) -> Result<(), WordFault> {
+        let words = input.letters_left()?;
         let next = mem::replace(&mut self.next, NextRun::new(self.alloc));
         match &mut self.stand {
-            Some(stand) => run_in(stand, words, next, page),
-            None => Err(LineFault::Unfit),
+            Some(stand) => run_in(self.alloc, stand, &words, next, page),
+            None => Err(WordFault::Form),
         }
     }
 
-    // Goes on from the image of the last moment that the pick takes.
-    fn restart(&mut self, pick: u64) -> Result<(), LineFault> {
+    // `PICK`: goes on from the image of the last moment that the pick takes.
+    fn restart(&mut self, input: &mut Input<'_>) -> Result<(), WordFault> {
+        let pick = input.number()?;
         let Some(stand) = self.stand.take() else {
-            return Err(LineFault::Unfit);
+            return Err(WordFault::Form);
         };
-        let stand = Box::into_inner(stand).restarted(pick, no_plan(self.alloc))?;
+        let stand = Box::into_inner(stand).restarted(self.alloc, pick, no_plan(self.alloc))?;
         self.stand = Some(Box::new(self.alloc, stand)?);
         Ok(())
     }
 
-    fn show_texts(&self, page: &mut Page) -> Result<(), LineFault> {
-        match &self.stand {
-            Some(stand) => Ok(show_texts(page, stand.shelf.texts())?),
-            None => Err(LineFault::Unfit),
-        }
-    }
-
-    fn look(&mut self, act: &Act, page: &mut Page) -> Result<(), LineFault> {
+    fn look(
+        &mut self,
+        verb: &str,
+        input: &mut Input<'_>,
+        page: &mut Answer,
+    ) -> Result<(), WordFault> {
         match &mut self.stand {
-            Some(stand) => look(stand.world.world_mut(), act, page),
-            None => Err(LineFault::Unfit),
-        }
-    }
-}
-
-// The line of a text. An empty one is passed over, and a comment is printed.
-fn read_line(alloc: Global, text: &[u8], page: &mut Page) -> Result<Option<Line>, LineFault> {
-    match text {
-        [] => Ok(None),
-        [b'#', ..] => {
-            page.put(text)?;
-            page.end_line()?;
-            Ok(None)
-        }
-        _ => {
-            let words = words_of(alloc, text)?;
-            Ok(Some(line_of(alloc, words.as_slice())?))
+            Some(stand) => look(stand, verb, input, page),
+            None => Err(WordFault::Form),
         }
     }
 }

@@ -2,9 +2,8 @@
 
 use crate::fault::LineFault;
 use crate::outcome::Ended;
-use crate::page::Page;
 use crate::player::Player;
-use std::alloc::AllocError;
+use cases::{Answer, WordFault};
 use std::io;
 use std::io::Write;
 
@@ -18,7 +17,7 @@ fn play_lines<R: Print + AllocGlobal>(rt: &R, text: &[u8], player: &mut Player) 
     let mut number = 0u64;
     for line in text.split(|byte| *byte == b'\n') {
         number = number.saturating_add(1);
-        let mut page = Page::new(rt.alloc());
+        let mut page = Answer::new(rt.alloc());
         if let Err(fault) = player.take(line, &mut page) {
             return print_fault(rt, fault, number);
         }
@@ -30,21 +29,21 @@ fn play_lines<R: Print + AllocGlobal>(rt: &R, text: &[u8], player: &mut Player) 
 }
 
 /// Adds what is printed of the fault of a line.
-pub fn put_fault(page: &mut Page, fault: LineFault, number: u64) -> Result<(), AllocError> {
+pub fn put_fault(page: &mut Answer, fault: LineFault, number: u64) -> Result<(), WordFault> {
     match fault {
         LineFault::Unfit => {
-            page.put(b"?")?;
+            page.word("?")?;
             page.number(number)?;
         }
-        LineFault::NotWellFormed => page.put(b"not well formed")?,
-        LineFault::Memory => page.put(b"memory")?,
+        LineFault::NotWellFormed => page.word("not well formed")?,
+        LineFault::Memory => page.word("memory")?,
     }
     page.end_line()
 }
 
 // Prints the fault with which a scenario ends.
 fn print_fault<R: Print + AllocGlobal>(rt: &R, fault: LineFault, number: u64) -> Ended {
-    let mut page = Page::new(rt.alloc());
+    let mut page = Answer::new(rt.alloc());
     if put_fault(&mut page, fault, number).is_err() {
         return print_memory(rt);
     }
@@ -62,6 +61,6 @@ pub fn print_memory<R: Print>(rt: &R) -> Ended {
     }
 }
 
-fn print<R: Print>(rt: &R, page: &Page) -> io::Result<()> {
+fn print<R: Print>(rt: &R, page: &Answer) -> io::Result<()> {
     io::writer(rt).write_all(page.as_bytes())
 }

@@ -1,24 +1,25 @@
 //! One call of a top call, and what is shown of it.
 
 use crate::any_world::AnyWorld;
-use crate::fault::LineFault;
 use crate::muted_run::run_muted;
 use crate::next_run::{NextRun, no_plan};
-use crate::page::Page;
 use crate::stand::Stand;
 use body_cache::read_run;
+use cases::{Answer, WordFault};
 use mail_base::Status;
 use mail_top::run;
-use std::alloc::{AllocError, Global};
+use std::alloc::Global;
 use world_traits::{FaultySink, FaultySource, Link};
 
-/// Runs the top call that the words pick in a world, whose server and files may go wrong by the plan, and shows what came of it.
+/// Runs the top call that the words pick in a world, whose server and files may go wrong by the
+/// plan, and shows what came of it.
 pub fn run_in(
+    alloc: Global,
     stand: &mut Stand,
     words: &[String],
     next: NextRun,
-    page: &mut Page,
-) -> Result<(), LineFault> {
+    page: &mut Answer,
+) -> Result<(), WordFault> {
     let NextRun {
         input,
         plan,
@@ -27,13 +28,13 @@ pub fn run_in(
         shelf_fails,
     } = next;
     let mut input = FaultySource::new(input, source_fails);
-    let mut out = FaultySink::new(page.alloc(), sink_fails);
+    let mut out = FaultySink::new(alloc, sink_fails);
     stand.world.begin_run(plan);
     stand.shelf.plan(shelf_fails);
-    let status = called(page.alloc(), words, stand, &mut input, &mut out);
-    stand.world.end_run(no_plan(page.alloc()));
+    let status = called(alloc, words, stand, &mut input, &mut out);
+    stand.world.end_run(no_plan(alloc));
     if stand.world.world().refused() > 0 || stand.shelf.refused() > 0 {
-        return Err(LineFault::Memory);
+        return Err(WordFault::Memory);
     }
     show_run(page, words, status, &out)
 }
@@ -90,36 +91,39 @@ fn played(
 
 // What is shown of a run. Where the output was refused room, what it has isn't what was printed.
 fn show_run(
-    page: &mut Page,
+    page: &mut Answer,
     words: &[String],
     status: Status,
     out: &FaultySink,
-) -> Result<(), LineFault> {
+) -> Result<(), WordFault> {
     if out.refused() > 0 {
-        return Err(LineFault::Memory);
+        return Err(WordFault::Memory);
     }
-    page.put(b">")?;
-    for word in words {
-        page.word(word.as_bytes())?;
-    }
-    page.end_line()?;
+    put_command(page, words)?;
     put_printed(page, out.bytes())?;
-    page.put(b"=")?;
+    page.word("=")?;
     page.number(u64::from(status.code()))?;
-    page.end_line()?;
-    Ok(())
+    page.end_line()
+}
+
+fn put_command(page: &mut Answer, words: &[String]) -> Result<(), WordFault> {
+    page.word(">")?;
+    for word in words {
+        page.text(word.as_bytes())?;
+    }
+    page.end_line()
 }
 
 // Each printed line, as it stands. The last one may be without its LF.
-fn put_printed(page: &mut Page, printed: &[u8]) -> Result<(), AllocError> {
+fn put_printed(page: &mut Answer, printed: &[u8]) -> Result<(), WordFault> {
     let lines = match printed {
         [] => return Ok(()),
         [lines @ .., b'\n'] => lines,
         lines => lines,
     };
     for line in lines.split(|byte| *byte == b'\n') {
-        page.put(b"| ")?;
-        page.put(line)?;
+        page.raw(b"| ")?;
+        page.raw(line)?;
         page.end_line()?;
     }
     Ok(())

@@ -9,8 +9,8 @@ use std::marker::Model;
 use world_mem::Plan;
 use world_traits::{Clocked, Disk, DiskFailed, Link, LinkFailed, Side, World};
 
-/// A world that tells neither files nor a server, as the real one does: a run over it owes no proof of how the connection
-/// stands. Contracts see how often its disk and its link failed.
+/// A world that tells neither files nor a server, as the real one does: a run over it owes no proof
+/// of how the connection stands. Contracts see how often its disk and its link failed.
 #[derive(Drop)]
 pub struct SilentWorld {
     world: AnyWorld,
@@ -60,8 +60,8 @@ impl SilentWorld {
         self.is_linked = false;
     }
 
-    /// Ends a run. A run leaves its connection as it ended, so where the link was called it is closed here, as the run's
-    /// last call of it. Then nothing goes wrong any more, by this plan.
+    /// Ends a run. A run leaves its connection as it ended, so where the link was called it is
+    /// closed here, as the run's last call of it. Then nothing goes wrong any more, by this plan.
     pub fn end_run(&mut self, plan: Plan) {
         if self.is_linked {
             self.world.close();

@@ -1,9 +1,9 @@
 //! A world that stands, who logs in there, and the texts that are kept beside it.
 
-use crate::any_world::{AnyWorld, restarted};
-use crate::fault::LineFault;
+use crate::any_world::AnyWorld;
 use crate::silent_world::SilentWorld;
 use body_cache::FaultyShelf;
+use cases::WordFault;
 use mail_base::Account;
 use std::alloc::Global;
 use world_mem::Plan;
@@ -29,25 +29,18 @@ impl Stand {
     /// Goes on from the image of the last moment that the pick takes. The texts stay.
     ///
     /// # Errors
-    /// `Unfit` where its moments aren't shown, and `Memory`.
-    pub fn restarted(self, pick: u64, plan: Plan) -> Result<Stand, LineFault> {
+    /// `Form` where its moments aren't shown, and `Memory`.
+    pub fn restarted(self, alloc: Global, pick: u64, plan: Plan) -> Result<Stand, WordFault> {
         let Stand {
             world,
             account,
             shelf,
         } = self;
-        let world = restarted_any(world.into_world(), pick, plan)?;
+        let world = world.into_world().restarted(alloc, pick, plan)?;
         Ok(Stand {
             world: SilentWorld::new(world),
             account,
             shelf,
         })
-    }
-}
-
-fn restarted_any(world: AnyWorld, pick: u64, plan: Plan) -> Result<AnyWorld, LineFault> {
-    match world {
-        AnyWorld::Served(world) => Ok(AnyWorld::Served(restarted(world, pick, plan)?)),
-        AnyWorld::Muted(_) | AnyWorld::Scripted(_) => Err(LineFault::Unfit),
     }
 }

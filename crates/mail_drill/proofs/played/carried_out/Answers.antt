@@ -13,15 +13,15 @@ pub returns : goal.returns
 returns c = record {
   done = has_run _ _ c.args.input.items c.args.world.now c.run-status.new.world c.run-status.result c.new-input.result c.new-input.ensures
       c.new-out.result c.run-status.new.out c.new-out.ensures (c.run-status.ensures.goes tt) (sym c.is_short.ensures ∙ c.if-is_short.false)
-      (λ told. (c.run-status.ensures.sides told).one_side) (λ told. (c.run-status.ensures.sides told).each_one_side)
+      (λ told. (c.run-status.ensures.journal.sides told).one_side) (λ told. (c.run-status.ensures.journal.sides told).each_one_side)
       (λ told one books have kept.
-      c.run-status.ensures.joined (record { tells = told; one_side = one; books = books; have = have; kept = kept }))
+      c.run-status.ensures.moments.joined (record { tells = told; one_side = one; books = books; have = have; kept = kept }))
       (λ told one books have kept at reach left fair.
-      c.run-status.ensures.owned (record { tells = told; one_side = one; books = books; have = have; kept = kept }) at
+      c.run-status.ensures.moments.owned (record { tells = told; one_side = one; books = books; have = have; kept = kept }) at
       (record { tells = told; kept = kept; reach = reach; left = left; fair = fair }))
-      (λ told writes came kept fair. c.run-status.ensures.synced writes came (record { tells = told; kept = kept; fair = fair }))
-      c.run-status.ensures.finishes
-      (λ told writes came kept fair. c.run-status.ensures.once_or_reported writes came (record { tells = told; kept = kept; fair = fair }));
+      (λ told writes came kept fair. c.run-status.ensures.server.synced writes came (record { tells = told; kept = kept; fair = fair }))
+      c.run-status.ensures.outcomes.finishes
+      (λ told writes came kept fair. c.run-status.ensures.outcomes.once_or_reported writes came (record { tells = told; kept = kept; fair = fair }));
   no_limit = c.in_default.not-Limit;
   broken = tt;
   foreseen = tt;

@@ -13,6 +13,17 @@ returns-clause-goes c =
       told.5 tt,
     )
 
+-- no accepted action is lost, and one side stays at rest
+pub returns-clause-held : goal.returns-clause-held
+returns-clause-held c = c.run.ensures.journal.held tt
+
+pub returns-clause-sides : goal.returns-clause-sides
+returns-clause-sides c = c.run.ensures.journal.sides tt
+
+-- a `play` that came to its end
+pub returns-clause-finishes : goal.returns-clause-finishes
+returns-clause-finishes c = c.run.ensures.outcomes.finishes tt
+
 -- whatever the server sends
 pub returns-clause-any_server : goal.returns-clause-any_server
 returns-clause-any_server c = let any = c.run.ensures.any_server tt in (any.whole, any.once)

@@ -1,0 +1,8 @@
+pub mod AsciiWords
+pub mod Counting
+pub mod NumberReading
+pub mod QuotedReading
+pub mod ReadAgain
+pub mod Sameness
+pub mod Taken
+pub mod Unquoting

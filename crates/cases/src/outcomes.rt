@@ -1,0 +1,118 @@
+//! How actions end, as words: `done`, `done 9 7` at a place, or the kind of a conflict, with its
+//! numbers.
+
+use crate::answer::Answer;
+use crate::events::put_place;
+use crate::fault::WordFault;
+use crate::input::Input;
+use crate::values::{action_id, modseq, put_modseq, put_uid, put_validity, uid, validity};
+use action_queue::{Kind, Outcome, Place};
+
+/// The next words as an outcome.
+pub fn outcome(input: &mut Input) -> Result<Outcome, WordFault> {
+    match input.word()? {
+        "done" => Ok(Outcome::Done {
+            place: place(input)?,
+        }),
+        word => Ok(Outcome::Conflict(kind(word, input)?)),
+    }
+}
+
+// The place behind `done`, if there is one.
+fn place(input: &mut Input) -> Result<Option<Place>, WordFault> {
+    if input.is_step_done() {
+        return Ok(None);
+    }
+    Ok(Some(Place {
+        validity: validity(input)?,
+        uid: uid(input)?,
+    }))
+}
+
+fn kind(word: &str, input: &mut Input) -> Result<Kind, WordFault> {
+    Ok(match word {
+        "flags-changed" => Kind::FlagsChanged { m: modseq(input)? },
+        "target-unknown" => Kind::TargetUnknown {
+            k: action_id(input)?,
+        },
+        "store-unsure" => Kind::StoreUnsure {
+            m: modseq(input)?,
+            f: modseq(input)?,
+        },
+        "ambiguous" => Kind::Ambiguous {
+            u: uid(input)?,
+            v: uid(input)?,
+        },
+        "validity-changed" => Kind::ValidityChanged {
+            o: validity(input)?,
+            n: validity(input)?,
+        },
+        "reset-after-loss" => Kind::ResetAfterLoss {
+            o: validity(input)?,
+            n: validity(input)?,
+        },
+        "message-gone" => Kind::MessageGone,
+        "already-so" => Kind::AlreadySo,
+        "refused-no" => Kind::RefusedNo,
+        "refused-bad" => Kind::RefusedBad,
+        "not-permanent" => Kind::NotPermanent,
+        "found-so" => Kind::FoundSo,
+        "source-gone" => Kind::SourceGone,
+        "gone-after-loss" => Kind::GoneAfterLoss,
+        _ => return Err(WordFault::Form),
+    })
+}
+
+/// Adds the words of an outcome.
+pub fn put_outcome(answer: &mut Answer, outcome: &Outcome) -> Result<(), WordFault> {
+    match outcome {
+        Outcome::Done { place: None } => answer.word("done"),
+        Outcome::Done { place: Some(place) } => {
+            answer.word("done")?;
+            put_place(answer, place.validity, place.uid)
+        }
+        Outcome::Conflict(kind) => {
+            answer.word(word_of(kind))?;
+            put_numbers(answer, kind)
+        }
+    }
+}
+
+fn word_of(kind: &Kind) -> &'static str {
+    match kind {
+        Kind::MessageGone => "message-gone",
+        Kind::AlreadySo => "already-so",
+        Kind::FlagsChanged { .. } => "flags-changed",
+        Kind::RefusedNo => "refused-no",
+        Kind::RefusedBad => "refused-bad",
+        Kind::NotPermanent => "not-permanent",
+        Kind::TargetUnknown { .. } => "target-unknown",
+        Kind::FoundSo => "found-so",
+        Kind::StoreUnsure { .. } => "store-unsure",
+        Kind::SourceGone => "source-gone",
+        Kind::GoneAfterLoss => "gone-after-loss",
+        Kind::Ambiguous { .. } => "ambiguous",
+        Kind::ValidityChanged { .. } => "validity-changed",
+        Kind::ResetAfterLoss { .. } => "reset-after-loss",
+    }
+}
+
+fn put_numbers(answer: &mut Answer, kind: &Kind) -> Result<(), WordFault> {
+    match kind {
+        Kind::FlagsChanged { m } => put_modseq(answer, *m),
+        Kind::TargetUnknown { k } => answer.number(u64::from(k.number())),
+        Kind::StoreUnsure { m, f } => {
+            put_modseq(answer, *m)?;
+            put_modseq(answer, *f)
+        }
+        Kind::Ambiguous { u, v } => {
+            put_uid(answer, *u)?;
+            put_uid(answer, *v)
+        }
+        Kind::ValidityChanged { o, n } | Kind::ResetAfterLoss { o, n } => {
+            put_validity(answer, *o)?;
+            put_validity(answer, *n)
+        }
+        _ => Ok(()),
+    }
+}

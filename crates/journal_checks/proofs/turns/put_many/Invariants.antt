@@ -1,5 +1,0 @@
-use Rattle.journal_core.specs.Creating.{NoneEmpty}
-use Rattle.journal_checks.proofs.turns.put_many.Given as goal
-
-abbrev pub invariant-loop : goal.invariant-loop
-invariant-loop l = NoneEmpty l.bodies.items

@@ -1,0 +1,71 @@
+//! What the server of a session's case says.
+
+use crate::said::{Who, said, text_behind, whose};
+use cases::{Line, WordFault};
+use mail_base::Bytes;
+use std::alloc::Global;
+use world_mem::{Files, Script, ScriptWorld};
+
+// The piece that a line adds to the script, if it is one of the server.
+fn piece_of(alloc: Global, text: &str) -> Result<Option<Script>, WordFault> {
+    match whose(text) {
+        Some(Who::Server) => Ok(Some(Script::Piece(said(alloc, text)?))),
+        Some(Who::Client) => Ok(None),
+        None if text.starts_with("endless ") => Ok(Some(Script::Endless(text_behind(
+            alloc, text,
+        )?))),
+        None => Ok(None),
+    }
+}
+
+// The piece's front, at most so many bytes of it.
+fn cut(piece: Script, left: usize) -> Script {
+    match piece {
+        Script::Piece(mut bytes) => {
+            bytes.truncate(left);
+            Script::Piece(bytes)
+        }
+        Script::Endless(bytes) => Script::Endless(bytes),
+    }
+}
+
+fn length(piece: &Script) -> usize {
+    match piece {
+        Script::Piece(bytes) | Script::Endless(bytes) => bytes.len(),
+    }
+}
+
+/// How many bytes the server says.
+pub fn script_length(alloc: Global, lines: &[Line]) -> Result<usize, WordFault> {
+    let mut whole = 0usize;
+    for line in lines {
+        if let Some(piece) = piece_of(alloc, line.text.as_str())? {
+            whole = whole.saturating_add(length(&piece));
+        }
+    }
+    Ok(whole)
+}
+
+// The first so many bytes of what the server says.
+fn script_of(alloc: Global, lines: &[Line], most: usize) -> Result<Vec<Script>, WordFault> {
+    let mut script = Vec::new(alloc);
+    let mut left = most;
+    for line in lines {
+        if let Some(piece) = piece_of(alloc, line.text.as_str())? {
+            let piece = cut(piece, left);
+            left = left.saturating_sub(length(&piece));
+            script.push(piece)?;
+        }
+    }
+    Ok(script)
+}
+
+/// A world of two empty files, to which the first so many bytes come of what the server says.
+pub fn world_of(alloc: Global, lines: &[Line], most: usize) -> Result<ScriptWorld, WordFault> {
+    let script = script_of(alloc, lines, most)?;
+    let files = Files {
+        left: Bytes::new(alloc),
+        right: Bytes::new(alloc),
+    };
+    Ok(ScriptWorld::new(alloc, files, script)?)
+}
