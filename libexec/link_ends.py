@@ -1,4 +1,5 @@
-"""What link holds of the system: the mark of a letter, the log, the two connections, and what ends a session from outside."""
+"""What link holds of the system: the mark of a letter, the notes of large texts, the log, the two connections, and what ends a session
+from outside."""
 import array
 import contextlib
 import fcntl
@@ -71,38 +72,103 @@ class Mark:
                 self._put(self.tag, max(0, self.size - int(lived * SENT_PER_SECOND)), self.way)
 
     def _put(self, tag: bytes, size: int, way: Way) -> None:
-        """Writes the file, so that it is there as a whole or as it was."""
-        line = b"%s %d %s %d\n" % (tag, size, way.value.encode(), int(time.time()))
-        beside = self.path + ".new"
-        with contextlib.suppress(FileNotFoundError):
-            os.unlink(beside)
-        handle = os.open(beside, os.O_WRONLY | os.O_CREAT | os.O_EXCL, 0o600)
-        with os.fdopen(handle, "wb") as file:
-            file.write(line)
-            file.flush()
-            os.fsync(handle)
-        os.replace(beside, self.path)
-        self._sync()
+        """Writes the file."""
+        put(self.path, b"%s %d %s %d\n" % (tag, size, way.value.encode(), int(time.time())))
 
     def remove(self) -> Optional[str]:
         """The letter was answered, or looked for. Why the mark stays, where it does."""
         self.was_there = False
         try:
             os.unlink(self.path)
-            self._sync()
+            sync_name(self.path)
         except FileNotFoundError:
             pass
         except OSError as error:
             return f"{self.path} can't be removed: {error.strerror}"
         return None
 
-    def _sync(self) -> None:
-        """Makes sure of a name in the folder."""
-        handle = os.open(self.folder, os.O_RDONLY)
+
+def put(path: str, data: bytes) -> None:
+    """Writes a file, so that it is there as a whole or as it was."""
+    beside = path + ".new"
+    with contextlib.suppress(FileNotFoundError):
+        os.unlink(beside)
+    handle = os.open(beside, os.O_WRONLY | os.O_CREAT | os.O_EXCL, 0o600)
+    with os.fdopen(handle, "wb") as file:
+        file.write(data)
+        file.flush()
+        os.fsync(handle)
+    os.replace(beside, path)
+    sync_name(path)
+
+
+def sync_name(path: str) -> None:
+    """Makes sure of a name in its folder."""
+    handle = os.open(os.path.dirname(path), os.O_RDONLY)
+    try:
+        os.fsync(handle)
+    finally:
+        os.close(handle)
+
+
+class Note(NamedTuple):
+    """A message whose text was left out for its size: its mailbox, with the UIDVALIDITY, its UID, and how many bytes it has."""
+
+    box: bytes
+    validity: int
+    uid: int
+    size: int
+
+
+class Large:
+    """The file `mowerbean.large`: a line `VALIDITY.UID.BOX SIZE` for each text that a sync left out, so that no later one asks for it.
+
+    Only the server tells a UIDVALIDITY, and each play selects each mailbox. So a note of a mailbox that was made anew goes before
+    anybody could take it for one of a new message.
+    """
+
+    NAME = "mowerbean.large"
+    LINE = re.compile(rb"([0-9]{1,10})\.([0-9]{1,10})\.(.+) ([0-9]{1,18})")
+
+    def __init__(self, folder: str, most: Optional[int]) -> None:
+        self.path, self.most = os.path.join(folder, self.NAME), most
+
+    def is_too_large(self, size: int) -> bool:
+        """Whether a text of so many bytes is to be left out."""
+        return self.most is not None and size > self.most
+
+    def add(self, note: Note) -> Optional[str]:
+        """Notes a message. Why it isn't noted, where it isn't; it is asked for once more then."""
+        return self._keep([*self._notes(), note])
+
+    def renew(self, box: bytes, validity: int) -> Optional[str]:
+        """The mailbox has this UIDVALIDITY. Notes under another one go, and those that the limit no longer holds back."""
+        notes = self._notes()
+        left = [note for note in notes if note.box != box or (note.validity == validity and not self._may_come(note))]
+        return self._keep(left) if left != notes else None
+
+    def _may_come(self, note: Note) -> bool:
+        """Whether a text that was left out may be fetched by the limit of today."""
+        return self.most is not None and note.size <= self.most
+
+    def _notes(self) -> List[Note]:
+        """All notes. What is no plain file, or has another form, notes nothing."""
+        with contextlib.suppress(OSError):
+            handle = os.open(self.path, os.O_RDONLY | os.O_NOFOLLOW | os.O_NONBLOCK)
+            with os.fdopen(handle, "rb") as file:
+                if stat.S_ISREG(os.fstat(handle).st_mode):
+                    found = [self.LINE.fullmatch(line) for line in file.read().splitlines()]
+                    return [Note(line[3], int(line[1]), int(line[2]), int(line[4])) for line in found if line]
+        return []
+
+    def _keep(self, notes: List[Note]) -> Optional[str]:
+        """Writes these notes, each once."""
+        lines = [b"%d.%d.%s %d\n" % (note.validity, note.uid, note.box, note.size) for note in dict.fromkeys(notes)]
         try:
-            os.fsync(handle)
-        finally:
-            os.close(handle)
+            put(self.path, b"".join(lines))
+        except OSError as error:
+            return f"{self.path} can't be written: {error.strerror}"
+        return None
 
 
 class Log:

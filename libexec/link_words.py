@@ -22,6 +22,10 @@ SECRETS, SECRET_LEAST, SECRET_MOST = 16, 4, 1_024  # How many hidden words are k
 PRINTABLE = bytes(octet if 32 <= octet < 127 else ord("?") for octet in range(256))
 LITERAL = re.compile(rb"\{([0-9]{1,18})(\+?)\}\r\n\Z")
 COMMAND = re.compile(rb"([A-Z][0-9]{1,18}(?:R[23])?) ((?:UID )?[A-Z]+)(?=[ \r\n])")
+SELECT = re.compile(rb'[A-Z][0-9]{1,18} SELECT (?:"([^"]*)"|([^" \r\n]+))[ \r]')
+VALIDITY = re.compile(rb"\S+ OK \[UIDVALIDITY ([0-9]{1,10})\]", re.IGNORECASE)
+TEXT_ASKED = re.compile(rb"[A-Z][0-9]{1,18} UID FETCH ([0-9]{1,10}) \(UID BODY\.PEEK\[\]\)\r\n")
+TEXT_TOLD = re.compile(rb"BODY\[\] \{[0-9]{1,18}\}\r\n\Z", re.IGNORECASE)
 CAPABILITIES = re.compile(rb"(?:\* CAPABILITY |\S+ [A-Z]+ +\[CAPABILITY )([^\]\r\n]*)", re.IGNORECASE)
 
 
@@ -33,6 +37,7 @@ class Status(enum.IntEnum):
     LINE = 3
     ADDRESS = 4
     AGAIN = 5
+    LARGE = 6
 
 
 class Ended(Exception):

@@ -382,7 +382,7 @@ class Sessions(Case):
 
     def test_a_plus_before_all_is_out_is_no_answer(self) -> None:
         nobody: Any = None
-        session = link_module().Session(nobody, nobody, nobody, Log(None, False, False, None), nobody, False)
+        session = link_module().Session(nobody, nobody, nobody, Log(None, False, False, None), nobody, nobody, False)
         session.mark = Mark(self.folder)
         session.has_catenate = True
         for said, heard in ((b"P1 APPEND a () {9}\r\n", b"+ go\r\n"), (b"123456789\r\n", b"+ early\r\n")):
@@ -691,6 +691,8 @@ class Sessions(Case):
         for wrong in ("host", "host:0", "host:99999", ":143", "::1:1", "h st:1"):
             self.assertEqual(self.reason("--server", wrong), (2, f"mowerbean: {wrong} is no HOST:PORT\n"))
         self.assertEqual(self.reason("--tls", "a:1", "--cafile", "/nowhere")[0], 2)
+        for words in (["--largest", "5"], ["--reading", "--largest", "0"]):
+            self.assertEqual(self.reason("--server", "a:1", *words)[0], 2)
 
     def test_an_address_of_a_kind_that_this_machine_has_not(self) -> None:
         listening = self.listen()

@@ -55,10 +55,11 @@ _mowerbean_next() {
         -*:fetch | -*:read) words=(--retry --retry-for --trace) && return ;;
     esac
     case $#:${1-} in
-        0:*) words=(account init play list fetch show read dates flag move append queue report history letter help --help --version -a -A -q -v -w -h -V) ;;
+        0:*) words=(account init play sync list fetch show read dates flag move append queue report history letter help --help --version -a -A -q -v -w -h -V) ;;
         *:play) words=(--retry --retry-for --then --trace --moved) ;;
+        *:sync) words=(--retry --retry-for --then --trace) ;;
         *:report) words=(--new --long) ;;
-        1:help) words=(account init play list fetch show read dates flag move append queue report history letter) ;;
+        1:help) words=(account init play sync list fetch show read dates flag move append queue report history letter) ;;
         1:letter) mapfile -t words < <(_mowerbean_letters) ;;
         1:list | 1:fetch | 1:show | 1:read | 1:dates | 1:flag | 1:move | 1:append | 3:move) mapfile -t words < <(_mowerbean_boxes) ;;
         2:fetch) mapfile -t words < <(echo new && _mowerbean_uids "$2") ;;

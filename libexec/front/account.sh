@@ -158,6 +158,20 @@ as_memory() {
     memory=$((as_number * times))
 }
 
+# Puts bytes into $account_largest.
+as_largest() {
+    case $1 in
+        *K) times=1024 ;;
+        *M) times=1048576 ;;
+        *) times=1 ;;
+    esac
+    if ! as_number "${1%[KM]}" 999999999 || [ "$as_number" -eq 0 ]; then
+        wrong="largest is a number of bytes, or one with K or M, and not $1"
+        return 1
+    fi
+    account_largest=$((as_number * times))
+}
+
 # --- the file
 
 take_server_line() {
@@ -177,12 +191,15 @@ take_line() {
     case $1 in
         server | tls | starttls) take_server_line "$1" "$2" ;;
         dir) as_path "$1" "$2" && account_dir=$path ;;
+        maildir) as_path "$1" "$2" && account_maildir=$path ;;
+        trash) account_trash=$2 ;;
         cafile) as_path "$1" "$2" && account_cafile=$path ;;
         user) account_user=$2 ;;
         password_command) account_command=$2 ;;
         pause) as_pause "$2" || bad_account "$wrong" ;;
         time) as_time "$2" || bad_account "$wrong" ;;
         memory) as_memory "$2" || bad_account "$wrong" ;;
+        largest) as_largest "$2" || bad_account "$wrong" ;;
         link)
             case $2 in
                 yes | no) account_link=$2 ;;
@@ -244,6 +261,7 @@ forget_environment() {
 
 forget_account() {
     account_dir='' account_way='' account_server='' account_cafile='' account_user='' account_command='' account_link=''
+    account_maildir='' account_trash='' account_largest=''
     file='' is_open='' not_counted='' pause=2 session_time=''
 }
 

@@ -28,7 +28,7 @@ find_wrong() {
         dates) wrong_count 1 1 BOX "$@" || wrong_box "$2" ;;
         queue | history) wrong_count 0 0 '' "$@" ;;
         account) wrong_count 0 1 NAME "$@" ;;
-        play | report | list | fetch | read | --help | --version) ;;
+        play | sync | report | list | fetch | read | --help | --version) ;;
         *) wrong="no such command: $(printable "${1-}")" ;;
     esac
 }

@@ -34,7 +34,7 @@ put_line() {
 
 # Refuses what isn't a plain file: a link would be followed, and a FIFO would hang.
 look_at_files() {
-    for name in lock play boxes sent line server shown 'then'; do
+    for name in lock play boxes sent line server shown 'then' sync large maildir; do
         if [ -L "$folder/mowerbean.$name" ] || { [ -e "$folder/mowerbean.$name" ] && [ ! -f "$folder/mowerbean.$name" ]; }; then
             stop "$BAD_ACCOUNT" "$folder/mowerbean.$name is no plain file. Nothing was done: look who put it there, and remove it"
         fi
@@ -187,7 +187,7 @@ is_in_the_way() {
 
 # What was kept of an earlier journal in this folder isn't so of a new one.
 forget_journal() {
-    for name in server shown; do
+    for name in server shown large; do
         if [ -e "$folder/mowerbean.$name" ]; then
             rm -f -- "$folder/mowerbean.$name"
         fi

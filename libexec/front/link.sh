@@ -45,6 +45,7 @@ start_link() {
     [ -z "$trace" ] || set -- "$@" --trace "$trace"
     [ -z "$verbose" ] || set -- "$@" --verbose
     [ -z "$is_reading" ] || set -- "$@" --reading
+    [ -z "$largest" ] || set -- "$@" --largest "$largest"
     if [ -n "$is_reading" ]; then
         :
     elif [ -z "$quiet" ] && [ -t 2 ]; then

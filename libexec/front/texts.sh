@@ -12,6 +12,11 @@ fetch_once() {
     show_place "$1"
     play_to_the_end fetch "$box" "$1" >"$said"
     take_status
+    # Link left the text out for its size, and has said so.
+    if [ "$status" -eq 4 ] && [ "$link_status" -eq 6 ]; then
+        status=0
+        : >"$said"
+    fi
     case $status in
         4) write_mark "lost $(date +%s)" ;;
         *) write_mark ended ;;
@@ -32,7 +37,12 @@ print_said() {
     [ "$count" -eq 1 ] || [ -n "$verbose" ] || clear_line
     line=$(cat "$said")
     if [ -n "$line" ]; then
-        [ "$count" -eq 1 ] || line="$1 $line"
+        if [ -n "$many" ]; then
+            quote "$box"
+            line="$quoted $1 $line"
+        elif [ "$count" -gt 1 ]; then
+            line="$1 $line"
+        fi
         printf '%s\n' "$line" 2>/dev/null || status=12
     fi
 }
@@ -62,6 +72,7 @@ fetch_all() {
             *) break ;;
         esac
     done
+    rm -f "$said"
     status=$worst
 }
 
@@ -268,7 +279,9 @@ ROWS='
         sub(/^[0-9]+\./, "", uid)
         if (substr(uid, index(uid, ".") + 1) == name && $0 ~ /^[0-9]+\.[0-9]+\./) {
             uid = substr(uid, 1, index(uid, ".") - 1)
-            files[uid] = uid in files ? "" : folder "/" $0
+            # In mawk files[uid] would be there already as the right side is looked at.
+            is_second = uid in files
+            files[uid] = is_second ? "" : folder "/" $0
         }
         next
     }

@@ -5,8 +5,8 @@ help_all() {
     cat <<'TEXT'
 usage: mowerbean [-a ACCOUNT] [-q] COMMAND ..
 
-A mail client for people behind a poor link. All commands but account, play, fetch and
-read work without a network.
+A mail client for people behind a poor link. All commands but account, play, sync,
+fetch and read work without a network.
 
   account [NAME]          asks for an account, tries its server, and writes its file
                             mowerbean account
@@ -14,6 +14,8 @@ read work without a network.
                             mowerbean init INBOX Archive
   play [--retry-for TIME] plays what waits on the server, and fetches what is new
                             mowerbean play
+  sync [--retry-for TIME] the Maildir's wishes, a play, and what is new into the Maildir
+                            mowerbean sync
   list [--long] BOX       shows a mailbox: ID, mod-sequence and flags of each message;
                           or with date, sender and subject of each that was fetched
                             mowerbean list INBOX
@@ -51,7 +53,7 @@ list shows it. FLAG is seen, flagged, answered, draft, deleted, or a keyword.
   -A           play, list, queue, report and history for all accounts, one after another
   -q           leaves out the line that explains a status on a terminal
   -w SECONDS   flag, move and append wait as long for a play under way (else 60)
-  -v           play, fetch and read print each command and its answer on standard error
+  -v           play, sync, fetch and read print each command and its answer on standard error
 
 Options stand before the command or after it; after -- there are none. Without -a the
 variables MAIL_DIR, MAIL_SERVER, MAIL_USER, MAIL_PASSWORD, MAIL_PAUSE and MAIL_TIME decide
@@ -107,6 +109,21 @@ and 2 again after a play that got further. A wrong address or certificate ends b
 
 Ctrl-C lets the command under way end first, so that a message isn't cut off after its
 last byte. A second one stops at once.
+TEXT
+        sync) cat <<'TEXT' ;;
+mowerbean sync [--retry-for TIME] [--retry N] [--then COMMAND] [--trace FILE]
+
+Keeps a Maildir in step, which mutt, aerc, notmuch and others read. It asks for what was done
+there (flags, messages in another folder, new letters), plays, fetches the texts that are
+new, and writes them into the Maildir. It prints a line for each action that it asks for, the
+line of play, and one for each text. The account names the Maildir: maildir=~/Mail, with a
+folder for each mailbox of the journal. With trash=BOX too, a message that is deleted there
+is moved to that mailbox; without it the message comes back. With largest=BYTES (or with K
+or M) a text of more bytes is left out, and named once; fetch and read get it. One sync runs
+at a time. Where the connection is lost the next one goes on from there.
+
+  mowerbean sync
+  mowerbean -a work sync --retry-for 20m
 TEXT
         list) cat <<'TEXT' ;;
 mowerbean list [--long] BOX

@@ -24,6 +24,7 @@ case $1 in
         ;;
     show)
         [ -e "$kept" ] || refuse not-kept
+        echo "$3" >>"$work/shows"
         cat "$kept"
         ;;
     fetch)
@@ -144,12 +145,15 @@ long_lists() {
     printf '\0\n' >"$MAIL_DIR/bodies/4.43.Sent%Old Items"
     printf 'From: wrong\r\n\r\n' >"$MAIL_DIR/bodies/5.44.Sent"
     printf -- '-1\n' >"$work/stub/server/42.date"
+    : >"$work/stub/shows"
     said=$(TZ=UTC "$stub" -a work list --long 'Sent/Old Items')
+    shows=$(cat "$work/stub/shows")
     same 'list --long' "$?, $said" '0, 40  2003-07-01 08:52  ann@x  one  \seen \flagged
 42  1969-12-31 23:59  "Ann" <ann@x>  café?[31m and more
 43                      two  \seen
 44                      two
 d1  \draft'
+    same '  asks the program for a text where two files may be meant, and reads the others' "$shows" 43
     mkdir -p "$work/without"
     for tool in awk cat chmod cp date dirname flock grep head id ls mkdir mktemp mv od printf ps readlink rm sed sh sleep stat stty tail tr wc; do
         ln -sf "$(command -v "$tool")" "$work/without/$tool"

@@ -14,9 +14,11 @@ units() {
     put_units
     unit=$work/units/mowerbean@.service
     if command -v systemd-analyze >/dev/null; then
-        said=$(XDG_RUNTIME_DIR=$work systemd-analyze --user --man=no verify "$work/units/mowerbean@work.service" \
-            "$work/units/mowerbean@work.timer" 2>&1)
-        same 'systemd-analyze verify' "$?, $said" '0, '
+        for each in mowerbean mowerbean-sync; do
+            said=$(XDG_RUNTIME_DIR=$work systemd-analyze --user --man=no verify "$work/units/$each@work.service" \
+                "$work/units/$each@work.timer" 2>&1)
+            same "systemd-analyze verify $each" "$?, $said" '0, '
+        done
     fi
     folder played-by-unit
     config "dir=$MAIL_DIR"
@@ -25,14 +27,25 @@ units() {
     line=$(sed -n 's/^ExecStart=//p' "$unit" | sed 's/%i/work/')
     said=$(sh -c "$line" 2>"$work/notice")
     same "the unit's command plays" "$?, $(echo "$said" | head -n 1), $(cat "$work/notice")" '0, words [play], '
+    bears
+    unit=$work/units/mowerbean-sync@.service
+    line=$(sed -n 's/^ExecStart=//p' "$unit" | sed 's/%i/work/')
+    said=$(sh -c "$line" 2>"$work/notice")
+    same "the other unit's command syncs" "$?, $said, $(cat "$work/notice")" \
+        '78, , mowerbean: sync wants the line maildir=FOLDER in the account. Nothing was done'
+    bears
+    take_link_away
+    notifications
+}
+
+# Which statuses the unit takes for no failure.
+bears() {
     for ended in 0 1 4 75; do
         case " 0 $(sed -n 's/^SuccessExitStatus=//p' "$unit") " in
             *" $ended "*) same "  and fails not by status $ended" 0 0 ;;
             *) same "  and fails not by status $ended" failed 0 ;;
         esac
     done
-    take_link_away
-    notifications
 }
 
 notifications() {
