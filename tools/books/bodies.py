@@ -1,16 +1,18 @@
-"""Makes bodies.txt of crates/mail_checks: bodies of the events that tell a book anew, each byte of each of them changed in turn.
+"""Makes bodies.txt of crates/value_cases: bodies of the events that tell a book anew, each byte of each of them changed in turn.
 
-usage: tools/books/bodies.py > crates/mail_checks/data/bodies.txt
+usage: tools/books/bodies.py > crates/value_cases/data/bodies.txt
 """
 import pathlib
 import sys
 
 sys.path.insert(0, str(pathlib.Path(__file__).resolve().parent.parent))
-from model.bodies import quoted, read  # noqa: E402
+from model.bodies import read  # noqa: E402
+from model.words import word  # noqa: E402
 
 HEAD = """# Bodies of an action that ended, of a cache that is taken away, of a try that is taken back and of the two outcomes of a mailbox that
 # was recreated: each as it is, cut off at each place, with a byte behind it, and with each byte changed in turn. By
 # tools/books/bodies.py, from a plain reader of bodies.
+each line is a case
 """
 ID, UID, INBOX = b'\0\0\0\1', b'\0\0\0\x2a', b'R\x05INBOX\0\0\0\x05'
 TEXT = b'Message-ID: <a@x>\r\n\r\n'
@@ -26,7 +28,7 @@ BODIES = [
 
 
 def line(body: bytes) -> str:
-    return f'record | {quoted(body)} | {read(body)[0]}'
+    return f'record {word(body)} = {read(body)[0]}'
 
 
 def changed(body: bytes) -> list:
@@ -40,7 +42,7 @@ def main() -> None:
     for body in BODIES:
         told, is_event = read(body)
         assert is_event
-        print(f'\n# {told}')
+        print(f'\n== {told}')
         for other in [body] + [body[:at] for at in range(1, len(body))] + [body + b'\0'] + changed(body):
             print(line(other))
 

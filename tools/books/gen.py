@@ -1,12 +1,13 @@
-"""Makes rules.txt of crates/mail_checks: beside each kind of book each kind of event, with the rule that it breaks in each version.
+"""Makes rules.txt of crates/value_cases: beside each kind of book each kind of event, with the rule that it breaks in each version.
 
-usage: tools/books/gen.py > crates/mail_checks/data/rules.txt
+usage: tools/books/gen.py > crates/value_cases/data/rules.txt
 """
 import pathlib
 import sys
 
 sys.path.insert(0, str(pathlib.Path(__file__).resolve().parent.parent))
 from model.lawful import KINDS, Lawful  # noqa: E402
+from model.words import word, words  # noqa: E402
 
 HEAD = """# Each kind of event beside each kind of book: the rule that it breaks in a first and in a second version. By tools/books/gen.py, from a
 # plain model of the rules.
@@ -16,7 +17,7 @@ FLAG, MOVE = ('flag', REAL), ('move', REAL, 'Archive')
 APPEND = ('append', 'Archive')
 STORE, SHIFT, PUT = ('store', 'INBOX', 5, 42, 700), ('shift', 'INBOX', 5, 42, 'Archive'), ('put', 'Archive', 9, 7)
 DONE, PLACED = ('done',), ('done', 9, 7)
-LETTER = '"" "Message-ID: <a@x>\\r\\n\\r\\n" "<a@x>"'
+LETTER = words(b'Message-ID: <a@x>\r\n\r\n', b'<a@x>')
 LEARNT = ('learn', 'INBOX', True, 9, 300)
 
 
@@ -74,23 +75,19 @@ def events(book: Lawful) -> list:
 
 
 def target_words(target: tuple) -> str:
-    return f'made {target[1]}' if target[0] == 'dummy' else f'"{target[1]}" {target[2]} {target[3]}'
+    return f'd{target[1]}' if target[0] == 'dummy' else words(*map(str, target[1:]))
 
 
 def action_words(action: tuple) -> str:
     if action[0] == 'flag':
-        return f'flag {target_words(action[1])} + "\\\\Seen"'
+        return f'flag {target_words(action[1])} + \\Seen'
     if action[0] == 'move':
-        return f'move {target_words(action[1])} "{action[2]}"'
-    return f'append "{action[1]}" {LETTER}'
+        return f'move {target_words(action[1])} {word(action[2])}'
+    return f'append {word(action[1])} {LETTER}'
 
 
 def intent_words(intent: tuple) -> str:
-    if intent[0] == 'store':
-        return 'store "{}" {} {} {}'.format(*intent[1:])
-    if intent[0] == 'shift':
-        return 'move "{}" {} {} "{}"'.format(*intent[1:])
-    return 'put "{}" {} {}'.format(*intent[1:])
+    return ' '.join(['move' if intent[0] == 'shift' else intent[0], words(*map(str, intent[1:]))])
 
 
 def outcome_words(outcome: tuple) -> str:
@@ -99,21 +96,21 @@ def outcome_words(outcome: tuple) -> str:
     return ' '.join(map(str, (outcome[1], *outcome[2])))
 
 
-def words(event: tuple) -> str:
+def event_words(event: tuple) -> str:
     if event[0] == 'begin':
-        return 'begin ' + ' '.join(f'"{name}"' for name in event[1])
+        return 'begin ' + words(*event[1])
     if event[0] == 'learn':
-        return f'learn "{event[1]}" {"whole" if event[2] else "part"} {event[3]} {event[4]} 7 none'
+        return f'learn {word(event[1])} {"whole" if event[2] else "part"} {event[3]} 7 {event[4]}'
     if event[0] == 'reset':
-        return f'reset "{event[1]}" {event[2]} {event[3]}'
+        return f'reset {word(event[1])} {event[2]} {event[3]}'
     if event[0] == 'withdraw':
         return f'withdraw {event[1]} {event[2]}'
     told = {'accept': [action_words], 'intend': [intent_words], 'settle': [outcome_words], 'old': [action_words, outcome_words]}[event[0]]
-    return ' '.join([event[0], str(event[1])] + [as_words(part) for as_words, part in zip(told, event[2:])])
+    return f'{event[0]} {event[1]} ' + ' ; '.join(as_words(part) for as_words, part in zip(told, event[2:]))
 
 
-def asked(name: str, group: list) -> str:
-    """A line: the book's events, and then each event of the group in each version."""
+def asked(name: str, group: list) -> list:
+    """The lines of a case: the book's events, and then each event of the group in each version."""
     version, before = BOOKS[name]
     books = []
     for by in (1, 2):
@@ -122,22 +119,22 @@ def asked(name: str, group: list) -> str:
             book.enter(event)
         book.version = by
         books.append(book)
-    steps, answers = [words(event) for event in before], ['entered'] * len(before)
+    lines = [f'== {name}: {group[0][0]}', 'book' if version == 1 else 'book second']
+    lines += [f'{event_words(event)} = entered' for event in before]
     for event in group:
-        steps.append(f'both {words(event)}')
-        answers += [book.broken(event) or 'entered' for book in books]
-    return f'{"book" if version == 1 else "book-2"} | {" ; ".join(steps)} | {" ".join(answers)}'
+        broken = ' '.join(book.broken(event) or 'entered' for book in books)
+        lines.append(f'both {event_words(event)} = {broken}')
+    return lines
 
 
 def main() -> None:
     print(HEAD, end='')
     for name, (version, before) in BOOKS.items():
-        print(f'\n# {name[0].upper()}{name[1:]}.')
         book = Lawful(version, ['INBOX', 'Archive'])
         for event in before:
             book.enter(event)
         for group in events(book):
-            print(asked(name, group))
+            print('', *asked(name, group), sep='\n')
 
 
 main()

@@ -14,6 +14,6 @@ Each is written from the pages of `docs` and from the rules of the commands. Non
     scenario.py   the lines of a scenario, and what each is to print
 
 The rules of playback stand twice, in playing.py and in rules.py, and neither uses the other: the cases of `mail_scenario` come from the
-first, those of `player_checks` from the second, so a mistake in one model is caught by the other's cases. For the same reason the small
+first, the table of the player in `talk_cases` from the second, so a mistake in one model is caught by the other's cases. For the same reason the small
 server of tools/servers/plain.py uses nothing of this package.
 """

@@ -1,8 +1,8 @@
 """A plain reader of the bodies of an ended action, a reset, a taken back try and an outcome (docs/JOURNAL.md): what a body says, in the
-words of mail_checks' cases, or the place of its first field that doesn't fit."""
+words of cases (docs/CASES.md), or the place of its first field that doesn't fit."""
 from typing import Callable, List, Tuple
 
-from .words import SPELLED, message_id
+from .words import SPELLED, message_id, word
 
 # The words of each kind of conflict, and the bytes of each of its numbers.
 KINDS = {1: ('message-gone',), 2: ('already-so',), 3: ('flags-changed', 8), 4: ('refused-no',), 5: ('refused-bad',), 6: ('not-permanent',),
@@ -12,12 +12,6 @@ KINDS = {1: ('message-gone',), 2: ('already-so',), 3: ('flags-changed', 8), 4: (
 
 class Misfit(Exception):
     """A field doesn't fit. It begins at this place."""
-
-
-def quoted(data: bytes) -> str:
-    """A text between quotes, as a case has it."""
-    shown = {34: '\\"', 92: '\\\\', 124: '\\x7c'}
-    return '"' + ''.join(shown.get(byte) or (chr(byte) if 32 <= byte <= 126 else f'\\x{byte:02x}') for byte in data) + '"'
 
 
 def is_name(data: bytes) -> bool:
@@ -59,42 +53,43 @@ class Body:
 
     def target(self) -> str:
         if self.letter(b'RD') == 'D':
-            return f'made {self.number()}'
-        return f'{quoted(self.counted(is_name))} {self.number()} {self.number()}'
+            return f'd{self.number()}'
+        return f'{word(self.counted(is_name))} {self.number()} {self.number()}'
 
-    def flags(self, least: int) -> str:
+    def flags(self, least: int) -> List[str]:
         count = int.from_bytes(self.field(2, lambda found: least <= int.from_bytes(found, 'big') <= 1024), 'big')
         keys: List[bytes] = []
         for _ in range(count):
             keys.append(self.counted(lambda found: is_key(found) and (not keys or keys[-1] < found)))
-        return quoted(b' '.join(SPELLED.get(key.decode(), key.decode()).encode() for key in keys))
+        return [SPELLED.get(key.decode(), key.decode()) for key in keys]
 
     def letters_text(self) -> str:
         """A letter's text behind its size in four bytes, with its one Message-ID."""
         size = int.from_bytes(self.field(4, lambda found: True), 'big')
         text = self.field(size, lambda found: message_id(found) is not None)
-        return f'{quoted(text)} {quoted(message_id(text) or b"")}'
+        return f'{word(text)} {word(message_id(text) or b"")}'
 
     def action(self) -> str:
         letter = self.letter(b'FMP')
         if letter == 'F':
-            return f'flag {self.target()} {self.letter(b"+-")} {self.flags(1)}'
+            return ' '.join(['flag', self.target(), self.letter(b'+-'), *self.flags(1)])
         if letter == 'M':
-            return f'move {self.target()} {quoted(self.counted(is_name))}'
-        return f'append {quoted(self.counted(is_name))} {self.flags(0)} {self.letters_text()}'
+            return f'move {self.target()} {word(self.counted(is_name))}'
+        to, flags, text = word(self.counted(is_name)), self.flags(0), self.letters_text()
+        return ' '.join(['append', to, text, *flags])
 
     def outcome(self) -> str:
         if self.letter(b'DC') == 'D':
             return f'done {self.number()} {self.number()}' if self.letter(b'\0\1') == '\1' else 'done'
-        word, *widths = KINDS[ord(self.letter(bytes(KINDS)))]
-        return ' '.join([word] + [str(self.number(width)) for width in widths])
+        kind, *widths = KINDS[ord(self.letter(bytes(KINDS)))]
+        return ' '.join([kind] + [str(self.number(width)) for width in widths])
 
     def event(self) -> str:
         letter = self.letter(b'ORWS')
         if letter == 'O':
-            return f'old {self.number()} {self.action()} {self.outcome()}'
+            return f'old {self.number()} {self.action()} ; {self.outcome()}'
         if letter == 'R':
-            return f'reset {quoted(self.counted(is_name))} {self.number()} {self.number()}'
+            return f'reset {word(self.counted(is_name))} {self.number()} {self.number()}'
         if letter == 'W':
             return f'withdraw {self.number()} {self.field(1, lambda found: True)[0]}'
         return f'settle {self.number()} {self.outcome()}'

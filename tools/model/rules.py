@@ -98,9 +98,9 @@ class Reply:
     def lines(self, tag: str) -> List[str]:
         lines = ['barred'] if self.barred else []
         for response in self.untagged:
-            lines += ['< ' + line if line else '<' for line in response.lines()]
+            lines += ['S: ' + line if line else 'S:' for line in response.lines()]
         code = f'[{self.code}] ' if self.code else ''
-        return lines + [f'< {tag} {self.ending} {code}done']
+        return lines + [f'S: {tag} {self.ending} {code}done']
 
     def behind_closed(self) -> list:
         """Of a SELECT only what stands behind the last CLOSED is of the mailbox."""
@@ -137,10 +137,16 @@ class Book:
 # What a run yields.
 
 class Need:
-    """A need: its line, and the tag of the reply where it has one."""
+    """A need: its words, or the command as it is sent, and the tag of the reply where it has one."""
 
     def __init__(self, line: str, tag: Optional[str] = None):
         self.line, self.tag = line, tag
+
+    def lines(self) -> List[str]:
+        """The command's lines, or what is needed as it stands below a line of a case."""
+        if self.tag and self.line.startswith(self.tag + ' '):
+            return [('C: ' + line) if line else 'C:' for line in self.line.split('\r\n')]
+        return [' = ' + self.line]
 
 
 class More:
@@ -396,10 +402,9 @@ class Run:
             validity, uidnext = yield from self.select(action.to, None)
             yield from self.intend(number, f'put {action.to} {validity} {uidnext}')
         tag = f'P{number}'
-        text = f'Message-ID: {action.id}||hi|'
-        size = len(text) + text.count('|')
+        text = f'Message-ID: {action.id}\r\n\r\nhi\r\n'
         while True:
-            reply = yield Need(f'{tag} APPEND {action.to} ({flag_text(keys(action.flags))}) {{{size}}}|{text}', tag)
+            reply = yield Need(f'{tag} APPEND {action.to} ({flag_text(keys(action.flags))}) {{{len(text)}}}\r\n{text}', tag)
             if reply.ending != 'OK':
                 return {'NO': 'refused-no', 'BAD': 'refused-bad'}[reply.ending]
             if reply.code and reply.code.name == 'APPENDUID':

@@ -4,7 +4,7 @@ from typing import Iterable, List, Tuple, Union
 from . import commands, texts
 from .playing import play
 from .server import Box
-from .words import asked, hexed, keys, name_of, read_by, word, words
+from .words import asked, hexed, keys, name_of, read_by, spelled, word, words
 from .world import Fault, World
 
 COMMANDS = dict(init=commands.init, flag=commands.flag, move=commands.move, append=commands.append, list=commands.list_rows,
@@ -180,17 +180,17 @@ class Scenario:
             name = word(box.name)
             shown.append('mailbox %s %d %d %d' % (name, box.validity, box.uidnext, box.highest))
             for m in box.messages:
-                shown.append(' '.join(['message', name, str(m['uid']), str(m['modseq']), word(m['text'])] + m['flags']))
+                shown.append(' '.join(['message', name, str(m['uid']), str(m['modseq']), word(m['text'])] + spelled(m['flags'])))
             shown += ['gone %s %d %d' % (name, uid, modseq) for uid, modseq in box.gone]
         self.line('show', *shown)
 
     def history(self) -> None:
         shown = []
         for author, verb, name, *rest in self.world.history:
-            # Flags are shown by key.
+            # Flags are shown in the order of their keys.
             front = {'add': 2, 'set': 1}.get(verb)
             if front is not None:
-                rest = rest[:front] + keys(rest[front:])
+                rest = rest[:front] + spelled(keys(rest[front:]))
             shown.append(author + ' ' + self.change_words([verb, name] + rest))
         self.line('history', *shown)
 

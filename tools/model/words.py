@@ -11,10 +11,16 @@ ESCAPES = {34: '\\"', 92: '\\\\', 13: '\\r', 10: '\\n'}
 
 
 def word(text: Union[str, bytes]) -> str:
-    """A word of a scenario as it is printed: bare where it can be, and else quoted."""
+    """A word of a scenario as it is printed: bare where it can be, and else quoted; many equal bytes by their count."""
     data = text.encode() if isinstance(text, str) else text
-    if data and all(33 <= byte <= 126 and byte != 34 for byte in data):
+    if len(data) >= 100 and len(set(data)) == 1:
+        return quoted(data[:1]) + '*%d' % len(data)
+    if data and data not in (b';', b'=') and all(33 <= byte <= 126 and byte != 34 for byte in data):
         return data.decode()
+    return quoted(data)
+
+
+def quoted(data: bytes) -> str:
     shown = [ESCAPES.get(byte) or (chr(byte) if 32 <= byte <= 126 else '\\x%02x' % byte) for byte in data]
     return '"' + ''.join(shown) + '"'
 
@@ -100,9 +106,13 @@ def keys(flags: Iterable[str]) -> List[str]:
     return sorted(found, key=lambda key: key.encode())
 
 
+def spelled(flags: Iterable[str]) -> List[str]:
+    """Keys as a command and a scenario have them."""
+    return [SPELLED.get(key, key) for key in flags]
+
+
 def flag_text(flags: Iterable[str]) -> str:
-    """Keys as a command has them."""
-    return ' '.join(SPELLED.get(key, key) for key in flags)
+    return ' '.join(spelled(flags))
 
 
 def may_be_asked(flag: str) -> bool:

@@ -1,6 +1,6 @@
-"""Makes the table of crates/player_checks: each state of an action, reached by replies, and behind it each of a set of replies.
+"""Makes the table of the player in crates/talk_cases: each state of an action, reached by replies, and behind it each of a set of replies.
 
-usage: tools/player/gen.py > crates/player_checks/data/table.txt
+usage: tools/player/gen.py > crates/talk_cases/data/player_table.txt
 """
 import pathlib
 import sys
@@ -149,19 +149,19 @@ def with_action(kind, intent=None, add=True, new=False, tries=0):
     book, lines = (Book(), []) if new else (known(), list(KNOWN))
     if kind == 'flag':
         book.actions = [Action('flag', target=('INBOX', 5, 42), add=add, flags=('\\Seen',))]
-        lines.append(f'accept flag INBOX 5 42 {"+" if add else "-"} \\Seen')
+        lines.append(f'accept 1 flag INBOX 5 42 {"+" if add else "-"} \\Seen')
     if kind == 'move':
         book.actions = [Action('move', target=('INBOX', 5, 42), to='Archive')]
-        lines.append('accept move INBOX 5 42 Archive')
+        lines.append('accept 1 move INBOX 5 42 Archive')
     if kind == 'append':
         book.actions = [Action('append', to='Archive', flags=(), id=ID)]
-        lines.append(f'accept append Archive "{ID}"')
+        lines.append(f'accept 1 append Archive "Message-ID: {ID}\\r\\n\\r\\nhi\\r\\n" {ID}')
     if tries:
         book.actions[0].tries = tries
-        lines += [line for turn in range(1, tries + 1) for line in [f'intend {STORE}', f'withdraw {turn}']]
+        lines += [line for turn in range(1, tries + 1) for line in [f'intend 1 {STORE}', f'withdraw 1 {turn}']]
     if intent:
         book.intent = intent
-        lines.append(f'intend {intent}')
+        lines.append(f'intend 1 {intent}')
     return book, lines
 
 
@@ -235,7 +235,7 @@ class Player:
         while True:
             if isinstance(self.wants, More):
                 return
-            self.lines.append(f'> {self.wants.line}')
+            self.lines += self.wants.lines()
             if self.wants.tag or self.wants.line == 'finished':
                 return
             self.wants = self.run.send(None)
@@ -244,7 +244,7 @@ class Player:
         self.lines += reply.lines(self.wants.tag)
         self.wants = self.run.send(reply)
         if isinstance(self.wants, Fault):
-            self.lines.append(f'! {self.wants.text}')
+            self.lines.append(f' = fault {self.wants.text}')
             self.wants = self.run.send(None)
 
 
@@ -259,13 +259,15 @@ def reached(make, replies):
 
 
 def main():
-    print('# Each state of an action, and behind it each of a set of replies: the lines in front of the first `each` are played with')
-    print('# each block behind one. By tools/player/gen.py, from a plain model of the rules.')
+    print('# Made by tools/make-cases (tools/player/gen.py): a case that is added here by hand is lost when it runs again.')
+    print('# Each state of an action, and behind it each of a set of replies, by a plain model of the rules: the lines in front of the first')
+    print('# `each` are played with each block behind one.')
+    print('trial player')
     for title, make, replies, told_then in STATES:
         player, lines = reached(make, replies)
         print()
         print(f'== {title}')
-        print('\n'.join(lines + ['begin'] + player.lines))
+        print('\n'.join(lines + ['connect'] + player.lines))
         for reply in told_then:
             player, _ = reached(make, replies)
             before = len(player.lines)

@@ -10,6 +10,7 @@ HEADER = re.compile(r"^(?:abbrev |unfoldable |pub |rec )*(record |data )?([^\s:(
 BEGINS = re.compile(r"(?:abbrev|unfoldable|record|data|pub (?!mod))\b|[\w-]+ : ")
 USE = re.compile(r"^\s*(?:ghost )?use (Rattle\.[\w.]+?)(?:\.\{([^}]*)\}| as (\w+));?\s*$")
 WORD = re.compile(r"[A-Za-z_][\w'-]*|[^\s\w(){}\[\],;.:=→×λ]+")
+FIELD = re.compile(r"(?m)^  pub (\w+) : ((?:.*\n?(?!  pub ))*)")
 
 
 @dataclass(frozen=True)
@@ -21,6 +22,10 @@ class Definition:
     line: int
     lines: int
     text: str
+
+    def fields(self) -> list[tuple[str, str]]:
+        """The fields of a record, each with its statement."""
+        return FIELD.findall(self.text) if self.text.startswith(("pub record ", "record ")) else []
 
 
 def uncommented(line: str) -> str:

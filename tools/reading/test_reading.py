@@ -8,6 +8,7 @@ from pathlib import Path
 
 from reading.clauses import clauses_of, conclusion, owner_of
 from reading.definitions import House, Source, imports_of
+from reading.grounds import Statement, Unknown, field_of
 
 LOW = """-- what stands below
 use Rattle.std.specs.Prelude.{ℕ, List, length}
@@ -111,6 +112,15 @@ class Reading(unittest.TestCase):
         self.assertEqual(self.names_below("joins"), ["joins", "◌⌢◌"])
         self.assertEqual(self.names_below("IsLeaf"), ["IsLeaf", "Pair", "Tree"])
         self.assertEqual(self.names_below("whole"), ["whole", "unused"])
+
+    def test_a_field_has_the_premises_of_its_clause(self) -> None:
+        high = "high/specs/High.antt"
+        said = Statement("here", "joins [] ≡ [] → IsLeaf → Two 1", self.house.imports[high], self.house.by_file[high], [])
+        field = field_of(self.house, said, "deed")
+        self.assertEqual((field.text.strip(), field.place), ("Deed", "crates/low/specs/Low.antt:7"))
+        self.assertEqual([one.name for one in field.premises], ["joins", "IsLeaf"])
+        with self.assertRaises(Unknown):
+            field_of(self.house, said, "leaf")
 
     def test_types_of_the_code_are_named_and_the_library_is_left_out(self) -> None:
         definitions, types = self.house.below(self.house.named("IsTwo"))
