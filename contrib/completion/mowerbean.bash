@@ -84,6 +84,8 @@ _mowerbean() {
             if [[ ${BASH_REMATCH[1]} == a ]]; then
                 _mowerbean_front=(-a "$value")
             fi
+        elif [[ ${COMP_WORDS[at]} =~ ^--(retry|retry-for|then|trace)$ ]]; then
+            ((++at))
         elif [[ ${COMP_WORDS[at]} != -?* ]]; then
             plain+=("${COMP_WORDS[at]}")
         fi

@@ -1,26 +1,33 @@
 # Completion of mowerbean's words in fish, which quotes what it puts in. IDs are asked of mowerbean itself, which needs no network
 # for that.
 
-# The words of the line behind the options of the front.
-function __mowerbean_words
+# The account of the line or an empty word, and the words behind the options of the front. Options of the command aren't counted.
+function __mowerbean_line
     set -l words (commandline -opc)[2..]
-    while set -q words[1]
-        switch $words[1]
-            case -q -v -A
-                set -e words[1]
-            case -a -w
-                set -e words[1]
-                set -q words[1]; and set -e words[1]
-            case '*'
-                break
+    set -l account ''
+    while set -q words[1]; and set -l found (string match -r '^-[qvA]*([aw]?)(.*)$' -- $words[1])
+        set -e words[1]
+        if test -n "$found[2]" -a -z "$found[3]"; and set -q words[1]
+            set found[3] $words[1]
+            set -e words[1]
         end
+        test "$found[2]" = a; and set account $found[3]
     end
-    string join \n -- $words
+    while set -q words[2]; and string match -q -- '--*' $words[2]
+        contains -- $words[2] --retry --retry-for --then --trace; and set -q words[3]; and set -e words[3]
+        set -e words[2]
+    end
+    printf '%s\n' "$account" $words
+end
+
+function __mowerbean_words
+    set -l line (__mowerbean_line)
+    string join \n -- $line[2..]
 end
 
 function __mowerbean_account
-    set -l words (commandline -opc)
-    set -l at (contains -i -- -a $words); and set -q words[(math $at + 1)]; and echo $words[(math $at + 1)]
+    set -l line (__mowerbean_line)
+    echo $line[1]
 end
 
 # Whether the next word is the one at this place behind the command, where the command is one of these.

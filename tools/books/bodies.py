@@ -9,9 +9,10 @@ sys.path.insert(0, str(pathlib.Path(__file__).resolve().parent.parent))
 from model.bodies import read  # noqa: E402
 from model.words import word  # noqa: E402
 
-HEAD = """# Bodies of an action that ended, of a cache that is taken away, of a try that is taken back and of the two outcomes of a mailbox that
-# was recreated: each as it is, cut off at each place, with a byte behind it, and with each byte changed in turn. By
-# tools/books/bodies.py, from a plain reader of bodies.
+HEAD = """# Made by tools/make-cases (tools/books/bodies.py): a case that is added here by hand is lost when it runs again.
+# Bodies of an action that ended, of a cache that is taken away, of a try that is taken back and of the two outcomes of a mailbox that
+# was recreated: each as it is, cut off at each place, with a byte behind it, and with each byte changed in turn, from
+# a plain reader of bodies.
 each line is a case
 """
 ID, UID, INBOX = b'\0\0\0\1', b'\0\0\0\x2a', b'R\x05INBOX\0\0\0\x05'

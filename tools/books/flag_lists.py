@@ -9,8 +9,9 @@ import sys
 sys.path.insert(0, str(pathlib.Path(__file__).resolve().parent.parent))
 from model.words import flag_text, keys, word  # noqa: E402
 
-HEAD = """# All lists of at most four letters out of five (flag_set), as a plain program reads them: it parts them at each space, passes over the
-# empty parts inside, and keeps each key once. By tools/books/flag_lists.py.
+HEAD = """# Made by tools/make-cases (tools/books/flag_lists.py): a case that is added here by hand is lost when it runs again.
+# All lists of at most four letters out of five (flag_set), as a plain program reads them: it parts them at each space, passes over the
+# empty parts inside, and keeps each key once.
 each line is a case
 
 """

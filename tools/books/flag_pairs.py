@@ -9,9 +9,9 @@ from typing import List
 sys.path.insert(0, str(pathlib.Path(__file__).resolve().parent.parent))
 from model.words import flag_text, keys  # noqa: E402
 
-HEAD = """# All pairs of sets of four flags (flag_set): how many the first one has, whether they are equal, whether the first one holds all
+HEAD = """# Made by tools/make-cases (tools/books/flag_pairs.py): a case that is added here by hand is lost when it runs again.
+# All pairs of sets of four flags (flag_set): how many the first one has, whether they are equal, whether the first one holds all
 # and whether it holds none of the second one, and what is in either and in the first one alone; and each of the flags beside each set.
-# By tools/books/flag_pairs.py.
 each line is a case
 
 """

@@ -9,8 +9,9 @@ sys.path.insert(0, str(pathlib.Path(__file__).resolve().parent.parent))
 from model.lawful import KINDS, Lawful  # noqa: E402
 from model.words import word, words  # noqa: E402
 
-HEAD = """# Each kind of event beside each kind of book: the rule that it breaks in a first and in a second version. By tools/books/gen.py, from a
-# plain model of the rules.
+HEAD = """# Made by tools/make-cases (tools/books/gen.py): a case that is added here by hand is lost when it runs again.
+# Each kind of event beside each kind of book: the rule that it breaks in a first and in a second version, from a plain model
+# of the rules.
 """
 REAL = ('real', 'INBOX', 5, 42)
 FLAG, MOVE = ('flag', REAL), ('move', REAL, 'Archive')
