@@ -671,3 +671,80 @@ class Races(Case):
             (folder / name).write_bytes(b"half")
         self.bench.sync("write")
         self.assertEqual(os.listdir(folder), ["1.P1.host"])
+
+    def test_a_reader_that_moves_on_as_a_message_id_is_put_in(self) -> None:
+        """The letter goes with its file, and isn't put back where that was."""
+        self.bench.put("Sent Items", self.bench.text(with_id=False), "S")
+        unlink = os.unlink
+
+        def move_and_unlink(name: str) -> None:
+            os.unlink = unlink
+            self.bench.move(pathlib.Path(name), "Old/2024", True)
+            unlink(name)
+
+        os.unlink = move_and_unlink  # type: ignore[assignment]
+        self.bench.sync("wishes")
+        self.bench.whole()
+        self.bench.whole()
+        self.agrees()
+        self.assertEqual([(asked.verb, asked.target) for asked in self.world.asked], [("append", "Sent Items"), ("move", "Old/2024")])
+
+    def test_a_kill_as_a_message_id_is_put_in(self) -> None:
+        """The letter comes from the journal then, and isn't taken for a deleted one."""
+        rename = os.rename
+
+        def rename_or_die(old: str, new: str) -> None:
+            if "/tmp/mowerbean." in old:
+                raise Killed
+            rename(old, new)
+
+        for is_played in (False, True):
+            self.bench.put("Sent Items", self.bench.text(with_id=False), "S")
+            os.rename = rename_or_die  # type: ignore[assignment]
+            try:
+                with self.assertRaises(Killed):
+                    self.bench.sync("wishes", "Old/2024")
+            finally:
+                os.rename = rename
+            if is_played:
+                self.world.play(self.chance)
+            self.bench.whole(trash="Old/2024")
+            self.agrees()
+        self.assertEqual([asked.verb for asked in self.world.asked], ["append", "append"])
+
+    def test_a_mailbox_made_anew_twice(self) -> None:
+        """What is done to a file of the first one is done to no message of the last one, of which no text is here."""
+        for is_fetched in (True, False):
+            self.world.recreate("INBOX")
+            self.world.play(self.chance)
+            if is_fetched:
+                self.world.fetch()
+        self.bench.files("INBOX")[1].unlink()
+        self.bench.sync("wishes", "Old/2024")
+        self.assertEqual(self.world.asked, [])
+        self.bench.whole(trash="Old/2024")
+        self.agrees()
+
+    def test_a_kill_before_what_is_left_alone(self) -> None:
+        """A reader copies it elsewhere then: it is told to be alone there, and is no new letter."""
+        self.bench.move(self.bench.files("INBOX")[0], "Sent Items", True)
+        self.bench.sync("wishes")
+        self.world.recreate("INBOX")
+        self.world.play(self.chance)
+        rename = os.rename
+
+        def rename_or_die(old: str, new: str) -> None:
+            if "/c" in new:
+                raise Killed
+            rename(old, new)
+
+        os.rename = rename_or_die  # type: ignore[assignment]
+        try:
+            with self.assertRaises(Killed):
+                self.bench.sync("write", is_played=True)
+        finally:
+            os.rename = rename
+        self.bench.move(self.bench.files("Sent Items")[0], "Old/2024", False)
+        self.bench.whole()
+        self.agrees()
+        self.assertEqual([asked.verb for asked in self.world.asked], ["move"])

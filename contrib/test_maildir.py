@@ -6,13 +6,18 @@ usage: test_maildir.py [-v] [-k NAME]      (MAILDIR_ROUNDS: how many random hist
 import collections
 import os
 import pathlib
+import signal
+import subprocess
 import sys
+import tempfile
+import time
 import unittest
 from typing import Any, Counter, List, Optional, Set, Tuple
 
 sys.dont_write_bytecode = True
 sys.path.insert(0, str(pathlib.Path(__file__).resolve().parent))
-from maildir_races import Races  # noqa: E402, F401  # its tests are run from here
+from maildir_faults import Faults  # noqa: E402, F401  # its tests are run from here, as those of the next one
+from maildir_races import Races  # noqa: E402, F401
 from maildir_world import BOXES, Bench, Case, Killed, Message, changed, maildir, maildir_files, maildir_words, token  # noqa: E402
 
 
@@ -218,6 +223,26 @@ class Cases(Case):
             self.assertTrue(folder.startswith("/root/") and "/.mowerbean" not in folder, folder)
 
 
+class Signals(unittest.TestCase):
+    """What ends the tool from without."""
+
+    def test_signals(self) -> None:
+        """It ends by the signal, without a word, wherever it is."""
+        tool = pathlib.Path(__file__).with_name("maildir")
+        with tempfile.TemporaryDirectory() as place:
+            bell, stub = pathlib.Path(place, "bell"), pathlib.Path(place, "stub")
+            stub.write_text(f"#!/bin/sh\n: >{bell}\nexec sleep 60\n")
+            stub.chmod(0o700)
+            for number in (signal.SIGINT, signal.SIGTERM):
+                words = [sys.executable, "-Es", str(tool), "--mowerbean", str(stub), "wishes", os.path.join(place, "Mail")]
+                with subprocess.Popen(words, stdout=subprocess.PIPE, stderr=subprocess.STDOUT, start_new_session=True) as run:
+                    while not bell.exists() and run.poll() is None:
+                        time.sleep(0.01)
+                    bell.unlink()
+                    os.killpg(run.pid, number)
+                    self.assertEqual((run.communicate()[0], run.returncode), (b"", -number))
+
+
 class Random(unittest.TestCase):
     """Random wishes, other clients, cut plays and killed runs: each wish is done once or told, and nothing is lost."""
 
@@ -339,9 +364,7 @@ class Random(unittest.TestCase):
                 nonlocal left
                 if is_acting:
                     return function(*given)
-                # Between two calls at once behind each other nobody comes.
-                if not (function is kept["rename"] and "/tmp/mowerbean." in str(given[0])):
-                    act_beside()
+                act_beside()
                 if left == 0:
                     raise Killed
                 left -= 1

@@ -1,17 +1,19 @@
 """What mowerbean-maildir holds of the system: the files of the Maildirs, what was written last, and the texts that mowerbean keeps."""
 import contextlib
+import errno
 import json
 import os
 import re
 from typing import Any, Callable, Dict, Iterator, List, NamedTuple, Optional, Tuple
 
-from maildir_words import STANDS, folder_of, id_of, letters_in, name_of, sum_of, sum_of_lines, tag_of
+from maildir_words import STANDS, folder_of, id_of, keywords_in, letters_in, name_of, sum_of, sum_of_lines, tag_of
 
 OWN = ".mowerbean"
 # A name of ours, but for its flags.
 NAME = re.compile(r"([0-9]+\.[0-9]+|[dc][0-9]+)\.([0-9a-f]{8})")
 # How the names begin under which texts are written beside.
 BESIDE = "mowerbean."
+TWO_DISKS = "{} and {} are on two disks, and a Maildir's folders have to be on one"
 # How many wishes may be asked before the state is saved.
 MOST_INTENTS = 100
 
@@ -25,8 +27,13 @@ class Intent(NamedTuple):
     to: str
 
 
+class Unreadable(OSError):
+    """A file of a Maildir is there, and can't be read."""
+
+
 class File(NamedTuple):
-    """A file of a Maildir. Its owner and key are those of the message for which it was written, if it has such a name."""
+    """A file of a Maildir. Its owner and key are those of the message for which it was written, if it has such a name. The keywords are letters of
+    its name that say something to another program alone."""
 
     box: str
     folder: str
@@ -34,15 +41,21 @@ class File(NamedTuple):
     owner: str
     key: str
     letters: str
+    keywords: str = ""
 
     def path(self) -> str:
         """Where it is."""
         return os.path.join(self.folder, self.name)
 
     def read(self) -> bytes:
-        """Its text."""
-        with open(self.path(), "rb") as file:
-            return file.read()
+        """Its text. It is gone (FileNotFoundError) where a reader was faster."""
+        try:
+            with open(self.path(), "rb") as file:
+                return file.read()
+        except FileNotFoundError:
+            raise
+        except OSError as error:
+            raise Unreadable(f"{self.path()} can't be read, and waits ({error.strerror})") from None
 
     def is_alone(self) -> bool:
         """Whether it stays here alone."""
@@ -101,7 +114,15 @@ class Entry(NamedTuple):
 
 def entry_of(file: File) -> Entry:
     """What there is to know of a file."""
-    return Entry(sum_of(file.read()), file.letters, file.letters)
+    return Entry(sum_in(file), file.letters, file.letters)
+
+
+def sum_in(file: File) -> str:
+    """The sum of a file's text, or nothing, where it can't be read."""
+    try:
+        return sum_of(file.read())
+    except Unreadable:
+        return ""
 
 
 class Entries(Dict[str, Entry]):
@@ -235,6 +256,8 @@ class Files:
         self.sums: Optional[Dict[str, List[File]]] = None
         # Whether a reader has taken one elsewhere since, so that a message which isn't found may be there.
         self.is_stale = False
+        # What is said of those that can't be read, each of which may be a message that isn't found.
+        self.unread: Dict[str, None] = {}
         for file in files:
             if file.key:
                 self.named.setdefault((file.owner, file.key), []).append(file)
@@ -256,6 +279,8 @@ class Files:
                         self.sums.setdefault(sum_of(file.read()), []).append(file)
                     except FileNotFoundError:
                         self.is_stale = True
+                    except Unreadable as error:
+                        self.unread[str(error)] = None
         return [file for file in self.sums.get(its_sum, []) if file in self.all]
 
     def remove(self, file: File) -> None:
@@ -291,13 +316,13 @@ class Files:
 
 
 class Maildirs:
-    """The Maildirs under a root, one for each mailbox of the journal. All that this tool does to a file of a reader's is done here, and it is one
-    of two calls:
+    """The Maildirs under a root, one for each mailbox of the journal. What this tool puts into them is done here, in one of three ways:
 
     - A rename, from one name to another one in a folder `cur` or `new` under the root. The message is under one of the two at each moment, and
       nothing is written over: our names have a key that no other file has.
     - A text that is put in place: written under `tmp`, synced, and renamed. A kill leaves a file in `tmp`, where no reader looks, and which the
       next run takes away; what stood in the place stays whole until then.
+    - A letter that is given a Message-ID. What the journal has is put in place of its file, which a reader may just have taken elsewhere.
 
     A mailbox's name becomes folders under the root, and none that leads out of it or into another Maildir's own folders. A message's subject and
     Message-ID are never part of a name. What is no plain file is left alone.
@@ -322,7 +347,15 @@ class Maildirs:
             for part in ("tmp", "new", "cur"):
                 os.makedirs(os.path.join(folder_of(self.root, box), part), exist_ok=True)
             self._clean(os.path.join(folder_of(self.root, box), "tmp"))
+        self._look_at_disks()
         return back
+
+    def _look_at_disks(self) -> None:
+        """A message goes from one folder to another by a rename, which no system does between two disks."""
+        folders = [os.path.join(folder_of(self.root, box), part) for box in self.boxes for part in ("tmp", "new", "cur")]
+        disks = {os.stat(folder).st_dev: folder for folder in folders}
+        if len(disks) > 1:
+            raise OSError(TWO_DISKS.format(*disks.values()))
 
     @staticmethod
     def _clean(folder: str) -> None:
@@ -342,7 +375,7 @@ class Maildirs:
                 words = NAME.fullmatch(front)
                 owner = self.tags.get(words[2], "") if words else ""
                 key = words[1] if words and owner else ""
-                yield File(box, folder, name, owner, key, letters_in(flags) if flags else "")
+                yield File(box, folder, name, owner, key, letters_in(flags), keywords_in(flags))
 
     def all_files(self) -> List[File]:
         """The messages of all folders."""
@@ -350,23 +383,36 @@ class Maildirs:
 
     def rename(self, file: File, box: str, key: str, letters: str, owner: str) -> Optional[File]:
         """Gives a file another name, or another folder: that of the message of this key, of the owner's mailbox. It stays where a reader was
-        faster, or has put a file of this name. What no reader has seen yet stays new."""
-        is_new = not letters and os.path.basename(file.folder) == "new"
-        name = f"{key}.{tag_of(owner)}" if is_new else name_of(key, owner, letters)
+        faster, or has put a file of this name. What no reader has seen yet stays new. Keywords stay while the folder does: in another one their
+        letters stand for others."""
+        keywords = file.keywords if box == file.box else ""
+        is_new = not letters + keywords and os.path.basename(file.folder) == "new"
+        name = f"{key}.{tag_of(owner)}" if is_new else name_of(key, owner, letters + keywords)
         folder = os.path.join(folder_of(self.root, box), "new" if is_new else "cur")
-        renamed = File(box, folder, name, owner, key, letters)
+        renamed = File(box, folder, name, owner, key, letters, keywords)
         if renamed.path() != file.path() and os.path.lexists(renamed.path()):
             return None
         try:
             os.rename(file.path(), renamed.path())
         except FileNotFoundError:
             return None
+        except OSError as error:
+            # One disk that is mounted twice is two as well.
+            raise OSError(TWO_DISKS.format(file.folder, folder)) if error.errno == errno.EXDEV else error from None
         return renamed
 
     def write(self, box: str, key: str, letters: str, text: bytes) -> None:
         """Writes a message: beside, then into its place. One without a flag is new to a reader."""
         place = os.path.join("cur", name_of(key, box, letters)) if letters else os.path.join("new", f"{key}.{tag_of(box)}")
         os.rename(self.beside(box, text), os.path.join(folder_of(self.root, box), place))
+
+    def exchange(self, file: File, text: bytes) -> None:
+        """Puts a text in place of a file's. One that a reader has taken elsewhere stays as it is there, and is the message. Behind a kill between the
+        two calls there is neither, so the state has to say first that it is to be written."""
+        beside = self.beside(file.box, text)
+        with contextlib.suppress(FileNotFoundError):
+            os.unlink(file.path())
+            os.rename(beside, file.path())
 
     def beside(self, box: str, text: bytes) -> str:
         """A file with a text beside those of a mailbox, which is to get its place by a rename: the text is there as a whole, or not yet."""
@@ -386,6 +432,8 @@ class Texts:
     def __init__(self, folder: str) -> None:
         self.folder = os.path.join(folder, "bodies")
         self.places: Dict[Tuple[str, str], int] = {}
+        # The greatest UIDVALIDITY of each mailbox's texts.
+        self.newest: Dict[str, int] = {}
         with contextlib.suppress(FileNotFoundError):
             for name in os.listdir(self.folder):
                 validity, _, rest = name.partition(".")
@@ -393,6 +441,7 @@ class Texts:
                 if box and validity.isdecimal() and uid.isdecimal():
                     key = box.replace("%", "/"), uid
                     self.places[key] = max(self.places.get(key, 0), int(validity))
+                    self.newest[key[0]] = max(self.newest.get(key[0], 0), int(validity))
 
     def key(self, box: str, uid: str) -> str:
         """What a kept message is called here. A UIDVALIDITY only grows, so the greatest is the mailbox's."""

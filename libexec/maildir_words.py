@@ -6,10 +6,12 @@ Nothing here touches a file.
 import hashlib
 import os
 import re
+import string
 from typing import Dict, Iterable, List, NamedTuple, Optional, Set, Tuple
 
 LETTERS = {"D": "\\draft", "F": "\\flagged", "P": "$forwarded", "R": "\\answered", "S": "\\seen", "T": "\\deleted"}
 FLAGS = {flag: letter for letter, flag in LETTERS.items()}
+KEYWORDS = set(string.ascii_lowercase)
 # What mail readers write into a message as they copy it.
 READERS_OWN = {b"content-length", b"lines", b"status", b"x-status", b"x-keywords"}
 STANDS = re.compile(r"([0-9]+) (waiting|begun|done(?: [0-9]+ [0-9]+)?|(?:nothing|unsure) [a-z-]+(?: [0-9]+)*) (.*)")
@@ -50,6 +52,11 @@ def letters_of(flags: List[str]) -> str:
 def letters_in(flags: str) -> str:
     """The letters that count among those of a file's name."""
     return "".join(sorted(set(flags) & set(LETTERS)))
+
+
+def keywords_in(flags: str) -> str:
+    """The letters of a file's name that stand for keywords of another program, as Dovecot's."""
+    return "".join(sorted(set(flags) & KEYWORDS))
 
 
 def flags_of(letters: Iterable[str]) -> List[str]:

@@ -66,10 +66,10 @@ leave_large_out() {
     ')
 }
 
-# The texts that are new of each mailbox. A lost connection ends it: the next sync goes on from there.
+# The texts that are new of each mailbox. A lost connection ends it, and so does a signal: the next sync goes on from there.
 fetch_news() {
     boxes=$(print_boxes)
-    while IFS= read -r box && [ "$status" -ne 4 ]; do
+    while IFS= read -r box && [ "$status" -ne 4 ] && [ -z "$asked$stopped" ]; do
         take_new_ids || break
         leave_large_out
         # shellcheck disable=SC2086  # UIDs

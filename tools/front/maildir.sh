@@ -43,7 +43,38 @@ error link'
     exec 7>&-
     said=$("$real" -a work sync INBOX 2>"$work/notice")
     same 'sync of a mailbox' "$?, $said" '2, error words'
+    ended_syncs
     whole_syncs
+}
+
+# Syncs that a terminal or a system ends while the tool of the Maildir is at work. Shells differ in what they do then.
+ended_syncs() {
+    mv "$work/Mail/.mowerbean/state.json" "$work/state.json"
+    mkfifo "$work/Mail/.mowerbean/state.json"
+    cp "$real" "$work/kept"
+    for shell in dash 'bash --posix' 'busybox sh'; do
+        path=$(command -v "${shell%% *}") || continue
+        sed "1s|.*|#!$path${shell#"${shell%% *}"}|" "$work/kept" >"$real"
+        while read -r signal code; do
+            with_interrupts "$(command -v setsid)" "$real" -a work -q sync >"$work/held" 2>&1 </dev/null &
+            held=$!
+            turns=0
+            while flock -n "$work/Mail/.mowerbean/lock" true && [ "$turns" -lt 600 ]; do
+                turns=$((turns + 1))
+                sleep 0.1
+            done
+            kill "-$signal" "-$held"
+            wait "$held"
+            same "$signal ends a sync, with $shell" "$?, $(cat "$work/held")" "$code, "
+            flock -w 5 "$work/Mail/.mowerbean/lock" true
+            same '  and what it has started' "$?" 0
+        done <<'CASES'
+INT 130
+TERM 143
+CASES
+    done
+    cp "$work/kept" "$real"
+    mv "$work/state.json" "$work/Mail/.mowerbean"
 }
 
 # Syncs over the program, at a small server.

@@ -62,9 +62,9 @@ class Reader:
         return found
 
     def _name(self, letters: str) -> str:
-        """A name of its own."""
+        """A name of its own. At times it has keywords, which say something to the reader alone."""
         self.made += 1
-        return f"{self.made}.R{os.getpid()}.host:2,{letters}"
+        return f"{self.made}.R{os.getpid()}.host:2,{letters}{self.chance.choice(('', '', '', 'a', 'bz'))}"
 
     def put(self, box: str, text: bytes, letters: str) -> None:
         """A new letter."""
@@ -74,8 +74,9 @@ class Reader:
         (folder / "tmp" / name).rename(folder / "cur" / name)
 
     def flag(self, file: Filed, letters: str) -> None:
-        """Other flags."""
-        file.path.rename(file.path.parent.parent / "cur" / f"{file.path.name.partition(':2,')[0]}:2,{letters}")
+        """Other flags, and the keywords as they were."""
+        front, _, old = file.path.name.partition(":2,")
+        file.path.rename(file.path.parent.parent / "cur" / f"{front}:2,{letters}{''.join(filter(str.islower, old))}")
 
     def move(self, file: Filed, box: str) -> None:
         """To another folder, under the same name, as aerc does."""
