@@ -4,23 +4,26 @@
 usage: peers.py ends [SECONDS]     takes connections, and ends each one after so many seconds (0)
        peers.py silent             takes connections, and says nothing
        peers.py replaces FOLDER    puts a copy of journal.0 in its place before it greets, and prints how many bytes come then
-       peers.py takes FOLDER [SECONDS]   an IMAP server that takes one letter; prints the folder's mowerbean.sent so many seconds
-                                   (0.5) after it asked for the letter, with all of it but the last CRLF, and with that
+       peers.py takes FOLDER [SECONDS]   an IMAP server that takes one letter; prints the folder's mowerbean.sent so many seconds after it
+                                   asked for the letter (or else as its first byte comes), before its last million bytes, and with its CRLF
 
 It runs until it is killed.
 """
+import io
 import os
 import pathlib
 import shutil
 import socket
 import sys
 import time
-from typing import BinaryIO, List
+from typing import List, Optional
 
 # What an untagged answer tells of each mailbox, as the journal of tools/check-program has them.
 INBOX = ["2 EXISTS", "OK [UIDVALIDITY 5] it is", "OK [UIDNEXT 44] it is", "OK [HIGHESTMODSEQ 715] it is"]
 ARCHIVE = ["0 EXISTS", "OK [UIDVALIDITY 9] it is", "OK [UIDNEXT 7] it is", "OK [HIGHESTMODSEQ 300] it is"]
 PUT_IN = ["1 EXISTS", "OK [UIDVALIDITY 9] it is", "OK [UIDNEXT 8] it is", "OK [HIGHESTMODSEQ 301] it is", "1 FETCH (UID 7 FLAGS () MODSEQ (301))"]
+# The end of a letter, and how many bytes the system takes ahead of us.
+REST, READ_AHEAD = 1_000_000, 65_536
 PERMANENT = r"OK [PERMANENTFLAGS (\Answered \Flagged \Deleted \Seen \Draft \*)] they are"
 
 
@@ -52,22 +55,30 @@ def mark_in(folder: pathlib.Path) -> str:
         return "none"
 
 
-def take_letter(peer: socket.socket, lines: BinaryIO, size: int, folder: pathlib.Path, seconds: float) -> None:
-    """Takes a letter of so many bytes after so many seconds, and prints the mark at three moments of it."""
+def take_letter(peer: socket.socket, lines: io.BufferedReader, size: int, folder: pathlib.Path, seconds: Optional[float]) -> None:
+    """Takes a letter of so many bytes, and prints the mark at three moments of it."""
     peer.sendall(b"+ go on\r\n")
-    time.sleep(seconds)
+    if seconds is None:
+        lines.peek(1)
+    else:
+        time.sleep(seconds)
     print(mark_in(folder), flush=True)
-    came = len(lines.read(size))
+    # The system takes far less ahead of us than the rest, so of a long letter the program still has some.
+    rest = min(size, REST)
+    came = len(lines.read(size - rest))
+    if came == size - rest:
+        told = mark_in(folder)
+        came += len(lines.read(rest))
     if came < size:
         print("ended after", came, "bytes of the letter", flush=True)
         return
-    print(mark_in(folder), flush=True)
+    print(told, flush=True)
     lines.readline()
     print(mark_in(folder), flush=True)
 
 
-def takes(peer: socket.socket, folder: pathlib.Path, seconds: float) -> None:
-    """Answers as a server that takes one letter into Archive, after so many seconds."""
+def takes(peer: socket.socket, folder: pathlib.Path, seconds: Optional[float]) -> None:
+    """Answers as a server that takes one letter into Archive."""
     lines = peer.makefile("rb")
     archive = ARCHIVE
     peer.sendall(b"* OK ready\r\n")
@@ -96,6 +107,7 @@ def main() -> None:
     """Serves one connection after the other in the way that the words ask for."""
     way, *rest = sys.argv[1:]
     listener = socket.create_server(("127.0.0.1", 0))
+    listener.setsockopt(socket.SOL_SOCKET, socket.SO_RCVBUF, READ_AHEAD)
     print(listener.getsockname()[1], flush=True)
     held = []
     while True:
@@ -108,7 +120,7 @@ def main() -> None:
             elif way == "replaces":
                 replaces(peer, pathlib.Path(rest[0]))
             else:
-                takes(peer, pathlib.Path(rest[0]), float(rest[1]) if rest[1:] else 0.5)
+                takes(peer, pathlib.Path(rest[0]), float(rest[1]) if rest[1:] else None)
         except OSError:
             pass
 

@@ -93,7 +93,7 @@ odd_shown() {
             ln) echo 12 >"$work/precious" && ln -s "$work/precious" "$MAIL_DIR/mowerbean.shown" ;;
             *) "$file" "$MAIL_DIR/mowerbean.shown" ;;
         esac
-        said=$(timeout 20 "$stub" report --new 2>/dev/null </dev/null)
+        said=$(timeout 120 "$stub" report --new 2>/dev/null </dev/null)
         same "mowerbean.shown, by $file" "$(numbers_of), $(cat "$work/precious")" '2 5 9 12 , 12'
     done
     rm -rf "$MAIL_DIR/mowerbean.shown"

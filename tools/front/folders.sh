@@ -60,7 +60,7 @@ turns_beside_a_play() {
     printf '#!/bin/sh\nread -r now <%s\necho $((now - 100)) | tee %s\n' "$work/clock" "$work/clock" >"$work/fakes/date"
     chmod +x "$work/fakes/date"
     hold flag INBOX 1 + x
-    PATH=$work/fakes:$PATH timeout 60 "$stub" -w 2 flag INBOX 1 + x >/dev/null 2>&1
+    PATH=$work/fakes:$PATH timeout 300 "$stub" -w 2 flag INBOX 1 + x >/dev/null 2>&1
     same 'a clock that goes back' $? 75
     rm "$work/fakes/date"
     release
@@ -86,7 +86,7 @@ files() {
         same "mowerbean.$name as a link" "$status, $said, $(cat "$work/precious")" '78, , precious'
         rm "$MAIL_DIR/mowerbean.$name"
         mkfifo "$MAIL_DIR/mowerbean.$name"
-        timeout 20 "$stub" play >"$work/notice" 2>&1 </dev/null
+        timeout 120 "$stub" play >"$work/notice" 2>&1 </dev/null
         same "mowerbean.$name as a FIFO" "$?, $(grep -c 'is no plain file' "$work/notice")" '78, 1'
     done
     folder open

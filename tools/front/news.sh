@@ -90,6 +90,7 @@ news_of_lost_plays() {
     put_lists next '1;2' '' '1 nothing already-so;2 nothing refused-no'
     : >"$work/stub/dies"
     "$stub" play --then "$told" >"$work/notice" 2>&1 </dev/null
+    wait_for_locks
     rm "$work/stub/dies"
     MAIL_PAUSE=0 ask play
     same '  and one that is cut off leaves it' "$status, $(notice_of_play)" "0, $(without_link)"
@@ -122,6 +123,7 @@ news_that_cant_be_seen() {
     kill -HUP "$held"
     wait "$held"
     same 'a play that is stopped at once' "$?, $(grep -c ' 0 0 0 0$' "$work/held"), $(cd "$MAIL_DIR" && echo mowerbean.the*)" '129, 0, mowerbean.then'
+    wait_for_locks
     rm -f "$work/stub/hold" "$MAIL_DIR/mowerbean.then" "$MAIL_DIR/mowerbean.play" "$work/stub/played"
     mv "$work/lister" "$work/stub/libexec/mowerbean/mowerbean"
 }

@@ -90,17 +90,13 @@ second_looks() {
     take_link_away
 }
 
-# Waits for what was started by `hold`, and puts its status into $status.
+# Waits for what was started by `hold`, and puts its status into $status, and into $gone whether the stub of the program ended before it.
 ended() {
     wait "$held"
     status=$?
-    rm -f "$work/stub/hold"
     read -r running <"$work/stub/running"
-    # One that ended may be a zombie, where nobody asks for its status.
-    case $(ps -o stat= -p "$running") in
-        '' | Z*) gone=gone ;;
-        *) gone=running ;;
-    esac
+    if is_gone "$running"; then gone=gone; else gone=running; fi
+    rm -f "$work/stub/hold"
 }
 
 signals() {
@@ -119,7 +115,9 @@ signals() {
         put_link
         hold_on play
         kill "-$first" "$held"
-        sleep 2
+        # Two within half a second of the first one's answer are one.
+        soon grep -q 'once more stops at once' "$work/held"
+        sleep 1
         kill "-$second" "$held"
         ended
         same "a second signal, $second, stops at once" "$status, $(tail -n 1 "$work/stub/linked"), $gone" "$code, TERM, gone"
@@ -137,10 +135,13 @@ CASES
     same 'HUP stops at once' "$status, $(tail -n 1 "$work/stub/linked"), $gone" '129, TERM, gone'
     folder twice-at-once
     put_link
+    # A busy machine may let half a second go by between the two.
+    sed -i 's/^ONE_SIGNAL=.*/ONE_SIGNAL=30000/' "$work/stub/libexec/mowerbean/front/play.sh"
     hold play
     kill -INT "$held"
     kill -INT "$held" 2>/dev/null
     ended
+    cp "$top/libexec/front/play.sh" "$work/stub/libexec/mowerbean/front/play.sh"
     same 'two signals at one moment are one' "$status, $(tail -n 1 "$work/stub/linked")" '4, USR1'
     signals_of_a_terminal
     take_link_away
@@ -189,22 +190,22 @@ CASES
         folder killed
         hold play
         kill -KILL "$held"
-        sleep 1
+        read -r running <"$work/stub/running"
+        soon is_gone "$running"
         ended
         same '  and the program ends with a front that is killed' "$gone" gone
     fi
     folder pausing
     echo "lost $(date +%s)" >"$MAIL_DIR/mowerbean.play"
-    MAIL_PAUSE=77 with_interrupts "$stub" play >/dev/null 2>&1 </dev/null &
+    MAIL_PAUSE=777 with_interrupts "$stub" play >/dev/null 2>&1 </dev/null &
     held=$!
-    turns=0
-    while ! pgrep -P "$held" -x sleep >/dev/null && [ "$turns" -lt 300 ]; do
-        turns=$((turns + 1))
-        sleep 0.1
-    done
+    soon pgrep -P "$held" -x sleep
+    pause=$(pgrep -P "$held" -x sleep)
     kill -TERM "$held"
     wait "$held"
-    same 'a signal ends the pause' "$?, $(pgrep -f 'sleep 7[78]$' | wc -l | tr -d ' '), $(runs)" '143, 0, 0'
+    status=$?
+    soon is_gone "$pause"
+    same 'a signal ends the pause' "$status, $([ -n "$pause" ] && is_gone "$pause" && echo gone), $(runs)" '143, gone, 0'
 }
 
 # What the program leaves in mowerbean.sent, where it connects by itself.
@@ -212,14 +213,13 @@ late_letters() {
     while IFS='|' read -r title line least most; do
         folder "late-$title"
         echo "$line" >"$MAIL_DIR/mowerbean.sent"
-        echo "lost $(date +%s)" >"$MAIL_DIR/mowerbean.play"
-        date +%s >"$work/stub/times"
+        date +%s | tee "$work/stub/times" | sed 's/^/lost /' >"$MAIL_DIR/mowerbean.play"
         MAIL_PAUSE=0 ask play
         same "mowerbean.sent: $line" "$status, $(($(between) >= least && $(between) < most)), $(cd "$MAIL_DIR" && echo *)" \
             '0, 1, journal.0 mowerbean.lock mowerbean.play'
     done <<'CASES'
-whole|6000 whole|3|100
-held|6000000 held|0|100
-odd|whole|0|100
+whole|6000 whole|3|1000
+held|6000000 held|0|1000
+odd|whole|0|1000
 CASES
 }

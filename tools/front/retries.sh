@@ -44,13 +44,15 @@ retries() {
     ends 4 4 4 4 4 4 4 4
     began=$(date +%s)
     MAIL_PAUSE=0 ask play --retry-for 8s
-    same '--retry-for ends when its time is over' "$status, $(($(date +%s) - began < 60)), $(($(runs) >= 1 && $(runs) <= 3))" '4, 1, 1'
+    same '--retry-for ends when its time is over' "$status, $(($(date +%s) - began < 300)), $(($(runs) >= 1 && $(runs) <= 3))" '4, 1, 1'
     folder retries-last
     quick_sleep
-    ends 4 4 4 4 4 4
-    # No time goes by in its pauses, so the fifth one would be of 32 seconds.
-    MAIL_PAUSE=0 PATH=$work/fakes:$PATH ask play --retry-for 25s --retry 5
-    same '  its last pause is as long as the time allows' "$(slept | awk '{ print NF, ($5 >= 2 && $5 <= 25) }')" '5 1'
+    ends 4 4 4
+    # No time goes by in its pauses, so the second one would be of 1200 seconds.
+    sed -i 's/^FIRST_GAP=.*/FIRST_GAP=600/; s/^LONGEST_GAP=.*/LONGEST_GAP=4000/' "$work/stub/libexec/mowerbean/front/retry.sh"
+    MAIL_PAUSE=0 PATH=$work/fakes:$PATH ask play --retry-for 1000s --retry 2
+    cp "$top/libexec/front/retry.sh" "$work/stub/libexec/mowerbean/front/retry.sh"
+    same '  its last pause is as long as the time allows' "$(slept | awk '{ print NF, $1, ($2 >= 600 && $2 <= 1000) }')" '2 600 1'
     rm "$work/fakes/sleep" "$work/fakes/date"
     folder retries-wrong
     put_link
