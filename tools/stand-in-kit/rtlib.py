@@ -1,5 +1,6 @@
 """What tools/try-gate-tools has in the place of the kit's rtlib: crates whose proofs are a word in their text."""
 import os
+import re
 import sys
 import time
 
@@ -67,7 +68,7 @@ class Crate:
         if self.is_built():
             return 0
         self.write(f"begins {self.name}")
-        time.sleep(0.4)
+        self.take_time()
         if "wrong" in self.text():
             print(f"a goal of {self.name} is open", file=self.out)
             return 1
@@ -77,6 +78,18 @@ class Crate:
             it.write(self.stamp())
         self.write(f"ends {self.name}")
         return 0
+
+    def take_time(self):
+        """A short time; or a minute, unless a text that is `endless` is changed, or one that is `beside NAME` sees that crate begin."""
+        time.sleep(0.2)
+        for _ in range(600):
+            text = self.text()
+            if text is None:
+                sys.exit(1)  # Its folder is gone.
+            beside = re.search(r"beside (\w+)", text)
+            if "endless" not in text and (not beside or f"begins {beside[1]}\n" in text_of(os.environ["RT_LOG"])):
+                break
+            time.sleep(0.1)
 
     def write(self, line):
         with open(os.environ["RT_LOG"], "a", encoding="utf-8") as log:
