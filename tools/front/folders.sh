@@ -115,10 +115,11 @@ full_disk() {
     rmdir "$MAIL_DIR/mowerbean.play.new"
     for mark in '' begun begu 'lost' 'lost soon' 'lost 99999999999999999999' 'lost 12 34' 'ended 1'; do
         printf '%s' "$mark" >"$MAIL_DIR/mowerbean.play"
-        date +%s >"$work/stub/times"
-        MAIL_PAUSE=1 ask play
-        same "the mark '$mark' counts as lost" "$status, $(($(between) >= 1))" '0, 1'
+        quick_sleep
+        MAIL_PAUSE=7 PATH=$work/fakes:$PATH ask play
+        same "the mark '$mark' counts as lost" "$status, $(slept)" '0, 7'
     done
+    rm "$work/fakes/sleep" "$work/fakes/date"
     echo 'lost 0899999999' >"$MAIL_DIR/mowerbean.play"
     ask play
     same 'a time with a leading zero' "$status, $notice" "0, $(without_link)"

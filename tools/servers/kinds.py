@@ -176,8 +176,8 @@ def missing(kind: Kind) -> bool:
 
 
 def answers(address: str, port: int) -> bool:
-    """Whether a server's first byte comes within ten seconds."""
-    for _ in range(100):
+    """Whether a server's first byte comes within a minute."""
+    for _ in range(600):
         with contextlib.suppress(OSError), socket.create_connection((address, port), timeout=5) as link:
             if link.recv(1):
                 return True
