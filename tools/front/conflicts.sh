@@ -46,7 +46,7 @@ new_conflicts() {
     has '  says so on standard error' "$notice" 'mowerbean: 3 conflicts not seen yet: mowerbean report --new --long'
     if script -qec true /dev/null >/dev/null 2>&1 </dev/null; then
         ends 1
-        said=$(script -qec "$stub play" /dev/null </dev/null | tr -d '\r')
+        said=$(script -qec "'$stub' play" /dev/null </dev/null | tr -d '\r')
         same '  once, on a terminal too' "$(echo "$said" | grep -c 'report --new --long')" 1
     fi
     ask report --new
@@ -55,9 +55,9 @@ new_conflicts() {
     ask report --new
     same '  and once more' "$said, $status" ', 0'
     if script -qec true /dev/null >/dev/null 2>&1 </dev/null; then
-        said=$(script -qec "$stub report --new --long" /dev/null </dev/null | tr -d '\r')
+        said=$(script -qec "'$stub' report --new --long" /dev/null </dev/null | tr -d '\r')
         same '  on a terminal it says where they are' "$said" 'mowerbean: each conflict was shown before: mowerbean report --long prints all'
-        said=$(script -qec "$stub -q report --new" /dev/null </dev/null)
+        said=$(script -qec "'$stub' -q report --new" /dev/null </dev/null)
         same '  but with -q' "$said" ''
     fi
     ask play

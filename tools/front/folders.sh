@@ -57,7 +57,7 @@ turns_beside_a_play() {
     # A clock that goes back with each look at it lengthens no wait.
     echo 1000000000 >"$work/clock"
     # shellcheck disable=SC2016  # the script's own words
-    printf '#!/bin/sh\nread -r now <%s\necho $((now - 100)) | tee %s\n' "$work/clock" "$work/clock" >"$work/fakes/date"
+    printf '#!/bin/sh\nread -r now <"%s"\necho $((now - 100)) | tee "%s"\n' "$work/clock" "$work/clock" >"$work/fakes/date"
     chmod +x "$work/fakes/date"
     hold flag INBOX 1 + x
     PATH=$work/fakes:$PATH timeout 300 "$stub" -w 2 flag INBOX 1 + x >/dev/null 2>&1

@@ -43,9 +43,9 @@ $MAIL_DIR 127.0.0.1:4143 none none, "
     same '  and the environment decides over it' "$(linked)" "--folder $MAIL_DIR --server other:143"
     rm "$configs/default.conf"
     if script -qec true /dev/null >/dev/null 2>&1 </dev/null; then
-        script -qec "$stub play" /dev/null </dev/null >/dev/null
+        script -qec "'$stub' play" /dev/null </dev/null >/dev/null
         same 'a terminal' "$(linked)" "--folder $MAIL_DIR --server localhost:143 --progress --actions 0"
-        script -qec "$stub -q play" /dev/null </dev/null >/dev/null
+        script -qec "'$stub' -q play" /dev/null </dev/null >/dev/null
         same '  and -q' "$(linked)" "--folder $MAIL_DIR --server localhost:143"
     fi
     : >"$work/stub/no_port"

@@ -23,7 +23,7 @@ send() {
     shift
     rm -f "$work/queued"/*
     # shellcheck disable=SC2059  # the text's own line ends
-    said=$(printf "$text" | "$work/real/share/mowerbean/send-later" -a work --queue "$work/fakes/queue" "$@" 2>"$work/notice")
+    said=$(printf "$text" | "$work/real/share/mowerbean/send-later" -a work --queue "'$work/fakes/queue'" "$@" 2>"$work/notice")
     status=$?
     notice=$(cat "$work/notice")
 }
@@ -91,7 +91,8 @@ from_others() {
     else
         echo "skipped: msmtp isn't installed"
     fi
-    if command -v mutt >/dev/null; then
+    # Mutt cuts its commands at each blank.
+    if command -v mutt >/dev/null && [ "$work" = "${work%% *}" ]; then
         sed "s|@PREFIX@|$work/real|g" "$top/contrib/muttrc" >"$work/muttrc"
         same 'muttrc' "$(mutt -n -F "$work/muttrc" -Q pipe_split -Q pipe_decode 2>&1 | tr '\n' ' ')" 'pipe_split is set pipe_decode is unset '
         sed -n "s|^#\(set .*\)\"$|\1 -a work --queue $work/fakes/queue\"|p; s|^#\(set record.*\)|\1|p" "$work/muttrc" >"$work/sendrc"
@@ -99,6 +100,6 @@ from_others() {
         same 'from mutt' "$?, append Sent $(sed -n 's/^Message-ID: //p' "$work/queued/letter")" "0, $(last_asked)"
         has '  with its words' "$(cat "$work/queued/words")" '[bob@y]'
     else
-        echo "skipped: mutt isn't installed"
+        echo "skipped: mutt isn't installed, or $work has a blank"
     fi
 }

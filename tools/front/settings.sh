@@ -148,7 +148,7 @@ unseen_passwords() {
         chmod +x "$work/fakes/$tool"
     done
     echo hidden-word >"$work/secret"
-    config "password_command=cat $work/secret" "dir=$MAIL_DIR" 'pause=1'
+    config "password_command=cat '$work/secret'" "dir=$MAIL_DIR" 'pause=1'
     ends 4 0
     # The caller exports names that the script uses.
     for words in '-a work' ''; do

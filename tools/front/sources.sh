@@ -129,7 +129,7 @@ mowerbean.play'
     ask -a work play
     same '  and may be played again' "$status" 0
     while IFS='|' read -r server user; do
-        config "dir=$MAIL_DIR" "server=$server" "user=$user" "password_command=touch $work/asked; echo own"
+        config "dir=$MAIL_DIR" "server=$server" "user=$user" "password_command=touch '$work/asked'; echo own"
         rm -f "$work/stub/times"
         ask -a work play
         same "another account, $user at $server" "$status, $said, $(runs), $(ls "$work/asked" 2>/dev/null)" '78, , 0, '

@@ -113,11 +113,11 @@ shows() {
     ask -a work show Else 40
     same 'show of no mailbox' "$status, $said" '10, refused no-mailbox'
     if script -qec true /dev/null >/dev/null 2>&1 </dev/null; then
-        said=$(PAGER='sed s/^/page:/' script -qec "$stub -a work show 'Sent/Old Items' 42" /dev/null </dev/null | tr -d '\r')
+        said=$(PAGER='sed s/^/page:/' script -qec "'$stub' -a work show 'Sent/Old Items' 42" /dev/null </dev/null | tr -d '\r')
         same 'show on a terminal' "$said" 'page:Subject: two
 page:
 page:?[31m?second'
-        said=$(PAGER='sed s/^/page:/' script -qec "$stub -q -a work show 'Sent/Old Items' 99" /dev/null </dev/null | tr -d '\r')
+        said=$(PAGER='sed s/^/page:/' script -qec "'$stub' -q -a work show 'Sent/Old Items' 99" /dev/null </dev/null | tr -d '\r')
         same '  of what is not kept' "$said" 'refused not-kept'
     fi
 }
@@ -165,7 +165,7 @@ d1  \draft'
 44                       two
 d1  \draft'
     if script -qec true /dev/null >/dev/null 2>&1 </dev/null; then
-        said=$(COLUMNS=40 script -qec "$stub -a work list --long 'Sent/Old Items'" /dev/null </dev/null | tr -d '\r' | head -n 1)
+        said=$(COLUMNS=40 script -qec "'$stub' -a work list --long 'Sent/Old Items'" /dev/null </dev/null | tr -d '\r' | head -n 1)
         same '  at a width of 40' "$said" "$(TZ='' date -d @1057049557 '+40  %Y-%m-%d %H:%M')  an  \\seen \\flagged"
     fi
     ask -a work list 'Sent/Old Items'

@@ -12,6 +12,18 @@ put_units() {
 
 units() {
     put_units
+    units_work
+    notifications
+}
+
+# A command of systemd is none in a folder whose name has a blank.
+units_work() {
+    case $work in
+        *' '*)
+            echo "skipped: $work has a blank"
+            return
+            ;;
+    esac
     unit=$work/units/mowerbean@.service
     if command -v systemd-analyze >/dev/null; then
         for each in mowerbean mowerbean-sync; do
@@ -35,7 +47,6 @@ units() {
         '78, , mowerbean: sync wants the line maildir=FOLDER in the account. Nothing was done'
     bears
     take_link_away
-    notifications
 }
 
 # Which statuses the unit takes for no failure.
@@ -49,7 +60,7 @@ bears() {
 }
 
 notifications() {
-    printf '#!/bin/sh\necho "$@" >>%s\n[ ! -e %s ]\n' "$work/shown" "$work/no_desktop" >"$work/fakes/notify-send"
+    printf '#!/bin/sh\necho "$@" >>"%s"\n[ ! -e "%s" ]\n' "$work/shown" "$work/no_desktop" >"$work/fakes/notify-send"
     chmod +x "$work/fakes/notify-send"
     folder notified
     echo INBOX >"$MAIL_DIR/mowerbean.boxes"
@@ -57,16 +68,16 @@ notifications() {
     put_lists now 1 '' ''
     put_lists next '1;2' '' '1 nothing message-gone;2 nothing already-so'
     : >"$work/no_desktop"
-    PATH=$work/fakes:$PATH ask play --then "$work/stub/share/mowerbean/notify"
+    PATH=$work/fakes:$PATH ask play --then "'$work/stub/share/mowerbean/notify'"
     same 'a notification that can not be shown' "$status, $(wc -l <"$work/shown" | tr -d ' ')" '0, 1'
     rm "$work/no_desktop" "$work/shown"
-    PATH=$work/fakes:$PATH ask play --then "$work/stub/share/mowerbean/notify"
+    PATH=$work/fakes:$PATH ask play --then "'$work/stub/share/mowerbean/notify'"
     same '  is shown after the next play' "$(cat "$work/shown")" '-a mowerbean -- 2 actions could not be done mowerbean report --new --long'
-    PATH=$work/fakes:$PATH ask play --then "$work/stub/share/mowerbean/notify"
+    PATH=$work/fakes:$PATH ask play --then "'$work/stub/share/mowerbean/notify'"
     same '  once' "$(wc -l <"$work/shown" | tr -d ' ')" 1
     put_lists now 1 '' ''
     put_lists next '1;2' '' ''
-    PATH=$work/fakes:$PATH ask play --then "$work/stub/share/mowerbean/notify"
+    PATH=$work/fakes:$PATH ask play --then "'$work/stub/share/mowerbean/notify'"
     same '  and new messages alone show none' "$(wc -l <"$work/shown" | tr -d ' ')" 1
     said=$(MOWERBEAN_ACCOUNT=work MOWERBEAN_CONFLICTS=1 PATH=$work/fakes:$PATH "$top/contrib/notify"; tail -n 1 "$work/shown")
     same '  of an account' "$said" '-a mowerbean -- One action could not be done mowerbean -a work report --new --long'

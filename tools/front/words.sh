@@ -161,12 +161,12 @@ over_a_terminal() {
         return
     fi
     printf 'Message-ID: <a@x>\n\nhello\n' | "$real" append 'Sent Items' >/dev/null
-    said=$(script -qec "$real flag 'Sent Items' d1 + seen '\\Flagged' work" /dev/null </dev/null | tr -d '\r')
+    said=$(script -qec "'$real' flag 'Sent Items' d1 + seen '\\Flagged' work" /dev/null </dev/null | tr -d '\r')
     same 'what was accepted, on a terminal' "$said" 'accepted 2
 mowerbean: that is: flag "Sent Items" d1 + \seen \Flagged work'
-    said=$(script -qec "$real -q move 'Sent Items' d1 Archive" /dev/null </dev/null | tr -d '\r')
+    said=$(script -qec "'$real' -q move 'Sent Items' d1 Archive" /dev/null </dev/null | tr -d '\r')
     same '  and not with -q' "$said" 'accepted 3'
-    said=$(script -qec "$real list Nowhere; $real nonsense" /dev/null </dev/null | tr -d '\r')
+    said=$(script -qec "'$real' list Nowhere; '$real' nonsense" /dev/null </dev/null | tr -d '\r')
     same '  and a refusal has one line' "$(echo "$said" | grep -c '^mowerbean: ')" 2
 }
 
