@@ -12,7 +12,7 @@ line_begins() {
     MAIL_SERVER=127.0.0.1:$(cat "$work/line_port")
     export MAIL_SERVER
     cp "$top"/libexec/link* "$work/real/libexec/mowerbean"
-    # What ends link within the minute for which it is waited isn't that no program came.
+    # Within the minute for which its end is waited link must not end by itself, as no program came.
     sed -i 's/^PROGRAM_TIME = [0-9.]*/PROGRAM_TIME = 600.0/' "$work/real/libexec/mowerbean/link_words.py"
     "$real" init INBOX Archive >/dev/null
 }

@@ -47,6 +47,10 @@ error link'
     whole_syncs
 }
 
+maildir_is_locked() {
+    ! flock -n "$work/Mail/.mowerbean/lock" true
+}
+
 # Syncs that a terminal or a system ends while the tool of the Maildir is at work. Shells differ in what they do then.
 ended_syncs() {
     mv "$work/Mail/.mowerbean/state.json" "$work/state.json"
@@ -58,15 +62,11 @@ ended_syncs() {
         while read -r signal code; do
             with_interrupts "$(command -v setsid)" "$real" -a work -q sync >"$work/held" 2>&1 </dev/null &
             held=$!
-            turns=0
-            while flock -n "$work/Mail/.mowerbean/lock" true && [ "$turns" -lt 600 ]; do
-                turns=$((turns + 1))
-                sleep 0.1
-            done
+            soon maildir_is_locked
             kill "-$signal" "-$held"
             wait "$held"
             same "$signal ends a sync, with $shell" "$?, $(cat "$work/held")" "$code, "
-            flock -w 5 "$work/Mail/.mowerbean/lock" true
+            flock -w 60 "$work/Mail/.mowerbean/lock" true
             same '  and what it has started' "$?" 0
         done <<'CASES'
 INT 130
