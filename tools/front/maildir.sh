@@ -64,7 +64,7 @@ ended_syncs() {
             held=$!
             soon maildir_is_locked
             kill "-$signal" "-$held"
-            wait "$held"
+            wait "$held" 2>/dev/null
             same "$signal ends a sync, with $shell" "$?, $(cat "$work/held")" "$code, "
             flock -w 60 "$work/Mail/.mowerbean/lock" true
             same '  and what it has started' "$?" 0
