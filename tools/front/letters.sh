@@ -103,5 +103,34 @@ BASH
         '[INBOX][a;b][$(touch${IFS}x)][`id`][Sent Items][it'"'"'s], '
     same '  offers nothing behind a refusal' "$said" "$(echo "$said" | sed -n 1p)
 \\Seen"
+    completed_behind_options
     unset MAIL_DIR
+}
+
+# Each shell offers the six mailboxes behind options of the command, too.
+completed_behind_options() {
+    cat >"$work/behind.bash" <<'BASH'
+. "$1/contrib/completion/mowerbean.bash"
+COMP_WORDS=(mowerbean fetch --retry 3 '') COMP_CWORD=4
+_mowerbean
+echo "${#COMPREPLY[@]}"
+BASH
+    cat >"$work/behind.zsh" <<'ZSH'
+_arguments() { state=words }
+compadd() { print ${#${(P)2}} }
+words=(fetch --retry 3 '') CURRENT=4
+. "$1/contrib/completion/_mowerbean"
+ZSH
+    cat >"$work/behind.fish" <<'FISH'
+source $argv[1]/contrib/completion/mowerbean.fish
+count (complete -C 'mowerbean -qw5 fetch --retry 3 ')
+FISH
+    for shell in bash zsh fish; do
+        if ! command -v "$shell" >/dev/null; then
+            echo "skipped: $shell isn't installed"
+            continue
+        fi
+        said=$(cd "$work" && PATH=$work/real/bin:$PATH "$shell" "$work/behind.$shell" "$top" 2>&1)
+        same "the mailboxes that $shell offers behind an option" "$said" 6
+    done
 }
