@@ -41,7 +41,10 @@ pub struct Line {
 
 /// The number of the last line, or 0 where there is none.
 pub fn last_number(lines: &[Line]) -> usize {
-    lines.last().map_or(0, |line| line.number)
+    match lines.last() {
+        Some(line) => line.number,
+        None => 0,
+    }
 }
 
 impl Line {
@@ -113,6 +116,21 @@ impl CaseFile {
         }
     }
 
+    // Takes each line of the file, and has to find a case then where it found lines.
+    fn take_all(&mut self, text: &str) -> Result<(), Stop> {
+        let mut number = 0usize;
+        for text in text.lines() {
+            number = number.saturating_add(1);
+            if let Err(fault) = self.take(number, text) {
+                return Err(Stop { number, fault });
+            }
+        }
+        match self.head.last() {
+            Some(line) if self.cases.is_empty() => Err(Fault::Form.at(line.number)),
+            _ => Ok(()),
+        }
+    }
+
     // Takes a line of the file.
     fn take(&mut self, number: usize, text: &str) -> Result<(), Fault> {
         if text.is_empty() || text.starts_with('#') {
@@ -151,11 +169,12 @@ impl CaseFile {
             self.heading = title;
             return Ok(());
         }
-        self.begin(number, title, Vec::new(self.alloc))
+        self.begin(number, title)
     }
 
-    // Begins a case.
-    fn begin(&mut self, number: usize, title: String, lines: Vec<Line>) -> Result<(), Fault> {
+    // Begins a case, which has no lines yet.
+    fn begin(&mut self, number: usize, title: String) -> Result<(), Fault> {
+        let lines = Vec::new(self.alloc);
         let case = Case {
             number,
             title,
@@ -167,18 +186,22 @@ impl CaseFile {
 
     // Adds a line to the last case, or to those that all cases share.
     fn take_line(&mut self, number: usize, text: &str) -> Result<(), Fault> {
-        let line = Line::new(self.alloc, number, text)?;
-        self.ends_in_title = false;
         if self.by_line {
-            let lines = vec![in self.alloc; line]?;
             let title = self.heading.clone()?;
-            return self.begin(number, title, lines);
+            self.begin(number, title)?;
         }
-        match self.cases.last_mut() {
-            Some(case) => case.lines.push(line)?,
-            None => self.head.push(line)?,
-        }
+        self.ends_in_title = false;
+        let line = Line::new(self.alloc, number, text)?;
+        self.last_lines().push(line)?;
         Ok(())
+    }
+
+    // The lines of the last case, or those that all cases share.
+    fn last_lines(&mut self) -> &mut Vec<Line> {
+        match self.cases.last_mut() {
+            Some(case) => &mut case.lines,
+            None => &mut self.head,
+        }
     }
 
     // The line to which one below it belongs. A title is none.
@@ -186,10 +209,7 @@ impl CaseFile {
         if self.ends_in_title {
             return None;
         }
-        match self.cases.last_mut() {
-            Some(case) => case.lines.last_mut(),
-            None => self.head.last_mut(),
-        }
+        self.last_lines().last_mut()
     }
 
     // Takes a line that belongs to the one above.
@@ -205,15 +225,15 @@ impl CaseFile {
 /// Reads a file of cases.
 ///
 /// # Errors
-/// The line at which memory is wanting, or that belongs to a line above where none is.
+/// The line at which memory is wanting, or that belongs to a line above where none is; the last line
+/// where there are lines, and none of them begins a case.
 pub fn case_file_of(alloc: Global, text: &str) -> Result<CaseFile, Stop> {
     let mut file = CaseFile::new(alloc);
-    let mut number = 0usize;
-    for text in text.lines() {
-        number = number.saturating_add(1);
-        if let Err(fault) = file.take(number, text) {
-            return Err(Stop { number, fault });
+    match file.take_all(text) {
+        Ok(()) => Ok(file),
+        Err(stop) => {
+            drop(file);
+            Err(stop)
         }
     }
-    Ok(file)
 }

@@ -39,12 +39,18 @@ fn played<P: Play>(play: &mut P, file: &CaseFile, case: &Case) -> Result<(), Sto
     }
 }
 
-// Prints the title of a case that has one.
-fn print_title<R: Print>(rt: &R, title: &str) -> io::Result<()> {
-    if title.is_empty() {
-        return Ok(());
-    }
-    println!(rt; "{title}:")
+// Counts a case that failed, and prints its title and where it stops.
+fn fail<R: Print + AllocGlobal>(
+    rt: &R,
+    name: &str,
+    title: &str,
+    stop: Stop,
+    tally: &mut Tally,
+) -> io::Result<()> {
+    tally.fail();
+    let printed = print_stop(rt, name, title, &stop);
+    drop(stop);
+    printed
 }
 
 // Plays a case, and prints where it stops.
@@ -61,12 +67,22 @@ fn check_case<P: Play, R: Print + AllocGlobal>(
             tally.pass();
             Ok(())
         }
-        Err(stop) => {
-            tally.fail();
-            print_title(rt, case.title.as_str())?;
-            print_stop(rt, name, &stop)
-        }
+        Err(stop) => fail(rt, name, case.title.as_str(), stop, tally),
     }
+}
+
+// Plays the cases of a file, one after another.
+fn check_cases<P: Play, R: Print + AllocGlobal>(
+    rt: &R,
+    play: &mut P,
+    name: &str,
+    file: &CaseFile,
+    tally: &mut Tally,
+) -> io::Result<()> {
+    for case in &file.cases {
+        check_case(rt, play, name, file, case, tally)?;
+    }
+    Ok(())
 }
 
 /// Plays the cases of a file that has this name and text, counts them, and tells each that fails.
@@ -80,17 +96,25 @@ pub fn check_file<P: Play, R: Print + AllocGlobal>(
     text: &str,
     tally: &mut Tally,
 ) -> io::Result<()> {
-    let file = match case_file_of(rt.alloc(), text) {
-        Ok(file) => file,
-        Err(stop) => {
-            tally.fail();
-            return print_stop(rt, name, &stop);
+    match case_file_of(rt.alloc(), text) {
+        Ok(file) => {
+            let checked = check_cases(rt, play, name, &file, tally);
+            drop(file);
+            checked
         }
-    };
-    for case in &file.cases {
-        check_case(rt, play, name, &file, case, tally)?;
+        Err(stop) => fail(rt, name, "", stop, tally),
     }
-    Ok(())
+}
+
+// The text of a file, or word that it can't be read.
+fn text_of<R: Files + Print + AllocGlobal>(rt: &R, name: &str) -> io::Result<String> {
+    match fs::read_to_string(rt, name) {
+        Ok(text) => Ok(text),
+        Err(error) => {
+            println!(rt; "{name}: the file can't be read")?;
+            Err(error)
+        }
+    }
 }
 
 // Plays the files that the arguments name, or else the input, and prints how many cases passed.
@@ -103,7 +127,7 @@ where
     let mut is_named = false;
     for name in env::args(rt)?.skip(1) {
         is_named = true;
-        let text = fs::read_to_string(rt, name.as_str())?;
+        let text = text_of(rt, name.as_str())?;
         check_file(rt, play, name.as_str(), text.as_str(), &mut tally)?;
     }
     if !is_named {
@@ -115,8 +139,8 @@ where
 }
 
 /// Plays the files that the arguments name, or else the input, and prints how many cases passed.
-/// The status: 0 where all did, 1 where one failed, 2 where a file can't be read or the output
-/// failed.
+/// The status: 0 where all did, 1 where one failed, 2 where a file can't be read, which is printed,
+/// or the output failed.
 pub fn checked<P, R>(rt: &R, play: &mut P) -> ExitCode
 where
     P: Play,

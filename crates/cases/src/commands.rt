@@ -4,8 +4,8 @@ use crate::answer::Answer;
 use crate::fault::WordFault;
 use crate::input::Input;
 use crate::values::{
-    bytes, flags, modseq, name, put_flags, put_modseq, put_name, put_set, put_sign, put_uid,
-    put_validity, set, sign, uid, validity,
+    bytes, flags, modseq, name, named, put_filed, put_flags, put_modseq, put_name, put_set,
+    put_sign, put_stamp, put_uid, put_validity, set, sign, uid, validity,
 };
 use imap_model::{Command, Mark};
 use mail_base::{Account, BoxName};
@@ -23,42 +23,49 @@ pub fn command(input: &mut Input) -> Result<Command, WordFault> {
         "enable" => Ok(Command::Enable {
             rev2: input.skips("rev2"),
         }),
-        "select" => Ok(Command::Select {
-            name: name(input)?,
-            since: mark(input)?,
-        }),
+        "select" => select(input),
         "fetch" => fetch(input),
+        "ids" => Ok(Command::FetchIds { uids: set(input)? }),
+        "append" => append(input),
+        "logout" => Ok(Command::Logout),
+        word => of_uid(word, input),
+    }
+}
+
+fn select(input: &mut Input) -> Result<Command, WordFault> {
+    let text = input.text()?;
+    Ok(Command::Select {
+        since: mark(input)?,
+        name: named(text)?,
+    })
+}
+
+// A command whose UID comes first.
+fn of_uid(word: &str, input: &mut Input) -> Result<Command, WordFault> {
+    let uid = uid(input)?;
+    match word {
+        "text" => Ok(Command::FetchText { uid }),
+        "expunge" => Ok(Command::Expunge { uid }),
         "search" => Ok(Command::Search {
-            from: uid(input)?,
+            from: uid,
             id: bytes(input)?,
         }),
-        "ids" => Ok(Command::FetchIds { uids: set(input)? }),
-        "text" => Ok(Command::FetchText { uid: uid(input)? }),
         "store" => Ok(Command::Store {
-            uid: uid(input)?,
+            uid,
             since: modseq(input)?,
             add: sign(input)?,
             flags: flags(input)?,
         }),
-        "move" => shift(input),
-        "copy" => copying(input),
-        "expunge" => Ok(Command::Expunge { uid: uid(input)? }),
-        "append" => append(input),
-        "logout" => Ok(Command::Logout),
+        "move" => Ok(Command::Shift {
+            uid,
+            to: name(input)?,
+        }),
+        "copy" => Ok(Command::Copy {
+            uid,
+            to: name(input)?,
+        }),
         _ => Err(WordFault::Form),
     }
-}
-
-fn shift(input: &mut Input) -> Result<Command, WordFault> {
-    let uid = uid(input)?;
-    let to = name(input)?;
-    Ok(Command::Shift { uid, to })
-}
-
-fn copying(input: &mut Input) -> Result<Command, WordFault> {
-    let uid = uid(input)?;
-    let to = name(input)?;
-    Ok(Command::Copy { uid, to })
 }
 
 fn append(input: &mut Input) -> Result<Command, WordFault> {
@@ -121,8 +128,7 @@ pub fn put_command(answer: &mut Answer, command: &Command) -> Result<(), WordFau
             add,
             flags,
         } => {
-            put_uid(answer, *uid)?;
-            put_modseq(answer, *since)?;
+            put_stamp(answer, *uid, *since)?;
             put_sign(answer, *add)?;
             put_flags(answer, flags)
         }
@@ -132,8 +138,7 @@ pub fn put_command(answer: &mut Answer, command: &Command) -> Result<(), WordFau
         }
         Command::Append { to, flags, text } => {
             put_name(answer, to)?;
-            answer.text(text.as_slice())?;
-            put_flags(answer, flags)
+            put_filed(answer, text, flags)
         }
     }
 }

@@ -10,7 +10,7 @@ use crate::answer::Answer;
 use crate::fault::WordFault;
 use crate::input::Input;
 use crate::values::{
-    flags, modseq, put_flags, put_modseq, put_set, put_uid, put_validity, set, uid, validity,
+    flags, modseq, put_flags, put_modseq, put_place, put_set, put_stamp, set, uid, validity,
 };
 use mail_base::List;
 use mailbox_cache::{Delta, Row};
@@ -81,8 +81,7 @@ fn add_row(input: &mut Input, delta: &mut Delta) -> Result<(), WordFault> {
 /// Adds the words of a delta. Of more than twenty rows it tells how many they are.
 pub fn put_delta(answer: &mut Answer, delta: &Delta) -> Result<(), WordFault> {
     answer.word(if delta.whole { "whole" } else { "part" })?;
-    put_validity(answer, delta.validity)?;
-    put_uid(answer, delta.uidnext)?;
+    put_place(answer, delta.validity, delta.uidnext)?;
     put_modseq(answer, delta.highest)?;
     put_vanished(answer, &delta.vanished)?;
     put_rows(answer, delta.rows.as_slice())
@@ -111,7 +110,6 @@ pub fn put_rows(answer: &mut Answer, rows: &[(Uid, Row)]) -> Result<(), WordFaul
 /// Adds the words of a row: `; 42 715 \Seen`.
 pub fn put_row(answer: &mut Answer, uid: Uid, row: &Row) -> Result<(), WordFault> {
     answer.word(";")?;
-    put_uid(answer, uid)?;
-    put_modseq(answer, row.modseq)?;
+    put_stamp(answer, uid, row.modseq)?;
     put_flags(answer, &row.flags)
 }

@@ -7,8 +7,8 @@ use crate::fault::WordFault;
 use crate::input::Input;
 use crate::outcomes::{outcome, put_outcome};
 use crate::values::{
-    action_id, bytes, flags, modseq, name, named, put_flags, put_modseq, put_name, put_sign,
-    put_uid, put_validity, sign, uid, validity,
+    action_id, bytes, flags, modseq, name, named, put_filed, put_flags, put_headed, put_modseq,
+    put_name, put_place, put_sign, put_validity, sign, uid, validity,
 };
 use action_queue::{Action, Event, Intent, Outcome, Target};
 use mail_base::{ActionId, BoxName, List, Validity, read_u32};
@@ -19,29 +19,37 @@ use uid_sets::Uid;
 pub fn event(input: &mut Input) -> Result<Event, WordFault> {
     match input.word()? {
         "begin" => begin(input),
-        "accept" => Ok(Event::Accept {
-            id: action_id(input)?,
-            action: action(input)?,
-        }),
-        "intend" => Ok(Event::Intend {
-            id: action_id(input)?,
-            intent: intent(input)?,
-        }),
-        "settle" => Ok(Event::Settle {
-            id: action_id(input)?,
-            outcome: outcome(input)?,
-        }),
         "learn" => Ok(Event::Learn {
             name: name(input)?,
             delta: delta(input)?,
         }),
-        "old" => old(input),
         "reset" => Ok(Event::Reset {
             name: name(input)?,
             kept: validity(input)?,
             told: validity(input)?,
         }),
-        "withdraw" => withdraw(input),
+        word => of_action(word, input),
+    }
+}
+
+// An event of the action whose number comes first.
+fn of_action(word: &str, input: &mut Input) -> Result<Event, WordFault> {
+    let id = action_id(input)?;
+    match word {
+        "accept" => Ok(Event::Accept {
+            id,
+            action: action(input)?,
+        }),
+        "intend" => Ok(Event::Intend {
+            id,
+            intent: intent(input)?,
+        }),
+        "settle" => Ok(Event::Settle {
+            id,
+            outcome: outcome(input)?,
+        }),
+        "old" => old(id, input),
+        "withdraw" => withdraw(id, input),
         _ => Err(WordFault::Form),
     }
 }
@@ -54,8 +62,7 @@ fn begin(input: &mut Input) -> Result<Event, WordFault> {
     Ok(Event::Begin { names })
 }
 
-fn old(input: &mut Input) -> Result<Event, WordFault> {
-    let id = action_id(input)?;
+fn old(id: ActionId, input: &mut Input) -> Result<Event, WordFault> {
     let action = action(input)?;
     match old_outcome(input) {
         Ok(outcome) => Ok(Event::Old {
@@ -76,8 +83,7 @@ fn old_outcome(input: &mut Input) -> Result<Outcome, WordFault> {
     outcome(input)
 }
 
-fn withdraw(input: &mut Input) -> Result<Event, WordFault> {
-    let id = action_id(input)?;
+fn withdraw(id: ActionId, input: &mut Input) -> Result<Event, WordFault> {
     let tries = input.short()?;
     if tries > 255 {
         return Err(WordFault::Form);
@@ -134,23 +140,25 @@ fn made_by(text: &[u8]) -> Option<ActionId> {
 /// The next words as an intent: `store INBOX 5 42 715`, `move INBOX 5 42 Archive` or `put Archive 5
 /// 43`.
 pub fn intent(input: &mut Input) -> Result<Intent, WordFault> {
-    match input.word()? {
+    let (word, text) = (input.word()?, input.text()?);
+    let (validity, uid) = (validity(input)?, uid(input)?);
+    match word {
         "store" => Ok(Intent::Store {
-            name: name(input)?,
-            validity: validity(input)?,
-            uid: uid(input)?,
+            validity,
+            uid,
             modseq: modseq(input)?,
+            name: named(text)?,
         }),
         "move" => Ok(Intent::Shift {
-            from: name(input)?,
-            validity: validity(input)?,
-            uid: uid(input)?,
+            from: named(text)?,
+            validity,
+            uid,
             to: name(input)?,
         }),
         "put" => Ok(Intent::Put {
-            to: name(input)?,
-            validity: validity(input)?,
-            uidnext: uid(input)?,
+            to: named(text)?,
+            validity,
+            uidnext: uid,
         }),
         _ => Err(WordFault::Form),
     }
@@ -184,8 +192,7 @@ pub fn put_event(answer: &mut Answer, event: &Event) -> Result<(), WordFault> {
             put_outcome(answer, outcome)
         }
         Event::Reset { name, kept, told } => {
-            answer.word("reset")?;
-            put_name(answer, name)?;
+            put_headed(answer, "reset", name)?;
             put_validity(answer, *kept)?;
             put_validity(answer, *told)
         }
@@ -211,8 +218,7 @@ pub fn put_numbered(answer: &mut Answer, word: &str, id: ActionId) -> Result<(),
 }
 
 fn put_learn(answer: &mut Answer, name: &BoxName, delta: &Delta) -> Result<(), WordFault> {
-    answer.word("learn")?;
-    put_name(answer, name)?;
+    put_headed(answer, "learn", name)?;
     put_delta(answer, delta)
 }
 
@@ -220,14 +226,12 @@ fn put_learn(answer: &mut Answer, name: &BoxName, delta: &Delta) -> Result<(), W
 pub fn put_action(answer: &mut Answer, action: &Action) -> Result<(), WordFault> {
     match action {
         Action::Flag { target, add, flags } => {
-            answer.word("flag")?;
-            put_target(answer, target)?;
+            put_meant(answer, "flag", target)?;
             put_sign(answer, *add)?;
             put_flags(answer, flags)
         }
         Action::Move { target, to } => {
-            answer.word("move")?;
-            put_target(answer, target)?;
+            put_meant(answer, "move", target)?;
             put_name(answer, to)
         }
         Action::Append {
@@ -236,16 +240,16 @@ pub fn put_action(answer: &mut Answer, action: &Action) -> Result<(), WordFault>
             text,
             id,
         } => {
-            answer.word("append")?;
-            put_name(answer, to)?;
+            put_headed(answer, "append", to)?;
             answer.text(text.as_slice())?;
-            answer.text(id.as_slice())?;
-            put_flags(answer, flags)
+            put_filed(answer, id, flags)
         }
     }
 }
 
-fn put_target(answer: &mut Answer, target: &Target) -> Result<(), WordFault> {
+// Adds a word and the message that is meant.
+fn put_meant(answer: &mut Answer, word: &str, target: &Target) -> Result<(), WordFault> {
+    answer.word(word)?;
     match target {
         Target::Real {
             name,
@@ -259,12 +263,6 @@ fn put_target(answer: &mut Answer, target: &Target) -> Result<(), WordFault> {
     }
 }
 
-/// Adds a UIDVALIDITY and a UID under it.
-pub fn put_place(answer: &mut Answer, validity: Validity, uid: Uid) -> Result<(), WordFault> {
-    put_validity(answer, validity)?;
-    put_uid(answer, uid)
-}
-
 /// Adds the words of an intent.
 pub fn put_intent(answer: &mut Answer, intent: &Intent) -> Result<(), WordFault> {
     match intent {
@@ -274,9 +272,7 @@ pub fn put_intent(answer: &mut Answer, intent: &Intent) -> Result<(), WordFault>
             uid,
             modseq,
         } => {
-            answer.word("store")?;
-            put_name(answer, name)?;
-            put_place(answer, *validity, *uid)?;
+            put_found(answer, "store", name, *validity, *uid)?;
             put_modseq(answer, *modseq)
         }
         Intent::Shift {
@@ -285,19 +281,25 @@ pub fn put_intent(answer: &mut Answer, intent: &Intent) -> Result<(), WordFault>
             uid,
             to,
         } => {
-            answer.word("move")?;
-            put_name(answer, from)?;
-            put_place(answer, *validity, *uid)?;
+            put_found(answer, "move", from, *validity, *uid)?;
             put_name(answer, to)
         }
         Intent::Put {
             to,
             validity,
             uidnext,
-        } => {
-            answer.word("put")?;
-            put_name(answer, to)?;
-            put_place(answer, *validity, *uidnext)
-        }
+        } => put_found(answer, "put", to, *validity, *uidnext),
     }
+}
+
+// Adds a word, and a place in the mailbox of a name.
+fn put_found(
+    answer: &mut Answer,
+    word: &str,
+    name: &BoxName,
+    validity: Validity,
+    uid: Uid,
+) -> Result<(), WordFault> {
+    put_headed(answer, word, name)?;
+    put_place(answer, validity, uid)
 }

@@ -4,8 +4,8 @@ use crate::answer::Answer;
 use crate::fault::WordFault;
 use crate::input::Input;
 use crate::values::{
-    bytes, listed_flags, modseq, name, put_flags, put_modseq, put_name, put_uid, put_validity, uid,
-    validity,
+    bytes, listed_flags, modseq, name, put_filed, put_flags, put_headed, put_modseq, put_name,
+    put_place, put_uid, uid, validity,
 };
 use imap_model::Change;
 use mail_base::{BoxName, List};
@@ -72,13 +72,11 @@ fn uids(input: &mut Input) -> Result<Vec<Uid>, WordFault> {
 
 /// Adds the words of a change in the mailbox of a name.
 pub fn put_change(answer: &mut Answer, name: &BoxName, change: &Change) -> Result<(), WordFault> {
-    answer.word(verb_of(change))?;
-    put_name(answer, name)?;
+    put_headed(answer, verb_of(change), name)?;
     match change {
         Change::Add { flags, text, uid } => {
             put_uid(answer, *uid)?;
-            answer.text(text.as_slice())?;
-            put_flags(answer, flags)
+            put_filed(answer, text, flags)
         }
         Change::SetFlags { uid, flags } => {
             put_uid(answer, *uid)?;
@@ -96,8 +94,7 @@ pub fn put_change(answer: &mut Answer, name: &BoxName, change: &Change) -> Resul
             uidnext,
             highest,
         } => {
-            put_validity(answer, *validity)?;
-            put_uid(answer, *uidnext)?;
+            put_place(answer, *validity, *uidnext)?;
             put_modseq(answer, *highest)?;
             put_uids(answer, uids.as_slice())
         }

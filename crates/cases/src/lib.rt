@@ -30,9 +30,7 @@ pub use case_file::{CaseFile, DueLine, Line, case_file_of, last_number};
 pub use checking::{Play, check_file, checked};
 pub use commands::{account, command, mark, put_command};
 pub use deltas::{delta, put_delta, put_row, put_rows, put_vanished};
-pub use events::{
-    action, event, intent, put_action, put_event, put_intent, put_numbered, put_place, target,
-};
+pub use events::{action, event, intent, put_action, put_event, put_intent, put_numbered, target};
 pub use fault::{Fault, Stop, WordFault, differs, same_bytes, same_number, same_text, same_words};
 pub use foreign::{Foreign, change, put_change};
 pub use input::{Input, read_line};
@@ -42,8 +40,8 @@ pub use outcomes::{outcome, put_outcome};
 pub use response::{kind_of, put_code, put_response, word_of_ending};
 pub use tally::{Tally, print_tally, stop_line};
 pub use values::{
-    bytes, flags, key, listed_flags, modseq, name, named, put_flags, put_modseq, put_name, put_set,
-    put_tag, put_uid, put_validity, set, tag, uid, validity,
+    bytes, flags, key, listed_flags, modseq, name, named, put_flags, put_modseq, put_name,
+    put_place, put_set, put_tag, put_uid, put_validity, set, tag, uid, validity,
 };
 pub use words::{Word, words_of};
 pub use writing::{put_hex, put_word, written};

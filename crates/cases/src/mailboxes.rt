@@ -4,8 +4,8 @@ use crate::answer::Answer;
 use crate::fault::WordFault;
 use crate::input::Input;
 use crate::values::{
-    bytes, listed_flags, modseq, name, put_flags, put_modseq, put_name, put_uid, put_validity, uid,
-    validity,
+    bytes, listed_flags, modseq, name, put_filed, put_headed, put_modseq, put_place, put_stamp,
+    uid, validity,
 };
 use imap_model::{Gone, Mailbox, Message};
 use mail_base::{BoxName, List};
@@ -44,10 +44,8 @@ pub fn gone(input: &mut Input) -> Result<(BoxName, Gone), WordFault> {
 
 /// Adds the line of a mailbox, without its messages.
 pub fn put_mailbox(answer: &mut Answer, mailbox: &Mailbox) -> Result<(), WordFault> {
-    answer.word("mailbox")?;
-    put_name(answer, &mailbox.name)?;
-    put_validity(answer, mailbox.validity)?;
-    put_uid(answer, mailbox.uidnext)?;
+    put_headed(answer, "mailbox", &mailbox.name)?;
+    put_place(answer, mailbox.validity, mailbox.uidnext)?;
     put_modseq(answer, mailbox.highest)
 }
 
@@ -57,18 +55,13 @@ pub fn put_message(
     name: &BoxName,
     message: &Message,
 ) -> Result<(), WordFault> {
-    answer.word("message")?;
-    put_name(answer, name)?;
-    put_uid(answer, message.uid)?;
-    put_modseq(answer, message.modseq)?;
-    answer.text(message.text.as_slice())?;
-    put_flags(answer, &message.flags)
+    put_headed(answer, "message", name)?;
+    put_stamp(answer, message.uid, message.modseq)?;
+    put_filed(answer, &message.text, &message.flags)
 }
 
 /// Adds the line of a UID that is gone from the mailbox of this name.
 pub fn put_gone(answer: &mut Answer, name: &BoxName, gone: &Gone) -> Result<(), WordFault> {
-    answer.word("gone")?;
-    put_name(answer, name)?;
-    put_uid(answer, gone.uid)?;
-    put_modseq(answer, gone.modseq)
+    put_headed(answer, "gone", name)?;
+    put_stamp(answer, gone.uid, gone.modseq)
 }

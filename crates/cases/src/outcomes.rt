@@ -2,11 +2,14 @@
 //! numbers.
 
 use crate::answer::Answer;
-use crate::events::put_place;
+use crate::events::put_numbered;
 use crate::fault::WordFault;
 use crate::input::Input;
-use crate::values::{action_id, modseq, put_modseq, put_uid, put_validity, uid, validity};
+use crate::values::{
+    action_id, modseq, put_modseq, put_place, put_uid, put_validity, uid, validity,
+};
 use action_queue::{Kind, Outcome, Place};
+use mail_base::Validity;
 
 /// The next words as an outcome.
 pub fn outcome(input: &mut Input) -> Result<Outcome, WordFault> {
@@ -71,48 +74,43 @@ pub fn put_outcome(answer: &mut Answer, outcome: &Outcome) -> Result<(), WordFau
             answer.word("done")?;
             put_place(answer, place.validity, place.uid)
         }
-        Outcome::Conflict(kind) => {
-            answer.word(word_of(kind))?;
-            put_numbers(answer, kind)
+        Outcome::Conflict(kind) => put_kind(answer, kind),
+    }
+}
+
+fn put_kind(answer: &mut Answer, kind: &Kind) -> Result<(), WordFault> {
+    match kind {
+        Kind::MessageGone => answer.word("message-gone"),
+        Kind::AlreadySo => answer.word("already-so"),
+        Kind::FlagsChanged { m } => {
+            answer.word("flags-changed")?;
+            put_modseq(answer, *m)
         }
-    }
-}
-
-fn word_of(kind: &Kind) -> &'static str {
-    match kind {
-        Kind::MessageGone => "message-gone",
-        Kind::AlreadySo => "already-so",
-        Kind::FlagsChanged { .. } => "flags-changed",
-        Kind::RefusedNo => "refused-no",
-        Kind::RefusedBad => "refused-bad",
-        Kind::NotPermanent => "not-permanent",
-        Kind::TargetUnknown { .. } => "target-unknown",
-        Kind::FoundSo => "found-so",
-        Kind::StoreUnsure { .. } => "store-unsure",
-        Kind::SourceGone => "source-gone",
-        Kind::GoneAfterLoss => "gone-after-loss",
-        Kind::Ambiguous { .. } => "ambiguous",
-        Kind::ValidityChanged { .. } => "validity-changed",
-        Kind::ResetAfterLoss { .. } => "reset-after-loss",
-    }
-}
-
-fn put_numbers(answer: &mut Answer, kind: &Kind) -> Result<(), WordFault> {
-    match kind {
-        Kind::FlagsChanged { m } => put_modseq(answer, *m),
-        Kind::TargetUnknown { k } => answer.number(u64::from(k.number())),
+        Kind::RefusedNo => answer.word("refused-no"),
+        Kind::RefusedBad => answer.word("refused-bad"),
+        Kind::NotPermanent => answer.word("not-permanent"),
+        Kind::TargetUnknown { k } => put_numbered(answer, "target-unknown", *k),
+        Kind::FoundSo => answer.word("found-so"),
         Kind::StoreUnsure { m, f } => {
+            answer.word("store-unsure")?;
             put_modseq(answer, *m)?;
             put_modseq(answer, *f)
         }
+        Kind::SourceGone => answer.word("source-gone"),
+        Kind::GoneAfterLoss => answer.word("gone-after-loss"),
         Kind::Ambiguous { u, v } => {
+            answer.word("ambiguous")?;
             put_uid(answer, *u)?;
             put_uid(answer, *v)
         }
-        Kind::ValidityChanged { o, n } | Kind::ResetAfterLoss { o, n } => {
-            put_validity(answer, *o)?;
-            put_validity(answer, *n)
-        }
-        _ => Ok(()),
+        Kind::ValidityChanged { o, n } => put_renewed(answer, "validity-changed", *o, *n),
+        Kind::ResetAfterLoss { o, n } => put_renewed(answer, "reset-after-loss", *o, *n),
     }
+}
+
+// Adds a word, and the UIDVALIDITY of a mailbox before and behind it.
+fn put_renewed(answer: &mut Answer, word: &str, o: Validity, n: Validity) -> Result<(), WordFault> {
+    answer.word(word)?;
+    put_validity(answer, o)?;
+    put_validity(answer, n)
 }

@@ -2,10 +2,12 @@
 //! them last.
 
 use crate::answer::Answer;
-use crate::events::put_place;
 use crate::fault::WordFault;
-use crate::values::{put_flags, put_modseq, put_set, put_tag, put_uid, put_validity, put_words};
+use crate::values::{
+    put_flags, put_modseq, put_place, put_set, put_tag, put_uid, put_validity, put_words,
+};
 use imap_model::{Code, Ending, Fetched, Response};
+use mail_base::Bytes;
 
 /// The word of a response's kind.
 pub fn kind_of(response: &Response) -> &'static str {
@@ -31,13 +33,9 @@ pub fn put_response(answer: &mut Answer, response: &Response) -> Result<(), Word
     match response {
         Response::Done { tag, ending, code } => {
             put_tag(answer, *tag)?;
-            answer.word(word_of_ending(*ending))?;
-            put_code(answer, code)
+            put_ending(answer, *ending, code)
         }
-        Response::Untagged { ending, code } => {
-            answer.word(word_of_ending(*ending))?;
-            put_code(answer, code)
-        }
+        Response::Untagged { ending, code } => put_ending(answer, *ending, code),
         Response::Preauth { code } => put_code(answer, code),
         Response::Capability(words) | Response::Enabled(words) => put_words(answer, words),
         Response::Exists(count) => answer.number(u64::from(*count)),
@@ -49,6 +47,11 @@ pub fn put_response(answer: &mut Answer, response: &Response) -> Result<(), Word
         Response::Found(uids) => put_set(answer, uids),
         Response::Bye | Response::Go | Response::Other => Ok(()),
     }
+}
+
+fn put_ending(answer: &mut Answer, ending: Ending, code: &Code) -> Result<(), WordFault> {
+    answer.word(word_of_ending(ending))?;
+    put_code(answer, code)
 }
 
 /// The word of an ending.
@@ -69,19 +72,24 @@ fn put_fetched(answer: &mut Answer, fetched: &Fetched) -> Result<(), WordFault> 
         answer.word("modseq")?;
         put_modseq(answer, modseq)?;
     }
-    if let Some(ids) = &fetched.ids {
-        answer.word("ids")?;
-        answer.text(ids.as_slice())?;
-    }
-    if let Some(text) = &fetched.text {
-        answer.word("text")?;
-        answer.text(text.as_slice())?;
-    }
+    put_held(answer, "ids", &fetched.ids)?;
+    put_held(answer, "text", &fetched.text)?;
     if let Some(flags) = &fetched.flags {
         answer.word("flags")?;
         put_flags(answer, flags)?;
     }
     Ok(())
+}
+
+// Adds a word and the text behind it, where there is one.
+fn put_held(answer: &mut Answer, word: &str, text: &Option<Bytes>) -> Result<(), WordFault> {
+    match text {
+        Some(text) => {
+            answer.word(word)?;
+            answer.text(text.as_slice())
+        }
+        None => Ok(()),
+    }
 }
 
 /// Adds a response code, where there is one.

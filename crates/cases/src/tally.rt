@@ -64,11 +64,17 @@ pub fn stop_line(alloc: Global, file: &str, stop: &Stop) -> Result<String, Alloc
     }
 }
 
-/// Prints where a case stopped, and why.
+/// Prints the title of a case that has one, where the case stopped, and why.
 ///
 /// # Errors
 /// Those of the output, and want of memory for the line.
-pub fn print_stop<R: Print + AllocGlobal>(rt: &R, file: &str, stop: &Stop) -> io::Result<()> {
+pub fn print_stop<R>(rt: &R, file: &str, title: &str, stop: &Stop) -> io::Result<()>
+where
+    R: Print + AllocGlobal,
+{
+    if !title.is_empty() {
+        println!(rt; "{title}:")?;
+    }
     let line = stop_line(rt.alloc(), file, stop)?;
     println!(rt; "{line}")
 }

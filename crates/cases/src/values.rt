@@ -147,11 +147,8 @@ pub fn put_set(answer: &mut Answer, set: &UidSet) -> Result<(), WordFault> {
 /// Adds the flags of a set, as its text spells them: the system's as RFC 9051 does (section 2.3.2),
 /// others in lower case.
 pub fn put_flags(answer: &mut Answer, flags: &FlagSet) -> Result<(), WordFault> {
-    let text = flags.text()?;
-    for flag in text.split(|byte| *byte == b' ') {
-        if !flag.is_empty() {
-            answer.text(flag)?;
-        }
+    for flag in flags.keys() {
+        answer.text(flag.spelling())?;
     }
     Ok(())
 }
@@ -182,6 +179,30 @@ pub fn put_name(answer: &mut Answer, name: &BoxName) -> Result<(), WordFault>
     ensures { Adds result answer.new (joined answer.old (written name.now)) }
 {
     answer.text(name.as_bytes())
+}
+
+/// Adds a keyword and the name of a mailbox.
+pub fn put_headed(answer: &mut Answer, word: &str, name: &BoxName) -> Result<(), WordFault> {
+    answer.word(word)?;
+    put_name(answer, name)
+}
+
+/// Adds a UIDVALIDITY and a UID under it.
+pub fn put_place(answer: &mut Answer, validity: Validity, uid: Uid) -> Result<(), WordFault> {
+    put_validity(answer, validity)?;
+    put_uid(answer, uid)
+}
+
+/// Adds a UID and a mod-sequence.
+pub fn put_stamp(answer: &mut Answer, uid: Uid, modseq: ModSeq) -> Result<(), WordFault> {
+    put_uid(answer, uid)?;
+    put_modseq(answer, modseq)
+}
+
+/// Adds a text and the flags behind it.
+pub fn put_filed(answer: &mut Answer, text: &Bytes, flags: &FlagSet) -> Result<(), WordFault> {
+    answer.text(text.as_slice())?;
+    put_flags(answer, flags)
 }
 
 /// The next word as a sign: whether flags are added.
