@@ -13,9 +13,10 @@ use crate::boxes::boxed;
 use crate::compared::put_compared;
 use crate::rules::put_rule;
 use crate::shown::{put_book, put_copy, put_found};
-use crate::views::{put_queue, put_report, put_view};
+use crate::views::{put_text, put_view};
 use action_queue::{Book, Event, Rule, Version};
-use cases::{Answer, Input, WordFault, answer_of, event, named, target};
+use cases::{Answer, Input, WordFault, event, named, target};
+use conflict_report::{queue_text, report};
 use mail_base::List;
 use std::alloc::{AllocError, Global};
 
@@ -72,11 +73,11 @@ impl Books {
         match call {
             "show" => self.put_both(input.alloc, answer),
             "where" => self.put_where(input, answer),
-            "second" => self.put_second(input, answer),
-            "both" => self.put_each(input, answer),
+            "second" => self.put_rules(input, answer, &[Version::Second]),
+            "both" => self.put_rules(input, answer, &[Version::First, Version::Second]),
             "view" => put_view(&self.entered, input, answer),
-            "queue" => put_queue(&self.entered, input.alloc, answer),
-            "report" => put_report(&self.entered, input.alloc, answer),
+            "queue" => put_text(answer, queue_text(input.alloc, &self.entered)),
+            "report" => put_text(answer, report(input.alloc, &self.entered)),
             _ => return Ok(false),
         }?;
         Ok(true)
@@ -97,20 +98,17 @@ impl Books {
         told
     }
 
-    fn put_second(&self, input: &mut Input, answer: &mut Answer) -> Result<(), WordFault> {
+    // The rule of each version that an event breaks.
+    fn put_rules(
+        &self,
+        input: &mut Input,
+        answer: &mut Answer,
+        versions: &[Version],
+    ) -> Result<(), WordFault> {
         let event = event(input)?;
-        let rule = self.entered.allows(&event, Version::Second);
+        let told = put_broken(&self.entered, &event, versions, answer);
         drop(event);
-        put_rule(answer, rule)
-    }
-
-    fn put_each(&self, input: &mut Input, answer: &mut Answer) -> Result<(), WordFault> {
-        let event = event(input)?;
-        let first = self.entered.allows(&event, Version::First);
-        let second = self.entered.allows(&event, Version::Second);
-        drop(event);
-        put_rule(answer, first)?;
-        put_rule(answer, second)
+        told
     }
 
     // Both take an event, and tell the same rule.
@@ -120,7 +118,10 @@ impl Books {
         event: Event,
         answer: &mut Answer,
     ) -> Result<(), WordFault> {
-        let entered = enter_copy(alloc, self.version, &mut self.entered, &event);
+        let entered = match event.copy(alloc) {
+            Ok(copy) => enter(self.version, &mut self.entered, copy),
+            Err(fault) => Err(fault),
+        };
         let followed = follow(self.version, &mut self.followed, event)?;
         let rule = entered?;
         put_rule(answer, rule)?;
@@ -132,19 +133,24 @@ impl Books {
 
     // Both hold the same, and so does a copy of the first one.
     fn put_both(&self, alloc: Global, answer: &mut Answer) -> Result<(), WordFault> {
-        let entered = answer_of(alloc, |answer| put_copy(answer, &self.entered))?;
-        let followed = answer_of(alloc, |answer| put_book(answer, &self.followed))?;
+        let mut entered = Answer::new(alloc);
+        put_copy(&mut entered, &self.entered)?;
+        let mut followed = Answer::new(alloc);
+        put_book(&mut followed, &self.followed)?;
         put_compared(answer, &entered, "but where it follows", &followed)
     }
 }
 
-fn enter_copy(
-    alloc: Global,
-    version: Version,
-    book: &mut Book,
+fn put_broken(
+    book: &Book,
     event: &Event,
-) -> Result<Option<Rule>, AllocError> {
-    enter(version, book, event.copy(alloc)?)
+    versions: &[Version],
+    answer: &mut Answer,
+) -> Result<(), WordFault> {
+    for version in versions {
+        put_rule(answer, book.allows(event, *version))?;
+    }
+    Ok(())
 }
 
 // Enters an event, or tells the first rule that it breaks.

@@ -6,9 +6,7 @@ ghost use Rattle.std.specs.Prelude.{◌≡◌, ◌≤◌, true, false};
 
 use crate::boxes::boxed;
 use crate::compared::put_compared;
-use cases::{
-    Answer, Input, WordFault, answer_of, delta, put_modseq, put_rows, put_uid, put_validity,
-};
+use cases::{Answer, Input, WordFault, delta, put_modseq, put_rows, put_uid, put_validity};
 use mailbox_cache::{Cache, Delta};
 use std::alloc::Global;
 
@@ -53,9 +51,21 @@ fn first(alloc: Global, delta: Delta) -> Result<Both, WordFault> {
 
 // Both after a delta that may be applied.
 fn after(alloc: Global, both: Both, delta: Delta) -> Result<Both, WordFault> {
-    let kept = applied(alloc, &both.kept, &delta)?;
-    let moved = moved_on(both.moved, delta)?;
-    Ok(Both { kept, moved })
+    let Both { kept, moved } = both;
+    let applied = applied(alloc, &kept, &delta);
+    drop(kept);
+    let moved = moved_on(moved, delta);
+    both_of(applied?, moved)
+}
+
+fn both_of(kept: Cache, moved: Result<Cache, WordFault>) -> Result<Both, WordFault> {
+    match moved {
+        Ok(moved) => Ok(Both { kept, moved }),
+        Err(fault) => {
+            drop(kept);
+            Err(fault)
+        }
+    }
 }
 
 // The copy of what a cache and a delta give.
@@ -92,8 +102,8 @@ impl Both {
 
     // What both hold.
     fn put(&self, alloc: Global, answer: &mut Answer) -> Result<(), WordFault> {
-        let kept = answer_of(alloc, |answer| put_cache(answer, &self.kept))?;
-        let moved = answer_of(alloc, |answer| put_cache(answer, &self.moved))?;
+        let kept = told(alloc, &self.kept)?;
+        let moved = told(alloc, &self.moved)?;
         put_compared(answer, &kept, "but where rows are moved", &moved)
     }
 
@@ -104,6 +114,12 @@ impl Both {
         drop(delta);
         answer.yes(exceeds)
     }
+}
+
+fn told(alloc: Global, cache: &Cache) -> Result<Answer, WordFault> {
+    let mut told = Answer::new(alloc);
+    put_cache(&mut told, cache)?;
+    Ok(told)
 }
 
 fn put_cache(answer: &mut Answer, cache: &Cache) -> Result<(), WordFault> {

@@ -2,7 +2,9 @@
 
 use crate::books::{Books, begun_books};
 use crate::caches::{Both, taken};
+use crate::commands::Spoken;
 use crate::plain_images::Call;
+use crate::responses::Telling;
 use crate::resyncs::Heard;
 use crate::{
     case_files, commands, flags, frames, headers, images, lines, numbers, records, responses,
@@ -45,15 +47,20 @@ impl Kept {
 
     /// What the words of a line come to. Words that are no call are an event.
     pub fn answered(&mut self, words: &[Word]) -> Result<Answer, WordFault> {
-        let mut input = Input::new(self.alloc, words);
         let mut answer = Answer::new(self.alloc);
-        let call = input.word()?;
-        if !self.answers(call, &mut input, &mut answer)? {
-            input = Input::new(self.alloc, words);
-            self.take(&mut input, &mut answer)?;
-        }
-        input.end()?;
+        self.answer(words, &mut answer)?;
         Ok(answer)
+    }
+
+    fn answer(&mut self, words: &[Word], answer: &mut Answer) -> Result<(), WordFault> {
+        let mut input = Input::new(self.alloc, words);
+        let call = input.word()?;
+        if self.answers(call, &mut input, answer)? {
+            return input.end();
+        }
+        let mut event = Input::new(self.alloc, words);
+        self.take(&mut event, answer)?;
+        event.end()
     }
 
     // The books take an event.
@@ -109,7 +116,10 @@ impl Kept {
             alloc: self.alloc,
             lines: &self.heard,
         };
-        let kept = self.cache.as_ref().map(|both| &both.kept);
+        let kept = match &self.cache {
+            Some(both) => Some(&both.kept),
+            None => None,
+        };
         Ok(
             resyncs::answers(call, kept, heard, answer)?
                 || images::answers(call, &mut self.asked, input, answer)?,
@@ -166,12 +176,12 @@ fn is_text(call: &str, input: &mut Input, answer: &mut Answer) -> Result<bool, W
         "fields" => headers::put_fields(input, answer),
         "texts" => small_texts::put_texts(input, answer),
         "case-file" => case_files::put_case_file(input, answer),
-        "written" => commands::put_written(input, answer),
+        "written" => commands::put_written(input, answer, Spoken::Parts),
         "is-mutating" => commands::put_mutating(input, answer),
         "argument" => commands::put_argument(input, answer),
         "heard" => commands::put_parts_heard(input, answer),
-        "spoken" => commands::put_spoken(input, answer),
-        "spoken-alike" => commands::put_alike(input, answer),
+        "spoken" => commands::put_written(input, answer, Spoken::Fronts),
+        "spoken-alike" => commands::put_written(input, answer, Spoken::Alike),
         _ => return Ok(false),
     }?;
     Ok(true)
@@ -185,8 +195,8 @@ fn is_bytes(call: &str, input: &mut Input, answer: &mut Answer) -> Result<bool, 
         "held" => frames::put_held(input, answer),
         "pieces" => frames::put_pieces(input, answer),
         "stream" => frames::put_stream(input, answer),
-        "kind-of-response" => responses::put_kind(input, answer),
-        "response" => responses::put_whole(input, answer),
+        "kind-of-response" => responses::put_read(input, answer, Telling::Kind),
+        "response" => responses::put_read(input, answer, Telling::Whole),
         "lines" => lines::put_lines(input, answer),
         "literals" => lines::put_literals(input, answer),
         "record" => records::put_record(input, answer),

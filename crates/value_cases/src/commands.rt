@@ -22,34 +22,28 @@ pub fn put_parts_heard(input: &mut Input, answer: &mut Answer) -> Result<(), Wor
     put_heard(input.alloc, parts.as_slice(), answer)
 }
 
-/// Whether a command is heard as it is written.
-pub fn put_alike(input: &mut Input, answer: &mut Answer) -> Result<(), WordFault> {
+/// What is told of the text of a command.
+#[derive(Clone, Copy)]
+pub enum Spoken {
+    /// Its parts.
+    Parts,
+    /// What each front of it is heard as, and the whole.
+    Fronts,
+    /// Whether what is heard is written in the same parts.
+    Alike,
+}
+
+/// The text of a command's copy under a tag, where it can be written.
+pub fn put_written(
+    input: &mut Input,
+    answer: &mut Answer,
+    spoken: Spoken,
+) -> Result<(), WordFault> {
     let tag = tag(input)?;
-    let is = is_next_alike(input, tag)?;
-    answer.yes(is)
-}
-
-fn is_next_alike(input: &mut Input, tag: Tag) -> Result<bool, WordFault> {
-    let command = command(input)?;
-    let is = is_spoken_alike(input.alloc, tag, &command);
-    drop(command);
-    is
-}
-
-/// The parts of the text of a command's copy under a tag.
-pub fn put_written(input: &mut Input, answer: &mut Answer) -> Result<(), WordFault> {
-    let tag = tag(input)?;
-    match next_written(input, tag)? {
-        Some(parts) => put_parts(answer, parts.as_slice()),
-        None => answer.word("not writable"),
-    }
-}
-
-fn next_written(input: &mut Input, tag: Tag) -> Result<Option<Parts>, WordFault> {
     let command = copied(input)?;
-    let parts = written(input.alloc, tag, &command);
+    let told = put_text(input.alloc, tag, &command, spoken, answer);
     drop(command);
-    parts
+    told
 }
 
 fn copied(input: &mut Input) -> Result<Command, WordFault> {
@@ -57,6 +51,24 @@ fn copied(input: &mut Input) -> Result<Command, WordFault> {
     let copy = command.copy();
     drop(command);
     Ok(copy?)
+}
+
+fn put_text(
+    alloc: Global,
+    tag: Tag,
+    command: &Command,
+    spoken: Spoken,
+    answer: &mut Answer,
+) -> Result<(), WordFault> {
+    let Some(parts) = written(alloc, tag, command)? else {
+        return answer.word("not writable");
+    };
+    let parts = parts.as_slice();
+    match spoken {
+        Spoken::Parts => put_parts(answer, parts),
+        Spoken::Fronts => put_fronts(alloc, parts, answer),
+        Spoken::Alike => answer.yes(is_heard_alike(alloc, parts)?),
+    }
 }
 
 fn put_parts(answer: &mut Answer, parts: &[Bytes]) -> Result<(), WordFault> {
@@ -119,27 +131,6 @@ fn put_whole(answer: &mut Answer, tag: Tag, command: &Command) -> Result<(), Wor
     put_command(answer, command)
 }
 
-/// A command is written, and then each front of its text and the whole text are heard.
-pub fn put_spoken(input: &mut Input, answer: &mut Answer) -> Result<(), WordFault> {
-    let tag = tag(input)?;
-    let command = command(input)?;
-    let told = put_whole_spoken(input.alloc, tag, &command, answer);
-    drop(command);
-    told
-}
-
-fn put_whole_spoken(
-    alloc: Global,
-    tag: Tag,
-    command: &Command,
-    answer: &mut Answer,
-) -> Result<(), WordFault> {
-    match written(alloc, tag, command)? {
-        Some(parts) => put_fronts(alloc, parts.as_slice(), answer),
-        None => answer.word("not writable"),
-    }
-}
-
 // What each front of the parts is, and all of them.
 fn put_fronts(alloc: Global, parts: &[Bytes], answer: &mut Answer) -> Result<(), WordFault> {
     for size in 1..=parts.len() {
@@ -148,14 +139,6 @@ fn put_fronts(alloc: Global, parts: &[Bytes], answer: &mut Answer) -> Result<(),
         }
     }
     Ok(())
-}
-
-// Whether a command is written, and what is heard of that is written alike.
-fn is_spoken_alike(alloc: Global, tag: Tag, command: &Command) -> Result<bool, WordFault> {
-    match written(alloc, tag, command)? {
-        Some(parts) => is_heard_alike(alloc, parts.as_slice()),
-        None => Ok(false),
-    }
 }
 
 // Whether parts are a text, and the command that is heard is written in the same parts.

@@ -2,6 +2,7 @@
 
 use cases::{Answer, Input, WordFault, flags, key, put_flags};
 use flag_set::{FlagFault, FlagKey, FlagSet, is_flag_list, is_permanent_list, read_permanent};
+use std::alloc::AllocError;
 
 /// The key of a flag.
 pub fn put_flag(input: &mut Input, answer: &mut Answer) -> Result<(), WordFault> {
@@ -24,10 +25,17 @@ pub fn put_added(input: &mut Input, answer: &mut Answer) -> Result<(), WordFault
 /// What two sets are to one another, and what they make.
 pub fn put_both(input: &mut Input, answer: &mut Answer) -> Result<(), WordFault> {
     let left = flags(input)?;
+    let told = put_beside(input, &left, answer);
+    drop(left);
+    told
+}
+
+fn put_beside(input: &mut Input, left: &FlagSet, answer: &mut Answer) -> Result<(), WordFault> {
     input.end_step()?;
     let right = flags(input)?;
-    put_pair(answer, &left, &right)?;
-    put_made(answer, &left, &right)
+    let told = put_pair(answer, left, &right);
+    drop(right);
+    told
 }
 
 /// Whether a set holds a flag.
@@ -65,7 +73,11 @@ fn put_fault(answer: &mut Answer, fault: FlagFault) -> Result<(), WordFault> {
 /// The copy of the set that a list is read as.
 pub fn put_list(input: &mut Input, answer: &mut Answer) -> Result<(), WordFault> {
     match FlagSet::read_list(input.alloc, input.text()?) {
-        Ok(flags) => put_flags(answer, &flags.copy()?),
+        Ok(flags) => {
+            let copy = flags.copy();
+            drop(flags);
+            put_set(answer, copy)
+        }
         Err(fault) => put_fault(answer, fault),
     }
 }
@@ -73,27 +85,33 @@ pub fn put_list(input: &mut Input, answer: &mut Answer) -> Result<(), WordFault>
 /// How many flags a list has.
 pub fn put_count(input: &mut Input, answer: &mut Answer) -> Result<(), WordFault> {
     match FlagSet::read_list(input.alloc, input.text()?) {
-        Ok(flags) => answer.place(flags.len()),
+        Ok(flags) => {
+            let count = flags.len();
+            drop(flags);
+            answer.place(count)
+        }
         Err(fault) => put_fault(answer, fault),
     }
 }
 
-// What two sets are to one another.
+// What two sets are to one another, and what they make.
 fn put_pair(answer: &mut Answer, left: &FlagSet, right: &FlagSet) -> Result<(), WordFault> {
     answer.at("count", left.len())?;
     answer.told("equal", *left == *right)?;
     answer.told("all", left.holds_all(right))?;
-    answer.told("none", left.holds_none(right))
+    answer.told("none", left.holds_none(right))?;
+    answer.word("; with")?;
+    put_set(answer, left.with(right))?;
+    answer.word("; without")?;
+    put_set(answer, left.without(right))
 }
 
-// What two sets make.
-fn put_made(answer: &mut Answer, left: &FlagSet, right: &FlagSet) -> Result<(), WordFault> {
-    answer.word("; with")?;
-    let both = left.with(right)?;
-    put_flags(answer, &both)?;
-    answer.word("; without")?;
-    let rest = left.without(right)?;
-    put_flags(answer, &rest)
+// Adds a set that was made.
+fn put_set(answer: &mut Answer, made: Result<FlagSet, AllocError>) -> Result<(), WordFault> {
+    let flags = made?;
+    let told = put_flags(answer, &flags);
+    drop(flags);
+    told
 }
 
 /// The flags of a list of permanent ones, and whether any other may be made.

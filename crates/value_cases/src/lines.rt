@@ -6,7 +6,7 @@ use crate::alike::Alike;
 use crate::fours::{Fours, texts};
 use crate::plain_response::parts::{Part, Parts, Spelled};
 use crate::plain_response::spelled;
-use cases::{Answer, Input, WordFault, answer_of, put_response};
+use cases::{Answer, Input, WordFault, put_response};
 use imap_model::Response;
 use imap_response::{ResponseFault, read};
 use mail_base::{Bytes, Frame, List, Span};
@@ -160,7 +160,13 @@ fn is_same(
 
 // Whether two responses are told in the same words: these name each part of a response.
 fn is_told_so(alloc: Global, found: &Response, slow: &Response) -> Result<bool, WordFault> {
-    let found = answer_of(alloc, |answer| put_response(answer, found))?;
-    let slow = answer_of(alloc, |answer| put_response(answer, slow))?;
-    Ok(found.as_str() == slow.as_str())
+    let found = told(alloc, found)?;
+    let slow = told(alloc, slow)?;
+    Ok(found.as_bytes() == slow.as_bytes())
+}
+
+fn told(alloc: Global, response: &Response) -> Result<Answer, WordFault> {
+    let mut told = Answer::new(alloc);
+    put_response(&mut told, response)?;
+    Ok(told)
 }

@@ -6,7 +6,7 @@ ghost use Rattle.imap_model.specs.Small.{AreFew, IsSmall, IsSmallCode};
 
 use crate::compared::put_unlike;
 use crate::resyncs::{Resync, put_delta_of, put_outcome};
-use cases::{Answer, WordFault, answer_of};
+use cases::{Answer, WordFault};
 use flag_set::{FlagSet, MAX_FLAGS};
 use imap_model::{Code, Ending, Last, Listen, Replies, Response};
 use mail_base::List;
@@ -51,8 +51,10 @@ fn put_all_made(resync: Resync<'_>, all: &Replies, answer: &mut Answer) -> Resul
 
 // Adds a note where the two tell something else of these replies.
 fn put_both(resync: Resync<'_>, answer: &mut Answer) -> Result<(), WordFault> {
-    let whole = answer_of(resync.alloc, |answer| put_whole(resync, answer))?;
-    let made = answer_of(resync.alloc, |answer| put_by_makers(resync, answer))?;
+    let mut whole = Answer::new(resync.alloc);
+    put_whole(resync, &mut whole)?;
+    let mut made = Answer::new(resync.alloc);
+    put_by_makers(resync, &mut made)?;
     put_unlike(answer, &whole, "but makers tell", &made)
 }
 

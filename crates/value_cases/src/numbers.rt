@@ -199,8 +199,9 @@ pub fn put_frame(input: &mut Input, answer: &mut Answer) -> Result<(), WordFault
         bytes: bytes(input)?,
         literals: spans(input)?,
     };
-    let copy = frame.copy(input.alloc)?;
-    put_frame_of(answer, &copy)
+    let copy = frame.copy(input.alloc);
+    drop(frame);
+    put_frame_of(answer, &copy?)
 }
 
 fn put_frame_of(answer: &mut Answer, frame: &Frame) -> Result<(), WordFault> {

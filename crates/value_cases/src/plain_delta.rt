@@ -181,7 +181,10 @@ fn put_row_of(read: &Replies, uid: Uid, answer: &mut Answer) -> Result<(), WordF
         return Ok(());
     };
     let flags = flags.copy()?;
-    put_row(answer, uid, &Row { flags, modseq })
+    let row = Row { flags, modseq };
+    let told = put_row(answer, uid, &row);
+    drop(row);
+    told
 }
 
 // The UIDs that a VANISHED names, and no row has.

@@ -16,24 +16,31 @@ enum Goes {
 // number.
 fn header(part: &[u8]) -> Option<(usize, u64)> {
     for at in 0..part.len() {
-        let Some((b'{', rest)) = part.get(at..).and_then(|tail| tail.split_first()) else {
-            continue;
-        };
-        let Some((b'}', digits)) = rest.split_last() else {
-            continue;
-        };
-        if !digits.is_empty() && digits.iter().all(|digit| digit.is_ascii_digit()) {
-            let mut number = 0u64;
-            for digit in digits {
-                number = number
-                    .saturating_mul(10)
-                    .saturating_add(u64::from(digit.saturating_sub(b'0')))
-                    .min(9_223_372_036_854_775_807);
-            }
+        if let Some([b'{', digits @ .., b'}']) = part.get(at..)
+            && let Some(number) = number_of(digits)
+        {
             return Some((at, number));
         }
     }
     None
+}
+
+// The number that digits spell, or a greatest one.
+fn number_of(digits: &[u8]) -> Option<u64> {
+    if digits.is_empty() {
+        return None;
+    }
+    let mut number = 0u64;
+    for digit in digits {
+        if !digit.is_ascii_digit() {
+            return None;
+        }
+        number = number
+            .saturating_mul(10)
+            .saturating_add(u64::from(digit.saturating_sub(b'0')))
+            .min(9_223_372_036_854_775_807);
+    }
+    Some(number)
 }
 
 // The line that begins at `from`, part by part.
@@ -113,12 +120,14 @@ enum Step {
 // the stream.
 fn step_from(feed: &mut Feed, answer: Result<(), FeedFault>, stream: &[u8], from: usize) -> Step {
     let taken = feed.take();
-    match line(stream, from) {
-        Goes::Open => Step::End(answer == Ok(()) && matches!(taken, Ok(None))),
-        Goes::Bad(fault) => Step::End(answer == Err(fault) && matches!(taken, Ok(None))),
+    let step = match line(stream, from) {
+        Goes::Open => Step::End(answer == Ok(()) && matches!(&taken, Ok(None))),
+        Goes::Bad(fault) => Step::End(answer == Err(fault) && matches!(&taken, Ok(None))),
         Goes::Whole(end) if is_taken(&taken, stream, from, end) => Step::Frame(end),
         Goes::Whole(_) => Step::End(false),
-    }
+    };
+    drop(taken);
+    step
 }
 
 /// Whether a feed that is given the stream in two pieces tells what the slow reading does.

@@ -6,33 +6,30 @@ use imap_model::{Limit, Response};
 use imap_response::{ResponseFault, read};
 use mail_base::Frame;
 
-/// The word of the kind of the response that a frame is read as.
-pub fn put_kind(input: &mut Input, answer: &mut Answer) -> Result<(), WordFault> {
-    put_read(
-        input,
-        answer,
-        |answer, response| answer.word(kind_of(response)),
-    )
+/// What is told of a response: the word of its kind, or all of it.
+#[derive(Clone, Copy)]
+pub enum Telling {
+    Kind,
+    Whole,
 }
 
 /// The response that a frame is read as.
-pub fn put_whole(input: &mut Input, answer: &mut Answer) -> Result<(), WordFault> {
-    put_read(input, answer, put_response)
-}
-
-fn put_read<F>(input: &mut Input, answer: &mut Answer, put: F) -> Result<(), WordFault>
-where
-    F: FnOnce(&mut Answer, &Response) -> Result<(), WordFault>,
-    requires { F.IsAlwaysCallable put }
-{
+pub fn put_read(input: &mut Input, answer: &mut Answer, telling: Telling) -> Result<(), WordFault> {
     let frame = frame(input)?;
     match read(input.alloc, &frame) {
         Ok(response) => {
-            let told = put(answer, &response);
+            let told = put_told(answer, &response, telling);
             drop(response);
             told
         }
         Err(fault) => put_fault(answer, fault),
+    }
+}
+
+fn put_told(answer: &mut Answer, response: &Response, telling: Telling) -> Result<(), WordFault> {
+    match telling {
+        Telling::Kind => answer.word(kind_of(response)),
+        Telling::Whole => put_response(answer, response),
     }
 }
 

@@ -7,7 +7,7 @@ use crate::compared::put_compared;
 use crate::lines::Sent;
 use crate::makers::put_made;
 use crate::plain_delta::put_plain;
-use cases::{Answer, WordFault, answer_of, put_delta, put_modseq, put_uid, put_validity};
+use cases::{Answer, WordFault, put_delta, put_modseq, put_uid, put_validity};
 use imap_model::{Item, Replies, Response};
 use imap_response::read;
 use mail_base::{Bytes, List};
@@ -38,28 +38,44 @@ pub fn answers(
     heard: Heard<'_>,
     answer: &mut Answer,
 ) -> Result<bool, WordFault> {
-    match call {
-        "delta" => put_told(kept, heard, answer),
-        "told-codes" => put_codes(heard, answer),
-        "told-empty" => put_empty(heard, answer),
+    let telling = match call {
+        "delta" => Telling::Delta,
+        "told-codes" => Telling::Codes,
+        "told-empty" => Telling::Empty,
         _ => return Ok(false),
-    }?;
+    };
+    put_told(kept, heard, telling, answer)?;
     Ok(true)
 }
 
-// The delta, which the plain program and makers tell too.
+// What is told of a reply to SELECT.
+#[derive(Clone, Copy)]
+enum Telling {
+    // The delta, which the plain program and makers tell too.
+    Delta,
+    // The numbers of its codes.
+    Codes,
+    // Whether it tells that the mailbox is empty.
+    Empty,
+}
+
 fn put_told(
     kept: Option<&Cache>,
     mut heard: Heard<'_>,
+    telling: Telling,
     answer: &mut Answer,
 ) -> Result<(), WordFault> {
     let selected = heard.replies()?;
-    let told = put_selected(kept, &selected, heard, answer);
+    let told = match telling {
+        Telling::Delta => put_selected(kept, &selected, heard, answer),
+        Telling::Codes => put_codes(answer, &selected),
+        Telling::Empty => answer.yes(is_told_empty(&selected)),
+    };
     drop(selected);
     told
 }
 
-// The same of a reply to SELECT, and of the one behind it, if there is one.
+// The delta of a reply to SELECT, and of the one behind it, if there is one.
 fn put_selected(
     kept: Option<&Cache>,
     selected: &Replies,
@@ -85,8 +101,10 @@ fn put_both<'a>(
         selected,
         all,
     };
-    let came = answer_of(alloc, |answer| put_delta_of(resync, answer))?;
-    let plain = answer_of(alloc, |answer| put_plain(resync, answer))?;
+    let mut came = Answer::new(alloc);
+    put_delta_of(resync, &mut came)?;
+    let mut plain = Answer::new(alloc);
+    put_plain(resync, &mut plain)?;
     put_compared(answer, &came, "but the plain program tells", &plain)?;
     put_made(resync, answer)
 }
@@ -117,14 +135,7 @@ pub fn put_outcome(
     }
 }
 
-fn put_codes(mut heard: Heard<'_>, answer: &mut Answer) -> Result<(), WordFault> {
-    let selected = heard.replies()?;
-    let told = put_codes_of(answer, &selected);
-    drop(selected);
-    told
-}
-
-fn put_codes_of(answer: &mut Answer, selected: &Replies) -> Result<(), WordFault> {
+fn put_codes(answer: &mut Answer, selected: &Replies) -> Result<(), WordFault> {
     match codes_of(selected) {
         Ok(codes) => {
             put_validity(answer, codes.validity)?;
@@ -133,13 +144,6 @@ fn put_codes_of(answer: &mut Answer, selected: &Replies) -> Result<(), WordFault
         }
         Err(fault) => put_fault(answer, ResyncFault::from(fault)),
     }
-}
-
-fn put_empty(mut heard: Heard<'_>, answer: &mut Answer) -> Result<(), WordFault> {
-    let selected = heard.replies()?;
-    let is = is_told_empty(&selected);
-    drop(selected);
-    answer.yes(is)
 }
 
 fn put_fault(answer: &mut Answer, fault: ResyncFault) -> Result<(), WordFault> {
@@ -204,6 +208,8 @@ impl Heard<'_> {
         let (line, rest) = self.lines.split_first().ok_or(WordFault::Form)?;
         self.lines = rest;
         let frame = Sent::bare(line.as_slice()).frame(self.alloc)?;
-        read(self.alloc, &frame).ok().ok_or(WordFault::Form)
+        let response = read(self.alloc, &frame);
+        drop(frame);
+        response.ok().ok_or(WordFault::Form)
     }
 }

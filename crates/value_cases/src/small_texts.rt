@@ -31,8 +31,8 @@ fn compare_texts(alloc: Global, parts: &[&[u8]]) -> Result<Alike, AllocError> {
 
 fn compare_text(alloc: Global, text: &[u8], alike: &mut Alike) -> Result<(), AllocError> {
     alike.count(is_same_id(alloc, text)?);
-    alike.count(is_unfolded_so(alloc, text)?);
-    alike.count(is_ended_so(alloc, text)?);
+    alike.count(is_same(unfold(alloc, text)?, plain::unfold(alloc, text)?));
+    alike.count(is_same(crlf_of(alloc, text)?, plain::crlf_of(alloc, text)?));
     Ok(())
 }
 
@@ -42,16 +42,6 @@ fn is_same_id(alloc: Global, text: &[u8]) -> Result<bool, AllocError> {
     Ok(message_id(alloc, text) == expected)
 }
 
-// Whether a text's body, the folds taken out, is the plain program's.
-fn is_unfolded_so(alloc: Global, text: &[u8]) -> Result<bool, AllocError> {
-    let found = unfold(alloc, text)?;
-    let expected = plain::unfold(alloc, text)?;
-    Ok(found.as_slice() == expected.as_slice())
-}
-
-// Whether a text with CR LF at each line's end is the plain program's.
-fn is_ended_so(alloc: Global, text: &[u8]) -> Result<bool, AllocError> {
-    let found = crlf_of(alloc, text)?;
-    let expected = plain::crlf_of(alloc, text)?;
-    Ok(found.as_slice() == expected.as_slice())
+fn is_same(found: Vec<u8>, expected: Vec<u8>) -> bool {
+    found.as_slice() == expected.as_slice()
 }

@@ -4,10 +4,10 @@
 use crate::compared::put_compared;
 use crate::plain_view::plain_view;
 use action_queue::Book;
-use cases::{Answer, Input, WordFault, answer_of, name, put_flags, put_modseq, put_uid};
-use conflict_report::{queue_text, report};
+use cases::{Answer, Input, WordFault, name, put_flags, put_modseq, put_uid};
 use local_view::{Ident, Seen, view};
-use std::alloc::Global;
+use mail_base::Bytes;
+use std::alloc::{AllocError, Global};
 
 /// Adds the rows of the next mailbox, which the plain program tells too.
 pub fn put_view(book: &Book, input: &mut Input, answer: &mut Answer) -> Result<(), WordFault> {
@@ -17,20 +17,15 @@ pub fn put_view(book: &Book, input: &mut Input, answer: &mut Answer) -> Result<(
     put_compared(answer, &came, "but the plain program tells", &plain)
 }
 
-/// Adds the text of the queue.
-pub fn put_queue(book: &Book, alloc: Global, answer: &mut Answer) -> Result<(), WordFault> {
-    let text = queue_text(alloc, book)?;
-    answer.text(text.as_slice())
-}
-
-/// Adds the text of the report.
-pub fn put_report(book: &Book, alloc: Global, answer: &mut Answer) -> Result<(), WordFault> {
-    let text = report(alloc, book)?;
-    answer.text(text.as_slice())
+/// Adds the text of the queue or of the report.
+pub fn put_text(answer: &mut Answer, made: Result<Bytes, AllocError>) -> Result<(), WordFault> {
+    answer.text(made?.as_slice())
 }
 
 fn told(alloc: Global, rows: &[Seen]) -> Result<Answer, WordFault> {
-    answer_of(alloc, |answer| put_rows(answer, rows))
+    let mut told = Answer::new(alloc);
+    put_rows(&mut told, rows)?;
+    Ok(told)
 }
 
 // The rows, or `none`.
