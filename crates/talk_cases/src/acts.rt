@@ -2,7 +2,7 @@
 
 use crate::listener::Listener;
 use crate::reading::Reading;
-use cases::{Answer, Input, WordFault, change, listed_flags, name, read_line};
+use cases::{Answer, Input, WordFault, change, listed_flags, name, words_of};
 use imap_model::{Change, Deed};
 use server_mem::{ForeignFault, MemServer};
 use std::alloc::Global;
@@ -87,11 +87,13 @@ fn change_by(
     answer: &mut Answer,
 ) -> Result<(), WordFault> {
     let made = change(input)?;
-    put_broken(answer, listener.foreign(&made.name, &made.change))
+    let done = put_broken(answer, listener.foreign(&made.name, &made.change));
+    drop(made);
+    done
 }
 
-// Does what the next words say.
-fn do_next(
+// Does what all words say.
+fn do_words(
     listener: &mut Listener,
     input: &mut Input,
     reading: &mut Reading,
@@ -105,7 +107,7 @@ fn do_next(
         "refuse" => listener.refuse(name(input)?),
         word => ask(listener.server(), word, input, &mut reading.answer)?,
     }
-    Ok(())
+    input.end()
 }
 
 /// Does what a line says. What is told or asked comes into the reading.
@@ -115,5 +117,7 @@ pub fn act(
     text: &str,
     reading: &mut Reading,
 ) -> Result<(), WordFault> {
-    read_line(alloc, text, |input| do_next(listener, input, reading))
+    let words = words_of(alloc, text.as_bytes())?;
+    let mut input = Input::new(alloc, &words);
+    do_words(listener, &mut input, reading)
 }

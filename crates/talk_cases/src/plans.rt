@@ -37,24 +37,20 @@ fn is_done(input: &mut Input) -> Result<bool, WordFault> {
     }
 }
 
-// `5 drop INBOX 42`
-fn add_other(plan: &mut Plan, input: &mut Input) -> Result<(), WordFault> {
-    let call = input.number()?;
+// `drop INBOX 42`
+fn add_other(plan: &mut Plan, call: u64, input: &mut Input) -> Result<(), WordFault> {
     let foreign = change(input)?;
-    plan.foreign.push((call, foreign.name, foreign.change))?;
-    Ok(())
+    Ok(plan.foreign.push((call, foreign.name, foreign.change))?)
 }
 
 /// Adds `link 5 all`, `disk 2`, `other 2 drop INBOX 42` or `stop 2`.
 pub fn add_to_plan(plan: &mut Plan, word: &str, input: &mut Input) -> Result<(), WordFault> {
+    let call = input.number()?;
     match word {
-        "link" => {
-            let (call, loss) = (input.number()?, loss(input)?);
-            plan.link_fails.push((call, loss))?;
-        }
-        "disk" => plan.disk_fails.push(input.number()?)?,
-        "other" => add_other(plan, input)?,
-        "stop" => plan.stop_after = Some(input.number()?),
+        "link" => plan.link_fails.push((call, loss(input)?))?,
+        "disk" => plan.disk_fails.push(call)?,
+        "other" => add_other(plan, call, input)?,
+        "stop" => plan.stop_after = Some(call),
         _ => return Err(WordFault::Form),
     }
     Ok(())

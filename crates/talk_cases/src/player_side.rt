@@ -6,11 +6,9 @@ use crate::player_faults::put_fault;
 use crate::player_needs::{command_of, is_learn, put_need};
 use crate::player_telling::{choose, is_outdated, learnt, outdated, wants_rows};
 use crate::said::{Who, said, whose};
-use crate::trial::Trial;
+use crate::trial::{Trial, kept};
 use action_queue::{Book, Event};
-use cases::{
-    Answer, Fault, WordFault, answer_of, differs, event, put_event, read_line, same_words,
-};
+use cases::{Answer, Fault, WordFault, differs, event, put_event, read_line, same_words};
 use imap_model::Replies;
 use playback::{Need, Player, Unheard};
 use qresync_core::is_told_empty;
@@ -18,7 +16,7 @@ use std::alloc::{AllocError, Global};
 use std::mem;
 
 // What comes next.
-#[derive(Clone, Copy, PartialEq, Eq)]
+#[derive(Clone, Copy)]
 enum Owed {
     // A connection.
     Connection,
@@ -36,7 +34,7 @@ enum Owed {
 }
 
 /// How what was told of a mailbox comes into its event.
-#[derive(Clone, Copy, PartialEq, Eq)]
+#[derive(Clone, Copy)]
 pub enum Way {
     /// `next` copies it, and `committed` goes on behind the record.
     Copied,
@@ -88,7 +86,7 @@ impl Trial for PlayerSide {
 
     // At a case's end no reply and no command is left open. A case may end with what is needed.
     fn end(&mut self) -> Result<(), Fault> {
-        if !self.ear.is_silent() || self.owed == Owed::Command {
+        if !self.ear.is_silent() || matches!(self.owed, Owed::Command) {
             return Err(differs(self.alloc, b"a whole line or reply", b"the case's end"));
         }
         self.check_fault()
@@ -207,7 +205,7 @@ impl PlayerSide {
         if waits != is_learn(need) {
             return Err(differs(self.alloc, b"a delta that waits", b"another need"));
         }
-        Ok(waits && self.way == Way::Moved)
+        Ok(waits && matches!(self.way, Way::Moved))
     }
 
     // The delta that waits is moved out into the same event, which is recorded. Then none waits.
@@ -282,7 +280,7 @@ impl PlayerSide {
 
     // Takes a line of the server, and hands a whole reply over. A command is sent whole first.
     fn hear(&mut self, line: &[u8]) -> Result<(), Fault> {
-        if self.owed == Owed::Command {
+        if let Owed::Command = self.owed {
             return Err(differs(self.alloc, line, &self.command));
         }
         match self.ear.hear(line)? {
@@ -292,7 +290,7 @@ impl PlayerSide {
     }
 
     fn hand_over(&mut self, replies: Replies) -> Result<(), Fault> {
-        if self.owed == Owed::Mailbox {
+        if let Owed::Mailbox = self.owed {
             return self.choose(replies);
         }
         let done = self.hand_reply(&replies);
@@ -302,9 +300,9 @@ impl PlayerSide {
 
     // The reply to a question or to an action's command.
     fn hand_reply(&mut self, replies: &Replies) -> Result<(), Fault> {
-        if self.owed != Owed::Reply {
+        let Owed::Reply = self.owed else {
             return Err(Fault::Form);
-        }
+        };
         let permits = !self.barred;
         self.barred = false;
         let done = self.player.heard(&self.book, replies, permits);
@@ -411,16 +409,21 @@ impl PlayerSide {
 }
 
 fn same_event(alloc: Global, event: &Event, wanted: &str) -> Result<(), Fault> {
-    let told = answer_of(alloc, |answer| put_event(answer, event))?;
+    let mut told = Answer::new(alloc);
+    put_event(&mut told, event)?;
     same_words(alloc, wanted, &told)
 }
 
 fn shown_need(alloc: Global, need: &Need) -> Result<Answer, WordFault> {
-    answer_of(alloc, |answer| put_need(answer, need))
+    let mut told = Answer::new(alloc);
+    let done = put_need(&mut told, need);
+    kept(told, done)
 }
 
 fn shown_fault(alloc: Global, fault: &Unheard) -> Result<Answer, WordFault> {
-    answer_of(alloc, |answer| put_fault(answer, fault))
+    let mut told = Answer::new(alloc);
+    let done = put_fault(&mut told, fault);
+    kept(told, done)
 }
 
 // The bytes of the command that is needed.

@@ -97,10 +97,15 @@ pub fn choose(
     all: Option<&Replies>,
 ) -> Result<(), Unheard> {
     let need = player.next(book)?;
-    let Need::Select(name) = need else {
-        return Ok(());
-    };
-    let told = delta_of(alloc, cache_in(book, &name), selected, all);
-    let small = small(told);
-    player.chosen(book, small)
+    match need {
+        Need::Select(name) => {
+            let told = delta_of(alloc, cache_in(book, &name), selected, all);
+            let small = small(told);
+            player.chosen(book, small)
+        }
+        other => {
+            drop(other);
+            Ok(())
+        }
+    }
 }

@@ -3,8 +3,8 @@
 
 use crate::player_book::begun;
 use crate::player_side::{PlayerSide, Way};
-use crate::trial::{play, play_lines};
-use cases::{Line, Stop, WordFault, last_number};
+use crate::trial::{at_line, play, play_lines};
+use cases::{Fault, Line, Stop, last_number};
 use std::alloc::Global;
 
 /// Plays a case twice: what was told of a mailbox is copied into its event, and it is moved. Where
@@ -37,14 +37,14 @@ fn play_block(
     front: &[Line],
     block: &[Line],
 ) -> Result<(), Stop> {
-    let mut side = side_of(alloc, way).map_err(|fault| fault.at(last_number(block)))?;
+    let mut side = at_line(last_number(block), side_of(alloc, way))?;
     let played = play_parts(&mut side, head, front, block);
     drop(side);
     played
 }
 
 // A player beside a new book.
-fn side_of(alloc: Global, way: Way) -> Result<PlayerSide, WordFault> {
+fn side_of(alloc: Global, way: Way) -> Result<PlayerSide, Fault> {
     Ok(PlayerSide::new(alloc, way, begun(alloc)?)?)
 }
 

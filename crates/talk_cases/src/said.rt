@@ -1,10 +1,10 @@
 //! What a line says that is the client's or the server's.
 
-use cases::{Input, Line, WordFault, read_line};
+use cases::{Fault, Input, Line, WordFault, read_line};
 use std::alloc::Global;
 
 /// Who says a line.
-#[derive(Clone, Copy, PartialEq, Eq)]
+#[derive(Clone, Copy)]
 pub enum Who {
     /// `C: LINE`, or `C TEXT`.
     Client,
@@ -56,12 +56,12 @@ pub fn said(alloc: Global, text: &str) -> Result<Vec<u8>, WordFault> {
     }
 }
 
-/// All that one of them says in a talk.
-pub fn all_said(alloc: Global, lines: &[Line], who: Who) -> Result<Vec<u8>, WordFault> {
+/// All that the client says in a talk.
+pub fn said_by_client(alloc: Global, lines: &[Line]) -> Result<Vec<u8>, Fault> {
     let mut bytes = Vec::new(alloc);
     for line in lines {
         let text = line.text.as_str();
-        if whose(text) == Some(who) {
+        if let Some(Who::Client) = whose(text) {
             bytes.extend_from_slice(&said(alloc, text)?)?;
         }
     }

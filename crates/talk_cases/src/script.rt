@@ -1,7 +1,7 @@
 //! What the server of a session's case says.
 
 use crate::said::{Who, said, text_behind, whose};
-use cases::{Line, WordFault};
+use cases::{Fault, Line, WordFault};
 use mail_base::Bytes;
 use std::alloc::Global;
 use world_mem::{Files, Script, ScriptWorld};
@@ -18,14 +18,10 @@ fn piece_of(alloc: Global, text: &str) -> Result<Option<Script>, WordFault> {
     }
 }
 
-// The piece's front, at most so many bytes of it.
-fn cut(piece: Script, left: usize) -> Script {
-    match piece {
-        Script::Piece(mut bytes) => {
-            bytes.truncate(left);
-            Script::Piece(bytes)
-        }
-        Script::Endless(bytes) => Script::Endless(bytes),
+// Leaves the piece's front, at most so many bytes of it.
+fn cut(piece: &mut Script, left: usize) {
+    if let Script::Piece(bytes) = piece {
+        bytes.truncate(left);
     }
 }
 
@@ -36,7 +32,7 @@ fn length(piece: &Script) -> usize {
 }
 
 /// How many bytes the server says.
-pub fn script_length(alloc: Global, lines: &[Line]) -> Result<usize, WordFault> {
+pub fn script_length(alloc: Global, lines: &[Line]) -> Result<usize, Fault> {
     let mut whole = 0usize;
     for line in lines {
         if let Some(piece) = piece_of(alloc, line.text.as_str())? {
@@ -51,8 +47,8 @@ fn script_of(alloc: Global, lines: &[Line], most: usize) -> Result<Vec<Script>, 
     let mut script = Vec::new(alloc);
     let mut left = most;
     for line in lines {
-        if let Some(piece) = piece_of(alloc, line.text.as_str())? {
-            let piece = cut(piece, left);
+        if let Some(mut piece) = piece_of(alloc, line.text.as_str())? {
+            cut(&mut piece, left);
             left = left.saturating_sub(length(&piece));
             script.push(piece)?;
         }
@@ -61,7 +57,7 @@ fn script_of(alloc: Global, lines: &[Line], most: usize) -> Result<Vec<Script>, 
 }
 
 /// A world of two empty files, to which the first so many bytes come of what the server says.
-pub fn world_of(alloc: Global, lines: &[Line], most: usize) -> Result<ScriptWorld, WordFault> {
+pub fn world_of(alloc: Global, lines: &[Line], most: usize) -> Result<ScriptWorld, Fault> {
     let script = script_of(alloc, lines, most)?;
     let files = Files {
         left: Bytes::new(alloc),

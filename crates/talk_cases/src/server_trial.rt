@@ -5,9 +5,10 @@ use crate::acts::act;
 use crate::listener::Listener;
 use crate::pieces::{InPieces, PIECE};
 use crate::reading::Reading;
-use crate::said::{Who, all_said};
+use crate::said::said_by_client;
 use crate::served::{Serve, play_served};
 use crate::setup::Setup;
+use crate::trial::at_line;
 use cases::{Fault, Line, Stop, last_number};
 use std::alloc::Global;
 
@@ -41,9 +42,7 @@ impl Serve for ByLine {
 // The server that a case begins with.
 fn begun(alloc: Global, head: &[Line], lines: &[Line]) -> Result<Box<Listener>, Stop> {
     let setup = Setup::of(alloc, head, lines)?;
-    setup
-        .into_listener()
-        .map_err(|fault| fault.at(last_number(lines)))
+    at_line(last_number(lines), setup.into_listener())
 }
 
 // Plays a case whose client's bytes come in pieces, the first of which has this length.
@@ -57,8 +56,7 @@ pub fn played(alloc: Global, head: &[Line], lines: &[Line]) -> Result<(), Stop> 
     let listener = begun(alloc, head, lines)?;
     play_served(alloc, ByLine { alloc, listener }, head, lines)?;
     play_cut(alloc, head, lines, usize::MAX)?;
-    let said = all_said(alloc, lines, Who::Client);
-    let said = said.map_err(|fault| fault.at(last_number(lines)))?;
+    let said = at_line(last_number(lines), said_by_client(alloc, lines))?;
     for first in 0..PIECE.min(said.len()) {
         play_cut(alloc, head, lines, first)?;
     }

@@ -97,6 +97,11 @@ fn told(answer: &mut Answer, outcome: Result<Session, SessionFault>) -> Result<S
     }
 }
 
+// What is left behind a logout.
+fn left(_: ()) -> Session {
+    Session::None
+}
+
 // What a call with replies answers, and the state behind it.
 fn replied(
     answer: &mut Answer,
@@ -179,7 +184,7 @@ fn begin<L: Link>(
     }
     match call {
         Call::Select(name, since) => replied(answer, ready.select(link, name, *since)),
-        Call::Leave => told(answer, ready.leave(link).map(|_| Session::None)),
+        Call::Leave => told(answer, ready.leave(link).map(left)),
         _ => unfit(Session::Ready(ready)),
     }
 }
@@ -201,7 +206,7 @@ fn go_on<L: Link>(
         Call::Select(name, since) => replied(answer, chosen.select(link, name, *since)),
         Call::Ask(tag, command) => ask(chosen, link, *tag, command, answer),
         Call::Hear(most, tag, command) => hear(chosen, link, *most, *tag, command, answer),
-        Call::Leave => told(answer, chosen.leave(link).map(|_| Session::None)),
+        Call::Leave => told(answer, chosen.leave(link).map(left)),
         _ => {
             let done = look(&chosen, call, answer);
             kept(Session::Chosen(chosen), done)

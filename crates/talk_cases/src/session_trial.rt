@@ -3,10 +3,11 @@
 
 use crate::calls::call_of;
 use crate::fitting::fits;
-use crate::said::{Who, all_said, whose};
+use crate::said::{said_by_client, whose};
 use crate::script::{script_length, world_of};
 use crate::session::Session;
 use crate::silent_link::SilentLink;
+use crate::trial::at_line;
 use cases::{Answer, Fault, Line, Stop, WordFault, differs, last_number, same_bytes};
 use std::alloc::Global;
 use std::fs::{File, Files};
@@ -16,7 +17,7 @@ use world_real::RealWorld;
 use world_traits::{Clocked, Link};
 
 // What a call must answer.
-#[derive(Clone, Copy, PartialEq, Eq)]
+#[derive(Clone, Copy)]
 enum Due {
     // What stands below the line.
     Line,
@@ -46,10 +47,10 @@ fn is_cut_off(alloc: Global, due: Due, line: &Line, came: &Answer) -> Result<boo
     if fits(alloc, wanted, came)? {
         return Ok(false);
     }
-    if due == Due::LineOrLink && came.as_bytes() == b"link".as_slice() {
-        return Ok(true);
+    match due {
+        Due::LineOrLink if came.as_bytes() == b"link".as_slice() => Ok(true),
+        Due::Line | Due::LineOrLink => Err(differs(alloc, wanted.as_bytes(), came.as_bytes())),
     }
-    Err(differs(alloc, wanted.as_bytes(), came.as_bytes()))
 }
 
 // What the call of a line answers.
@@ -101,8 +102,7 @@ fn play_calls<L: Link>(
     requires mute { L.tells_server → ⊥ }
 {
     for line in lines {
-        let played = play_line(alloc, session, link, line, due);
-        if played.map_err(|fault| fault.at(line.number))? {
+        if at_line(line.number, play_line(alloc, session, link, line, due))? {
             return Ok(true);
         }
     }
@@ -129,15 +129,14 @@ fn play_over(
     let played = play_calls(alloc, &mut session, link, lines, due);
     drop(session);
     let sent = check_sent(alloc, wanted, link.sent(), played?);
-    sent.map_err(|fault| fault.at(last_number(lines)))
+    at_line(last_number(lines), sent)
 }
 
 // Plays a case with the first so many bytes of what the server says.
 fn play_front(alloc: Global, lines: &[Line], most: usize, due: Due) -> Result<(), Stop> {
     let number = last_number(lines);
-    let form = |fault: WordFault| fault.at(number);
-    let wanted = all_said(alloc, lines, Who::Client).map_err(form)?;
-    let mut link = SilentLink::new(world_of(alloc, lines, most).map_err(form)?);
+    let wanted = at_line(number, said_by_client(alloc, lines))?;
+    let mut link = SilentLink::new(at_line(number, world_of(alloc, lines, most))?);
     let played = play_over(alloc, &mut link, lines, due, &wanted);
     drop(link);
     played
@@ -149,9 +148,7 @@ pub fn played(alloc: Global, lines: &[Line]) -> Result<(), Stop> {
     if !lines.iter().any(|line| line.text.as_str() == "each cut") {
         return Ok(());
     }
-    let number = last_number(lines);
-    let length = script_length(alloc, lines).map_err(|fault| fault.at(number))?;
-    for most in 0..length {
+    for most in 0..at_line(last_number(lines), script_length(alloc, lines))? {
         play_front(alloc, lines, most, Due::LineOrLink)?;
     }
     Ok(())
@@ -169,5 +166,6 @@ where
     drop(session);
     world.close();
     drop(world);
-    played.map(|_| ())
+    played?;
+    Ok(())
 }

@@ -4,9 +4,9 @@ ghost use Rattle.std.specs.Prelude.{◌≡◌, false, IfOk};
 
 use crate::listener::Listener;
 use crate::plans::{add_to_plan, no_plan};
-use crate::trial::kept;
+use crate::trial::{at_line, kept};
 use crate::world_calls::new_world;
-use cases::{Fault, Input, Line, Stop, WordFault, bytes, gone, mailbox, message, name, read_line};
+use cases::{Fault, Input, Line, Stop, WordFault, bytes, gone, mailbox, message, name, words_of};
 use flag_set::FlagSet;
 use imap_model::{Mailbox, Message};
 use mail_base::{BoxName, Bytes, ModSeq, Words};
@@ -121,7 +121,7 @@ impl Setup {
         add_plain(self.alloc, box_of(&mut self.boxes, &name)?, count, text)
     }
 
-    // Adds what the next words say.
+    // Adds what all words say.
     fn add(&mut self, input: &mut Input) -> Result<(), WordFault> {
         match input.word()? {
             "trial" => {
@@ -142,22 +142,23 @@ impl Setup {
             "right" => self.files.right = bytes(input)?,
             word => add_to_plan(&mut self.plan, word, input)?,
         }
-        Ok(())
+        input.end()
     }
 
     // Adds what a line says, if it is one that sets up.
-    fn take(&mut self, text: &str) -> Result<(), WordFault> {
+    fn take(&mut self, text: &str) -> Result<(), Fault> {
         if !sets_up(text) {
             return Ok(());
         }
-        read_line(self.alloc, text, |input| self.add(input))
+        let words = words_of(self.alloc, text.as_bytes())?;
+        let mut input = Input::new(self.alloc, &words);
+        Ok(self.add(&mut input)?)
     }
 
     // Adds what lines say.
     fn take_all(&mut self, lines: &[Line]) -> Result<(), Stop> {
         for line in lines {
-            let taken = self.take(line.text.as_str());
-            taken.map_err(|fault| fault.at(line.number))?;
+            at_line(line.number, self.take(line.text.as_str()))?;
         }
         Ok(())
     }

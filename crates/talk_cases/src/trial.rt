@@ -27,6 +27,14 @@ pub fn kept<T: Drop, E: Drop>(value: T, done: Result<(), E>) -> Result<T, E> {
     }
 }
 
+/// What was made, or what stops the case at the line of this number. It knows of no type either.
+pub fn at_line<T: Drop>(number: usize, made: Result<T, Fault>) -> Result<T, Stop> {
+    match made {
+        Ok(value) => Ok(value),
+        Err(fault) => Err(fault.at(number)),
+    }
+}
+
 // Wants what a row says.
 fn want<T: Trial>(trial: &mut T, row: &DueLine) -> Result<(), Fault> {
     trial.due(row.due()?)
@@ -34,10 +42,9 @@ fn want<T: Trial>(trial: &mut T, row: &DueLine) -> Result<(), Fault> {
 
 // Plays a line, and wants what stands below it.
 fn play_line<T: Trial>(trial: &mut T, line: &Line) -> Result<(), Stop> {
-    let done = trial.line(line.text.as_str());
-    done.map_err(|fault| fault.at(line.number))?;
+    at_line(line.number, trial.line(line.text.as_str()))?;
     for row in &line.below {
-        want(trial, row).map_err(|fault| fault.at(row.number))?;
+        at_line(row.number, want(trial, row))?;
     }
     Ok(())
 }
@@ -54,5 +61,5 @@ pub fn play_lines<T: Trial>(trial: &mut T, lines: &[Line]) -> Result<(), Stop> {
 pub fn play<T: Trial>(trial: &mut T, head: &[Line], lines: &[Line]) -> Result<(), Stop> {
     play_lines(trial, head)?;
     play_lines(trial, lines)?;
-    trial.end().map_err(|fault| fault.at(last_number(lines)))
+    at_line(last_number(lines), trial.end())
 }

@@ -43,7 +43,7 @@ fn exchange(alloc: Global, world: &mut MemWorld, lines: &[Line]) -> Result<bool,
         if !calls(alloc, world, text, answered)? {
             return Ok(false);
         }
-        answered = whose(text) == Some(Who::Server);
+        answered = matches!(whose(text), Some(Who::Server));
     }
     Ok(true)
 }

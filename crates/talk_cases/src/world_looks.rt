@@ -34,7 +34,9 @@ fn change_by(
     answer: &mut Answer,
 ) -> Result<(), WordFault> {
     let made = change(input)?;
-    put_broken(answer, foreign(world, &made.name, &made.change))
+    let done = put_broken(answer, foreign(world, &made.name, &made.change));
+    drop(made);
+    done
 }
 
 /// Adds what is asked by this word and the next ones.

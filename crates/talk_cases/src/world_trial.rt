@@ -4,6 +4,7 @@ use crate::plans::{loss, no_plan};
 use crate::reading::Reading;
 use crate::served::{Serve, play_served};
 use crate::setup::Setup;
+use crate::trial::at_line;
 use crate::world_calls::{connects, length, receives, restarted, sends, syncs, writes};
 use crate::world_cuts::cut;
 use crate::world_looks::look;
@@ -159,7 +160,7 @@ impl Serve for World<'_> {
 pub fn played(alloc: Global, head: &[Line], lines: &[Line]) -> Result<(), Stop> {
     let setup = Setup::of(alloc, head, lines)?;
     let world = setup.into_world();
-    let world = Some(world.map_err(|fault| fault.at(last_number(lines)))?);
+    let world = Some(at_line(last_number(lines), world)?);
     let world = World {
         alloc,
         head,
