@@ -47,8 +47,9 @@ error link'
     whole_syncs
 }
 
+# Whether the tool has its lock. To try that lock would keep it from the tool for a moment.
 maildir_is_locked() {
-    ! flock -n "$work/Mail/.mowerbean/lock" true
+    grep ":$(stat -c %i "$work/Mail/.mowerbean/lock") " /proc/locks
 }
 
 # Syncs that a terminal or a system ends while the tool of the Maildir is at work. Shells differ in what they do then.
