@@ -4,6 +4,7 @@
 usage: test_maildir.py [-v] [-k NAME]      (MAILDIR_ROUNDS: how many random histories, 60 without it; MAILDIR_SEED: the first one's)
 """
 import collections
+import functools
 import os
 import pathlib
 import signal
@@ -235,7 +236,9 @@ class Signals(unittest.TestCase):
             stub.chmod(0o700)
             for number in (signal.SIGINT, signal.SIGTERM):
                 words = [sys.executable, "-Es", str(tool), "--mowerbean", str(stub), "wishes", os.path.join(place, "Mail")]
-                with subprocess.Popen(words, stdout=subprocess.PIPE, stderr=subprocess.STDOUT, start_new_session=True) as run:
+                # Where this test is started to ignore it, in the background of a script, the tool isn't.
+                first = functools.partial(signal.signal, number, signal.SIG_DFL)
+                with subprocess.Popen(words, stdout=subprocess.PIPE, stderr=subprocess.STDOUT, start_new_session=True, preexec_fn=first) as run:
                     while not bell.exists() and run.poll() is None:
                         time.sleep(0.01)
                     bell.unlink()
