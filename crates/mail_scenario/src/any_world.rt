@@ -7,7 +7,7 @@ use crate::muted_world::MutedWorld;
 use cases::{Foreign, WordFault};
 use imap_model::Server;
 use server_mem::ForeignFault;
-use std::alloc::{AllocError, Global};
+use std::alloc::{AllocFailed, Global};
 use world_mem::{Files, ImageFault, MemWorld, Plan, ScriptWorld};
 use world_traits::{Disk, DiskFailed, Link, LinkFailed, Side};
 
@@ -24,8 +24,15 @@ pub enum AnyWorld {
 }
 
 /// What was made, in a box. It knows of no type, so that its proof sees no parts.
-pub fn boxed<T: Drop>(alloc: Global, made: Result<T, AllocError>) -> Result<Box<T>, AllocError> {
-    Ok(Box::new(alloc, made?)?)
+pub fn boxed<T, E>(alloc: Global, made: Result<T, E>) -> Result<Box<T>, E>
+where
+    T: Drop,
+    E: From<AllocFailed<T>>,
+{
+    match made {
+        Ok(value) => Ok(Box::new(alloc, value)?),
+        Err(fault) => Err(fault),
+    }
 }
 
 impl AnyWorld {

@@ -4,7 +4,7 @@ use cases::WordFault;
 use std::alloc::{AllocError, AllocFailed};
 
 /// Why a scenario ends before its last line.
-#[derive(Clone, Copy, Debug, PartialEq, Eq, Drop)]
+#[derive(Clone, Copy)]
 pub enum LineFault {
     /// The line is none of the language, or doesn't fit where it stands.
     Unfit,

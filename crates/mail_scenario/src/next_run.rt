@@ -3,6 +3,7 @@
 use cases::{Input, WordFault, change};
 use mail_base::List;
 use std::alloc::Global;
+use std::mem;
 use world_mem::{Loss, Plan};
 
 /// What the next run reads, and what is to go wrong in it.
@@ -70,7 +71,7 @@ impl NextRun {
 
     /// Nothing goes wrong any more.
     pub fn forget_plan(&mut self, alloc: Global) {
-        self.plan = no_plan(alloc);
+        drop(mem::replace(&mut self.plan, no_plan(alloc)));
         self.source_fails = Vec::new(alloc);
         self.sink_fails = Vec::new(alloc);
         self.shelf_fails = Vec::new(alloc);

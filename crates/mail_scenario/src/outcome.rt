@@ -3,7 +3,7 @@
 use crate::fault::LineFault;
 
 /// How the program ends.
-#[derive(Clone, Copy, Debug, PartialEq, Eq)]
+#[derive(Clone, Copy)]
 pub enum Ended {
     /// Each line was played, or each case passed.
     Done,

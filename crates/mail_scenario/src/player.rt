@@ -1,12 +1,13 @@
 //! A scenario, as far as it has come.
 
+use crate::any_world::boxed;
 use crate::fault::LineFault;
 use crate::looks::look;
 use crate::next_run::{NextRun, is_beside_world, no_plan};
 use crate::runs::run_in;
 use crate::setup::Setup;
 use crate::stand::Stand;
-use cases::{Answer, Input, WordFault, words_of};
+use cases::{Answer, Input, words_of};
 use std::alloc::Global;
 use std::mem;
 
@@ -15,7 +16,7 @@ use std::mem;
 pub struct Player {
     alloc: Global,
     // The server that is described, up to `world`, `muted` or `scripted`.
-    setup: Option<Setup>,
+    setup: Option<Box<Setup>>,
     // What stands behind these. Before the first server there is neither. A box keeps it out of
     // sight of those proofs that let a scenario go: a world has many parts.
     stand: Option<Box<Stand>>,
@@ -61,35 +62,34 @@ impl Player {
     fn take_line(&mut self, input: &mut Input<'_>, page: &mut Answer) -> Result<(), LineFault> {
         let verb = input.word()?;
         match verb {
-            "server" => self.begin(input)?,
-            "world" | "muted" | "scripted" => self.enter(verb, input)?,
-            "files" | "shelf" if input.is_done() => self.look(verb, input, page)?,
+            "server" => self.begin(input),
+            "world" | "muted" | "scripted" => self.enter(verb, input),
+            "files" | "shelf" if input.is_done() => self.look(verb, input, page),
             "disk" | "link" | "other" | "stop" | "source" | "sink" | "shelf" => {
-                self.plan(verb, input)?
+                self.plan(verb, input)
             }
-            "input" => self.give_input(input)?,
-            "run" => self.run(input, page)?,
-            "restart" => self.restart(input)?,
+            "input" => self.give_input(input),
+            "run" => self.run(input, page),
+            "restart" => self.restart(input),
             "change" | "show" | "history" | "sent" | "image" | "moments" => {
-                self.look(verb, input, page)?
+                self.look(verb, input, page)
             }
-            _ => self.set(verb, input)?,
+            _ => self.set(verb, input),
         }
-        Ok(())
     }
 
     // `WORD ..`: a server with these offers, and nothing of what was.
-    fn begin(&mut self, input: &mut Input<'_>) -> Result<(), WordFault> {
-        self.stand = None;
-        self.next = NextRun::new(self.alloc);
-        self.setup = Some(Setup::new(input)?);
+    fn begin(&mut self, input: &mut Input<'_>) -> Result<(), LineFault> {
+        drop(self.stand.take());
+        drop(mem::replace(&mut self.next, NextRun::new(self.alloc)));
+        drop(self.setup.replace(boxed(self.alloc, Setup::new(input))?));
         Ok(())
     }
 
-    fn set(&mut self, verb: &str, input: &mut Input<'_>) -> Result<(), WordFault> {
+    fn set(&mut self, verb: &str, input: &mut Input<'_>) -> Result<(), LineFault> {
         match &mut self.setup {
-            Some(setup) => setup.set(verb, input),
-            None => Err(WordFault::Form),
+            Some(setup) => Ok(setup.set(verb, input)?),
+            None => Err(LineFault::Unfit),
         }
     }
 
@@ -103,17 +103,17 @@ impl Player {
         if verb != "world" {
             self.next.forget_plan(self.alloc);
         }
-        let stand = setup.into_stand(verb, self.alloc)?;
-        self.stand = Some(Box::new(self.alloc, stand)?);
+        let stand = Box::into_inner(setup).into_stand(verb, self.alloc);
+        self.stand = Some(boxed(self.alloc, stand)?);
         Ok(())
     }
 
     // Of a run over a world without a plan the input, the output and the shelf alone fail by one.
-    fn plan(&mut self, verb: &str, input: &mut Input<'_>) -> Result<(), WordFault> {
+    fn plan(&mut self, verb: &str, input: &mut Input<'_>) -> Result<(), LineFault> {
         if self.has_plan(verb) {
-            return self.next.add(verb, input);
+            return Ok(self.next.add(verb, input)?);
         }
-        Err(WordFault::Form)
+        Err(LineFault::Unfit)
     }
 
     fn has_plan(&self, verb: &str) -> bool {
@@ -124,32 +124,34 @@ impl Player {
     }
 
     // `TEXT`
-    fn give_input(&mut self, input: &mut Input<'_>) -> Result<(), WordFault> {
+    fn give_input(&mut self, input: &mut Input<'_>) -> Result<(), LineFault> {
         if self.setup.is_none() && self.stand.is_none() {
-            return Err(WordFault::Form);
+            return Err(LineFault::Unfit);
         }
         self.next.input = input.text()?.to_vec(self.alloc)?;
         Ok(())
     }
 
     // `WORD ..`
-    fn run(&mut self, input: &mut Input<'_>, page: &mut Answer) -> Result<(), WordFault> {
+    fn run(&mut self, input: &mut Input<'_>, page: &mut Answer) -> Result<(), LineFault> {
         let words = input.letters_left()?;
+        let Some(stand) = &mut self.stand else {
+            return Err(LineFault::Unfit);
+        };
         let next = mem::replace(&mut self.next, NextRun::new(self.alloc));
-        match &mut self.stand {
-            Some(stand) => run_in(self.alloc, stand, &words, next, page),
-            None => Err(WordFault::Form),
-        }
+        let done = run_in(self.alloc, stand, &words, next, page);
+        drop(words);
+        Ok(done?)
     }
 
     // `PICK`: goes on from the image of the last moment that the pick takes.
-    fn restart(&mut self, input: &mut Input<'_>) -> Result<(), WordFault> {
+    fn restart(&mut self, input: &mut Input<'_>) -> Result<(), LineFault> {
         let pick = input.number()?;
         let Some(stand) = self.stand.take() else {
-            return Err(WordFault::Form);
+            return Err(LineFault::Unfit);
         };
-        let stand = Box::into_inner(stand).restarted(self.alloc, pick, no_plan(self.alloc))?;
-        self.stand = Some(Box::new(self.alloc, stand)?);
+        let stand = Box::into_inner(stand).restarted(self.alloc, pick, no_plan(self.alloc));
+        self.stand = Some(boxed(self.alloc, stand)?);
         Ok(())
     }
 
@@ -158,10 +160,10 @@ impl Player {
         verb: &str,
         input: &mut Input<'_>,
         page: &mut Answer,
-    ) -> Result<(), WordFault> {
+    ) -> Result<(), LineFault> {
         match &mut self.stand {
-            Some(stand) => look(stand, verb, input, page),
-            None => Err(WordFault::Form),
+            Some(stand) => Ok(look(stand, verb, input, page)?),
+            None => Err(LineFault::Unfit),
         }
     }
 }

@@ -15,7 +15,7 @@ pub fn play<R: Print + AllocGlobal>(rt: &R, text: &[u8]) -> Ended {
 
 fn play_lines<R: Print + AllocGlobal>(rt: &R, text: &[u8], player: &mut Player) -> Ended {
     let mut number = 0u64;
-    for line in text.split(|byte| *byte == b'\n') {
+    for line in text.split(is_line_end) {
         number = number.saturating_add(1);
         let mut page = Answer::new(rt.alloc());
         if let Err(fault) = player.take(line, &mut page) {
@@ -26,6 +26,11 @@ fn play_lines<R: Print + AllocGlobal>(rt: &R, text: &[u8], player: &mut Player) 
         }
     }
     Ended::Done
+}
+
+/// Whether a line ends with this byte.
+pub fn is_line_end(byte: &u8) -> bool {
+    *byte == b'\n'
 }
 
 /// Adds what is printed of the fault of a line.

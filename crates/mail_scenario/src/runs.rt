@@ -3,6 +3,7 @@
 use crate::any_world::AnyWorld;
 use crate::muted_run::run_muted;
 use crate::next_run::{NextRun, no_plan};
+use crate::playing::is_line_end;
 use crate::stand::Stand;
 use body_cache::read_run;
 use cases::{Answer, WordFault};
@@ -121,7 +122,7 @@ fn put_printed(page: &mut Answer, printed: &[u8]) -> Result<(), WordFault> {
         [lines @ .., b'\n'] => lines,
         lines => lines,
     };
-    for line in lines.split(|byte| *byte == b'\n') {
+    for line in lines.split(is_line_end) {
         page.raw(b"| ")?;
         page.raw(line)?;
         page.end_line()?;

@@ -72,7 +72,7 @@ impl Scene {
 
     // The scenario ends with a fault, which is printed in place of all else.
     fn end(&mut self, fault: LineFault, page: &mut Answer) -> Result<(), Fault> {
-        if fault == LineFault::Memory {
+        if let LineFault::Memory = fault {
             return Err(Fault::Memory);
         }
         self.is_over = true;

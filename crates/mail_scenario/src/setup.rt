@@ -38,7 +38,10 @@ pub struct Setup {
 
 // The account of a scenario that names none.
 fn usual_account(alloc: Global) -> Result<Account, WordFault> {
-    Account::new(alloc, "ann", "pw").map_err(|_| WordFault::Memory)
+    match Account::new(alloc, "ann", "pw") {
+        Ok(account) => Ok(account),
+        Err(_) => Err(WordFault::Memory),
+    }
 }
 
 // The first mailbox of a name.

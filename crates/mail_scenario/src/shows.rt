@@ -92,10 +92,12 @@ pub fn show_texts(page: &mut Answer, texts: &[KeptText]) -> Result<(), WordFault
 
 // Whether another text of its key stands in front of this place.
 fn is_replaced(texts: &[KeptText], place: usize, kept: &KeptText) -> bool {
-    match texts.get(..place) {
-        Some(front) => front.iter().any(|other| other.key.is_same(&kept.key)),
-        None => false,
+    for other in texts.get(..place).unwrap_or(&[]) {
+        if other.key.is_same(&kept.key) {
+            return true;
+        }
     }
+    false
 }
 
 fn show_text(page: &mut Answer, kept: &KeptText) -> Result<(), WordFault> {

@@ -1,9 +1,9 @@
 //! A world that stands, who logs in there, and the texts that are kept beside it.
 
 use crate::any_world::AnyWorld;
+use crate::fault::LineFault;
 use crate::silent_world::SilentWorld;
 use body_cache::FaultyShelf;
-use cases::WordFault;
 use mail_base::Account;
 use std::alloc::Global;
 use world_mem::Plan;
@@ -29,8 +29,8 @@ impl Stand {
     /// Goes on from the image of the last moment that the pick takes. The texts stay.
     ///
     /// # Errors
-    /// `Form` where its moments aren't shown, and `Memory`.
-    pub fn restarted(self, alloc: Global, pick: u64, plan: Plan) -> Result<Stand, WordFault> {
+    /// `Unfit` where its moments aren't shown, and `Memory`.
+    pub fn restarted(self, alloc: Global, pick: u64, plan: Plan) -> Result<Stand, LineFault> {
         let Stand {
             world,
             account,
